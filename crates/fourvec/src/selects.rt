@@ -1,0 +1,163 @@
+//! Parts of a vector at a place that an index vector gives (11.5.1).
+
+ghost use Rattle.std.specs.Prelude.{◌≡◌, ◌<◌, ◌≤◌, length, IsTrue, IfSome, IfNone, replicate, unsigned_abs};
+ghost use Rattle.fourvec.specs.Bits.{is_known, each, each_pair, keep_bit};
+ghost use Rattle.fourvec.specs.Spots.{place_of, reached, window, dyn_slice_of, overlaid, kept_bit, dyn_put_of};
+
+use crate::{Bit, Four, Spot, mask};
+
+// A whole number: how far from 0 it is, and whether below.
+#[derive(Clone, Copy)]
+struct Reach {
+    below: bool,
+    far: u128,
+}
+
+impl Four {
+    /// The `spot.width` bits of this vector from the place of `at` on, X where it has none. All X where `at` has an
+    /// unknown bit.
+    #[tactic(auto, using(crate::proofs::Places::window_past, crate::proofs::Basic::views), unfolding(crate::specs::Spots::dyn_slice_of))]
+    pub fn dyn_slice(&self, at: &Four, spot: &Spot) -> Four
+        requires some { 0 < spot.now.width }
+        requires most { spot.now.width ≤ 128 }
+        ensures { result ≡ dyn_slice_of self.now at.now spot.now }
+    {
+        // A field that is read shows the vector's invariant to the proof.
+        let _ = &self.width;
+        if at.is_bool() {
+            match at.place(spot) {
+                Some(place) => self.window(place, spot.width),
+                None => Four::unknown(spot.width),
+            }
+        } else {
+            Four::unknown(spot.width)
+        }
+    }
+
+    /// This vector with the bits of `put` from the place of `at` on; what lies outside of this vector is dropped. Where
+    /// `at` has an unknown bit, a bit stays where it equals each bit of `put`, and becomes X elsewhere: this tool's own
+    /// rule, so that a write is monotone.
+    #[tactic(auto, using(crate::proofs::Puts::overlaid_past, crate::proofs::Basic::views), unfolding(crate::specs::Spots::dyn_put_of))]
+    pub fn dyn_put(&self, at: &Four, spot: &Spot, put: &Four) -> Four
+        requires { length put.now ≡ spot.now.width }
+        ensures { result ≡ dyn_put_of self.now at.now spot.now put.now }
+    {
+        // Fields that are read show the vectors' invariants to the proof.
+        let _ = &self.width;
+        let _ = &put.width;
+        if at.is_bool() {
+            match at.place(spot) {
+                Some(place) => self.overlay(place, put),
+                None => *self,
+            }
+        } else {
+            self.kept_under(put)
+        }
+    }
+
+    // Where a spot begins. None only where that is 128 or more from 0.
+    #[tactic(auto, using(crate::proofs::Places::places))]
+    fn place(&self, spot: &Spot) -> Option<Reach>
+        requires { IsTrue (is_known self.now) }
+        ensures near { IfSome result (λ r. place_of spot.now self.now ≡ reached r.below r.far) }
+        ensures far { IfNone result (128 ≤ unsigned_abs (place_of spot.now self.now)) }
+    {
+        let below = (spot.signed && self.is_negative()) != spot.negate;
+        let count = if spot.signed {
+            self.magnitude()
+        } else {
+            self.value()
+        };
+        let shift = spot.add.unsigned_abs() as u128;
+        let back = spot.add < 0;
+        let Some(far) = count.checked_mul(spot.each as u128) else {
+            return None;
+        };
+        if below == back {
+            let Some(far) = far.checked_add(shift) else {
+                return None;
+            };
+            Some(Reach { below, far })
+        } else if shift <= far {
+            Some(Reach {
+                below,
+                far: far - shift,
+            })
+        } else {
+            Some(Reach {
+                below: back,
+                far: shift - far,
+            })
+        }
+    }
+
+    // The bits from a place on, X where there is none.
+    #[tactic(auto, using(crate::proofs::Places::window_far, crate::proofs::Places::window_down, crate::proofs::Places::window_up, crate::proofs::Basic::views))]
+    fn window(&self, place: Reach, width: u8) -> Four
+        requires some { 0 < width }
+        requires most { width ≤ 128 }
+        ensures { result ≡ window self.now (reached place.below place.far) width }
+    {
+        // The upper plane with X above the vector.
+        let up = self.up | !mask(self.width);
+        if place.far >= 128 {
+            return Four::unknown(width);
+        }
+        let by = place.far as u8;
+        if place.below {
+            Four::of(width, (up << by) | !(u128::MAX << by), self.low << by)
+        } else {
+            Four::of(width, (up >> by) | !(u128::MAX >> by), self.low >> by)
+        }
+    }
+
+    // This vector with the bits of another from a place on.
+    #[tactic(auto, using(crate::proofs::Puts::overlaid_far, crate::proofs::Puts::overlaid_up, crate::proofs::Puts::overlaid_down, crate::proofs::Basic::views))]
+    fn overlay(&self, place: Reach, put: &Four) -> Four
+        ensures { result ≡ overlaid self.now (reached place.below place.far) put.now }
+    {
+        let width = self.width;
+        let mask = mask(put.width);
+        if place.far >= 128 {
+            return *self;
+        }
+        let by = place.far as u8;
+        if place.below {
+            let kept = !(mask >> by);
+            Four::of(
+                width,
+                (self.up & kept) | (put.up >> by),
+                (self.low & kept) | (put.low >> by),
+            )
+        } else {
+            let kept = !(mask << by);
+            Four::of(
+                width,
+                (self.up & kept) | (put.up << by),
+                (self.low & kept) | (put.low << by),
+            )
+        }
+    }
+
+    // Each bit that equals every bit of the other vector stays, and the rest become X.
+    #[tactic(auto, using(crate::proofs::Choose::first_read, crate::proofs::Puts::kept_same, crate::proofs::Puts::kept_other, crate::proofs::Basic::views, crate::proofs::Puts::tells))]
+    fn kept_under(&self, put: &Four) -> Four
+        ensures { result ≡ each (kept_bit put.now) self.now }
+    {
+        let width = put.width();
+        let bit = put.bit(0);
+        if *put == Four::filled(width, bit) {
+            self.kept(bit)
+        } else {
+            Four::unknown(self.width())
+        }
+    }
+
+    // Each bit that is this one stays, and the rest become X.
+    #[tactic(auto, unfolding(crate::specs::Bits::pick_of))]
+    fn kept(&self, bit: Bit) -> Four
+        ensures { result ≡ each_pair keep_bit self.now (replicate (length self.now) bit) }
+    {
+        Four::unknown(1).pick(self, &Four::filled(self.width(), bit))
+    }
+}

@@ -1,0 +1,5 @@
+pub mod Literals
+pub mod Memory
+pub mod Outside
+pub mod Text
+pub mod Words

@@ -1,0 +1,9 @@
+pub mod Choices
+pub mod Cutting
+pub mod Ends
+pub mod Law
+pub mod Reading
+pub mod Stopping
+pub mod Told
+pub mod Unique
+pub mod Words

@@ -1,0 +1,9 @@
+pub mod Answers
+pub mod Bits
+pub mod Meaning
+pub mod Names
+pub mod Outcome
+pub mod Report
+pub mod Texts
+pub mod Tokens
+pub mod Tries
