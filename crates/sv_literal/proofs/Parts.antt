@@ -1,0 +1,60 @@
+-- The parts of a literal.
+use Rattle.std.proofs.Common.{◌≡◌, ℕ, Bool, true, false, cond, not, ◌&&◌, List, [], ◌∷◌, length, drop, refl, ap, ◌∙◌}
+use Rattle.std.specs.List.{list_all, take_while}
+use Rattle.std.proofs.lemmas.List.Sums.{take_while-cons}
+use Rattle.std.proofs.lemmas.Bool.{false≢true}
+use Rattle.sv_outside.specs.Words.{is_digit}
+use Rattle.sv_outside.specs.Literals.{goes_decimal, drop_run, without_size, is_number, is_unsized, is_based}
+use Rattle.sv_literal.specs.Meaning.{size_of, is_sized, value_of, is_width, is_wide, is_large_value}
+use Rattle.sv_literal.specs.Value.{decimal, exceeds_word}
+
+behind_run : (goes : ℕ → Bool) (t : List ℕ) → drop (length (take_while goes t)) t ≡ drop_run goes t
+behind_run goes [] = refl
+behind_run goes (b ∷ bs) = ap (λ run. drop (length run) (b ∷ bs)) (take_while-cons goes b bs) ∙ either (goes b) (behind_run goes bs)
+  where
+    either : (passes : Bool) → drop (length (take_while goes bs)) bs ≡ drop_run goes bs → drop (length (cond passes (b ∷ take_while goes bs) [])) (b ∷ bs) ≡ cond passes (drop_run goes bs) (b ∷ bs)
+    either true e = e
+    either false e = refl
+
+-- behind the digits of the size
+pub behind_size : (t : List ℕ) → drop (length (size_of t)) t ≡ without_size t
+behind_size [] = refl
+behind_size (b ∷ bs) = either (is_digit b)
+  where
+    either : (passes : Bool) → drop (length (cond passes (b ∷ take_while goes_decimal bs) [])) (b ∷ bs) ≡ cond passes (drop_run goes_decimal bs) (b ∷ bs)
+    either true = behind_run goes_decimal bs
+    either false = refl
+
+-- ---- a text that is no based literal, and one that is
+
+pub none_wide : (t : List ℕ) → is_based t ≡ false → is_wide t ≡ false
+unfolding is_wide
+none_wide t e = rw e refl
+
+pub none_large : (t : List ℕ) → is_based t ≡ false → is_large_value t ≡ false
+unfolding is_large_value
+none_large t e = rw e refl
+
+pub some_wide : (t : List ℕ) → is_based t ≡ true → is_wide t ≡ (is_sized t && not (is_width (decimal (size_of t))))
+unfolding is_wide
+some_wide t e = rw e refl
+
+pub some_large : (t : List ℕ) → is_based t ≡ true → is_large_value t ≡ (not (is_sized t) && exceeds_word (value_of t))
+unfolding is_large_value
+some_large t e = rw e refl
+
+all_behind : (goes : ℕ → Bool) (t : List ℕ) → list_all goes t ≡ true → drop_run goes t ≡ []
+all_behind goes [] e = refl
+all_behind goes (b ∷ bs) e = either (goes b) e (all_behind goes bs)
+  where
+    either : (passes : Bool) → (passes && list_all goes bs) ≡ true → (list_all goes bs ≡ true → drop_run goes bs ≡ []) → cond passes (drop_run goes bs) (b ∷ bs) ≡ []
+    either true e rest = rest e
+    either false e rest = absurd (false≢true e)
+
+pub number_is_not_based : (t : List ℕ) → is_number t ≡ true → is_based t ≡ false
+number_is_not_based [] e = refl
+number_is_not_based (b ∷ bs) e = either (is_digit b) e (all_behind goes_decimal bs)
+  where
+    either : (passes : Bool) → (passes && list_all goes_decimal bs) ≡ true → (list_all goes_decimal bs ≡ true → drop_run goes_decimal bs ≡ []) → is_unsized (cond passes (drop_run goes_decimal bs) (b ∷ bs)) ≡ false
+    either true e rest = ap is_unsized (rest e)
+    either false e rest = absurd (false≢true e)

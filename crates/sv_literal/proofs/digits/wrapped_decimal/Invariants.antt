@@ -1,0 +1,6 @@
+use Rattle.std.proofs.Common.{◌≡◌, ◌%◌, ◌^◌, take}
+use Rattle.sv_literal.specs.Value as value
+use Rattle.sv_literal.proofs.digits.wrapped_decimal.Given as goal
+
+abbrev pub invariant-loop-b : goal.invariant-loop-b
+invariant-loop-b l = l.number ≡ value.decimal (take l.b-index l.digits) % 2 ^ 128
