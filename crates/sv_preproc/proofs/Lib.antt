@@ -1,0 +1,15 @@
+pub mod Expanding
+pub mod Lines
+pub mod Texts
+pub mod Errors
+pub mod Branches
+pub mod Files
+pub mod Entering
+pub mod Grows
+pub mod Unique
+pub mod Left
+pub mod Ahead
+pub mod Counts
+pub mod Refusals
+pub mod Items
+pub mod Main

@@ -1,0 +1,12 @@
+pub mod Numbering
+pub mod Steps
+pub mod Folds
+pub mod Widths
+pub mod Lifted
+pub mod Readings
+pub mod Marking
+pub mod Evaluating
+pub mod Chains
+pub mod Keeping
+pub mod Substituting
+pub mod Cutting

@@ -1,0 +1,27 @@
+//! A graph of expressions over four-valued vectors, in which no two nodes have equal shapes.
+//!
+//! A node is a number. Its shape names an operator and its children, which have lower numbers; its value, width and variables come
+//! from its shape and its children alone.
+#![tactic(auto)]
+
+mod arena;
+mod buckets;
+mod env;
+mod eval;
+mod fitting;
+mod laws;
+mod marks;
+mod node;
+mod shape;
+mod subst;
+mod width;
+
+pub use arena::Arena;
+pub use env::Env;
+pub use eval::{binary, shape_value, unary};
+pub use laws::{
+    nodes_follow_shapes, nodes_stay, values_depend_on_mentioned, values_have_widths, values_rise,
+};
+pub use node::Node;
+pub use shape::{Bin, Shape, Un, VarName};
+pub use subst::{Subst, rename};

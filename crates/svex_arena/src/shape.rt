@@ -1,0 +1,147 @@
+//! What a node computes from its children.
+
+ghost use Rattle.std.specs.Prelude.{◌≡◌, ◌↔◌, IsTrue};
+
+use crate::node::Node;
+use fourvec::{Four, Spot};
+
+/// A variable, by its number among those of its kind.
+#[derive(Clone, Copy, PartialEq, Eq, Hash, Debug)]
+pub enum VarName {
+    /// A wire in the present phase.
+    Now(usize),
+    /// A wire in the phase before.
+    Prev(usize),
+    /// What a wire is driven with from outside in the present phase.
+    Stim(usize),
+    /// A variable of the table of stimuli.
+    Chosen(usize),
+    /// A sample that the table names.
+    Sampled(usize),
+}
+
+/// An operator on one vector, as the call of `Four` of this name. The first three keep the width, the others give one bit.
+#[derive(Clone, Copy, PartialEq, Eq, Hash, Debug)]
+pub enum Un {
+    Unfloat,
+    Not,
+    Neg,
+    RedAnd,
+    RedOr,
+    RedXor,
+    Truth,
+}
+
+/// An operator on two vectors, as the call of `Four` of this name.
+///
+/// The operands have one width, but those of `Shl`, `Shr`, `Sar` and `Concat`. `Eq`, `Lt` and `Slt` give one bit, `Concat` the sum
+/// of the widths, at most 128, and the others the width of the first operand.
+#[derive(Clone, Copy, PartialEq, Eq, Hash, Debug)]
+pub enum Bin {
+    And,
+    Or,
+    Xor,
+    Eq,
+    Lt,
+    Slt,
+    Add,
+    Sub,
+    Mul,
+    Div,
+    Rem,
+    Sdiv,
+    Srem,
+    Res,
+    Shl,
+    Shr,
+    Sar,
+    /// The first above the second.
+    Concat,
+}
+
+/// An operator and its children, the nodes that it computes from. Widths are in bits, 1 to 128.
+#[derive(Clone, Copy, PartialEq, Eq, Hash, Debug)]
+pub enum Shape {
+    Const(Four),
+    /// A variable and its width.
+    Var(VarName, u8),
+    Unary(Un, Node),
+    Binary(Bin, Node, Node),
+    /// The second where the first, of one bit, is 1, and the third where it is 0 (IEEE 1800-2017, 11.4.11).
+    Cond(Node, Node, Node),
+    /// The same, but for an unknown condition equal bits stay, Z included.
+    Pick(Node, Node, Node),
+    /// Bits `lo` to `lo + width - 1`.
+    Slice {
+        of: Node,
+        lo: u8,
+        width: u8,
+    },
+    /// A node with 0 above, up to a width.
+    Zext(Node, u8),
+    /// A node with copies of its top bit above, up to a width.
+    Sext(Node, u8),
+    /// The part of `of` at the place that `spot` makes of `at`.
+    DynSlice {
+        of: Node,
+        at: Node,
+        spot: Spot,
+    },
+    /// `of` with `put`, of the spot's width, in place of that part.
+    DynPut {
+        of: Node,
+        at: Node,
+        spot: Spot,
+        put: Node,
+    },
+}
+
+/// Whether two vectors are equal.
+#[tactic(auto, using(fourvec::proofs::Basic::same_when_equal, fourvec::proofs::Basic::equal_when_same))]
+pub fn same_vector(a: &Four, b: &Four) -> bool
+    ensures { IsTrue result ↔ (a.now ≡ b.now) }
+{
+    *a == *b
+}
+
+fn same_spot(a: &Spot, b: &Spot) -> bool
+    ensures { IsTrue result ↔ (a.now ≡ b.now) }
+{
+    *a == *b
+}
+
+/// Whether two shapes are equal.
+pub fn same(a: &Shape, b: &Shape) -> bool
+    ensures { IsTrue result ↔ (a.now ≡ b.now) }
+{
+    match a {
+        Shape::Const(value) => matches!(b, Shape::Const(other) if same_vector(value, other)),
+        Shape::Var(name, width) => {
+            matches!(b, Shape::Var(other, wide) if *name == *other && *width == *wide)
+        }
+        Shape::Unary(op, x) => matches!(b, Shape::Unary(other, y) if *op == *other && *x == *y),
+        Shape::Binary(op, x, y) => {
+            matches!(b, Shape::Binary(other, v, w) if *op == *other && *x == *v && *y == *w)
+        }
+        Shape::Cond(c, x, y) => {
+            matches!(b, Shape::Cond(d, v, w) if *c == *d && *x == *v && *y == *w)
+        }
+        Shape::Pick(c, x, y) => {
+            matches!(b, Shape::Pick(d, v, w) if *c == *d && *x == *v && *y == *w)
+        }
+        Shape::Slice { of, lo, width } => {
+            matches!(b, Shape::Slice { of: from, lo: low, width: wide }
+                if *of == *from && *lo == *low && *width == *wide)
+        }
+        Shape::Zext(x, width) => matches!(b, Shape::Zext(y, wide) if *x == *y && *width == *wide),
+        Shape::Sext(x, width) => matches!(b, Shape::Sext(y, wide) if *x == *y && *width == *wide),
+        Shape::DynSlice { of, at, spot } => {
+            matches!(b, Shape::DynSlice { of: from, at: place, spot: part }
+                if *of == *from && *at == *place && same_spot(spot, part))
+        }
+        Shape::DynPut { of, at, spot, put } => {
+            matches!(b, Shape::DynPut { of: from, at: place, spot: part, put: new }
+                if *of == *from && *at == *place && same_spot(spot, part) && *put == *new)
+        }
+    }
+}
