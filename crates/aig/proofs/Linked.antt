@@ -1,0 +1,201 @@
+-- What a graph and its table keep as they grow.
+use Rattle.std.proofs.Common.{◌≡◌, ℕ, zero, suc, ◌+◌, ◌<◌, ◌≤◌, ◌⊎◌, inl, inr, ⊎_elim, Bool, true, false, not, ◌&&◌, cond, List, [], ◌∷◌, ◌++◌, length, get_or, replicate, refl, sym, ap, subst, ◌∙◌, arith}
+use Rattle.std.specs.Prelude.{slice_index}
+use Rattle.std.proofs.lemmas.Bool.{cases_eq, cases_lt, eq-eqb, lt-ltb, and_from}
+use Rattle.std.proofs.lemmas.List.{length_push, length-replicate, get_or_append_left, get_or_push, get_or_past, take-append-le, take_all}
+use Rattle.aig.specs.declared.gate.Lit.{Lit}
+use Rattle.aig.specs.declared.gate.Gate.{Gate}
+use Rattle.aig.specs.declared.gate.Gate.TheVariants.{False, Input, And}
+use Rattle.aig.specs.Graph.{gate_at, negation, constant_lit, holds, Says, Obeys, Always, values, is_placed, count_inputs, IsGraph, Grows, KeepsValues, IsIn}
+use Rattle.aig.specs.Conjunction.{IsBoth, NeedsNoGate, IsSimplified, IsMadePlain, IsGateOf}
+use Rattle.aig.specs.Table.{IsChained, HasNone, IsHashed, IsLinked, IsKept, IsNodeOf, gate_slot}
+use Rattle.aig.proofs.Growth.{IsGraph-push_and, IsGraph-push_input, start, none_counted, Grows-refl, Grows-push, count_inputs-push_and, count_inputs-push_input}
+use Rattle.aig.proofs.Values.{Obeys-values, always_from, kept_values, value_input}
+use Rattle.aig.proofs.Chains.{chained_same, chained_past, chained_none}
+
+-- ---- the table
+
+-- the gates below the end stay as one is pushed
+pushed_same : (gates : List Gate) (g : Gate) (k : ℕ) → k < length gates → gate_at (gates ++ g ∷ []) k ≡ gate_at gates k
+pushed_same gates g k lt = get_or_append_left gates (g ∷ []) False k lt
+
+pushed_last : (gates : List Gate) (g : Gate) → gate_at (gates ++ g ∷ []) (length gates) ≡ g
+pushed_last gates g = get_or_push gates g False (length gates) refl
+
+-- where a conjunction stands after a push
+pushed_and : (gates : List Gate) (g : Gate) (k : ℕ) (p q : Lit) → gate_at (gates ++ g ∷ []) k ≡ And p q → (gate_at gates k ≡ And p q) ⊎ ((k ≡ length gates) × (g ≡ And p q))
+pushed_and gates g k p q e = ⊎_elim
+    (λ lt. inl (sym (pushed_same gates g k lt) ∙ e))
+    (λ le. ⊎_elim
+    (λ is. inr (is, sym (pushed_last gates g) ∙ subst (λ j. gate_at (gates ++ g ∷ []) j ≡ And p q) is e))
+    (λ not. let past : False ≡ And p q = sym (get_or_past (gates ++ g ∷ []) k False (omega (arith, length_push gates g))) ∙ e in cc)
+    (cases_eq k (length gates)))
+    (cases_lt k (length gates))
+
+hashed_start : IsHashed (False ∷ [])
+hashed_start = record {
+  some = λ k p q e. absurd (start_none k p q e);
+  ordered = λ k p q e. absurd (start_none k p q e);
+  apart = λ j k p q e f. absurd (start_none j p q e);
+}
+  where
+    start_none : (k : ℕ) (p q : Lit) → gate_at (False ∷ []) k ≡ And p q → ⊥
+    start_none zero p q e = cc
+    start_none (suc k) p q e = cc
+
+hashed_input : (gates : List Gate) (n : ℕ) → IsHashed gates → IsHashed (gates ++ Input n ∷ [])
+hashed_input gates n h = record {
+  some = λ k p q e. h.some k p q (before k p q e);
+  ordered = λ k p q e. h.ordered k p q (before k p q e);
+  apart = λ j k p q e f. h.apart j k p q (before j p q e) (before k p q f);
+}
+  where
+    before : (k : ℕ) (p q : Lit) → gate_at (gates ++ Input n ∷ []) k ≡ And p q → gate_at gates k ≡ And p q
+    before k p q e = ⊎_elim (λ old. old) (λ new. let no : Input n ≡ And p q = new.1 in cc) (pushed_and gates (Input n) k p q e)
+
+hashed_and : (gates : List Gate) (a b : Lit) → 0 < a.node → a.node < b.node → HasNone gates (And a b) → IsHashed gates → IsHashed (gates ++ And a b ∷ [])
+hashed_and gates a b some lt none h = record {
+  some = λ k p q e. ⊎_elim (λ old. h.some k p q old) (λ new. let is : a ≡ p = first a b p q new.1 in subst (λ (l : Lit). 0 < l.node) is some) (pushed_and gates (And a b) k p q e);
+  ordered = λ k p q e. ⊎_elim (λ old. h.ordered k p q old) (λ new.
+      let is : a ≡ p = first a b p q new.1 in
+      let also : b ≡ q = second a b p q new.1 in
+      subst (λ (l : Lit). l.node < q.node) is (subst (λ (l : Lit). a.node < l.node) also lt)) (pushed_and gates (And a b) k p q e);
+  apart = λ j k p q e f. ⊎_elim
+      (λ old. ⊎_elim (λ old'. h.apart j k p q old old') (λ new'. absurd (none.none j (old ∙ sym new'.1))) (pushed_and gates (And a b) k p q f))
+      (λ new. ⊎_elim (λ old'. absurd (none.none k (old' ∙ sym new.1))) (λ new'. new.0 ∙ sym new'.0) (pushed_and gates (And a b) k p q f))
+      (pushed_and gates (And a b) j p q e);
+}
+  where
+    first : (a b p q : Lit) → And a b ≡ And p q → a ≡ p
+    first a b p q e = cc
+
+    second : (a b p q : Lit) → And a b ≡ And p q → b ≡ q
+    second a b p q e = cc
+
+-- ---- what an `Aig` keeps
+
+pub kept_start : (slots : ℕ) (newest : List ℕ) → 0 < slots → newest ≡ replicate slots 0 → IsKept 0 (False ∷ []) [] newest
+kept_start slots newest some e =
+    let long : length newest ≡ slots = ap (λ (xs : List ℕ). length xs) e ∙ length-replicate slots 0 in
+    record {
+      linked = record {
+        graph = start;
+        hashed = hashed_start;
+        slots = omega arith;
+        chained = chained_past 0 (False ∷ []) [] newest refl (chained_none (False ∷ []) [] newest (rw long e) (λ k above. absurd (omega arith)));
+      };
+      counted = none_counted;
+    }
+
+pub kept_input : (inputs : ℕ) (gates : List Gate) (older newest : List ℕ) → IsKept inputs gates older newest → IsKept (inputs + 1) (gates ++ Input inputs ∷ []) older newest
+kept_input inputs gates older newest h =
+    let new : List Gate = gates ++ Input inputs ∷ [] in
+    let long : length gates + 1 ≡ length new = sym (length_push gates (Input inputs)) in
+    record {
+      linked = record {
+        graph = IsGraph-push_input gates inputs h.linked.graph h.counted;
+        hashed = hashed_input gates inputs h.linked.hashed;
+        slots = h.linked.slots;
+        chained = subst (λ (n : ℕ). IsChained n new older newest) long (chained_past (length gates) new older newest (ap (λ (g : Gate). gate_slot (length newest) g) (pushed_last gates (Input inputs)))
+            (chained_same (length gates) gates new older newest (λ k lt. pushed_same gates (Input inputs) k lt) h.linked.chained));
+      };
+      counted = ap (λ n. n + 1) h.counted ∙ sym (count_inputs-push_input gates inputs);
+    }
+
+pub linked_and : (gates : List Gate) (a b : Lit) (older newest older' newest' : List ℕ) → IsLinked gates older newest → 0 < a.node → a.node < b.node → b.node < length gates → HasNone gates (And a b) →
+    0 < length newest' → IsChained (length (gates ++ And a b ∷ [])) (gates ++ And a b ∷ []) older' newest' → IsLinked (gates ++ And a b ∷ []) older' newest'
+linked_and gates a b older newest older' newest' h some lt within none slots c = record {
+  graph = IsGraph-push_and gates a b h.graph (omega arith) within;
+  hashed = hashed_and gates a b some lt none h.hashed;
+  slots = slots;
+  chained = c;
+}
+
+pub kept_pushed : (gates : List Gate) (g : Gate) → IsGraph gates → KeepsValues gates (gates ++ g ∷ [])
+kept_pushed gates g h = kept_values gates (gates ++ g ∷ []) h (omega (arith, length_push gates g)) (λ k lt. pushed_same gates g k lt)
+
+-- the value of an input that was added
+pub value_pushed : (gates : List Gate) (n : ℕ) → IsGraph gates → n ≡ count_inputs gates → (inputs : List Bool) → values inputs (gates ++ Input n ∷ []) (length gates) ≡ get_or inputs n false
+value_pushed gates n h e inputs =
+    value_input inputs (gates ++ Input n ∷ []) (length gates) n (IsGraph-push_input gates n h e) (omega (arith, length_push gates (Input n))) (pushed_last gates (Input n))
+
+-- ---- the contract of `and`
+
+-- nothing is made where the operands decide
+pub both_plain : (gates : List Gate) (a b c : Lit) → IsMadePlain a b c → IsGraph gates → IsBoth gates a b c
+both_plain gates a b c m h = always_from gates (λ v. holds v c ≡ (holds v a && holds v b)) h (λ v o. m.value v o.bottom)
+
+not_decided : (a b : Lit) → 0 < a.node → a.node < b.node → NeedsNoGate a b → ⊥
+not_decided a b some lt (inl e) = omega arith
+not_decided a b some lt (inr (inl e)) = omega arith
+not_decided a b some lt (inr (inr e)) = omega arith
+
+not_decided_turned : (a b : Lit) → 0 < b.node → b.node < a.node → NeedsNoGate a b → ⊥
+not_decided_turned a b some lt (inl e) = omega arith
+not_decided_turned a b some lt (inr (inl e)) = omega arith
+not_decided_turned a b some lt (inr (inr e)) = omega arith
+
+-- no gate has operands that decide
+pub no_gate : (gates : List Gate) (a b c : Lit) → IsHashed gates → NeedsNoGate a b → IsGateOf gates a b c → ⊥
+no_gate gates a b c h decided g = ⊎_elim
+    (λ e. not_decided a b (h.some c.node a b e) (h.ordered c.node a b e) decided)
+    (λ e. not_decided_turned a b (h.some c.node b a e) (h.ordered c.node b a e) decided)
+    g.operands
+
+holds-plain : (v : ℕ → Bool) (c : Lit) → c.negated ≡ false → holds v c ≡ v c.node
+holds-plain v c e = ap (λ (n : Bool). cond n (not (v c.node)) (v c.node)) e
+
+pub both_made : (old new : List Gate) (a b c : Lit) → IsNodeOf old a b new c.node → c.negated ≡ false → IsGraph new → IsBoth new a b c
+both_made old new a b c m plain h = always_from new (λ v. holds v c ≡ (holds v a && holds v b)) h (λ v o.
+    let says : v c.node ≡ (holds v a && holds v b) = subst (Says v c.node) m.is (o.each c.node m.within) in
+    holds-plain v c plain ∙ says)
+
+and_turn : (x y : Bool) → (x && y) ≡ (y && x)
+and_turn true true = refl
+and_turn true false = refl
+and_turn false true = refl
+and_turn false false = refl
+
+pub both_turned : (gates : List Gate) (a b c : Lit) → IsBoth gates b a c → IsBoth gates a b c
+both_turned gates a b c h = record {
+  graph = h.graph;
+  obeyed = λ v o. h.obeyed v o ∙ and_turn (holds v b) (holds v a);
+  at_inputs = λ inputs. h.at_inputs inputs ∙ and_turn (holds (values inputs gates) b) (holds (values inputs gates) a);
+}
+
+pub grows_made : (old new : List Gate) (a b : Lit) (k : ℕ) → IsNodeOf old a b new k → Grows old new
+grows_made old new a b k m = ⊎_elim
+    (λ e. subst (λ (g : List Gate). Grows old g) (sym e) (Grows-refl old))
+    (λ made. subst (λ (g : List Gate). Grows old g) (sym made.0) (Grows-push old a b))
+    m.grown
+
+pub simplified_not : (a b c : Lit) → (NeedsNoGate a b → ⊥) → IsSimplified a b c
+simplified_not a b c open_pair = record {
+  identity_left = λ e. absurd (open_pair (inl (ap (λ (l : Lit). l.node) e)));
+  identity_right = λ e. absurd (open_pair (inr (inl (ap (λ (l : Lit). l.node) e))));
+  annihilation_left = λ e. absurd (open_pair (inl (ap (λ (l : Lit). l.node) e)));
+  annihilation_right = λ e. absurd (open_pair (inr (inl (ap (λ (l : Lit). l.node) e))));
+  idempotence = λ e. absurd (open_pair (inr (inr (ap (λ (l : Lit). l.node) e))));
+  complement = λ e. absurd (open_pair (inr (inr (sym (ap (λ (l : Lit). l.node) e)))));
+}
+
+pub gate_made : (old new : List Gate) (a b c : Lit) → IsNodeOf old a b new c.node → c.negated ≡ false → IsGateOf new a b c
+gate_made old new a b c m plain = record { within = m.within; plain = plain; operands = inl m.is }
+
+pub gate_turned : (gates : List Gate) (a b c : Lit) → IsGateOf gates b a c → IsGateOf gates a b c
+gate_turned gates a b c g = record { within = g.within; plain = g.plain; operands = ⊎_elim (λ x. inr x) (λ y. inl y) g.operands }
+
+lit_same : (c d : Lit) → d.node ≡ c.node → d.negated ≡ c.negated → d ≡ c
+lit_same c d e f =
+    let pair : ◌≡◌ {A = ℕ × Bool} (d.node, d.negated) (c.node, c.negated) = cc in
+    let of : ℕ × Bool → Lit = λ p. record { node = p.0; negated = p.1 } in
+    ap of pair
+
+pub shared_made : (old new : List Gate) (a b c d : Lit) → IsNodeOf old a b new d.node → d.negated ≡ false → a.node < b.node → IsHashed old → IsGateOf old a b c → (new ≡ old) × (d ≡ c)
+shared_made old new a b c d m plain lt h g = ⊎_elim
+    (λ here. ⊎_elim
+    (λ e. (e, lit_same c d (h.apart d.node c.node a b (subst (λ (x : List Gate). gate_at x d.node ≡ And a b) e m.is) here) (plain ∙ sym g.plain)))
+    (λ made. absurd (made.1.none c.node here))
+    m.grown)
+    (λ turned. absurd (let gt : b.node < a.node = h.ordered c.node b a turned in omega arith))
+    g.operands

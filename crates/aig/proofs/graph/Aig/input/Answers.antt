@@ -1,0 +1,32 @@
+use Rattle.std.proofs.Common.{◌≡◌, ◌+◌, ◌<◌, ◌++◌, ◌∷◌, [], List, length, false, get_or, ap, sym, subst, ◌∙◌, arith}
+use Rattle.std.proofs.lemmas.List.{get_or_append_left, get_or_push, length_push}
+use Rattle.aig.specs.declared.gate.Gate.{Gate}
+use Rattle.aig.specs.declared.gate.Gate.TheVariants.{False, Input}
+use Rattle.aig.specs.Graph.{count_inputs, IsGraph, KeepsValues, values}
+use Rattle.aig.proofs.Growth.{count_inputs-push_input, IsGraph-push_input}
+use Rattle.aig.proofs.Linked.{kept_input, kept_pushed, value_pushed}
+use Rattle.aig.proofs.Values.{count_inputs_lt, kept_values, value_input}
+use Rattle.aig.proofs.graph.Aig.input.Goals as goal
+
+pub overflow_add-self : goal.overflow_add-self
+overflow_add-self c = omega (arith, count_inputs_lt c.self.inside.gates.items c.self.invariant.linked.graph, c.self.invariant.counted)
+
+pub invariant_of-self-2 : goal.invariant_of-self-2
+invariant_of-self-2 c = rw c.in_ok-push.ensures.items (kept_input _ _ _ _ c.self.invariant)
+
+pub returns-clause-count : goal.returns-clause-count
+returns-clause-count c = rw (c.in_ok-push.ensures.items, ← c.self.view_is) (count_inputs-push_input c.self.inside.gates.items c.self.inside.inputs)
+
+pub returns-clause-graph : goal.returns-clause-graph
+returns-clause-graph c = rw c.in_ok-push.ensures.items (IsGraph-push_input c.self.inside.gates.items c.self.inside.inputs c.self.invariant.linked.graph c.self.invariant.counted)
+
+pub returns-clause-kept : goal.returns-clause-kept
+returns-clause-kept c = rw (c.in_ok-push.ensures.items, ← c.self.view_is) (kept_pushed c.self.inside.gates.items (Input c.self.inside.inputs) c.self.invariant.linked.graph)
+
+pub returns-clause-value : goal.returns-clause-value
+returns-clause-value c = λ inputs.
+    let gates = c.self.inside.gates.items in
+    let n = c.self.inside.inputs in
+    let at : c.len-node.result ≡ length gates = omega arith in
+    let counted : n ≡ count_inputs c.args.self.now = c.self.invariant.counted ∙ ap (λ (g : List Gate). count_inputs g) c.self.view_is in
+    rw (c.in_ok-push.ensures.items, at, ← counted) (value_pushed gates n c.self.invariant.linked.graph c.self.invariant.counted inputs)

@@ -1,0 +1,4 @@
+pub mod Graph
+pub mod Conjunction
+pub mod Table
+pub mod Cone

@@ -1,0 +1,13 @@
+//! And-inverter graphs: nodes that are false, inputs, or conjunctions of two literals, a literal being a node or its negation.
+//!
+//! A graph only grows. It is hashed: no two conjunctions have the same operands, in either order, and none is made whose
+//! value its operands alone decide.
+#![tactic(auto)]
+
+mod eval;
+mod gate;
+mod graph;
+mod table;
+
+pub use gate::{Gate, Lit};
+pub use graph::Aig;

@@ -1,0 +1,5 @@
+pub mod Tables
+pub mod Steps
+pub mod Grown
+pub mod Numbers
+pub mod Moves

@@ -1,0 +1,14 @@
+use Rattle.aig.specs.Graph.{holds}
+use Rattle.aig.proofs.Growth.{Obeys-older}
+use Rattle.aig.proofs.Values.{always_from}
+use Rattle.aig_words.proofs.Tables.{holds-negation, xor_by}
+use Rattle.aig_words.proofs.cells.add_pair.Goals as goal
+
+pub returns-clause-sum : goal.returns-clause-sum
+returns-clause-sum c = always_from _ _ c.in_ok-sum.ensures.value.graph (λ v o.
+    let o2 = Obeys-older v _ _ c.in_ok-sum.ensures.grows o in
+    let o1 = Obeys-older v _ _ c.in_ok-neither.ensures.grows o2 in
+    xor_by (holds v c.args.a) (holds v c.args.b) _ _ _ _ _ _ _
+    (holds-negation v c.args.a _ c.not.ensures) (holds-negation v c.args.b _ c.not-2.ensures)
+    (holds-negation v c.in_ok-carry.carry _ c.not-3.ensures) (holds-negation v c.in_ok-neither.neither _ c.not-4.ensures)
+    (c.in_ok-carry.ensures.value.obeyed v o1) (c.in_ok-neither.ensures.value.obeyed v o2) (c.in_ok-sum.ensures.value.obeyed v o))

@@ -1,0 +1,9 @@
+use Rattle.aig.proofs.Values.{always_from}
+use Rattle.aig_words.specs.Words.{number}
+use Rattle.aig_words.proofs.Steps.{quotient_is}
+use Rattle.aig_words.proofs.divides.div.Goals as goal
+
+pub returns-clause-value : goal.returns-clause-value
+returns-clause-value c = always_from _ _ c.in_ok-quotient.ensures.value.graph (λ v o pos.
+    let parts = c.in_ok-quotient.ensures.value.obeyed v o pos in
+    quotient_is (number v c.args.a.now) _ (number v c.args.b.now) _ parts.0 parts.1)

@@ -1,0 +1,103 @@
+use Rattle.std.proofs.Common.{◌≡◌, ℕ, ◌+◌, ◌-◌, ◌*◌, ◌^◌, ◌<◌, ◌≤◌, Bool, false, List, length, get_or, take, drop, cond, ltb, ap, sym, subst, refl, ◌∙◌, arith, add-one, length-drop}
+use Rattle.std.proofs.Math.Nat.{pow-suc}
+use Rattle.std.proofs.lemmas.List.{drop_all, take_rest}
+use Rattle.aig.specs.declared.gate.Lit.{Lit}
+use Rattle.aig.specs.Graph.{holds, constant_lit}
+use Rattle.aig.proofs.Growth.{Obeys-older}
+use Rattle.aig.proofs.Values.{always_from}
+use Rattle.aig_words.specs.Words.{number, Grew, IsWord, moved, shifted}
+use Rattle.aig_words.proofs.Grown.{Grew-refl, Grew-then, Grew-stages, some_node, moved_in, fills_later}
+use Rattle.aig_words.proofs.Numbers.{number-nil, number-below}
+use Rattle.aig_words.proofs.Moves.{length-moved, number-moved, shifted_none, shift_more, shift_end}
+use Rattle.aig_words.proofs.shifts.shift.Goals as goal
+use Rattle.aig_words.proofs.shifts.shift.Goals.{then-loop-j-test+else-k-a, else-loop-j-test}
+
+pub loop-j-init : goal.loop-j-init
+loop-j-init c =
+    let a = c.args.a.now in
+    rw c.in_ok-word.ensures.items (record {
+      grew = Grew-refl _ c.args.aig.now;
+      within = omega arith;
+      step = refl;
+      word = record { long = refl; inside = c.requires.a_in };
+      value = λ v o. sym (ap (λ n. shifted v c.args.way (length a) (number v a) n) (number-nil v) ∙ shifted_none v c.args.way (length a) (number v a) (number-below v a));
+    })
+
+pub any-requires-clause-some : goal.any-requires-clause-some
+any-requires-clause-some c =
+    let node : 0 < length c.args.aig.now = some_node c.args.aig.now c.args.a.now c.requires.some c.requires.a_in in
+    omega (arith, c.loop-j.invariant.grew.grows.longer)
+
+pub mux-requires-clause-a_in : goal.mux-requires-clause-a_in
+mux-requires-clause-a_in c =
+    let node : 0 < length c.args.aig.now = some_node c.args.aig.now c.args.a.now c.requires.some c.requires.a_in in
+    let grows = c.loop-j.invariant.grew.grows in
+    rw (c.deref-in-loop-j.ensures.value, c.in_ok-moved.ensures, c.deref.ensures.value)
+    (moved_in c.loop-j.aig c.args.way c.loop-j.k c.loop-j.word.items (omega (arith, grows.longer)) (fills_later c.args.aig.now c.loop-j.aig c.args.way grows c.requires.way_in) c.loop-j.invariant.word.inside)
+
+pub loop-j-preserved : goal.loop-j-preserved
+loop-j-preserved c =
+    let a = c.args.a.now in
+    let b = c.args.b.now in
+    let j = c.loop-j.j in
+    let k = c.loop-j.k in
+    let way = c.args.way in
+    let word = c.loop-j.word.items in
+    let long = c.loop-j.invariant.word.long in
+    let kle : k ≤ length word = omega (arith, c.if-k-a.true, long) in
+    let is_moved : c.deref-in-loop-j.result.now ≡ moved way k word = c.deref-in-loop-j.ensures.value ∙ c.in_ok-moved.ensures ∙ ap (λ (xs : List Lit). moved way k xs) c.deref.ensures.value in
+    let moved_long : length c.deref-in-loop-j.result.now ≡ length a = ap (λ (xs : List Lit). length xs) is_moved ∙ length-moved way k word kle ∙ long in
+    let kept : c.deref-in-loop-j-2.result.now ≡ word = c.deref-in-loop-j-2.ensures.value in
+    let p : 2 ^ (j + 1) ≡ 2 ^ j * 2 = rw add-one (pow-suc 2 j) in
+    let ek : k ≡ 2 ^ j = omega (arith, c.loop-j.invariant.step, c.if-k-a.true) in
+    record {
+      grew = Grew-then (3 * length a * j) _ (3 * length a * (j + 1)) c.args.aig.now c.loop-j.aig _ (omega arith) c.loop-j.invariant.grew c.in_ok-word-2.ensures.grew;
+      within = omega (arith, c.loop-j-test.true);
+      step = omega (arith, c.loop-j.invariant.step, c.saturating_mul-k.ensures);
+      word = subst (λ (n : ℕ). IsWord c.mux.new.aig n c.in_ok-word-2.word.items) moved_long c.in_ok-word-2.ensures.word;
+      value = λ v o.
+          let o1 = Obeys-older v _ _ c.in_ok-word-2.ensures.grew.grows o in
+          let x : Bool = holds v (get_or b j (constant_lit false)) in
+          let e : number v c.in_ok-word-2.word.items ≡ cond x (number v (moved way k word)) (number v word) =
+          c.in_ok-word-2.ensures.value.obeyed v o ∙ ap (λ (xs : List Lit). cond x (number v xs) (number v c.deref-in-loop-j-2.result.now)) is_moved ∙ ap (λ (xs : List Lit). cond x (number v (moved way k word)) (number v xs)) kept in
+          shift_more v way b word (length a) (number v a) j k (number v c.in_ok-word-2.word.items) o.bottom c.loop-j-test.true long kle ek (c.loop-j.invariant.value v o1) e;
+    }
+
+pub returns-clause-grew : goal.returns-clause-grew
+returns-clause-grew c =
+    let a = c.args.a.now in
+    let b = c.args.b.now in
+    let j = c.loop-j.j in
+    let away : length c.deref-2.result.now ≡ length a = ap (λ (xs : List Lit). length xs) (c.deref-2.ensures.value ∙ c.in_ok-away.ensures) ∙ length-moved c.args.way (length a) a (omega arith) in
+    Grew-stages (length a) j (drop j b) c.deref-2.result.now c.args.aig.now c.loop-j.aig c.any.new.aig _ c.requires.some (omega (arith, c.loop-j.invariant.within, c.requires.same))
+    (omega (arith, length-drop j b, c.requires.same)) away c.loop-j.invariant.grew (subst (λ (xs : List Lit). Grew (length xs) c.loop-j.aig c.any.new.aig) (take_rest b j) c.in_ok-far.ensures.grew) c.in_ok-moved-2.ensures.grew
+
+pub returns-in_err-moved-2-clause-grew : goal.returns-in_err-moved-2-clause-grew
+returns-in_err-moved-2-clause-grew c =
+    let a = c.args.a.now in
+    let b = c.args.b.now in
+    let j = c.loop-j.j in
+    let away : length c.deref-2.result.now ≡ length a = ap (λ (xs : List Lit). length xs) (c.deref-2.ensures.value ∙ c.in_ok-away.ensures) ∙ length-moved c.args.way (length a) a (omega arith) in
+    Grew-stages (length a) j (drop j b) c.deref-2.result.now c.args.aig.now c.loop-j.aig c.any.new.aig _ c.requires.some (omega (arith, c.loop-j.invariant.within, c.requires.same))
+    (omega (arith, length-drop j b, c.requires.same)) away c.loop-j.invariant.grew (subst (λ (xs : List Lit). Grew (length xs) c.loop-j.aig c.any.new.aig) (take_rest b j) c.in_ok-far.ensures.grew) c.in_err-moved-2.ensures.grew
+
+pub returns-clause-value : goal.returns-clause-value
+returns-clause-value c = always_from _ _ c.in_ok-moved-2.ensures.value.graph (λ v o.
+    let a = c.args.a.now in
+    let b = c.args.b.now in
+    let j = c.loop-j.j in
+    let way = c.args.way in
+    let o2 = Obeys-older v _ _ c.in_ok-moved-2.ensures.grew.grows o in
+    let o1 = Obeys-older v _ _ c.in_ok-far.ensures.grew.grows o2 in
+    let far : Bool = holds v c.in_ok-far.far in
+    let step = c.loop-j.invariant.step in
+    let late : 0 < number v (drop j b) → length a ≤ 2 ^ j = elim c.loop-j-test.branch [
+      | then-loop-j-test+else-k-a w ↦ λ h. omega (arith, w.if-k-a.false, step)
+      | else-loop-j-test w ↦ λ h. absurd (let z : number v (drop j b) ≡ 0 = ap (λ (xs : List Lit). number v xs) (drop_all j b w.loop-j-test.false) ∙ number-nil v in omega arith)
+    ] in
+    let away : number v c.deref-2.result.now ≡ shifted v way (length a) (number v a) (length a) =
+    ap (λ (xs : List Lit). number v xs) (c.deref-2.ensures.value ∙ c.in_ok-away.ensures) ∙ number-moved v way (length a) a o.bottom (omega arith) in
+    let e : number v c.in_ok-moved-2.moved.items ≡ cond far (shifted v way (length a) (number v a) (length a)) (number v c.loop-j.word.items) =
+    c.in_ok-moved-2.ensures.value.obeyed v o ∙ ap (λ n. cond far n (number v c.deref-3.result.now)) away ∙ ap (λ (xs : List Lit). cond far (shifted v way (length a) (number v a) (length a)) (number v xs)) c.deref-3.ensures.value in
+    shift_end v way b (length a) (number v a) j (number v c.loop-j.word.items) (number v c.in_ok-moved-2.moved.items) far (number-below v a) c.loop-j.invariant.within late (c.loop-j.invariant.value v o1)
+    (c.in_ok-far.ensures.value v o2 ∙ ap (λ (xs : List Lit). ltb 0 (number v xs)) (take_rest b j)) e)

@@ -1,0 +1,11 @@
+pub mod Chains
+pub mod Climbing
+pub mod Falling
+pub mod Joining
+pub mod Lying
+pub mod Marks
+pub mod Row
+pub mod SegBits
+pub mod Standing
+pub mod SumsBelow
+pub mod Trees

@@ -1,0 +1,14 @@
+use Rattle.std.proofs.Common.{◌≡◌, ◌++◌, ◌∷◌, [], append_assoc, sym, ap, ◌∙◌}
+use Rattle.lhs_alias.specs.Segs.{seg_bits, bit}
+use Rattle.lhs_alias.proofs.SegBits.{seg_bits-more}
+use Rattle.lhs_alias.proofs.joins.add_wire.Goals as goal
+
+pub loop-at-preserved : goal.loop-at-preserved
+loop-at-preserved c =
+    let wire = c.len-wire.result in
+    let at = c.loop-at.at in
+    let old = c.args.bits.now.items in
+    c.in_ok-push-2.ensures.items
+    ∙ ap (λ s. s ++ bit wire at ∷ []) c.loop-at.invariant
+    ∙ append_assoc old (seg_bits (record { wire = wire; lo = 0; width = at })) (bit wire at ∷ [])
+    ∙ ap (λ s. old ++ s) (sym (seg_bits-more wire at))

@@ -1,0 +1,14 @@
+use Rattle.std.proofs.Common.{◌≡◌, false, length}
+use Rattle.std.specs.Prelude.{All}
+use Rattle.lhs_alias.specs.Segs.{lhs_bits}
+use Rattle.lhs_alias.specs.Joined.{HasPlace, marked}
+use Rattle.lhs_alias.proofs.joins.clear_all.Given as goal
+
+abbrev pub invariant-loop-bit : goal.invariant-loop-bit
+invariant-loop-bit l = record {
+  marks : marked l.starts false l.joined l.bits ≡ marked l.starts false l.initial.joined (lhs_bits l.segs);
+  places : All (HasPlace l.starts (length l.joined)) l.bits;
+}
+
+abbrev pub decreases-loop-bit : goal.decreases-loop-bit
+decreases-loop-bit l = length l.bits

@@ -1,0 +1,31 @@
+use Rattle.std.proofs.Common.{◌≡◌, [], append_assoc, List, subst, arith, get_or, map, ◌++◌, ◌∷◌, length, refl, sym, ap, ◌∙◌}
+use Rattle.std.specs.Prelude.{All, Contains}
+use Rattle.std.proofs.lemmas.List.Elements.{All-push, Contains-get_or}
+use Rattle.lhs_alias.specs.declared.segs.WireBit.{WireBit}
+use Rattle.lhs_alias.specs.Segs.{bit}
+use Rattle.lhs_alias.specs.Joined.{place_in, first_bit}
+use Rattle.lhs_alias.proofs.Row.{places-rest}
+use Rattle.lhs_alias.proofs.joins.first_bits.Goals as goal
+
+pub loop-bit-preserved : goal.loop-bit-preserved
+unfolding first_bit
+loop-bit-preserved c =
+    let starts = c.args.starts.now in
+    let rest = c.next_bit.new.self in
+    let found = first_bit c.args.bits.now starts c.args.forest.now in
+    let firsts = c.loop-bit.firsts.items in
+    let first : get_or c.args.bits.now c.first_of.result (bit 0 0) ≡ found c.in-Some.bit =
+    ap (λ r. get_or c.args.bits.now r (bit 0 0)) (c.first_of.ensures.value ∙ ap (λ p. get_or c.args.forest.now p 0) c.place.ensures) in
+    record {
+      firsts =
+          ap (λ s. s ++ map found rest) (c.in_ok-push.ensures.items ∙ ap (λ b. firsts ++ b ∷ []) first)
+          ∙ append_assoc firsts (found c.in-Some.bit ∷ []) (map found rest)
+          ∙ ap (λ s. firsts ++ map found s) (sym c.in-Some.ensures)
+          ∙ c.loop-bit.invariant.firsts;
+      known =
+          let P : List WireBit → Type 0 = All (Contains c.args.bits.now) in
+          subst P (sym c.in_ok-push.ensures.items)
+          (All-push (Contains c.args.bits.now) firsts _ c.loop-bit.invariant.known
+          (Contains-get_or c.args.bits.now c.first_of.result (bit 0 0) (omega (arith, c.first_of.ensures.within, c.requires.as_many))));
+      places = places-rest starts _ _ c.in-Some.bit rest c.loop-bit.rest c.in-Some.ensures refl c.loop-bit.invariant.places;
+    }

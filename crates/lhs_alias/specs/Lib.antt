@@ -1,0 +1,5 @@
+pub mod Joined
+pub mod Lies
+pub mod Pairs
+pub mod Roots
+pub mod Segs
