@@ -1,0 +1,4 @@
+pub mod Formula
+pub mod Clauses
+pub mod State
+pub mod Gates

@@ -1,0 +1,6 @@
+pub mod Entry
+pub mod Accepted
+pub mod Fresh
+pub mod Count
+pub mod Trail
+pub mod Errors

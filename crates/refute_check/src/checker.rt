@@ -1,0 +1,118 @@
+//! The checker of a whole log.
+
+ghost use Rattle.std.specs.Prelude.{◌≡◌, ℕ, ◌<◌, ◌≤◌, ◌↔◌, None, map, length, replicate, IsTrue, IsOk, IfOk, IfErr, []};
+ghost use Rattle.cnf.specs.Formula.{formula_of};
+ghost use Rattle.cnf.specs.Clauses.{AllBelow, HasNoSolution};
+ghost use Rattle.refute_check.specs.Accepted.{entry_at, Fits, IsAccepted, IsBadAt};
+ghost use Rattle.refute_check.specs.Errors.{IsBadFor};
+
+use crate::follow::follows;
+use crate::log::{Log, Step};
+use crate::marks::Marks;
+use cnf::{Cnf, Dim};
+use std::alloc::{AllocError, Global};
+use std::marker::Model;
+use thiserror::Error;
+
+/// Why a log is not accepted: the number of the first step that is not derived, counted from 0, or the number of steps where
+/// all are derived and none is empty.
+#[derive(Clone, Copy, Debug, PartialEq, Eq, Error)]
+pub enum CheckErr {
+    #[error("the log is not accepted: step {0}")]
+    Bad(usize),
+}
+
+/// Room for the values of variables. Contracts see the number of variables that it has room for.
+#[derive(Debug, Drop)]
+pub struct Checker {
+    marks: Marks,
+}
+
+impl Model for Checker {
+    ghost use Rattle.std.specs.Prelude.{◌≡◌, ℕ, None, length, replicate};
+
+    ghost Value = { ℕ };
+
+    ghost view = { λ c. length c.marks };
+
+    ghost invariant = { λ c. c.marks ≡ replicate (length c.marks) None };
+}
+
+/// Above each variable that the clauses name, and at least `vars`. No room for 2 ^ 64 variables can be had.
+fn width_of(vars: usize, clauses: &[Vec<Dim>]) -> Result<usize, AllocError>
+    ensures { IfOk result (λ width. (vars ≤ width) × AllBelow width (map (λ v. v.items) clauses.now)) }
+{
+    let mut width = vars;
+    for clause in clauses {
+        for d in clause {
+            if d.var == usize::MAX {
+                return Err(AllocError);
+            }
+            if d.var >= width {
+                width = d.var + 1;
+            }
+        }
+    }
+    Ok(width)
+}
+
+fn is_empty_at(steps: &[Step], k: usize) -> bool
+    requires { k < length steps.now }
+    ensures { IsTrue result ↔ ((entry_at steps.now k).clause ≡ []) }
+{
+    let step = &steps[k];
+    step.clause.is_empty()
+}
+
+/// Judges the steps in order.
+fn run(marks: &mut Marks, vars: usize, clauses: &[Vec<Dim>], steps: &[Step]) -> Result<(), CheckErr>
+    requires fits { Fits (length marks.old) (formula_of vars (map (λ v. v.items) clauses.now)) }
+    requires clear { marks.old ≡ replicate (length marks.old) None }
+    ensures ok { IsOk result ↔ IsAccepted (formula_of vars (map (λ v. v.items) clauses.now)) steps.now }
+    ensures bad { IfErr result (IsBadFor (formula_of vars (map (λ v. v.items) clauses.now)) steps.now) }
+    ensures clear { marks.new ≡ marks.old }
+{
+    let mut empty = false;
+    for k in 0..steps.len() {
+        if !follows(marks, vars, clauses, steps, k) {
+            return Err(CheckErr::Bad(k));
+        }
+        if is_empty_at(steps, k) {
+            empty = true;
+        }
+    }
+    if empty {
+        Ok(())
+    } else {
+        Err(CheckErr::Bad(steps.len()))
+    }
+}
+
+impl Checker {
+    /// A checker for these clauses, and for any log.
+    pub fn new(alloc: Global, cnf: &Cnf, _log: &Log) -> Result<Checker, AllocError>
+        ensures { IfOk result (λ checker. Fits checker cnf.now) }
+    {
+        let width = width_of(cnf.vars, cnf.clauses.as_slice())?;
+        Ok(Checker {
+            marks: Marks::new(alloc, width)?,
+        })
+    }
+
+    /// Whether each step is derived and one is empty, so that the clauses have no solution. It takes no memory.
+    pub fn check(&mut self, cnf: &Cnf, log: &Log) -> Result<(), CheckErr>
+        requires { Fits self.old cnf.now }
+        ensures fits { Fits self.new cnf.now }
+        ensures same { self.new ≡ self.old }
+        ensures ok { IsOk result ↔ IsAccepted cnf.now log.now }
+        ensures bad { (k : ℕ) → (result ≡ Err (CheckErr.Bad k)) ↔ IsBadAt cnf.now log.now k }
+        ensures refuted { IsOk result → HasNoSolution cnf.now.clauses }
+    {
+        run(
+            &mut self.marks,
+            cnf.vars,
+            cnf.clauses.as_slice(),
+            log.steps.as_slice(),
+        )
+    }
+}

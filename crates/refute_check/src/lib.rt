@@ -1,0 +1,18 @@
+//! Judges a log of steps by which clauses are refuted. Whoever wrote the log is not trusted.
+//!
+//! A step follows from earlier clauses by reverse unit propagation: its literals are assumed false, each hint but the last
+//! names a clause with one open literal left, which becomes true, and the last one names a clause that is false. Judging
+//! costs the sum of the lengths of the clauses that hints name and of the steps' own: what a step has set is taken back
+//! from a list of it, so the number of variables does not count.
+#![tactic(auto)]
+
+mod checker;
+mod follow;
+mod laws;
+mod log;
+mod marks;
+
+pub use checker::{CheckErr, Checker};
+pub use follow::clause_of;
+pub use laws::fresh_logs_are_short;
+pub use log::{Log, Step};

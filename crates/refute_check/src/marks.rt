@@ -1,0 +1,114 @@
+//! The values that variables have while one step is judged.
+
+ghost use Rattle.std.specs.Prelude.{◌≡◌, ◌<◌, ◌≤◌, ◌↔◌, None, length, IsTrue, IfOk, replicate, vec_capacity};
+ghost use Rattle.std.specs.Bool.{OnTrue};
+ghost use Rattle.cnf.specs.Clauses.{AreBelow, valuation, all_open, assume, denied, IsOpen};
+ghost use Rattle.cnf.specs.State.{IsState};
+ghost use Rattle.refute_check.specs.Accepted.{IsConsistent};
+ghost use Rattle.refute_check.specs.Trail.{IsTracked};
+
+use cnf::{ClauseState, Dim, state_of};
+use std::alloc::{AllocError, Global};
+use std::marker::Model;
+
+/// Values of variables, and a trail of the variables that have one. Contracts see the list of the values. Only `new` takes
+/// memory.
+#[derive(Debug, Drop)]
+pub struct Marks {
+    values: Vec<Option<bool>>,
+    trail: Vec<usize>,
+}
+
+impl Model for Marks {
+    ghost use Rattle.std.specs.Prelude.{List, Option, Bool, vec_capacity};
+    ghost use Rattle.refute_check.specs.Trail.{IsTracked};
+
+    ghost Value = { List (Option Bool) };
+
+    ghost view = { λ m. m.values.items };
+
+    ghost invariant = { λ m. IsTracked m.values.items m.trail.items (vec_capacity m.trail) };
+}
+
+// Takes back what was set.
+fn clear_trail(values: &mut [Option<bool>], trail: &mut Vec<usize>)
+    requires { IsTracked values.old trail.old.items (vec_capacity trail.old) }
+    ensures values { values.new ≡ replicate (length values.old) None }
+    ensures tracked { IsTracked values.new trail.new.items (vec_capacity trail.new) }
+{
+    while let Some(var) = trail.pop() {
+        values[var] = None;
+    }
+}
+
+impl Marks {
+    /// Marks for the variables below `width`, which are open.
+    pub fn new(alloc: Global, width: usize) -> Result<Marks, AllocError>
+        ensures { IfOk result (λ marks. marks ≡ replicate width None) }
+    {
+        let open: Option<bool> = None;
+        Ok(Marks {
+            values: vec![in alloc; open; width]?,
+            trail: Vec::with_capacity(alloc, width)?,
+        })
+    }
+
+    /// The value of a variable, if it has one.
+    fn value_of(&self, var: usize) -> Option<bool>
+        requires { var < length self.now }
+        ensures { result ≡ valuation self.now var }
+    {
+        self.values[var]
+    }
+
+    /// What a clause is under these values.
+    pub fn state_of(&self, clause: &[Dim]) -> ClauseState
+        requires { AreBelow (length self.now) clause.now }
+        ensures { IsState (valuation self.now) clause.now result }
+    {
+        state_of(self.values.as_slice(), clause)
+    }
+
+    /// Makes an open literal true.
+    pub fn assume(&mut self, d: Dim)
+        requires below { d.var < length self.old }
+        requires open { IsOpen (valuation self.old) d }
+        ensures value { valuation self.new ≡ assume (valuation self.old) d }
+        ensures width { length self.new ≡ length self.old }
+    {
+        self.values[d.var] = Some(!d.negated);
+        self.trail.push_reserved(d.var);
+    }
+
+    /// Makes each literal of a clause false, where all variables are open. Answers whether each variable is below `vars`
+    /// and none stands with both signs.
+    pub fn deny(&mut self, vars: usize, clause: &[Dim]) -> bool
+        requires vars { vars ≤ length self.old }
+        requires open { valuation self.old ≡ all_open }
+        ensures answer { IsTrue result ↔ (AreBelow vars clause.now × IsConsistent clause.now) }
+        ensures values { OnTrue result (valuation self.new ≡ denied clause.now) }
+        ensures width { length self.new ≡ length self.old }
+    {
+        for d in clause {
+            if d.var >= vars {
+                return false;
+            }
+            match self.value_of(d.var) {
+                Some(value) => {
+                    if value != d.negated {
+                        return false;
+                    }
+                }
+                None => self.assume(!*d),
+            }
+        }
+        true
+    }
+
+    /// Makes all variables open.
+    pub fn clear(&mut self)
+        ensures { self.new ≡ replicate (length self.old) None }
+    {
+        clear_trail(self.values.as_mut_slice(), &mut self.trail);
+    }
+}
