@@ -1,9 +1,9 @@
 //! Judges a log of steps by which clauses are refuted. Whoever wrote the log is not trusted.
 //!
 //! A step follows from earlier clauses by reverse unit propagation: its literals are assumed false, each hint but the last
-//! names a clause with one open literal left, which becomes true, and the last one names a clause that is false. Judging
-//! costs the sum of the lengths of the clauses that hints name and of the steps' own: what a step has set is taken back
-//! from a list of it, so the number of variables does not count.
+//! names a clause with one open literal left, which becomes true, and the last one names a clause that is false. Each literal
+//! of a clause that a hint names is looked at once, and what a step has set is taken back from a trail of it, so that the
+//! number of variables does not count. (No proof bounds the time.)
 #![tactic(auto)]
 
 mod checker;
