@@ -7,9 +7,9 @@ use Rattle.std.proofs.lemmas.Slice.Eq.{bytes_eq-Decides}
 use Rattle.std.proofs.lemmas.Bool.Decides.{same_from_decides}
 use Rattle.std.proofs.lemmas.List.{length-map}
 use Rattle.std.specs.Prelude.{◌⊎◌}
-use Rattle.sv_tree.specs.declared.tree.Expr.{Expr}
-use Rattle.sv_tree.specs.declared.tree.Expr.TheVariants.{Named, And', Equal'}
-use Rattle.sv_tree.specs.declared.tree.Module.{Module}
+use Rattle.svtv.specs.declared.tree.Expr.{Expr}
+use Rattle.svtv.specs.declared.tree.Expr.TheVariants.{Named, And', Equal'}
+use Rattle.svtv.specs.declared.tree.Module.{Module}
 use Rattle.svtv.specs.declared.goal.Goal.{Goal}
 use Rattle.svtv_table.specs.declared.row.Row.{Row}
 use Rattle.fourvec.specs.declared.Bit.{Bit}

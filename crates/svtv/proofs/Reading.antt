@@ -1,9 +1,9 @@
 -- Tokens at the front, one part after another.
 use Rattle.std.proofs.Common.{◌≡◌, ◌≤◌, ℕ, List, [], ◌∷◌, ◌++◌, length, arith, append_assoc, length-append, refl, Bool}
 use Rattle.std.specs.Prelude.{codes}
-use Rattle.sv_tree.specs.Grammar.{Begins, Spells, primary, conjunction, grouped, IsPort, ArePorts}
-use Rattle.sv_tree.specs.declared.tree.Expr.{Expr}
-use Rattle.sv_tree.specs.declared.tree.Port.{Port}
+use Rattle.svtv.specs.Grammar.{Begins, Spells, primary, conjunction, grouped, IsPort, ArePorts}
+use Rattle.svtv.specs.declared.tree.Expr.{Expr}
+use Rattle.svtv.specs.declared.tree.Port.{Port}
 
 pub begins-shorter : {ts rest : List (List ℕ)} {K : List (List ℕ) → Type 0} → Begins ts rest K → length rest ≤ length ts
 begins-shorter {ts} {rest} b = rw (b.1, length-append b.0 rest) (omega arith)

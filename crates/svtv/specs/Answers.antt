@@ -1,6 +1,6 @@
 -- Which answer comes when, and what it writes.
 use Rattle.std.specs.Prelude.{◌≡◌, ◌<◌, ◌⊎◌, ◌^◌, ℕ, Bool, true, false, List, [], ◌∷◌, length, Option, IfSome, codes}
-use Rattle.sv_tree.specs.declared.tree.Module.{Module}
+use Rattle.svtv.specs.declared.tree.Module.{Module}
 use Rattle.svtv_table.specs.Table.{IsTable}
 use Rattle.svtv_table.specs.declared.row.Row.{Row}
 use Rattle.svtv.specs.declared.goal.Goal.{Goal}

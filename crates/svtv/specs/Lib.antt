@@ -1,5 +1,6 @@
 pub mod Answers
 pub mod Bits
+pub mod Grammar
 pub mod Meaning
 pub mod Names
 pub mod Outcome

@@ -5,9 +5,9 @@ use Rattle.std.specs.Str.{bytes_eq}
 use Rattle.fourvec.specs.declared.Bit.{Bit}
 use Rattle.fourvec.specs.declared.Bit.TheVariants.{One}
 use Rattle.fourvec.specs.Bits.{and_bit}
-use Rattle.sv_tree.specs.declared.tree.Expr.{Expr}
-use Rattle.sv_tree.specs.declared.tree.Expr.TheVariants.{Named, And', Equal'}
-use Rattle.sv_tree.specs.declared.tree.Module.{Module}
+use Rattle.svtv.specs.declared.tree.Expr.{Expr}
+use Rattle.svtv.specs.declared.tree.Expr.TheVariants.{Named, And', Equal'}
+use Rattle.svtv.specs.declared.tree.Module.{Module}
 use Rattle.svtv_table.specs.declared.row.Row.{Row}
 use Rattle.svtv.specs.declared.goal.Goal.{Goal}
 use Rattle.svtv.specs.Bits.{known, eq_bit}

@@ -4,7 +4,7 @@ use Rattle.std.specs.List.{list_any}
 use Rattle.std.specs.Str.{bytes_eq}
 use Rattle.fourvec.specs.declared.Bit.{Bit}
 use Rattle.fourvec.specs.declared.Bit.TheVariants.{Unknown}
-use Rattle.sv_tree.specs.declared.tree.Port.{Port}
+use Rattle.svtv.specs.declared.tree.Port.{Port}
 use Rattle.svtv_table.specs.declared.row.Row.{Row}
 
 abbrev pub has_name : List (List ℕ) → List ℕ → Bool

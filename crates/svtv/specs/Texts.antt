@@ -1,8 +1,8 @@
 -- What the texts of a design and of a goal stand for.
 use Rattle.std.specs.Prelude.{◌≡◌, ℕ, true, List, [], ◌∷◌, ◌++◌, IsTrue, codes}
 use Rattle.sv_outside.specs.Words.{is_id}
-use Rattle.sv_tree.specs.Grammar.{IsExpr, IsModule}
-use Rattle.sv_tree.specs.declared.tree.Module.{Module}
+use Rattle.svtv.specs.Grammar.{IsExpr, IsModule}
+use Rattle.svtv.specs.declared.tree.Module.{Module}
 use Rattle.svtv.specs.Tokens.{IsText}
 use Rattle.svtv.specs.declared.goal.Goal.{Goal}
 

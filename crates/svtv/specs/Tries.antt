@@ -1,7 +1,7 @@
 -- What one choice gives.
 use Rattle.std.specs.Prelude.{ℕ, Bool, List, ◌++◌, map}
 use Rattle.fourvec.specs.declared.Bit.{Bit}
-use Rattle.sv_tree.specs.declared.tree.Expr.{Expr}
+use Rattle.svtv.specs.declared.tree.Expr.{Expr}
 use Rattle.svtv.specs.Bits.{known}
 use Rattle.svtv.specs.Names.{named_bit}
 use Rattle.svtv.specs.Meaning.{value_of}

@@ -4,11 +4,11 @@ ghost use Rattle.fourvec.specs.declared.Bit.TheVariants.{One};
 ghost use Rattle.svtv.specs.Tries.{net_under, claim_under};
 
 use crate::lists::{bits_named, known_bits};
+use crate::tree::Expr;
 use crate::value::value_of;
 use fourvec::Bit;
 use std::alloc::{AllocError, Global};
 use sv_outside::Name;
-use sv_tree::Expr;
 
 /// A claim on a net, over the names of a table.
 #[derive(Drop)]

@@ -1,12 +1,12 @@
 // Reads expressions.
 ghost use Rattle.std.specs.Prelude.{◌≡◌, ◌≤◌, ◌∷◌, ◌++◌, ℕ, List, length, IfOk, IfErr, IsTrue};
 ghost use Rattle.sv_outside.specs.Words.{is_id};
-ghost use Rattle.sv_tree.specs.Grammar.{Begins, Spells, IsExpr, primary, equality, conjunction};
+ghost use Rattle.svtv.specs.Grammar.{Begins, Spells, IsExpr, primary, equality, conjunction};
 ghost use Rattle.svtv_table.specs.Table.{IsUnbuilt};
 
+use crate::tree::Expr;
 use std::alloc::Global;
 use sv_outside::{Name, TextErr, is_id};
-use sv_tree::Expr;
 use svtv_table::unbuilt;
 
 // The most tokens of an expression, which bounds the depth of the recursion.

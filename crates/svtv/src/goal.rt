@@ -6,9 +6,9 @@ ghost use Rattle.svtv.specs.Tokens.{IsText};
 
 use crate::expr::{after, expr_at, name_at};
 use crate::token::tokens_of;
+use crate::tree::Expr;
 use std::alloc::Global;
 use sv_outside::{Name, TextErr};
-use sv_tree::Expr;
 use svtv_table::unbuilt;
 
 /// A goal with one claim.

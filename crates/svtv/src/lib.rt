@@ -12,6 +12,7 @@ mod report;
 mod status;
 mod token;
 mod top;
+mod tree;
 mod value;
 mod verdict;
 mod work;

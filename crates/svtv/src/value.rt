@@ -6,9 +6,9 @@ ghost use Rattle.svtv.specs.Names.{has_name, named_bit};
 ghost use Rattle.svtv.specs.Meaning.{value_of, names_pass};
 
 use crate::lists;
+use crate::tree::Expr;
 use fourvec::Bit;
 use sv_outside::Name;
-use sv_tree::Expr;
 
 pub fn known(value: bool) -> Bit
     ensures { result ≡ known value }

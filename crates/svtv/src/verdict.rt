@@ -9,8 +9,8 @@ use crate::decide::{Question, breaking_choice, copies, net_under};
 use crate::goal::Goal;
 use crate::lists::known_bits;
 use crate::report::{failed_report, proved_report};
+use crate::tree::Module;
 use std::alloc::{AllocError, Global};
-use sv_tree::Module;
 
 /// Whether the goal is proved, and the text of its report.
 pub fn verdict(

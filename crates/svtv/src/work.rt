@@ -13,10 +13,10 @@ use crate::command::command_of;
 use crate::design::read_design;
 use crate::goal::{Goal, read_goal};
 use crate::status::Status;
+use crate::tree::Module;
 use crate::verdict::verdict;
 use std::alloc::{AllocError, Global};
 use sv_outside::{FileErr, Files, Name, TextErr};
-use sv_tree::Module;
 use svtv_table::{read_table, unbuilt};
 
 /// Why nothing is reported, with the message.

@@ -1,6 +1,6 @@
 use Rattle.std.proofs.Common.{◌≡◌, ◌++◌, ◌∷◌, [], arith}
 use Rattle.std.proofs.lemmas.Grind.{common_steps}
-use Rattle.sv_tree.specs.Grammar.{ArePorts, IsPort}
+use Rattle.svtv.specs.Grammar.{ArePorts, IsPort}
 use Rattle.svtv.proofs.Reading.{joined, ArePorts-push}
 use Rattle.svtv.proofs.design.ports_at.Goals as goal
 

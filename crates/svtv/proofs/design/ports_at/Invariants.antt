@@ -1,5 +1,5 @@
 use Rattle.std.proofs.Common.{length}
-use Rattle.sv_tree.specs.Grammar.{Begins, ArePorts}
+use Rattle.svtv.specs.Grammar.{Begins, ArePorts}
 use Rattle.svtv.proofs.design.ports_at.Given as goal
 
 abbrev pub invariant-ports : goal.invariant-ports

@@ -1,5 +1,5 @@
 use Rattle.std.proofs.Common.{[], ◌∷◌}
-use Rattle.sv_tree.specs.Grammar.{Spells, primary, equality, conjunction, named, looser, equals, both}
+use Rattle.svtv.specs.Grammar.{Spells, primary, equality, conjunction, named, looser, equals, both}
 use Rattle.svtv.proofs.Reading.{begins-shorter, grouped_begins, joined}
 use Rattle.svtv.proofs.expr.+expr.Goals as goal
 

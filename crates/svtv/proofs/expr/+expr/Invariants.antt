@@ -1,5 +1,5 @@
 use Rattle.std.proofs.Common.{◌+◌, ◌*◌, ◌≤◌, length}
-use Rattle.sv_tree.specs.Grammar.{Begins, Spells, equality, conjunction}
+use Rattle.svtv.specs.Grammar.{Begins, Spells, equality, conjunction}
 use Rattle.svtv.proofs.expr.+expr.Given as goal
 
 abbrev pub decreases-primary_at : goal.decreases-primary_at

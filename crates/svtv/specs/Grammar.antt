@@ -2,10 +2,10 @@
 -- From IEEE 1800-2017, annex A, cut to modules of one assignment over bits.
 use Rattle.std.specs.Prelude.{◌≡◌, ◌≤◌, ℕ, suc, Bool, true, false, List, [], ◌∷◌, ◌++◌, length, IsTrue, codes, if◌then◌else◌}
 use Rattle.sv_outside.specs.Words.{is_id}
-use Rattle.sv_tree.specs.declared.tree.Expr.{Expr}
-use Rattle.sv_tree.specs.declared.tree.Expr.TheVariants.{Named, And', Equal'}
-use Rattle.sv_tree.specs.declared.tree.Port.{Port}
-use Rattle.sv_tree.specs.declared.tree.Module.{Module}
+use Rattle.svtv.specs.declared.tree.Expr.{Expr}
+use Rattle.svtv.specs.declared.tree.Expr.TheVariants.{Named, And', Equal'}
+use Rattle.svtv.specs.declared.tree.Port.{Port}
+use Rattle.svtv.specs.declared.tree.Module.{Module}
 
 -- the levels of an expression, the tightest first (11.3.2)
 abbrev pub primary : ℕ

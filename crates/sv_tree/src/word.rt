@@ -1,0 +1,9 @@
+// A token that a tree keeps whole.
+use sv_outside::{Name, Place};
+
+/// An identifier (A.9.3) or a literal (A.8.7): its bytes, and the place of its token.
+#[derive(Debug, Drop)]
+pub struct Word {
+    pub text: Name,
+    pub place: Place,
+}
