@@ -11,7 +11,7 @@ use Rattle.svtv.specs.declared.tree.Expr.{Expr}
 use Rattle.svtv.specs.declared.tree.Expr.TheVariants.{Named, And', Equal'}
 use Rattle.svtv.specs.declared.tree.Module.{Module}
 use Rattle.svtv.specs.declared.goal.Goal.{Goal}
-use Rattle.svtv_table.specs.declared.row.Row.{Row}
+use Rattle.svtv.specs.declared.row.Row.{Row}
 use Rattle.fourvec.specs.declared.Bit.{Bit}
 use Rattle.fourvec.specs.declared.Bit.TheVariants.{One}
 use Rattle.svtv.specs.Bits.{known}

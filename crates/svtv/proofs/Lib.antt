@@ -1,6 +1,7 @@
 pub mod Choices
 pub mod Cutting
 pub mod Ends
+pub mod Fields
 pub mod Law
 pub mod Reading
 pub mod Stopping

@@ -2,7 +2,7 @@
 use Rattle.std.proofs.Common.{◌≡◌, ℕ, List, Option, Some, None, Bool, subst}
 use Rattle.std.specs.Prelude.{IfSome}
 use Rattle.svtv.specs.declared.tree.Module.{Module}
-use Rattle.svtv_table.specs.declared.row.Row.{Row}
+use Rattle.svtv.specs.declared.row.Row.{Row}
 use Rattle.svtv.specs.declared.goal.Goal.{Goal}
 use Rattle.svtv.specs.Answers.{IsDesign, IsTableOf, IsGoalOf, DesignStands, TableStands, Headline, is_proved}
 use Rattle.svtv.specs.Meaning.{Verdict, Right}

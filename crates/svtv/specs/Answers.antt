@@ -1,8 +1,8 @@
 -- Which answer comes when, and what it writes.
 use Rattle.std.specs.Prelude.{◌≡◌, ◌<◌, ◌⊎◌, ◌^◌, ℕ, Bool, true, false, List, [], ◌∷◌, length, Option, IfSome, codes}
 use Rattle.svtv.specs.declared.tree.Module.{Module}
-use Rattle.svtv_table.specs.Table.{IsTable}
-use Rattle.svtv_table.specs.declared.row.Row.{Row}
+use Rattle.svtv.specs.Table.{IsTable}
+use Rattle.svtv.specs.declared.row.Row.{Row}
 use Rattle.svtv.specs.declared.goal.Goal.{Goal}
 use Rattle.svtv.specs.declared.status.Status.{Status}
 use Rattle.svtv.specs.declared.status.Status.TheVariants.{AllProved, Done, NotAll, Usage, Refused, ReadFault, WriteFault, Memory}

@@ -5,6 +5,7 @@ pub mod Meaning
 pub mod Names
 pub mod Outcome
 pub mod Report
+pub mod Table
 pub mod Texts
 pub mod Tokens
 pub mod Tries

@@ -8,7 +8,7 @@ use Rattle.fourvec.specs.Bits.{and_bit}
 use Rattle.svtv.specs.declared.tree.Expr.{Expr}
 use Rattle.svtv.specs.declared.tree.Expr.TheVariants.{Named, And', Equal'}
 use Rattle.svtv.specs.declared.tree.Module.{Module}
-use Rattle.svtv_table.specs.declared.row.Row.{Row}
+use Rattle.svtv.specs.declared.row.Row.{Row}
 use Rattle.svtv.specs.declared.goal.Goal.{Goal}
 use Rattle.svtv.specs.Bits.{known, eq_bit}
 use Rattle.svtv.specs.Names.{has_name, are_distinct, named_bit, port_names, input_names, output_names, driven, variable_names, sampled, sample_names}

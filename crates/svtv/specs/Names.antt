@@ -5,7 +5,7 @@ use Rattle.std.specs.Str.{bytes_eq}
 use Rattle.fourvec.specs.declared.Bit.{Bit}
 use Rattle.fourvec.specs.declared.Bit.TheVariants.{Unknown}
 use Rattle.svtv.specs.declared.tree.Port.{Port}
-use Rattle.svtv_table.specs.declared.row.Row.{Row}
+use Rattle.svtv.specs.declared.row.Row.{Row}
 
 abbrev pub has_name : List (List ℕ) → List ℕ → Bool
 has_name names name = list_any (λ n. bytes_eq n name) names

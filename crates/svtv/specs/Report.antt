@@ -1,6 +1,6 @@
 -- What is printed.
 use Rattle.std.specs.Prelude.{ℕ, List, [], ◌∷◌, ◌++◌, map, codes}
-use Rattle.svtv_table.specs.declared.row.Row.{Row}
+use Rattle.svtv.specs.declared.row.Row.{Row}
 use Rattle.fourvec.specs.declared.Bit.{Bit}
 use Rattle.fourvec.specs.declared.Bit.TheVariants.{Zero, One, Unknown, Floating}
 use Rattle.svtv.specs.Bits.{known}

@@ -10,11 +10,11 @@ use crate::lists::{
     are_distinct, driven_paths, has_name, names_of_inputs, names_of_outputs, names_of_ports,
     sample_names, sampled_paths, variable_names,
 };
+use crate::row::Row;
 use crate::tree::Module;
 use crate::value::names_pass;
 use std::alloc::{AllocError, Global};
 use sv_outside::Name;
-use svtv_table::Row;
 
 // The most variables whose choices are all tried.
 const MOST_VARIABLES: usize = 16;

@@ -1,16 +1,16 @@
 // Reads a module of one assignment.
 ghost use Rattle.std.specs.Prelude.{◌≡◌, ◌∷◌, ◌++◌, [], ℕ, List, IfOk, IfErr, IsTrue, codes};
 ghost use Rattle.svtv.specs.Grammar.{Begins, IsPort, ArePorts, IsModule};
-ghost use Rattle.svtv_table.specs.Table.{IsUnbuilt};
+ghost use Rattle.svtv.specs.Table.{IsUnbuilt};
 ghost use Rattle.svtv.specs.Texts.{IsDesignText};
 ghost use Rattle.svtv.specs.Tokens.{IsText};
 
 use crate::expr::{after, expr_at, name_at};
+use crate::row::unbuilt;
 use crate::token::tokens_of;
 use crate::tree::{Module, Port};
 use std::alloc::Global;
 use sv_outside::{Name, TextErr};
-use svtv_table::unbuilt;
 
 fn port_at(tokens: &[Name]) -> Result<(Port, &[Name]), TextErr>
     ensures ok { IfOk result (λ x. Begins tokens.now x.1.now (IsPort x.0)) }

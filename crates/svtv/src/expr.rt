@@ -2,12 +2,12 @@
 ghost use Rattle.std.specs.Prelude.{◌≡◌, ◌≤◌, ◌∷◌, ◌++◌, ℕ, List, length, IfOk, IfErr, IsTrue};
 ghost use Rattle.sv_outside.specs.Words.{is_id};
 ghost use Rattle.svtv.specs.Grammar.{Begins, Spells, IsExpr, primary, equality, conjunction};
-ghost use Rattle.svtv_table.specs.Table.{IsUnbuilt};
+ghost use Rattle.svtv.specs.Table.{IsUnbuilt};
 
+use crate::row::unbuilt;
 use crate::tree::Expr;
 use std::alloc::Global;
 use sv_outside::{Name, TextErr, is_id};
-use svtv_table::unbuilt;
 
 // The most tokens of an expression, which bounds the depth of the recursion.
 const MOST_TOKENS: usize = 200;

@@ -1,15 +1,15 @@
 // Reads a goal of one claim.
 ghost use Rattle.std.specs.Prelude.{ℕ, List, IfOk, IfErr};
-ghost use Rattle.svtv_table.specs.Table.{IsUnbuilt};
+ghost use Rattle.svtv.specs.Table.{IsUnbuilt};
 ghost use Rattle.svtv.specs.Texts.{IsGoal, IsGoalText};
 ghost use Rattle.svtv.specs.Tokens.{IsText};
 
 use crate::expr::{after, expr_at, name_at};
+use crate::row::unbuilt;
 use crate::token::tokens_of;
 use crate::tree::Expr;
 use std::alloc::Global;
 use sv_outside::{Name, TextErr};
-use svtv_table::unbuilt;
 
 /// A goal with one claim.
 #[derive(Drop)]

@@ -3,12 +3,12 @@ ghost use Rattle.std.specs.Prelude.{◌≡◌, ◌++◌, List, ℕ, map, IfOk};
 ghost use Rattle.svtv.specs.Bits.{known};
 ghost use Rattle.svtv.specs.Names.{has_name, are_distinct, named_bit, port_names, input_names, output_names, driven, variable_names, sampled, sample_names};
 
+use crate::row::Row;
 use crate::tree::Port;
 use crate::value::known;
 use fourvec::Bit;
 use std::alloc::{AllocError, Global};
 use sv_outside::Name;
-use svtv_table::Row;
 
 pub fn has_name(names: &[Name], name: &[u8]) -> bool
     ensures { result ≡ has_name names.now name.now }

@@ -2,12 +2,12 @@
 ghost use Rattle.std.specs.Prelude.{◌≡◌, ◌≤◌, ◌<◌, List, ℕ, length, take, drop, IfOk, IfErr, IsTrue};
 ghost use Rattle.std.specs.List.{list_all};
 ghost use Rattle.sv_outside.specs.Words.{starts_word, goes_on};
-ghost use Rattle.svtv_table.specs.Table.{IsUnbuilt};
+ghost use Rattle.svtv.specs.Table.{IsUnbuilt};
 ghost use Rattle.svtv.specs.Tokens.{IsText, IsToken, IsLongest, is_blank, StopsAt};
 
+use crate::row::unbuilt;
 use std::alloc::Global;
 use sv_outside::{Name, TextErr};
-use svtv_table::unbuilt;
 
 fn blank(byte: u8) -> bool
     ensures { result ≡ is_blank byte }

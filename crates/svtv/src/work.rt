@@ -12,12 +12,12 @@ use crate::bind::{BoundTable, fits, is_legal, reads_table, with_names};
 use crate::command::command_of;
 use crate::design::read_design;
 use crate::goal::{Goal, read_goal};
+use crate::row::{read_table, unbuilt};
 use crate::status::Status;
 use crate::tree::Module;
 use crate::verdict::verdict;
 use std::alloc::{AllocError, Global};
 use sv_outside::{FileErr, Files, Name, TextErr};
-use svtv_table::{read_table, unbuilt};
 
 /// Why nothing is reported, with the message.
 #[derive(Drop)]

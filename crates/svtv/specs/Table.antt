@@ -7,7 +7,7 @@ use Rattle.csv.specs.declared.parser.State.TheVariants as st
 use Rattle.sv_outside.specs.Words.{is_id}
 use Rattle.sv_outside.specs.declared.refusal.TextErr.{TextErr}
 use Rattle.sv_outside.specs.declared.refusal.TextErr.TheVariants.{No, Memory}
-use Rattle.svtv_table.specs.declared.row.Row.{Row}
+use Rattle.svtv.specs.declared.row.Row.{Row}
 
 -- spaces and tabs
 abbrev pub is_edge : ℕ → Bool

@@ -2,8 +2,8 @@ use Rattle.std.proofs.Common.{◌≡◌, map, take}
 use Rattle.std.specs.Prelude.{IsTrue}
 use Rattle.std.specs.List.{list_all}
 use Rattle.csv.specs.Records.{fields_of}
-use Rattle.svtv_table.specs.Table.{is_cell_name, row_fields, trimmed}
-use Rattle.svtv_table.proofs.row.rows_of.Given as goal
+use Rattle.svtv.specs.Table.{is_cell_name, row_fields, trimmed}
+use Rattle.svtv.proofs.row.rows_of.Given as goal
 
 abbrev pub invariant-loop-csv_record : goal.invariant-loop-csv_record
 invariant-loop-csv_record l = record {

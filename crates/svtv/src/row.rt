@@ -3,7 +3,7 @@ ghost use Rattle.std.specs.Prelude.{◌≡◌, ◌∷◌, [], List, ℕ, map, tr
 ghost use Rattle.std.specs.List.{list_all};
 ghost use Rattle.sv_outside.specs.Words.{is_id};
 ghost use Rattle.csv.specs.Records.{field_at, fields_of};
-ghost use Rattle.svtv_table.specs.Table.{IsTable, IsUnbuilt, is_cell_name, row_fields, trimmed};
+ghost use Rattle.svtv.specs.Table.{IsTable, IsUnbuilt, is_cell_name, row_fields, trimmed};
 
 use crate::records::all_records;
 use csv::{ByteRecord, ErrorKind};

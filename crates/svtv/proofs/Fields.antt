@@ -6,7 +6,7 @@ use Rattle.std.specs.List.{list_all}
 use Rattle.csv.specs.Records.{field_at}
 use Rattle.csv.proofs.RecordFacts.{field-get}
 use Rattle.sv_outside.specs.Words.{is_id, goes_on}
-use Rattle.svtv_table.specs.Table.{is_edge, without_front, without_end, before_edges, trimmed, is_cell_name}
+use Rattle.svtv.specs.Table.{is_edge, without_front, without_end, before_edges, trimmed, is_cell_name}
 
 goes_on_plain : (b : ℕ) → goes_on b ≡ true → is_edge b ≡ false
 goes_on_plain b h = grind (arith)

@@ -1,7 +1,7 @@
 use Rattle.std.proofs.Common.{◌∙◌, sym}
 use Rattle.csv.specs.Records.{fields_of}
-use Rattle.svtv_table.proofs.Fields.{row_trimmed, is_id_of}
-use Rattle.svtv_table.proofs.row.row_of.Goals as goal
+use Rattle.svtv.proofs.Fields.{row_trimmed, is_id_of}
+use Rattle.svtv.proofs.row.row_of.Goals as goal
 
 pub returns-clause-fields : goal.returns-clause-fields
 returns-clause-fields c =
