@@ -1,0 +1,11 @@
+pub mod Good
+pub mod Rising
+pub mod Stores
+pub mod Contributions
+pub mod Joins
+pub mod Finding
+pub mod OnTrees
+pub mod Trees
+mod ExprRows
+mod FormRows
+mod DesignRows

@@ -1,0 +1,284 @@
+-- A design, laid flat by its scopes: what contributes to which bits, and which valuations settle.
+use Rattle.std.specs.Prelude.{ℕ, zero, suc, ◌+◌, ◌≡◌, Bool, true, false, ◌&&◌, ◌||◌, not, ◌==◌, nat_le, List, [], ◌∷◌, ◌++◌, map, filter, Contains, Option, Some, None, slice_get, if◌then◌else◌}
+use mathlib.Core.Former.{Count}
+use Rattle.fourvec.specs.declared.Bit.{Bit}
+use Rattle.fourvec.specs.declared.Bit.TheVariants.{Floating}
+use Rattle.fourvec.specs.Bits.{res_bit, over}
+use Rattle.sv_tree.specs.declared.exprs.Expr.{Expr, Name', Concat', Row_of-Expr, end_of-Expr, more_of-Expr}
+use Rattle.sv_tree.specs.declared.stmts.Lvalue.{Lvalue}
+use Rattle.sv_tree.specs.declared.stmts.Block.{Block}
+use Rattle.sv_tree.specs.declared.design.Way.{Way}
+use Rattle.sv_tree.specs.declared.design.Way.TheVariants as way
+use Rattle.sv_tree.specs.declared.word.Word.{Word}
+use Rattle.sv_meaning.specs.Faults.{Faults, fault, or_then, is_clear, bad_target}
+use Rattle.sv_meaning.specs.Layouts.{Name, Layout, width, Scope, signal_is, of_wires, of_choice, of_samples, Origin, find}
+use Rattle.sv_meaning.specs.Meanings.{Meaning, fixed_faults, free_faults, assigned, named}
+use Rattle.sv_meaning.specs.Values.{mean, steps}
+use Rattle.sv_meaning.specs.Targets.{BitName, Store, Target, target_of, target_faults, wide_target, lvalue_faults, targets, widths, are_fixed, slots, bits_named}
+use Rattle.sv_meaning.specs.Deeds.{Deed, deed}
+use Rattle.sv_meaning.specs.Blocks.{same_bit_name, has_bit, distinct, reads, Manner, comb, clocked, no_manner, manner, block_value, block_faults}
+
+-- ---- what the scopes give
+
+pub record Wire : Type 0 where
+  pub path : Name
+  pub layout : Layout
+  -- an input or inout of the top
+  pub input : Bool
+
+-- What contributes or joins, with the names that it sees.
+pub data Work : Type 0 where
+  assignment : Scope → Lvalue → Expr → Work
+  block : Scope → Block → Work
+  -- a connected port: its direction, wire and layout, and the actual in the scope above
+  port : Scope → Way → ℕ → Layout → Expr → Work
+
+pub record Design : Type 0 where
+  pub wires : List Wire
+  pub works : List Work
+  -- the turns of its generate loops
+  pub turns : ℕ
+
+-- ---- ports, IEEE 1800-2017 section 23.3.3
+
+-- a net or variable with selects, or a concatenation of these
+unfoldable mutual
+  pub as_targets : Scope → Expr → List Target
+  as_targets at (Name' w s all) = target_of (find w.text at) (steps at all) ∷ []
+  as_targets at (Concat' p s all) = all_as_targets at all
+  as_targets at x = target_of None [] ∷ []
+
+  pub all_as_targets : {m : Count} → Scope → Row_of-Expr m → List Target
+  all_as_targets at end_of-Expr = []
+  all_as_targets at (more_of-Expr x all) = as_targets at x ++ all_as_targets at all
+
+-- what stands against an actual as a target: that it is none, or that one of its names is none
+unfoldable mutual
+  pub actual_faults : Scope → Expr → Faults
+  actual_faults at (Name' w s all) = target_faults fixed_faults w (find w.text at) (steps at all)
+  actual_faults at (Concat' p s all) = or_then (all_actual_faults at all) (wide_target p (all_as_targets at all))
+  actual_faults at x = fault bad_target (mean at x).start
+
+  pub all_actual_faults : {m : Count} → Scope → Row_of-Expr m → Faults
+  all_actual_faults at end_of-Expr = []
+  all_actual_faults at (more_of-Expr x all) = actual_faults at x ++ all_actual_faults at all
+
+unfoldable pub are_present : {A : Type 0} → List (Option A) → Bool
+are_present [] = true
+are_present (None ∷ more) = false
+are_present (Some x ∷ more) = are_present more
+
+-- assignable, of the port's width, with all selects constant and in range
+abbrev pub is_joined : Scope → Layout → Expr → Bool
+is_joined at x actual =
+    is_clear (actual_faults at actual)
+    && (widths (as_targets at actual) == width x && (are_fixed (as_targets at actual) && are_present (slots (as_targets at actual))))
+
+-- the bits of a wire
+unfoldable pub bits_of_wire : ℕ → ℕ → ℕ → List BitName
+bits_of_wire n k zero = []
+bits_of_wire n k (suc w) = (n, k) ∷ bits_of_wire n (suc k) w
+
+-- a child's bit and the bit above it
+abbrev pub Link : Type 0
+Link = BitName × BitName
+
+unfoldable pub pairs : {A B : Type 0} → List A → List B → List (A × B)
+pairs (x ∷ xs) (y ∷ ys) = (x, y) ∷ pairs xs ys
+pairs xs ys = []
+
+abbrev pub links_of_work : Work → List Link
+links_of_work (port at w n x actual) = if is_joined at x actual then pairs (bits_of_wire n 0 (width x)) (bits_named (as_targets at actual)) else []
+links_of_work w = []
+
+unfoldable pub links_of : List Work → List Link
+links_of [] = []
+links_of (w ∷ more) = links_of_work w ++ links_of more
+
+-- ---- contributions, section 10.3
+
+abbrev pub Contribution : Type 0
+Contribution = BitName × Bit
+
+-- the bits that are in range take theirs of a value
+unfoldable pub driven : List (Option BitName) → List Bit → List Contribution
+driven (Some b ∷ more) (v ∷ rest) = (b, v) ∷ driven more rest
+driven (None ∷ more) (v ∷ rest) = driven more rest
+driven all rest = []
+
+abbrev pub wire_slots : ℕ → Layout → List (Option BitName)
+wire_slots n x = map Some (bits_of_wire n 0 (width x))
+
+abbrev pub assigned_to : List Target → Meaning → Store → List Contribution
+assigned_to to m now = driven (slots to) (assigned m (reads now) (widths to))
+
+-- a port's own name stands nowhere in the text
+abbrev pub no_word : Word
+no_word = record { text = []; place = record { file = 0; line = 0; column = 0 } }
+
+abbrev pub port_gives : Way → Scope → ℕ → Layout → Expr → Store → List Contribution
+port_gives way.Input at n x actual now = driven (wire_slots n x) (assigned (mean at actual) (reads now) (width x))
+port_gives way.Output at n x actual now = assigned_to (as_targets at actual) (named no_word (Some (signal_is of_wires n x)) []) now
+port_gives way.Inout at n x actual now = []
+
+abbrev pub block_gives : Deed → Store → List Contribution
+block_gives a end = map (λ b. (b, end b.0 b.1)) (distinct a.targets)
+
+abbrev pub gives : Work → Store → Store → List Contribution
+gives (assignment at to x) prev now = assigned_to (targets at to) (mean at x) now
+gives (block at b) prev now = block_gives (deed b.body at) (block_value (manner at b.kind) (deed b.body at) prev now)
+gives (port at w n x actual) prev now = if is_joined at x actual then [] else port_gives w at n x actual now
+
+unfoldable pub contributions_of : List Work → Store → Store → List Contribution
+contributions_of [] prev now = []
+contributions_of (w ∷ more) prev now = gives w prev now ++ contributions_of more prev now
+
+-- all contributions, in the order of the works
+abbrev pub contributions : Design → Store → Store → List Contribution
+contributions d prev now = contributions_of d.works prev now
+
+-- ---- what stands against a design
+
+abbrev pub port_faults : Way → Scope → Expr → Faults
+port_faults way.Input at actual = free_faults (mean at actual)
+port_faults way.Output at actual = actual_faults at actual
+port_faults way.Inout at actual = actual_faults at actual ++ fault bad_target (mean at actual).start
+
+-- where so many turns of loops were made before
+abbrev pub work_faults : Work → ℕ → Faults
+work_faults (assignment at to x) made = lvalue_faults fixed_faults at to ++ free_faults (mean at x)
+work_faults (block at b) made = block_faults at b made
+work_faults (port at w n x actual) made = if is_joined at x actual then [] else port_faults w at actual
+
+abbrev pub work_turns : Work → ℕ
+work_turns (block at b) = (deed b.body at).turns
+work_turns w = 0
+
+unfoldable pub faults_from : ℕ → List Work → Faults
+faults_from made [] = []
+faults_from made (w ∷ more) = work_faults w made ++ faults_from (made + work_turns w) more
+
+-- the turns of the generate loops come first
+abbrev pub design_faults : Design → Faults
+design_faults d = faults_from d.turns d.works
+
+-- the stimulus of each input or inout of the top
+unfoldable pub stimuli_from : ℕ → List Wire → Store → List Contribution
+stimuli_from n [] stim = []
+stimuli_from n (w ∷ more) stim =
+    (if w.input then map (λ b. (b, stim b.0 b.1)) (bits_of_wire n 0 (width w.layout)) else []) ++ stimuli_from (suc n) more stim
+
+-- ---- joined bits
+
+pub data Joined (links : List Link) : BitName → BitName → Type 0 where
+  itself : {b : BitName} → Joined links b b
+  up : {b c d : BitName} → Contains links (b, c) → Joined links c d → Joined links b d
+  down : {b c d : BitName} → Contains links (c, b) → Joined links c d → Joined links b d
+
+abbrev pub lesser : BitName → BitName → BitName
+lesser a b = if nat_le a.0 b.0 then a else b
+
+-- The first bit of the class of a bit: that of the least wire.
+unfoldable pub first_bit : List Link → BitName → BitName
+first_bit [] b = b
+first_bit (l ∷ more) b =
+    if same_bit_name (first_bit more b) (first_bit more l.0) || same_bit_name (first_bit more b) (first_bit more l.1)
+    then lesser (first_bit more l.0) (first_bit more l.1) else first_bit more b
+
+abbrev pub is_one_class : List Link → BitName → BitName → Bool
+is_one_class links a b = same_bit_name (first_bit links a) (first_bit links b)
+
+-- ---- settlings
+
+-- what a class of bits is given
+abbrev pub given_to : List Link → BitName → List Contribution → List Bit
+given_to links b all = map (λ c. c.1) (filter (λ c. is_one_class links c.0 b) all)
+
+-- the resolution of what is given, where anything is
+abbrev pub Resolves : Bit → List Bit → Type 0
+Resolves x [] = Unit {0}
+Resolves x (y ∷ more) = x ≡ over res_bit Floating (y ∷ more)
+
+-- joined bits are equal
+abbrev pub Even : List Link → Store → Type 0
+Even links now = (b c : BitName) → Joined links b c → now b.0 b.1 ≡ now c.0 c.1
+
+-- a settling over a list of contributions
+abbrev pub SettlesBy : List Link → List Contribution → Store → Type 0
+SettlesBy links all now = Even links now × ((b : BitName) → Resolves (now b.0 b.1) (given_to links b all))
+
+-- A valuation settles over the previous one and a stimulus: a test of a given valuation.
+abbrev pub Settles : Design → Store → Store → Store → Type 0
+Settles d stim prev now = SettlesBy (links_of d.works) (contributions d prev now ++ stimuli_from 0 d.wires stim) now
+
+-- ---- what feeds what
+
+unfoldable pub wires_named : List (Origin × ℕ) → List ℕ
+wires_named [] = []
+wires_named ((of_wires, n) ∷ more) = n ∷ wires_named more
+wires_named ((of_choice, n) ∷ more) = wires_named more
+wires_named ((of_samples, n) ∷ more) = wires_named more
+
+abbrev pub width_of_wire : Option Wire → ℕ
+width_of_wire None = 0
+width_of_wire (Some w) = width w.layout
+
+unfoldable pub has_all : List BitName → List BitName → Bool
+has_all [] all = true
+has_all (b ∷ more) all = has_bit b all && has_all more all
+
+-- some bit of the wire is no target
+abbrev pub is_read_now : List Wire → List BitName → ℕ → Bool
+is_read_now wires all n = not (has_all (bits_of_wire n 0 (width_of_wire (slice_get wires n))) all)
+
+-- the wires that it names in the present
+abbrev pub block_names : List Wire → Manner → Deed → List ℕ
+block_names wires comb a = filter (is_read_now wires a.targets) (wires_named a.names)
+block_names wires (clocked e n) a = n ∷ []
+block_names wires no_manner a = []
+
+abbrev pub port_names : Way → Scope → ℕ → Expr → List ℕ
+port_names way.Output at n actual = n ∷ []
+port_names w at n actual = wires_named (mean at actual).names
+
+abbrev pub names_now : List Wire → Work → List ℕ
+names_now wires (assignment at to x) = wires_named (mean at x).names
+names_now wires (block at b) = block_names wires (manner at b.kind) (deed b.body at)
+names_now wires (port at w n x actual) = if is_joined at x actual then [] else port_names w at n actual
+
+-- the bits that it contributes to
+abbrev pub port_reaches : Way → Scope → ℕ → Layout → Expr → List BitName
+port_reaches way.Input at n x actual = bits_of_wire n 0 (width x)
+port_reaches way.Output at n x actual = bits_named (as_targets at actual)
+port_reaches way.Inout at n x actual = []
+
+abbrev pub reaches : Work → List BitName
+reaches (assignment at to x) = bits_named (targets at to)
+reaches (block at b) = distinct (deed b.body at).targets
+reaches (port at w n x actual) = if is_joined at x actual then [] else port_reaches w at n x actual
+
+-- a bit of one wire is joined to a bit of another
+pub record Touches (links : List Link) (a b : ℕ) : Type 0 where
+  pub here : ℕ
+  pub there : ℕ
+  pub joined : Joined links (a, here) (b, there)
+
+-- a wire that has the first bit of a class
+abbrev pub IsFirst : List Link → ℕ → Type 0
+IsFirst links a = (k : ℕ) × (first_bit links (a, k) ≡ (a, k))
+
+-- One wire feeds another
+pub record Feeds (d : Design) (a b : ℕ) : Type 0 where
+  pub work : Work
+  pub is_there : Contains d.works work
+  pub bit : BitName
+  pub reached : Contains (reaches work) bit
+  pub place : ℕ
+  pub into : Joined (links_of d.works) bit (b, place)
+  pub name : ℕ
+  pub named : Contains (names_now d.wires work) name
+  pub from : Touches (links_of d.works) name a
+
+pub data Reaches (d : Design) : ℕ → ℕ → Type 0 where
+  once : {a b : ℕ} → Feeds d a b → Reaches d a b
+  further : {a b c : ℕ} → Feeds d a b → Reaches d b c → Reaches d a c

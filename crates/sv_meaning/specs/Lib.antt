@@ -1,0 +1,14 @@
+pub mod Faults
+pub mod Patterns
+pub mod Layouts
+pub mod Names
+pub mod Meanings
+pub mod Values
+pub mod Forms
+pub mod Params
+pub mod Targets
+pub mod Deeds
+pub mod Blocks
+pub mod Designs
+pub mod Scopes
+pub mod Laws
