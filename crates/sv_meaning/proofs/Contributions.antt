@@ -14,10 +14,13 @@ use Rattle.sv_tree.specs.declared.design.Way.TheVariants as way
 use Rattle.sv_meaning.specs.Layouts.{Layout, width, Scope, of_wires, of_choice, of_samples, signal_is, Read}
 use Rattle.sv_meaning.specs.Meanings.{Meaning, assigned}
 use Rattle.sv_meaning.specs.Values.{mean}
-use Rattle.sv_meaning.specs.Targets.{BitName, Store, Target, targets, widths, slots}
+use Rattle.lhs_alias.specs.declared.segs.WireBit.{WireBit}
+use Rattle.lhs_alias.specs.Segs.{bit}
+use Rattle.settling.specs.Settling.{Store, value_at, Contribution}
+use Rattle.sv_meaning.specs.Targets.{Target, targets, widths, slots}
 use Rattle.sv_meaning.specs.Deeds.{Deed, deed}
 use Rattle.sv_meaning.specs.Blocks.{has_bit, distinct, reads, all_unknown, comb_look, comb_end, clocked_look, clocked_value, trigger_bit, Manner, comb, clocked, no_manner, manner, block_value}
-use Rattle.sv_meaning.specs.Designs.{Contribution, driven, assigned_to, port_gives, gives, contributions_of, Work, assignment, block, port, is_joined, as_targets, wire_slots, no_word}
+use Rattle.sv_meaning.specs.Designs.{driven, assigned_to, port_gives, gives, contributions_of, Work, assignment, block, port, is_joined, as_targets, wire_slots, no_word}
 use Rattle.sv_meaning.specs.Laws.{Under, More, ContributionsRise}
 use Rattle.sv_meaning.proofs.Good.{Rises, Good}
 use Rattle.sv_meaning.proofs.Rising.{good, good-named}
@@ -41,7 +44,7 @@ under-refl s n k = left_of _ _ (order.below-refl (s n k ∷ []))
 comb-rises : (a : Deed) → GoodDeed a → (now later : Store) → Under now later → Under (comb_end a now) (comb_end a later)
 comb-rises a g now later u =
     g (comb_look a.targets now) (comb_look a.targets later)
-    (λ s t v. reads-rise _ _ (λ n k. pick-rises (has_bit (n, k) a.targets) (s n k) (now n k) (t n k) (later n k) (v n k) (u n k)))
+    (λ s t v. reads-rise _ _ (λ n k. pick-rises (has_bit (bit n k) a.targets) (s n k) (now n k) (t n k) (later n k) (v n k) (u n k)))
     all_unknown all_unknown (under-refl all_unknown)
 
 trigger-rises : (e : Edge) (a b c d : Bit) → IsTrue (bit_below a c) → IsTrue (bit_below b d) → IsTrue (bit_below (trigger_bit e a b) (trigger_bit e c d))
@@ -70,7 +73,7 @@ more-append [] b (y ∷ c) d h g = absurd h
 more-append (x ∷ a) b [] d h g = absurd h
 more-append (x ∷ a) b (y ∷ c) d h g = (h.0, h.1, more-append a b c d h.2 g)
 
-more-driven : (to : List (Option BitName)) (a c : List Bit) → Below a c → More (driven to a) (driven to c)
+more-driven : (to : List (Option WireBit)) (a c : List Bit) → Below a c → More (driven to a) (driven to c)
 unfolding driven all_pairs
 more-driven [] [] [] h = tt
 more-driven [] [] (y ∷ c) h = tt
@@ -91,9 +94,9 @@ assigned-rises m g r t i w = order.below-take w _ _ (g.rises r t i (max w m.size
 more-assigned : (to : List Target) (m : Meaning) → Good m → (now later : Store) → Under now later → More (assigned_to to m now) (assigned_to to m later)
 more-assigned to m g now later u = more-driven (slots to) _ _ (assigned-rises m g (reads now) (reads later) (reads-rise now later u) (widths to))
 
-more-store : (bits : List BitName) (s t : Store) → Under s t → More (map (λ b. (b, s b.0 b.1)) bits) (map (λ b. (b, t b.0 b.1)) bits)
+more-store : (bits : List WireBit) (s t : Store) → Under s t → More (map (λ b. (b, value_at s b)) bits) (map (λ b. (b, value_at t b)) bits)
 more-store [] s t u = tt
-more-store (b ∷ more) s t u = (refl, u b.0 b.1, more-store more s t u)
+more-store (b ∷ more) s t u = (refl, u b.wire b.at, more-store more s t u)
 
 more-port : (w : Way) (at : Scope) (n : ℕ) (x : Layout) (actual : Expr) (now later : Store) → Under now later → More (port_gives w at n x actual now) (port_gives w at n x actual later)
 more-port way.Input at n x actual now later u = more-driven (wire_slots n x) _ _ (assigned-rises (mean at actual) (good at actual) (reads now) (reads later) (reads-rise now later u) (width x))

@@ -28,8 +28,10 @@ use Rattle.sv_tree.specs.declared.design.Item.{Item, Variable, Param, Assign, Al
 use Rattle.sv_tree.specs.declared.design.Gen.{Block' as GenBlock}
 use Rattle.sv_meaning.specs.Patterns.{index}
 use Rattle.sv_meaning.specs.Faults.{Judged, fault, top_unclear, unknown_module, unknown_name, twice, bad_width, port_unknown, port_twice, bad_target, loop_long, instance_deep, wrong_assign}
-use Rattle.sv_meaning.specs.Targets.{Store, BitName}
-use Rattle.sv_meaning.specs.Designs.{Design, Contribution, contributions, links_of, given_to, Resolves}
+use Rattle.lhs_alias.specs.declared.segs.WireBit.{WireBit}
+use Rattle.lhs_alias.specs.Segs.{bit as wire_bit}
+use Rattle.settling.specs.Settling.{Store, Contribution, given_to}
+use Rattle.sv_meaning.specs.Designs.{Design, contributions, links_of}
 use Rattle.sv_meaning.specs.Scopes.{design, source_faults}
 use Rattle.sv_meaning.proofs.OnTrees.{designs_on_trees}
 use Rattle.sv_meaning.proofs.Trees.{at, word, lit, name, op}
@@ -93,10 +95,10 @@ gives (Ok d) prev now = contributions d prev now
 
 abbrev first_links : Judged Design → List (ℕ × ℕ)
 first_links (Err all) = []
-first_links (Ok d) = map (λ l. (l.0.0, l.1.0)) (links_of d.works)
+first_links (Ok d) = map (λ l. (l.0.wire, l.1.wire)) (links_of d.works)
 
 -- what a bit is given, without stimuli
-abbrev at_bit : BitName → Judged Design → Store → List Bit
+abbrev at_bit : WireBit → Judged Design → Store → List Bit
 at_bit b (Err all) now = []
 at_bit b (Ok d) now = given_to (links_of d.works) b (contributions d now now)
 
@@ -151,7 +153,7 @@ no_module = refl
 abbrev both : Source
 both = alone (input bit (codes "a") ∷ input bit (codes "b") ∷ output bit (codes "y") ∷ []) (assign 5 (codes "y") (op (name 7 (codes "a")) two.And 8 (name 9 (codes "b"))) ∷ [])
 
-both_gives : gives (the_source both) all_one all_one ≡ ((2, 0), One) ∷ []
+both_gives : gives (the_source both) all_one all_one ≡ (wire_bit 2 0, One) ∷ []
 unfolding designs_on_trees
 both_gives = refl
 
@@ -163,13 +165,9 @@ both_legal = refl
 abbrev fought : Source
 fought = alone (output bit (codes "y") ∷ []) (assign 5 (codes "y") (lit 7 (codes "1'b1")) ∷ assign 9 (codes "y") (lit 11 (codes "1'b0")) ∷ [])
 
-fought_bits : at_bit (0, 0) (the_source fought) no_value ≡ One ∷ Zero ∷ []
+fought_bits : at_bit (wire_bit 0 0) (the_source fought) no_value ≡ One ∷ Zero ∷ []
 unfolding designs_on_trees
 fought_bits = refl
-
-fought_resolves : Resolves Unknown (One ∷ Zero ∷ [])
-unfolding designs_on_trees
-fought_resolves = refl
 
 -- always_comb begin y = 8'h0f; y[i] = 1'b1; end, with i unknown: each bit stays where it equals the bit that is written
 abbrev written : Source
@@ -185,7 +183,7 @@ abbrev same_branches : Source
 same_branches = alone (input bit (codes "c") ∷ output bit (codes "y") ∷ [])
     (comb (IfStmt None (name 5 (codes "c")) tt (more_of-Stmt (set 6 (codes "y") (lit 8 (codes "1'bz"))) end_of-Stmt) (else_of tt (more_of-Stmt (set 9 (codes "y") (lit 11 (codes "1'bz"))) end_of-Stmt))) ∷ [])
 
-same_branches_give : gives (the_source same_branches) no_value no_value ≡ ((1, 0), Floating) ∷ []
+same_branches_give : gives (the_source same_branches) no_value no_value ≡ (wire_bit 1 0, Floating) ∷ []
 unfolding designs_on_trees
 same_branches_give = refl
 
@@ -194,7 +192,7 @@ abbrev other_branches : Source
 other_branches = alone (input bit (codes "c") ∷ output bit (codes "y") ∷ [])
     (comb (IfStmt None (name 5 (codes "c")) tt (more_of-Stmt (set 6 (codes "y") (lit 8 (codes "1'b1"))) end_of-Stmt) (else_of tt (more_of-Stmt (set 9 (codes "y") (lit 11 (codes "1'b0"))) end_of-Stmt))) ∷ [])
 
-other_branches_give : gives (the_source other_branches) no_value no_value ≡ ((1, 0), Unknown) ∷ []
+other_branches_give : gives (the_source other_branches) no_value no_value ≡ (wire_bit 1 0, Unknown) ∷ []
 unfolding designs_on_trees
 other_branches_give = refl
 
@@ -206,7 +204,7 @@ one_branch = alone (input bit (codes "c") ∷ output bit (codes "y") ∷ [])
 abbrev all_zero : Store
 all_zero n k = Zero
 
-one_branch_gives : gives (the_source one_branch) all_zero all_zero ≡ ((1, 0), Unknown) ∷ []
+one_branch_gives : gives (the_source one_branch) all_zero all_zero ≡ (wire_bit 1 0, Unknown) ∷ []
 unfolding designs_on_trees
 one_branch_gives = refl
 
@@ -220,11 +218,11 @@ before n k = if n == 1 then One else Zero
 abbrev now : Store
 now n k = if n == 0 then One else Unknown
 
-at_the_edge : gives (the_source register) before now ≡ ((2, 0), One) ∷ []
+at_the_edge : gives (the_source register) before now ≡ (wire_bit 2 0, One) ∷ []
 unfolding designs_on_trees
 at_the_edge = refl
 
-without_edge : gives (the_source register) before before ≡ ((2, 0), Zero) ∷ []
+without_edge : gives (the_source register) before before ≡ (wire_bit 2 0, Zero) ∷ []
 unfolding designs_on_trees
 without_edge = refl
 

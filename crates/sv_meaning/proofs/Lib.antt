@@ -2,7 +2,6 @@ pub mod Good
 pub mod Rising
 pub mod Stores
 pub mod Contributions
-pub mod Joins
 pub mod Finding
 pub mod OnTrees
 pub mod Trees

@@ -5,6 +5,7 @@ use Rattle.fourvec.specs.Bits as bits
 use Rattle.fourvec.specs.Spots as spots
 use Rattle.sv_literal.specs.Meaning as literals
 use Rattle.sv_literal.specs.Value as values_of_literals
+use Rattle.settling.specs.Settling as settling
 use Rattle.sv_meaning.specs.Layouts as layouts
 use Rattle.sv_meaning.specs.Names as names
 use Rattle.sv_meaning.specs.Meanings as meanings
@@ -26,5 +27,5 @@ unfolding vectors layouts.member_in layouts.find names.has_name meanings.all_loo
 expressions = tt
 
 unfoldable pub designs_on_trees : ⊤
-unfolding expressions fmt.digits params.by_name params.in_order params.overrides params.given_or targets.targets targets.widths targets.lvalue_faults targets.bit_names targets.slots_from targets.chain_slots targets.slots targets.present targets.chain_fixed targets.are_fixed targets.put targets.write_all deeds.turns_on deeds.target_names deeds.longest deeds.all_signed deeds.all_faults deeds.all_names deeds.matches deeds.case_chain deeds.labels_of deeds.in_turn deeds.deed blocks.has_bit blocks.distinct blocks.marks designs.as_targets designs.actual_faults designs.are_present designs.bits_of_wire designs.pairs designs.links_of designs.driven designs.contributions_of designs.faults_from designs.stimuli_from designs.first_bit scopes.walk_all scopes.act scopes.header_params scopes.header_ports scopes.list_params scopes.item_names scopes.body_params scopes.params_of_items scopes.module_named scopes.port_named scopes.port_names scopes.port_works scopes.children_from scopes.child scopes.library scopes.instantiated scopes.instantiated_by scopes.all_used scopes.unused scopes.scopes
+unfolding expressions settling.first_bit fmt.digits params.by_name params.in_order params.overrides params.given_or targets.targets targets.widths targets.lvalue_faults targets.bit_names targets.slots_from targets.chain_slots targets.slots targets.present targets.chain_fixed targets.are_fixed targets.put targets.write_all deeds.turns_on deeds.target_names deeds.longest deeds.all_signed deeds.all_faults deeds.all_names deeds.matches deeds.case_chain deeds.labels_of deeds.in_turn deeds.deed blocks.has_bit blocks.distinct blocks.marks designs.as_targets designs.actual_faults designs.are_present designs.bits_of_wire designs.pairs designs.links_of designs.driven designs.contributions_of designs.faults_from designs.stimuli_from scopes.walk_all scopes.act scopes.header_params scopes.header_ports scopes.list_params scopes.item_names scopes.body_params scopes.params_of_items scopes.module_named scopes.port_named scopes.port_names scopes.port_works scopes.children_from scopes.child scopes.library scopes.instantiated scopes.instantiated_by scopes.all_used scopes.unused scopes.scopes
 designs_on_trees = tt

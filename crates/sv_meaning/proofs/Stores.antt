@@ -19,7 +19,8 @@ use Rattle.sv_outside.specs.declared.refusal.Place.{Place}
 use Rattle.sv_meaning.specs.Faults.{Faults, Judged}
 use Rattle.sv_meaning.specs.Meanings.{Meaning, free_faults, own, assigned, truth, Step, Part, step_in, bits_at, with_part}
 use Rattle.sv_meaning.specs.Values.{mean, step}
-use Rattle.sv_meaning.specs.Targets.{Store, Target, target_of, targets, targets_of, lvalue_faults, widths as widths_of, put_at, put, with_wire, write, write_all}
+use Rattle.settling.specs.Settling.{Store}
+use Rattle.sv_meaning.specs.Targets.{Target, target_of, targets, targets_of, lvalue_faults, widths as widths_of, put_at, put, with_wire, write, write_all}
 use Rattle.sv_meaning.specs.Deeds.{Deed, deed, deed_else, deeds, arms, after, merged, either, assign, CaseArm, longest, all_signed, same_value, mask, matches, case_chain, labels_of, case_of, in_turn, in_turns, with_index, one_turn, turns, is_casez}
 use Rattle.sv_meaning.specs.Laws.{Under}
 use Rattle.sv_meaning.proofs.Good.{Rises, Good, own_rises}

@@ -1,5 +1,5 @@
 -- Blocks: what their statements leave in the store, and what they contribute.
-use Rattle.std.specs.Prelude.{ℕ, Bool, true, false, ◌&&◌, ◌||◌, not, ◌==◌, List, [], ◌∷◌, ◌++◌, Option, Some, None, if◌then◌else◌}
+use Rattle.std.specs.Prelude.{ℕ, Bool, true, false, ◌||◌, not, ◌==◌, List, [], ◌∷◌, ◌++◌, Option, Some, None, if◌then◌else◌}
 use mathlib.Core.Former.{Count}
 use Rattle.fourvec.specs.declared.Bit.{Bit}
 use Rattle.fourvec.specs.declared.Bit.TheVariants.{Unknown}
@@ -18,20 +18,19 @@ use Rattle.sv_outside.specs.declared.refusal.Place.{Place}
 use Rattle.sv_tree.specs.declared.word.Word.{Word}
 use Rattle.sv_meaning.specs.Faults.{Faults, fault, fault_if, unknown_name, bad_width, wrong_assign}
 use Rattle.sv_meaning.specs.Layouts.{width, Scope, What, signal_is, of_wires, Read, find}
-use Rattle.sv_meaning.specs.Targets.{BitName, Store}
+use Rattle.lhs_alias.specs.declared.segs.WireBit.{WireBit}
+use Rattle.lhs_alias.specs.Segs.{bit}
+use Rattle.settling.specs.Settling.{Store, same_bit}
 use Rattle.sv_meaning.specs.Deeds.{Deed, deed, merged}
 
 -- ---- which bits
 
-abbrev pub same_bit_name : BitName → BitName → Bool
-same_bit_name a b = a.0 == b.0 && a.1 == b.1
-
-unfoldable pub has_bit : BitName → List BitName → Bool
+unfoldable pub has_bit : WireBit → List WireBit → Bool
 has_bit b [] = false
-has_bit b (x ∷ more) = same_bit_name x b || has_bit b more
+has_bit b (x ∷ more) = same_bit x b || has_bit b more
 
 -- each once
-unfoldable pub distinct : List BitName → List BitName
+unfoldable pub distinct : List WireBit → List WireBit
 distinct [] = []
 distinct (x ∷ more) = if has_bit x more then distinct more else x ∷ distinct more
 
@@ -46,8 +45,8 @@ abbrev pub all_unknown : Store
 all_unknown n k = Unknown
 
 -- a target bit reads the block's store, any other the present valuation
-abbrev pub comb_look : List BitName → Store → Store → Read
-comb_look targets now store = reads (λ n k. if has_bit (n, k) targets then store n k else now n k)
+abbrev pub comb_look : List WireBit → Store → Store → Read
+comb_look targets now store = reads (λ n k. if has_bit (bit n k) targets then store n k else now n k)
 
 -- the store after a combinational block
 abbrev pub comb_end : Deed → Store → Store

@@ -25,7 +25,9 @@ use Rattle.sv_meaning.specs.Meanings.{Meaning, fixed_faults, free_faults, nowher
 use Rattle.sv_meaning.specs.Values.{mean, binary_meaning}
 use Rattle.sv_meaning.specs.Forms.{Entry}
 use Rattle.sv_meaning.specs.Params.{converted_faults}
-use Rattle.sv_meaning.specs.Targets.{BitName, Store, Target, targets, lvalue_faults, widths, bits_named, write_all}
+use Rattle.lhs_alias.specs.declared.segs.WireBit.{WireBit}
+use Rattle.settling.specs.Settling.{Store}
+use Rattle.sv_meaning.specs.Targets.{Target, targets, lvalue_faults, widths, bits_named, write_all}
 
 -- ---- loops over a signed constant of 32 bits, IEEE 1800-2017 sections 12.7.1 and 27.4
 
@@ -98,7 +100,7 @@ turns p at name start test next = index_value (mean at start) >>= turns_from mos
 pub record Deed : Type 0 where
   -- the store afterwards, where each store shows what names read
   pub run : (Store → Read) → Store → Store
-  pub targets : List BitName
+  pub targets : List WireBit
   pub names : List (Origin × ℕ)
   pub faults : Faults
   -- the turns of its loops, and what stands against them where so many were made before

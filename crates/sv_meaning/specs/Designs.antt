@@ -1,9 +1,7 @@
 -- A design, laid flat by its scopes: what contributes to which bits, and which valuations settle.
-use Rattle.std.specs.Prelude.{ℕ, zero, suc, ◌+◌, ◌≡◌, Bool, true, false, ◌&&◌, ◌||◌, not, ◌==◌, nat_le, List, [], ◌∷◌, ◌++◌, map, filter, Contains, Option, Some, None, slice_get, if◌then◌else◌}
+use Rattle.std.specs.Prelude.{ℕ, zero, suc, ◌+◌, ◌≡◌, Bool, true, false, ◌&&◌, not, ◌==◌, List, [], ◌∷◌, ◌++◌, map, filter, Contains, Option, Some, None, slice_get, if◌then◌else◌}
 use mathlib.Core.Former.{Count}
 use Rattle.fourvec.specs.declared.Bit.{Bit}
-use Rattle.fourvec.specs.declared.Bit.TheVariants.{Floating}
-use Rattle.fourvec.specs.Bits.{res_bit, over}
 use Rattle.sv_tree.specs.declared.exprs.Expr.{Expr, Name', Concat', Row_of-Expr, end_of-Expr, more_of-Expr}
 use Rattle.sv_tree.specs.declared.stmts.Lvalue.{Lvalue}
 use Rattle.sv_tree.specs.declared.stmts.Block.{Block}
@@ -14,9 +12,13 @@ use Rattle.sv_meaning.specs.Faults.{Faults, fault, or_then, is_clear, bad_target
 use Rattle.sv_meaning.specs.Layouts.{Name, Layout, width, Scope, signal_is, of_wires, of_choice, of_samples, Origin, find}
 use Rattle.sv_meaning.specs.Meanings.{Meaning, fixed_faults, free_faults, assigned, named}
 use Rattle.sv_meaning.specs.Values.{mean, steps}
-use Rattle.sv_meaning.specs.Targets.{BitName, Store, Target, target_of, target_faults, wide_target, lvalue_faults, targets, widths, are_fixed, slots, bits_named}
+use Rattle.lhs_alias.specs.declared.segs.WireBit.{WireBit}
+use Rattle.lhs_alias.specs.Segs.{bit}
+use Rattle.lhs_alias.specs.Pairs.{Linked}
+use Rattle.settling.specs.Settling.{Store, value_at, Link, Contribution, first_bit, SettlesBy}
+use Rattle.sv_meaning.specs.Targets.{Target, target_of, target_faults, wide_target, lvalue_faults, targets, widths, are_fixed, slots, bits_named}
 use Rattle.sv_meaning.specs.Deeds.{Deed, deed}
-use Rattle.sv_meaning.specs.Blocks.{same_bit_name, has_bit, distinct, reads, Manner, comb, clocked, no_manner, manner, block_value, block_faults}
+use Rattle.sv_meaning.specs.Blocks.{has_bit, distinct, reads, Manner, comb, clocked, no_manner, manner, block_value, block_faults}
 
 -- ---- what the scopes give
 
@@ -75,13 +77,9 @@ is_joined at x actual =
     && (widths (as_targets at actual) == width x && (are_fixed (as_targets at actual) && are_present (slots (as_targets at actual))))
 
 -- the bits of a wire
-unfoldable pub bits_of_wire : ℕ → ℕ → ℕ → List BitName
+unfoldable pub bits_of_wire : ℕ → ℕ → ℕ → List WireBit
 bits_of_wire n k zero = []
-bits_of_wire n k (suc w) = (n, k) ∷ bits_of_wire n (suc k) w
-
--- a child's bit and the bit above it
-abbrev pub Link : Type 0
-Link = BitName × BitName
+bits_of_wire n k (suc w) = bit n k ∷ bits_of_wire n (suc k) w
 
 unfoldable pub pairs : {A B : Type 0} → List A → List B → List (A × B)
 pairs (x ∷ xs) (y ∷ ys) = (x, y) ∷ pairs xs ys
@@ -97,16 +95,13 @@ links_of (w ∷ more) = links_of_work w ++ links_of more
 
 -- ---- contributions, section 10.3
 
-abbrev pub Contribution : Type 0
-Contribution = BitName × Bit
-
 -- the bits that are in range take theirs of a value
-unfoldable pub driven : List (Option BitName) → List Bit → List Contribution
+unfoldable pub driven : List (Option WireBit) → List Bit → List Contribution
 driven (Some b ∷ more) (v ∷ rest) = (b, v) ∷ driven more rest
 driven (None ∷ more) (v ∷ rest) = driven more rest
 driven all rest = []
 
-abbrev pub wire_slots : ℕ → Layout → List (Option BitName)
+abbrev pub wire_slots : ℕ → Layout → List (Option WireBit)
 wire_slots n x = map Some (bits_of_wire n 0 (width x))
 
 abbrev pub assigned_to : List Target → Meaning → Store → List Contribution
@@ -122,7 +117,7 @@ port_gives way.Output at n x actual now = assigned_to (as_targets at actual) (na
 port_gives way.Inout at n x actual now = []
 
 abbrev pub block_gives : Deed → Store → List Contribution
-block_gives a end = map (λ b. (b, end b.0 b.1)) (distinct a.targets)
+block_gives a end = map (λ b. (b, value_at end b)) (distinct a.targets)
 
 abbrev pub gives : Work → Store → Store → List Contribution
 gives (assignment at to x) prev now = assigned_to (targets at to) (mean at x) now
@@ -166,46 +161,9 @@ design_faults d = faults_from d.turns d.works
 unfoldable pub stimuli_from : ℕ → List Wire → Store → List Contribution
 stimuli_from n [] stim = []
 stimuli_from n (w ∷ more) stim =
-    (if w.input then map (λ b. (b, stim b.0 b.1)) (bits_of_wire n 0 (width w.layout)) else []) ++ stimuli_from (suc n) more stim
-
--- ---- joined bits
-
-pub data Joined (links : List Link) : BitName → BitName → Type 0 where
-  itself : {b : BitName} → Joined links b b
-  up : {b c d : BitName} → Contains links (b, c) → Joined links c d → Joined links b d
-  down : {b c d : BitName} → Contains links (c, b) → Joined links c d → Joined links b d
-
-abbrev pub lesser : BitName → BitName → BitName
-lesser a b = if nat_le a.0 b.0 then a else b
-
--- The first bit of the class of a bit: that of the least wire.
-unfoldable pub first_bit : List Link → BitName → BitName
-first_bit [] b = b
-first_bit (l ∷ more) b =
-    if same_bit_name (first_bit more b) (first_bit more l.0) || same_bit_name (first_bit more b) (first_bit more l.1)
-    then lesser (first_bit more l.0) (first_bit more l.1) else first_bit more b
-
-abbrev pub is_one_class : List Link → BitName → BitName → Bool
-is_one_class links a b = same_bit_name (first_bit links a) (first_bit links b)
+    (if w.input then map (λ b. (b, value_at stim b)) (bits_of_wire n 0 (width w.layout)) else []) ++ stimuli_from (suc n) more stim
 
 -- ---- settlings
-
--- what a class of bits is given
-abbrev pub given_to : List Link → BitName → List Contribution → List Bit
-given_to links b all = map (λ c. c.1) (filter (λ c. is_one_class links c.0 b) all)
-
--- the resolution of what is given, where anything is
-abbrev pub Resolves : Bit → List Bit → Type 0
-Resolves x [] = Unit {0}
-Resolves x (y ∷ more) = x ≡ over res_bit Floating (y ∷ more)
-
--- joined bits are equal
-abbrev pub Even : List Link → Store → Type 0
-Even links now = (b c : BitName) → Joined links b c → now b.0 b.1 ≡ now c.0 c.1
-
--- a settling over a list of contributions
-abbrev pub SettlesBy : List Link → List Contribution → Store → Type 0
-SettlesBy links all now = Even links now × ((b : BitName) → Resolves (now b.0 b.1) (given_to links b all))
 
 -- A valuation settles over the previous one and a stimulus: a test of a given valuation.
 abbrev pub Settles : Design → Store → Store → Store → Type 0
@@ -223,12 +181,12 @@ abbrev pub width_of_wire : Option Wire → ℕ
 width_of_wire None = 0
 width_of_wire (Some w) = width w.layout
 
-unfoldable pub has_all : List BitName → List BitName → Bool
+unfoldable pub has_all : List WireBit → List WireBit → Bool
 has_all [] all = true
 has_all (b ∷ more) all = has_bit b all && has_all more all
 
 -- some bit of the wire is no target
-abbrev pub is_read_now : List Wire → List BitName → ℕ → Bool
+abbrev pub is_read_now : List Wire → List WireBit → ℕ → Bool
 is_read_now wires all n = not (has_all (bits_of_wire n 0 (width_of_wire (slice_get wires n))) all)
 
 -- the wires that it names in the present
@@ -247,12 +205,12 @@ names_now wires (block at b) = block_names wires (manner at b.kind) (deed b.body
 names_now wires (port at w n x actual) = if is_joined at x actual then [] else port_names w at n actual
 
 -- the bits that it contributes to
-abbrev pub port_reaches : Way → Scope → ℕ → Layout → Expr → List BitName
+abbrev pub port_reaches : Way → Scope → ℕ → Layout → Expr → List WireBit
 port_reaches way.Input at n x actual = bits_of_wire n 0 (width x)
 port_reaches way.Output at n x actual = bits_named (as_targets at actual)
 port_reaches way.Inout at n x actual = []
 
-abbrev pub reaches : Work → List BitName
+abbrev pub reaches : Work → List WireBit
 reaches (assignment at to x) = bits_named (targets at to)
 reaches (block at b) = distinct (deed b.body at).targets
 reaches (port at w n x actual) = if is_joined at x actual then [] else port_reaches w at n x actual
@@ -261,20 +219,20 @@ reaches (port at w n x actual) = if is_joined at x actual then [] else port_reac
 pub record Touches (links : List Link) (a b : ℕ) : Type 0 where
   pub here : ℕ
   pub there : ℕ
-  pub joined : Joined links (a, here) (b, there)
+  pub joined : Linked links (bit a here) (bit b there)
 
 -- a wire that has the first bit of a class
 abbrev pub IsFirst : List Link → ℕ → Type 0
-IsFirst links a = (k : ℕ) × (first_bit links (a, k) ≡ (a, k))
+IsFirst links a = (k : ℕ) × (first_bit links (bit a k) ≡ bit a k)
 
 -- One wire feeds another
 pub record Feeds (d : Design) (a b : ℕ) : Type 0 where
   pub work : Work
   pub is_there : Contains d.works work
-  pub bit : BitName
-  pub reached : Contains (reaches work) bit
+  pub reached_bit : WireBit
+  pub reached : Contains (reaches work) reached_bit
   pub place : ℕ
-  pub into : Joined (links_of d.works) bit (b, place)
+  pub into : Linked (links_of d.works) reached_bit (bit b place)
   pub name : ℕ
   pub named : Contains (names_now d.wires work) name
   pub from : Touches (links_of d.works) name a

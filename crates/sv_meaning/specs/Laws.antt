@@ -1,9 +1,9 @@
 -- The laws over the definitions.
-use Rattle.std.specs.Prelude.{◌≡◌, ◌≢◌, ℕ, List, [], ◌∷◌, ◌++◌, Some, IsTrue, ◌↔◌}
+use Rattle.std.specs.Prelude.{◌≡◌, ◌≢◌, ℕ, List, [], ◌∷◌, ◌++◌, Some, IsTrue}
 use Rattle.fourvec.specs.Bits.{bit_below}
 use Rattle.sv_meaning.specs.Layouts.{Name, Scope, What, find}
-use Rattle.sv_meaning.specs.Targets.{Store, BitName}
-use Rattle.sv_meaning.specs.Designs.{Contribution, Design, contributions, Link, Joined, first_bit}
+use Rattle.settling.specs.Settling.{Store, Contribution}
+use Rattle.sv_meaning.specs.Designs.{Design, contributions}
 
 -- each bit is X or the other's
 abbrev pub Under : Store → Store → Type 0
@@ -19,10 +19,6 @@ More (c ∷ all) (d ∷ rest) = (c.0 ≡ d.0) × IsTrue (bit_below c.1 d.1) × M
 -- Each contribution rises with the previous and the present valuation.
 abbrev pub ContributionsRise : Type 0
 ContributionsRise = (d : Design) (prev now before later : Store) → Under prev before → Under now later → More (contributions d prev now) (contributions d before later)
-
--- two bits are joined exactly where they have one first bit
-abbrev pub FirstBitsTell : Type 0
-FirstBitsTell = (links : List Link) (a b : BitName) → Joined links a b ↔ (first_bit links a ≡ first_bit links b)
 
 -- a name stands for what it was declared as last, whatever was declared before
 abbrev pub LastIsFound : Type 0

@@ -11,15 +11,10 @@ use Rattle.sv_tree.specs.declared.word.Word.{Word}
 use Rattle.sv_meaning.specs.Faults.{Faults, fault, fault_if, or_then, unknown_name, bad_width, bad_target}
 use Rattle.sv_meaning.specs.Layouts.{Layout, scalar, width, Scope, What, signal_is, of_wires, Read, find}
 use Rattle.sv_meaning.specs.Meanings.{Meaning, is_width, Step, Part, step_in, bits_at, with_part, chain_layout, chain_faults, indices, bits_from}
+use Rattle.lhs_alias.specs.declared.segs.WireBit.{WireBit}
+use Rattle.lhs_alias.specs.Segs.{bit}
+use Rattle.settling.specs.Settling.{Store}
 use Rattle.sv_meaning.specs.Values.{step}
-
--- a bit: the number of its wire, and its place there
-abbrev pub BitName : Type 0
-BitName = ℕ × ℕ
-
--- a value for each bit of each wire
-abbrev pub Store : Type 0
-Store = ℕ → ℕ → Bit
 
 -- a net or variable with its selects
 pub record Target : Type 0 where
@@ -74,9 +69,9 @@ unfoldable mutual
 
 -- ---- the bits that a target names, IEEE 1800-2017 section 11.5.1
 
-unfoldable pub bit_names : ℕ → ℕ → ℕ → List (Option BitName)
+unfoldable pub bit_names : ℕ → ℕ → ℕ → List (Option WireBit)
 bit_names n k zero = []
-bit_names n k (suc w) = Some (n, k) ∷ bit_names n (suc k) w
+bit_names n k (suc w) = Some (bit n k) ∷ bit_names n (suc k) w
 
 abbrev pub flat : {A : Type 0} → Option (Option A) → Option A
 flat None = None
@@ -100,12 +95,12 @@ abbrev pub fixed_place : Step → Part → Option ℤ
 fixed_place s p = if (indices s).constant then p.place (λ o n k. Unknown) else None
 
 -- Behind an index that is not constant, or not known, the whole part is named.
-unfoldable pub chain_slots : Layout → List Step → List (Option BitName) → List (Option BitName)
+unfoldable pub chain_slots : Layout → List Step → List (Option WireBit) → List (Option WireBit)
 chain_slots x [] all = all
 chain_slots x (s ∷ more) all =
     with_part (step_in x s) all (λ p. with_place (fixed_place s p) all (λ i. chain_slots p.layout more (slots_from all i (width p.layout))))
 
-unfoldable pub slots : List Target → List (Option BitName)
+unfoldable pub slots : List Target → List (Option WireBit)
 slots [] = []
 slots (t ∷ more) = slots more ++ chain_slots t.layout t.steps (bit_names t.wire 0 (width t.layout))
 
@@ -115,7 +110,7 @@ present (None ∷ more) = present more
 present (Some x ∷ more) = x ∷ present more
 
 -- all bits that the target can name
-abbrev pub bits_named : List Target → List BitName
+abbrev pub bits_named : List Target → List WireBit
 bits_named all = present (slots all)
 
 -- each index is constant and known

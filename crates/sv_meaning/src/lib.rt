@@ -5,16 +5,11 @@
 //! joined bits has the resolution of what is contributed to it. Where the rules give no meaning, faults say why (`Faults`).
 #![tactic(auto)]
 
-ghost use Rattle.sv_meaning.specs.Laws.{ContributionsRise, FirstBitsTell, LastIsFound, OthersStay};
+ghost use Rattle.sv_meaning.specs.Laws.{ContributionsRise, LastIsFound, OthersStay};
 
 /// Where the previous and the present valuation have more, each contribution has more, and it goes to the same bit.
 pub fn contributions_rise()
     ensures { ContributionsRise }
-{}
-
-/// Two bits are joined by a chain of links exactly where they have one first bit.
-pub fn first_bits_tell()
-    ensures { FirstBitsTell }
 {}
 
 /// A name stands for what was declared last under it, and a declaration changes no other name.
