@@ -1,2 +1,4 @@
 pub mod Classes
+pub mod Rounds
+pub mod Least
 mod Rows

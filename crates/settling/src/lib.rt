@@ -3,8 +3,15 @@
 #![tactic(auto)]
 
 ghost use Rattle.settling.specs.Settling.{FirstBitsTell};
+ghost use Rattle.settling.specs.Least.{LeastExists, LeastRises};
 
 /// Two bits are joined by a chain of links exactly where they have one first bit.
 pub fn first_bits_tell()
     ensures { FirstBitsTell }
+{}
+
+/// Where what is given rises with the valuation, there is a settling below every settling, and where more is given it has more.
+pub fn least_settling()
+    ensures exists { LeastExists }
+    ensures rises { LeastRises }
 {}

@@ -2,6 +2,7 @@ pub mod Good
 pub mod Rising
 pub mod Stores
 pub mod Contributions
+pub mod Leasts
 pub mod Finding
 pub mod OnTrees
 pub mod Trees

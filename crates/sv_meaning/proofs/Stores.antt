@@ -22,7 +22,7 @@ use Rattle.sv_meaning.specs.Values.{mean, step}
 use Rattle.settling.specs.Settling.{Store}
 use Rattle.sv_meaning.specs.Targets.{Target, target_of, targets, targets_of, lvalue_faults, widths as widths_of, put_at, put, with_wire, write, write_all}
 use Rattle.sv_meaning.specs.Deeds.{Deed, deed, deed_else, deeds, arms, after, merged, either, assign, CaseArm, longest, all_signed, same_value, mask, matches, case_chain, labels_of, case_of, in_turn, in_turns, with_index, one_turn, turns, is_casez}
-use Rattle.sv_meaning.specs.Laws.{Under}
+use Rattle.settling.specs.Least.{Under}
 use Rattle.sv_meaning.proofs.Good.{Rises, Good, own_rises}
 use Rattle.sv_meaning.proofs.Rising.{good, good-step, AllGood, GoodSteps, OnPart, on-step, PlaceRises, SamePlace, bits_at-rise, bits_from-rise}
 

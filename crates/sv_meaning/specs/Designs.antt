@@ -165,9 +165,13 @@ stimuli_from n (w ∷ more) stim =
 
 -- ---- settlings
 
+-- what is given in each valuation: the contributions, and the stimuli
+abbrev pub given_in : Design → Store → Store → Store → List Contribution
+given_in d stim prev now = contributions d prev now ++ stimuli_from 0 d.wires stim
+
 -- A valuation settles over the previous one and a stimulus: a test of a given valuation.
 abbrev pub Settles : Design → Store → Store → Store → Type 0
-Settles d stim prev now = SettlesBy (links_of d.works) (contributions d prev now ++ stimuli_from 0 d.wires stim) now
+Settles d stim prev now = SettlesBy (links_of d.works) (given_in d stim prev now) now
 
 -- ---- what feeds what
 

@@ -1,20 +1,9 @@
 -- The laws over the definitions.
-use Rattle.std.specs.Prelude.{◌≡◌, ◌≢◌, ℕ, List, [], ◌∷◌, ◌++◌, Some, IsTrue}
-use Rattle.fourvec.specs.Bits.{bit_below}
+use Rattle.std.specs.Prelude.{◌≡◌, ◌≢◌, [], ◌∷◌, ◌++◌, Some}
 use Rattle.sv_meaning.specs.Layouts.{Name, Scope, What, find}
-use Rattle.settling.specs.Settling.{Store, Contribution}
-use Rattle.sv_meaning.specs.Designs.{Design, contributions}
-
--- each bit is X or the other's
-abbrev pub Under : Store → Store → Type 0
-Under s t = (n k : ℕ) → IsTrue (bit_below (s n k) (t n k))
-
--- the same bits in the same order, and more of each
-abbrev pub More : List Contribution → List Contribution → Type 0
-More [] [] = Unit {0}
-More [] (d ∷ rest) = ⊥
-More (c ∷ all) [] = ⊥
-More (c ∷ all) (d ∷ rest) = (c.0 ≡ d.0) × IsTrue (bit_below c.1 d.1) × More all rest
+use Rattle.settling.specs.Settling.{Store}
+use Rattle.settling.specs.Least.{Under, More, IsLeast}
+use Rattle.sv_meaning.specs.Designs.{Design, contributions, links_of, given_in}
 
 -- Each contribution rises with the previous and the present valuation.
 abbrev pub ContributionsRise : Type 0
@@ -27,3 +16,16 @@ LastIsFound = (n : Name) (at : Scope) (x : What) → find n (at ++ (n, x) ∷ []
 -- a declaration changes no other name
 abbrev pub OthersStay : Type 0
 OthersStay = (n m : Name) (at : Scope) (x : What) → m ≢ n → find n (at ++ (m, x) ∷ []) ≡ find n at
+
+-- the least valuation that settles over a previous one and a stimulus
+abbrev pub IsLeastSettling : Design → Store → Store → Store → Type 0
+IsLeastSettling d stim prev now = IsLeast (links_of d.works) (given_in d stim prev) now
+
+-- there is one
+abbrev pub LeastSettlingExists : Type 0
+LeastSettlingExists = (d : Design) (stim prev : Store) → (now : Store) × IsLeastSettling d stim prev now
+
+-- it rises with the stimulus and with the previous valuation
+abbrev pub LeastSettlingRises : Type 0
+LeastSettlingRises = (d : Design) (stim prev more before now later : Store) → Under stim more → Under prev before
+    → IsLeastSettling d stim prev now → IsLeastSettling d more before later → Under now later

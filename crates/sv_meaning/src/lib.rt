@@ -5,11 +5,17 @@
 //! joined bits has the resolution of what is contributed to it. Where the rules give no meaning, faults say why (`Faults`).
 #![tactic(auto)]
 
-ghost use Rattle.sv_meaning.specs.Laws.{ContributionsRise, LastIsFound, OthersStay};
+ghost use Rattle.sv_meaning.specs.Laws.{ContributionsRise, LastIsFound, LeastSettlingExists, LeastSettlingRises, OthersStay};
 
 /// Where the previous and the present valuation have more, each contribution has more, and it goes to the same bit.
 pub fn contributions_rise()
     ensures { ContributionsRise }
+{}
+
+/// Over each previous valuation and stimulus a design has a settling below every settling, and it rises with both.
+pub fn least_settling()
+    ensures exists { LeastSettlingExists }
+    ensures rises { LeastSettlingRises }
 {}
 
 /// A name stands for what was declared last under it, and a declaration changes no other name.
