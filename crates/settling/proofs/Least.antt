@@ -10,7 +10,8 @@ use Rattle.lhs_alias.specs.declared.segs.WireBit.{WireBit}
 use Rattle.settling.specs.Settling.{Store, value_at, Link, Contribution, first_bit, same_bit, is_one_class, given_to, Resolves, SettlesBy}
 use Rattle.settling.specs.Least.{Under, More, Giving, Rises, IsLeast, LeastExists, LeastRises}
 use Rattle.settling.proofs.Classes.{first-joined, same-name}
-use Rattle.settling.proofs.Rounds.{given-more, resolved, step, rounds, rounds-up, rounds-below, below-refl, under-trans, no_value, no_value-under}
+use Rattle.settling.specs.Events.{resolved, step}
+use Rattle.settling.proofs.Rounds.{given-more, rounds, rounds-up, rounds-below, below-refl, under-trans, no_value, no_value-under}
 
 -- ---- bits that are X, of those to which something is given
 
@@ -78,7 +79,7 @@ same-weights s t h (c ∷ all) e =
 
 -- ---- a round that changes nothing at these bits changes nothing
 
-even-step : (links : List Link) (gives : Giving) (s : Store) (b c : WireBit) → first_bit links b ≡ first_bit links c → value_at (step links gives s) b ≡ value_at (step links gives s) c
+pub even-step : (links : List Link) (gives : Giving) (s : Store) (b c : WireBit) → first_bit links b ≡ first_bit links c → value_at (step links gives s) b ≡ value_at (step links gives s) c
 even-step links gives s b c e = ap (λ x. resolved (map (λ d. d.1) (filter (λ d. same_bit (first_bit links d.0) x) (gives s)))) e
 
 -- nothing is given to the class, or something to one of these bits of it
@@ -136,7 +137,7 @@ find links gives r (suc fuel) i h =
 
 -- ---- the laws
 
-is-resolved : (x : Bit) (all : List Bit) → x ≡ resolved all → Resolves x all
+pub is-resolved : (x : Bit) (all : List Bit) → x ≡ resolved all → Resolves x all
 is-resolved x [] e = tt
 is-resolved x (y ∷ more) e = e
 

@@ -1,4 +1,5 @@
 pub mod Classes
 pub mod Rounds
 pub mod Least
+pub mod Events
 mod Rows

@@ -3,13 +3,14 @@ use Rattle.std.proofs.Common.{◌≡◌, ℕ, zero, suc, Bool, true, false, List
 use Rattle.std.specs.Prelude.{filter}
 use Rattle.fourvec.specs.declared.Bit.{Bit}
 use Rattle.fourvec.specs.declared.Bit.TheVariants.{Zero, One, Unknown, Floating}
-use Rattle.fourvec.specs.Bits.{bit_below, res_bit, over, all_pairs}
+use Rattle.fourvec.specs.Bits.{bit_below, res_bit, all_pairs}
 use Rattle.fourvec.specs.Laws.{Below}
 use Rattle.fourvec.proofs.Order as order
 use Rattle.fourvec.proofs.Tables.{left_of}
 use Rattle.lhs_alias.specs.declared.segs.WireBit.{WireBit}
 use Rattle.lhs_alias.specs.Segs.{bit}
 use Rattle.settling.specs.Settling.{Store, Link, Contribution, is_one_class, given_to, Resolves, SettlesBy}
+use Rattle.settling.specs.Events.{resolved, step}
 use Rattle.settling.specs.Least.{Under, More, Giving, Rises}
 
 -- ---- the order of bits and stores
@@ -61,11 +62,6 @@ given-more links b (c ∷ all) (d ∷ rest) h =
     pick k true = both-of c.1 d.1 (given_to links b all) (given_to links b rest) h.1 k
     pick k false = k
 
--- the resolution, and X where nothing is given
-abbrev pub resolved : List Bit → Bit
-resolved [] = Unknown
-resolved (y ∷ more) = over res_bit Floating (y ∷ more)
-
 resolved-rises : (a c : List Bit) → Below a c → bit_below (resolved a) (resolved c) ≡ true
 unfolding all_pairs
 resolved-rises [] [] h = refl
@@ -75,14 +71,11 @@ resolved-rises (x ∷ a) (y ∷ c) h = head-of _ _ [] [] (order.over_monotone re
 
 -- ---- rounds
 
-abbrev pub step : List Link → Giving → Store → Store
-step links gives s n k = resolved (given_to links (bit n k) (gives s))
-
 unfoldable pub rounds : List Link → Giving → ℕ → Store
 rounds links gives zero = no_value
 rounds links gives (suc i) = step links gives (rounds links gives i)
 
-step-rises : (links : List Link) (gives more : Giving) (s t : Store) → More (gives s) (more t) → Under (step links gives s) (step links more t)
+pub step-rises : (links : List Link) (gives more : Giving) (s t : Store) → More (gives s) (more t) → Under (step links gives s) (step links more t)
 step-rises links gives more s t h n k = resolved-rises _ _ (given-more links (bit n k) (gives s) (more t) h)
 
 pub rounds-up : (links : List Link) (gives : Giving) → Rises gives → (i : ℕ) → Under (rounds links gives i) (rounds links gives (suc i))
@@ -91,7 +84,7 @@ rounds-up links gives r zero = no_value-under (rounds links gives (suc zero))
 rounds-up links gives r (suc i) = step-rises links gives gives _ _ (r _ _ (rounds-up links gives r i))
 
 -- below a settling over more
-below-resolution : (x : Bit) (a c : List Bit) → Below a c → Resolves x c → bit_below (resolved a) x ≡ true
+pub below-resolution : (x : Bit) (a c : List Bit) → Below a c → Resolves x c → bit_below (resolved a) x ≡ true
 unfolding all_pairs
 below-resolution x [] c h e = refl
 below-resolution x (y ∷ a) [] h e = cc

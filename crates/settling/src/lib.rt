@@ -4,6 +4,7 @@
 
 ghost use Rattle.settling.specs.Settling.{FirstBitsTell};
 ghost use Rattle.settling.specs.Least.{LeastExists, LeastRises};
+ghost use Rattle.settling.specs.Events.{EventsStayBelow, EventsRaise, RestIsLeast};
 
 /// Two bits are joined by a chain of links exactly where they have one first bit.
 pub fn first_bits_tell()
@@ -14,4 +15,12 @@ pub fn first_bits_tell()
 pub fn least_settling()
     ensures exists { LeastExists }
     ensures rises { LeastRises }
+{}
+
+/// From X at every bit on, and in any order: events stay below every settling, each raises bits or changes nothing, and where none
+/// changes anything more, the valuation is the least settling.
+pub fn events_reach_the_least_settling()
+    ensures below { EventsStayBelow }
+    ensures raise { EventsRaise }
+    ensures rest { RestIsLeast }
 {}
