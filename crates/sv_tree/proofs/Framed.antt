@@ -63,6 +63,7 @@ length_in d = length-map d _
 
 mutual
   unfolding expr_depths select_depths
+
   pub frame : (x : Expr) (n : ℕ) (i o : List Token) → Spells n x i o → Framed (Spells n x) (length (expr_depths x)) i o
   frame (Literal w) n i o h = framed_literal w i o h
   frame (Name' w s all) n i o h =
