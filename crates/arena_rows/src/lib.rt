@@ -4,4 +4,6 @@
 #[cfg(test)]
 mod notation;
 #[cfg(test)]
+mod simplified;
+#[cfg(test)]
 mod tests;

@@ -1,0 +1,10 @@
+pub mod Becoming
+pub mod Vectors
+pub mod NoZ
+pub mod Unary
+pub mod Binary
+pub mod Choosing
+pub mod Moving
+pub mod Computing
+pub mod Fills
+pub mod Simplifying

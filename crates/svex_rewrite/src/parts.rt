@@ -1,0 +1,193 @@
+//! The laws of parts, concatenations and extensions.
+
+ghost use Rattle.std.specs.Prelude.{◌≡◌, ◌<◌, ◌≤◌, ◌+◌, length, IfSome};
+ghost use Rattle.svex_arena.specs.declared.shape.Shape.{Shape};
+ghost use Rattle.svex_arena.specs.declared.shape.Bin.{Bin};
+ghost use Rattle.svex_rewrite.specs.Meaning.{Becomes, HasShape, IsOver};
+
+use crate::nodes::{filled, shape_of};
+use fourvec::Bit;
+use svex_arena::{Arena, Bin, Node, Shape};
+
+// Where bits stand: from a place on in a node.
+#[derive(Clone, Copy)]
+struct Place {
+    of: Node,
+    lo: u8,
+}
+
+// Where a part of a concatenation stands in one of its halves.
+#[tactic(auto, using(crate::proofs::Moving::half_laws))]
+fn half(arena: &Arena, of: Node, high: Node, low: Node, lo: u8, width: u8) -> Option<Place>
+    requires over { IsOver arena.now (Shape.Slice of lo width) }
+    requires concat { HasShape arena.now of (Shape.Binary Bin.Concat high low) }
+    requires high { high < of }
+    requires low { low < of }
+    ensures lower { IfSome result (λ p. p.of < of) }
+    ensures is { IfSome result (λ p. Becomes arena.now (Shape.Slice of lo width) (Shape.Slice p.of p.lo width)) }
+{
+    let below = arena.width(low);
+    if lo + width <= below {
+        Some(Place { of: low, lo })
+    } else if below <= lo {
+        Some(Place {
+            of: high,
+            lo: lo - below,
+        })
+    } else {
+        None
+    }
+}
+
+// Where a part of a node stands in one of its children.
+#[tactic(auto, using(crate::proofs::Moving::narrowing_laws))]
+fn narrowed(arena: &Arena, of: Node, lo: u8, width: u8) -> Option<Place>
+    requires { IsOver arena.now (Shape.Slice of lo width) }
+    ensures lower { IfSome result (λ p. p.of < of) }
+    ensures is { IfSome result (λ p. Becomes arena.now (Shape.Slice of lo width) (Shape.Slice p.of p.lo width)) }
+{
+    let _ = arena.len();
+    let shape = shape_of(arena, of);
+    match &shape {
+        Shape::Slice {
+            of: inner,
+            lo: low,
+            ..
+        } => Some(Place {
+            of: *inner,
+            lo: *low + lo,
+        }),
+        Shape::Binary(op, high, low) => {
+            if *op == Bin::Concat {
+                half(arena, of, *high, *low, lo, width)
+            } else {
+                None
+            }
+        }
+        Shape::Zext(a, _) => {
+            if lo + width <= arena.width(*a) {
+                Some(Place { of: *a, lo })
+            } else {
+                None
+            }
+        }
+        Shape::Sext(a, _) => {
+            if lo + width <= arena.width(*a) {
+                Some(Place { of: *a, lo })
+            } else {
+                None
+            }
+        }
+        _ => None,
+    }
+}
+
+// A part of all bits, of a constant, or of the zeros above a node.
+#[tactic(auto, using(crate::proofs::Becoming::becomes_self, crate::proofs::Moving::slice_laws))]
+fn settled(arena: &Arena, of: Node, lo: u8, width: u8) -> Shape
+    requires { IsOver arena.now (Shape.Slice of lo width) }
+    ensures { Becomes arena.now (Shape.Slice of lo width) result }
+{
+    if width == arena.width(of) {
+        return shape_of(arena, of);
+    }
+    let shape = shape_of(arena, of);
+    match &shape {
+        Shape::Const(value) => Shape::Const(value.slice(lo, width)),
+        Shape::Zext(a, _) => {
+            if arena.width(*a) <= lo {
+                Shape::Const(filled(width, Bit::Zero))
+            } else {
+                Shape::Slice { of, lo, width }
+            }
+        }
+        _ => Shape::Slice { of, lo, width },
+    }
+}
+
+/// A part of a node, looked for as far down as its bits stand together in one node.
+#[tactic(auto, using(crate::proofs::Becoming::becomes_self, crate::proofs::Becoming::becomes_over, crate::proofs::Becoming::becomes_on))]
+pub fn rewrite_slice(arena: &Arena, of: Node, lo: u8, width: u8) -> Shape
+    requires { IsOver arena.now (Shape.Slice of lo width) }
+    ensures { Becomes arena.now (Shape.Slice of lo width) result }
+{
+    let mut place = Place { of, lo };
+    'down: while let Some(next) = narrowed(arena, place.of, place.lo, width) {
+        place = next;
+    }
+    settled(arena, place.of, place.lo, width)
+}
+
+// Bits that stand together in a node.
+#[derive(Clone, Copy)]
+struct Part {
+    of: Node,
+    lo: u8,
+    width: u8,
+}
+
+// The bits that a node names, where it is a part of another.
+#[tactic(auto, using(crate::proofs::Moving::part_within))]
+fn as_part(arena: &Arena, node: Node) -> Option<Part>
+    requires { node < length arena.now }
+    ensures is { IfSome result (λ p. HasShape arena.now node (Shape.Slice p.of p.lo p.width)) }
+    ensures within { IfSome result (λ p. p.lo + p.width ≤ 128) }
+{
+    let _ = arena.len();
+    match shape_of(arena, node) {
+        Shape::Slice { of, lo, width } => Some(Part { of, lo, width }),
+        _ => None,
+    }
+}
+
+/// A concatenation: of two parts that stand together in one node, it is a part of that node.
+#[tactic(auto, using(crate::proofs::Becoming::becomes_self, crate::proofs::Moving::joined, crate::proofs::Moving::joined_over))]
+pub fn rewrite_concat(arena: &Arena, high: Node, low: Node) -> Shape
+    requires { IsOver arena.now (Shape.Binary Bin.Concat high low) }
+    ensures { Becomes arena.now (Shape.Binary Bin.Concat high low) result }
+{
+    match (as_part(arena, high), as_part(arena, low)) {
+        (Some(above), Some(below)) => {
+            if above.of == below.of && below.lo + below.width == above.lo {
+                rewrite_slice(arena, below.of, below.lo, below.width + above.width)
+            } else {
+                Shape::Binary(Bin::Concat, high, low)
+            }
+        }
+        _ => Shape::Binary(Bin::Concat, high, low),
+    }
+}
+
+/// An extension by 0: to its own width, of a constant, or of such an extension.
+#[tactic(auto, using(crate::proofs::Becoming::becomes_self, crate::proofs::Moving::zext_laws))]
+pub fn rewrite_zext(arena: &Arena, a: Node, width: u8) -> Shape
+    requires { IsOver arena.now (Shape.Zext a width) }
+    ensures { Becomes arena.now (Shape.Zext a width) result }
+{
+    if width == arena.width(a) {
+        return shape_of(arena, a);
+    }
+    let shape = shape_of(arena, a);
+    match &shape {
+        Shape::Const(value) => Shape::Const(value.zext(width)),
+        Shape::Zext(x, _) => Shape::Zext(*x, width),
+        _ => Shape::Zext(a, width),
+    }
+}
+
+/// A signed extension: to its own width, of a constant, or of such an extension.
+#[tactic(auto, using(crate::proofs::Becoming::becomes_self, crate::proofs::Moving::sext_laws))]
+pub fn rewrite_sext(arena: &Arena, a: Node, width: u8) -> Shape
+    requires { IsOver arena.now (Shape.Sext a width) }
+    ensures { Becomes arena.now (Shape.Sext a width) result }
+{
+    if width == arena.width(a) {
+        return shape_of(arena, a);
+    }
+    let shape = shape_of(arena, a);
+    match &shape {
+        Shape::Const(value) => Shape::Const(value.sext(width)),
+        Shape::Sext(x, _) => Shape::Sext(*x, width),
+        _ => Shape::Sext(a, width),
+    }
+}
