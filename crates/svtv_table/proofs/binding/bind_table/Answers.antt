@@ -1,0 +1,25 @@
+use Rattle.std.proofs.Common.{◌∙◌, sym, subst}
+use Rattle.svtv_table.specs.Binding.{bind_faults}
+use Rattle.svtv_table.specs.Faults.{Stops}
+use Rattle.svtv_table.proofs.Bounds.{bound_is, faults_are}
+use Rattle.svtv_table.proofs.Each.{handed_on}
+use Rattle.svtv_table.proofs.binding.bind_table.Goals as goal
+
+pub returns-in_err-work-clause-err : goal.returns-in_err-work-clause-err
+returns-in_err-work-clause-err c =
+    let wires = c.args.wires.now in
+    let e = c.in_err-work.field-0.0 in
+    handed_on c.from_residual-in_err-work.result e (Stops (bind_faults wires c.args.table.now)) c.from_residual-in_err-work.ensures.1
+    (subst (λ fs. Stops fs e)
+    (faults_are wires c.in_ok-wires.wires.list.now c.args.table.now c.as_slice-rows.result.now c.in_ok-variables.variables.list.items c.in_ok-wires.ensures c.as_slice-rows.ensures c.in_ok-variables.ensures)
+    c.in_err-work.ensures.err)
+
+pub returns-clause-bound : goal.returns-clause-bound
+returns-clause-bound c =
+    c.finished.ensures ∙ bound_is c.args.wires.now c.in_ok-wires.wires.list.now c.args.table.now c.as_slice-rows.result.now c.in_ok-variables.variables.list.items c.in_ok-work.work
+    c.in_ok-wires.ensures c.as_slice-rows.ensures c.in_ok-variables.ensures c.in_ok-work.ensures.follows
+
+pub returns-clause-fine : goal.returns-clause-fine
+returns-clause-fine c =
+    sym (faults_are c.args.wires.now c.in_ok-wires.wires.list.now c.args.table.now c.as_slice-rows.result.now c.in_ok-variables.variables.list.items c.in_ok-wires.ensures c.as_slice-rows.ensures c.in_ok-variables.ensures)
+    ∙ c.in_ok-work.ensures.fine

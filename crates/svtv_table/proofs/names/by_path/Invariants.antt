@@ -1,0 +1,7 @@
+use Rattle.std.proofs.Common.{map, take}
+use Rattle.svtv_table.specs.Indexing.{Indexes}
+use Rattle.svtv_table.specs.Names.{path_of}
+use Rattle.svtv_table.proofs.names.by_path.Given as goal
+
+abbrev pub invariant-loop-at : goal.invariant-loop-at
+invariant-loop-at l = Indexes l.index (map path_of (take l.at l.wires))

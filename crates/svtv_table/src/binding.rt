@@ -1,0 +1,186 @@
+// Binds a table to the wires of a design.
+ghost use Rattle.std.specs.Prelude.{◌≡◌, ◌<◌, ◌+◌, ◌^◌, ◌∷◌, [], ◌++◌, All, Some, map, length, slice_set, slice_index_or, true, false, IfOk, OnOk, IfErr};
+ghost use Rattle.std.specs.List.{IsDistinct};
+ghost use Rattle.std.specs.Str.{bytes_eq};
+ghost use Rattle.svtv_table.specs.Binding as spec;
+ghost use Rattle.svtv_table.specs.Drives.{phase_drive};
+ghost use Rattle.svtv_table.specs.Faults.{Stops, at_each};
+ghost use Rattle.svtv_table.specs.Following.{Follows};
+ghost use Rattle.svtv_table.specs.Names as names;
+ghost use Rattle.svtv_table.specs.Reading.{IsWellFormed};
+ghost use Rattle.svtv_table.specs.Stimuli.{Means};
+
+use crate::bound::{Bound, Drive};
+use crate::drives::drives_of;
+use crate::faults::refused;
+use crate::index::Index;
+use crate::names::{Target, Variables, Wires, variables_of, wire_of, wires_of};
+use crate::samples::{Samples, sample_cells};
+use crate::table::{Row, RowKind, Table};
+use items::Items;
+use std::alloc::Global;
+use sv_outside::{Signal, TextErr};
+
+/// What rows drive and sample, and which wires have an `in` row.
+#[derive(Drop)]
+pub struct Work {
+    pub drives: Items<(usize, Items<Drive>)>,
+    pub driven: Vec<bool>,
+    pub samples: Samples,
+}
+
+// The number of a row's wire: an `in` row names an input.
+#[tactic(auto, unfolding(crate::specs::Binding::wire_faults, crate::specs::Faults::Stops))]
+fn number_of_wire(wires: &Wires, row: &Row, line: usize) -> Result<usize, TextErr>
+    ensures number { IfOk result (λ number. names.wire_of wires.now.list.now row.now.path ≡ Some number) }
+    ensures within { IfOk result (λ number. number < length wires.now.list.now) }
+    ensures fine { OnOk result (spec.wire_faults wires.now.list.now line row.now ≡ []) }
+    ensures err { IfErr result (Stops (spec.wire_faults wires.now.list.now line row.now)) }
+{
+    let Some(number) = wire_of(wires, &row.path) else {
+        return Err(refused(29, line, 2));
+    };
+    match row.kind {
+        RowKind::In if !wires.list[number].input => Err(refused(29, line, 2)),
+        _ => Ok(number),
+    }
+}
+
+fn target_of(wires: &Wires, row: &Row, line: usize) -> Result<Target, TextErr>
+    requires { All (λ wire. spec.HasWidth wire.width) wires.now.list.now }
+    ensures wire { IfOk result (λ target. names.wire_of wires.now.list.now row.now.path ≡ Some target.wire) }
+    ensures within { IfOk result (λ target. target.wire < length wires.now.list.now) }
+    ensures width { IfOk result (λ target. target.width ≡ names.width_of wires.now.list.now row.now.path) }
+    ensures line { IfOk result (λ target. target.line ≡ line) }
+    ensures fine { OnOk result (spec.wire_faults wires.now.list.now line row.now ≡ []) }
+    ensures err { IfErr result (Stops (spec.wire_faults wires.now.list.now line row.now)) }
+{
+    let wire = number_of_wire(wires, row, line)?;
+    Ok(Target {
+        wire,
+        width: wires.list[wire].width,
+        line,
+    })
+}
+
+#[tactic(auto, unfolding(crate::specs::Binding::in_faults, crate::specs::Faults::Stops))]
+fn bind_in(
+    alloc: Global,
+    variables: &Variables,
+    target: &Target,
+    row: &Row,
+    work: &mut Work,
+) -> Result<(), TextErr>
+    requires { target.now.wire < length work.old.driven.items }
+    ensures drives { OnOk result (work.new.drives ≡ work.old.drives ++ (target.now.wire, at_each (phase_drive target.now.width variables.now.list.items row.now.cells) 0 row.now.cells) ∷ []) }
+    ensures driven { OnOk result (work.new.driven.items ≡ slice_set work.old.driven.items target.now.wire true) }
+    ensures samples { OnOk result (work.new.samples ≡ work.old.samples) }
+    ensures fine { OnOk result (spec.in_faults (slice_index_or work.old.driven.items target.now.wire false) target.now.width variables.now.list.items target.now.line row.now.cells ≡ []) }
+    ensures err { IfErr result (Stops (spec.in_faults (slice_index_or work.old.driven.items target.now.wire false) target.now.width variables.now.list.items target.now.line row.now.cells)) }
+{
+    if work.driven[target.wire] {
+        return Err(refused(30, target.line, 2));
+    }
+    let drives = drives_of(alloc, variables, target, row.cells.as_slice())?;
+    work.driven[target.wire] = true;
+    work.drives.push((target.wire, drives))?;
+    Ok(())
+}
+
+// Binds a row behind those before it.
+#[tactic(auto, unfolding(crate::specs::Binding::faults_after))]
+fn bind_row(
+    alloc: Global,
+    wires: &Wires,
+    variables: &Variables,
+    before: &[Row],
+    row: &Row,
+    work: &mut Work,
+) -> Result<(), TextErr>
+    requires widths { All (λ wire. spec.HasWidth wire.width) wires.now.list.now }
+    requires room { length before.now + 1 < 2 ^ 64 }
+    requires follows { Follows wires.now.list.now variables.now.list.items before.now work.old }
+    ensures follows { OnOk result (Follows wires.now.list.now variables.now.list.items (before.now ++ row.now ∷ []) work.new) }
+    ensures fine { OnOk result (spec.faults_after wires.now.list.now variables.now.list.items before.now (length before.now + 1) row.now ≡ []) }
+    ensures err { IfErr result (Stops (spec.faults_after wires.now.list.now variables.now.list.items before.now (length before.now + 1) row.now)) }
+{
+    let target = target_of(wires, row, before.len() + 1)?;
+    match row.kind {
+        RowKind::In => bind_in(alloc, variables, &target, row, work),
+        RowKind::Out => sample_cells(&mut work.samples, variables, &target, row.cells.as_slice()),
+    }
+}
+
+#[tactic(auto, unfolding(crate::specs::Faults::Stops))]
+fn bind_rows(
+    alloc: Global,
+    wires: &Wires,
+    variables: &Variables,
+    rows: &[Row],
+) -> Result<Work, TextErr>
+    requires { All (λ wire. spec.HasWidth wire.width) wires.now.list.now }
+    ensures follows { IfOk result (Follows wires.now.list.now variables.now.list.items rows.now) }
+    ensures fine { OnOk result (at_each (spec.row_faults wires.now.list.now variables.now.list.items rows.now) 0 rows.now ≡ []) }
+    ensures err { IfErr result (Stops (at_each (spec.row_faults wires.now.list.now variables.now.list.items rows.now) 0 rows.now)) }
+{
+    let mut work = Work {
+        drives: Items::new(alloc),
+        driven: vec![in alloc; false; wires.list.len()]?,
+        samples: Samples {
+            list: Items::new(alloc),
+            taken: Index::new(alloc),
+        },
+    };
+    for (at, row) in rows.iter().enumerate() {
+        bind_row(alloc, wires, variables, &rows[..at], row, &mut work)?;
+    }
+    Ok(work)
+}
+
+fn finished(phases: usize, variables: Variables, work: Work) -> Bound
+    ensures { result ≡ record { phases = phases; vars = variables.list.items; drives = work.drives; samples = work.samples.list } }
+{
+    let Work {
+        drives,
+        samples,
+        ..
+    } = work;
+    Bound {
+        phases,
+        vars: Items::from_vec(variables.list),
+        drives,
+        samples: samples.list,
+    }
+}
+
+#[tactic(auto, unfolding(crate::specs::Faults::Stops))]
+fn bind_table(alloc: Global, table: &Table, wires: &[Signal]) -> Result<Bound, TextErr>
+    requires { All (λ wire. spec.HasWidth wire.width) wires.now }
+    ensures bound { IfOk result (λ bound. bound ≡ spec.bound_of wires.now table.now) }
+    ensures fine { OnOk result (spec.bind_faults wires.now table.now ≡ []) }
+    ensures err { IfErr result (Stops (spec.bind_faults wires.now table.now)) }
+{
+    let rows = table.rows.as_slice();
+    let wires = wires_of(alloc, wires)?;
+    let variables = variables_of(alloc, &wires, rows)?;
+    let work = bind_rows(alloc, &wires, &variables, rows)?;
+    Ok(finished(table.phases, variables, work))
+}
+
+/// What a table drives and samples in a design. E29 is a path that no wire has, or an `in` row of what is no input; E30 a
+/// second `in` row of a path; E28 a literal that does not fit, or `~` where the phase before has no complement; E31 a variable
+/// on signals of two widths; E32 a sample under a name that another one or a variable has. Of wires with one path the first
+/// counts. The first fault in the order of the rows is told, at its record and field.
+pub fn bind(alloc: Global, table: &Table, wires: &[Signal]) -> Result<Bound, TextErr>
+    requires formed { IsWellFormed table.now }
+    requires widths { All (λ wire. spec.HasWidth wire.width) wires.now }
+    ensures bound { IfOk result (λ bound. bound ≡ spec.bound_of wires.now table.now) }
+    ensures fine { OnOk result (spec.bind_faults wires.now table.now ≡ []) }
+    ensures err { IfErr result (Stops (spec.bind_faults wires.now table.now)) }
+    ensures means { IfOk result (Means wires.now table.now.rows) }
+    ensures within { IfOk result (spec.IsWithin wires.now) }
+    ensures distinct { IfOk result (λ bound. IsDistinct bytes_eq (map names.name_of bound.vars)) }
+    ensures var_widths { IfOk result (λ bound. All (λ var. spec.HasWidth var.width) bound.vars) }
+{
+    bind_table(alloc, table, wires)
+}

@@ -1,0 +1,47 @@
+// A table over the wires of a design.
+use fourvec::Four;
+use items::Items;
+use sv_outside::Name;
+
+/// A variable of a table, as wide as the first input that it drives.
+#[derive(Debug, Drop)]
+pub struct VarDecl {
+    pub name: Name,
+    /// In bits, 1 to 128.
+    pub width: u8,
+}
+
+/// What drives an input in one phase.
+#[derive(Clone, Copy, Debug, PartialEq, Eq)]
+pub enum Drive {
+    /// This vector, as wide as the input.
+    Fixed(Four),
+    /// The variable of that number, from 0, or its complement.
+    Chosen { number: usize, flipped: bool },
+    /// Nothing: any vector.
+    Free,
+}
+
+/// A signal at the end of a phase, under a name.
+#[derive(Debug, Drop)]
+pub struct Sample {
+    pub name: Name,
+    /// The number of the wire, from 0.
+    pub wire: usize,
+    /// The number of the phase, from 0.
+    pub phase: usize,
+    /// In bits, 1 to 128.
+    pub width: u8,
+}
+
+/// A table over the wires of a design.
+#[derive(Debug, Drop)]
+pub struct Bound {
+    pub phases: usize,
+    /// In the order in which they appear.
+    pub vars: Items<VarDecl>,
+    /// The number of the wire of each `in` row, and its drive in each phase. Any other input is free.
+    pub drives: Items<(usize, Items<Drive>)>,
+    /// By row and then by phase.
+    pub samples: Items<Sample>,
+}

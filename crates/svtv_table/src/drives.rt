@@ -1,0 +1,203 @@
+// What drives an input in each phase.
+ghost use Rattle.std.specs.Prelude.{◌≡◌, ◌≤◌, ◌<◌, ◌+◌, ◌^◌, [], ℕ, List, Option, replicate, length, IfOk, IfErr, OnOk};
+ghost use Rattle.fourvec.specs.Bits.{all_zero};
+ghost use Rattle.fourvec.specs.declared.Bit.TheVariants.{Floating};
+ghost use Rattle.svtv_table.specs.Binding.{HasWidth, cell_differs, drive_faults, phase_faults};
+ghost use Rattle.svtv_table.specs.Drives as spec;
+ghost use Rattle.svtv_table.specs.Faults.{Stops, at_each};
+
+use crate::bound::Drive;
+use crate::faults::refused;
+use crate::names::{Target, Variables, number_of, width_under};
+use crate::table::Cell;
+use fourvec::Four;
+use items::Items;
+use std::alloc::Global;
+use sv_literal::Literal;
+use sv_outside::{Name, TextErr};
+
+#[tactic(auto, using(sv_literal::proofs::Vectors::is_zero_on_planes))]
+fn is_zero(value: &Four) -> bool
+    ensures { result ≡ all_zero value.now }
+{
+    value.up() == 0 && value.low() == 0
+}
+
+/// Whether the bits of a literal past a width are 0. A fill has as many bits as are wanted.
+#[tactic(auto, using(crate::proofs::Constants::fits_short, crate::proofs::Constants::fits_long), unfolding(crate::specs::Drives::fits))]
+pub fn fits(literal: &Literal, width: u8) -> bool
+    requires { HasWidth width }
+    ensures { result ≡ spec.fits literal.now width }
+{
+    let own = literal.value.width();
+    literal.fill || own <= width || is_zero(&literal.value.slice(width, own - width))
+}
+
+/// The vector of a width: a fill repeats its bit, and any other literal is cut or extended with 0.
+#[tactic(auto, using(crate::proofs::Constants::filled, crate::proofs::Constants::extended, crate::proofs::Constants::cut), unfolding(crate::specs::Drives::constant))]
+pub fn constant(literal: &Literal, width: u8) -> Four
+    requires { HasWidth width }
+    ensures { result ≡ spec.constant literal.now width }
+{
+    let value = literal.value;
+    let own = value.width();
+    if literal.fill {
+        value.slice(0, 1).sext(width)
+    } else if own < width {
+        value.zext(width)
+    } else {
+        value.slice(0, width)
+    }
+}
+
+#[tactic(auto, using(crate::proofs::Constants::filled), unfolding(fourvec::specs::Bits::planes))]
+fn floating(width: u8) -> Four
+    requires { HasWidth width }
+    ensures { result ≡ replicate width Floating }
+{
+    Four::new(1, 0, 1).sext(width)
+}
+
+fn fixed(literal: &Literal, width: u8) -> Option<Drive>
+    requires { HasWidth width }
+    ensures { result ≡ spec.fixed_drive literal.now width }
+{
+    if fits(literal, width) {
+        Some(Drive::Fixed(constant(literal, width)))
+    } else {
+        None
+    }
+}
+
+fn complement(value: Four) -> Option<Drive>
+    ensures { result ≡ spec.complement_drive value }
+{
+    if value.is_bool() {
+        Some(Drive::Fixed(value.not()))
+    } else {
+        None
+    }
+}
+
+fn flipped(before: &Drive) -> Option<Drive>
+    ensures { result ≡ spec.flipped_drive (Some before.now) }
+{
+    match before {
+        Drive::Fixed(value) => complement(*value),
+        Drive::Chosen { number, flipped } => Some(Drive::Chosen {
+            number: *number,
+            flipped: !*flipped,
+        }),
+        Drive::Free => None,
+    }
+}
+
+fn flipped_before(before: &Option<Drive>) -> Option<Drive>
+    ensures { result ≡ spec.flipped_drive before.now }
+{
+    match before {
+        Some(drive) => flipped(drive),
+        None => None,
+    }
+}
+
+// Every name of an `in` row is that of a variable.
+fn chosen(variables: &Variables, name: &Name) -> Drive
+    ensures { result ≡ spec.chosen variables.now.list.items name.now }
+{
+    Drive::Chosen {
+        number: number_of(variables, name).unwrap_or(0),
+        flipped: false,
+    }
+}
+
+// What a cell makes of the drive of the phase before.
+fn drive_of(variables: &Variables, width: u8, cell: &Cell, before: &Option<Drive>) -> Option<Drive>
+    requires { HasWidth width }
+    ensures { result ≡ spec.drive_of width variables.now.list.items cell.now before.now }
+{
+    match cell {
+        Cell::Literal(literal) => fixed(literal, width),
+        Cell::Zed => Some(Drive::Fixed(floating(width))),
+        Cell::Named(name) => Some(chosen(variables, name)),
+        Cell::Flip => flipped_before(before),
+        Cell::Empty | Cell::Free => Some(Drive::Free),
+    }
+}
+
+fn unless_empty<'a>(cell: &'a Cell, before: &'a Cell) -> &'a Cell
+    ensures { result.now ≡ spec.unless_empty cell.now before.now }
+{
+    match cell {
+        Cell::Empty => before,
+        _ => cell,
+    }
+}
+
+// Whether a cell names a variable of another width.
+fn differs(variables: &Variables, width: u8, cell: &Cell) -> bool
+    ensures { result ≡ cell_differs width variables.now.list.items cell.now }
+{
+    match cell {
+        Cell::Named(name) => match width_under(variables, name) {
+            Some(own) => own != width,
+            None => false,
+        },
+        _ => false,
+    }
+}
+
+// The drive of a phase, from the cell that counts there and the drive of the phase before.
+#[tactic(auto, unfolding(crate::specs::Binding::drive_faults, crate::specs::Faults::Stops))]
+fn phase_drive(
+    variables: &Variables,
+    target: &Target,
+    phase: usize,
+    cell: &Cell,
+    held: &Cell,
+    before: &Option<Drive>,
+) -> Result<Drive, TextErr>
+    requires { phase + 3 < 2 ^ 64 }
+    ensures drive { IfOk result (λ drive. spec.drive_of target.now.width variables.now.list.items held.now before.now ≡ Some drive) }
+    ensures fine { OnOk result (drive_faults (spec.drive_of target.now.width variables.now.list.items held.now before.now) target.now.width variables.now.list.items target.now.line phase cell.now ≡ []) }
+    ensures err { IfErr result (Stops (drive_faults (spec.drive_of target.now.width variables.now.list.items held.now before.now) target.now.width variables.now.list.items target.now.line phase cell.now)) }
+{
+    let Some(drive) = drive_of(variables, target.width, held, before) else {
+        return Err(refused(28, target.line, phase + 3));
+    };
+    if differs(variables, target.width, cell) {
+        return Err(refused(31, target.line, phase + 3));
+    }
+    Ok(drive)
+}
+
+fn copied(drive: &Drive) -> Drive
+    ensures { result ≡ drive.now }
+{
+    *drive
+}
+
+/// The drive of each phase of an `in` row.
+#[tactic(auto, unfolding(crate::specs::Faults::Stops, crate::specs::Drives::held_before, crate::specs::Drives::drive_before))]
+pub fn drives_of(
+    alloc: Global,
+    variables: &Variables,
+    target: &Target,
+    cells: &[Cell],
+) -> Result<Items<Drive>, TextErr>
+    ensures drives { IfOk result (λ drives. drives ≡ at_each (spec.phase_drive target.now.width variables.now.list.items cells.now) 0 cells.now) }
+    ensures fine { OnOk result (at_each (phase_faults target.now.width variables.now.list.items cells.now target.now.line) 0 cells.now ≡ []) }
+    ensures err { IfErr result (Stops (at_each (phase_faults target.now.width variables.now.list.items cells.now target.now.line) 0 cells.now)) }
+{
+    let free = Cell::Free;
+    let mut held = &free;
+    let mut before = None;
+    let mut drives = Items::new(alloc);
+    for (phase, cell) in cells.iter().enumerate() {
+        held = unless_empty(cell, held);
+        let drive = phase_drive(variables, target, phase, cell, held, &before)?;
+        drives.push(copied(&drive))?;
+        before = Some(drive);
+    }
+    Ok(drives)
+}

@@ -1,0 +1,48 @@
+// Numbers by name.
+ghost use Rattle.std.specs.Prelude.{◌≡◌, ◌∷◌, [], ◌++◌, ℕ, List, length, None, OnOk};
+ghost use Rattle.svtv_table.specs.Indexing.{number_under, Indexes};
+
+use std::alloc::{AllocError, Global};
+use std::collections::HashMap;
+
+/// The numbers of names in a list, of which the first counts.
+#[derive(Drop)]
+pub struct Index {
+    alloc: Global,
+    numbers: HashMap<Vec<u8>, usize>,
+}
+
+impl Index {
+    ghost use Rattle.svtv_table.specs.Indexing.{number_under, Indexes};
+
+    /// Of no names.
+    #[tactic(auto, using(crate::proofs::Places::indexes_none))]
+    pub fn new(alloc: Global) -> Index
+        ensures { Indexes result [] }
+    {
+        Index {
+            alloc,
+            numbers: HashMap::new(alloc),
+        }
+    }
+
+    /// The number under a name.
+    #[tactic(auto, unfolding(crate::specs::Indexing::number_under))]
+    pub fn number(&self, name: &[u8]) -> Option<usize>
+        ensures { result ≡ number_under self.now name.now }
+    {
+        self.numbers.get(name).copied()
+    }
+
+    /// Goes on with one more name, at the end of the list.
+    pub fn note(&mut self, name: &[u8], number: usize) -> Result<(), AllocError>
+        ensures { OnOk result ((names : List (List ℕ)) → Indexes self.old names → number ≡ length names → Indexes self.new (names ++ name.now ∷ [])) }
+    {
+        if self.number(name).is_some() {
+            return Ok(());
+        }
+        let key = name.to_vec(self.alloc)?;
+        let _ = self.numbers.insert(key, number)?;
+        Ok(())
+    }
+}
