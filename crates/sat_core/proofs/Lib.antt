@@ -1,0 +1,12 @@
+pub mod Trails
+pub mod Learns
+pub mod Steps
+pub mod Learned
+pub mod Ends
+pub mod Watches
+pub mod Rests
+pub mod Rows
+pub mod Pushes
+pub mod Backs
+pub mod Starts
+pub mod Shorter

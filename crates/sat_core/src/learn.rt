@@ -1,0 +1,416 @@
+//! From a conflict back to a new clause.
+
+ghost use Rattle.std.specs.Prelude.{◌≢◌, ◌≡◌, ℕ, ◌+◌, ◌*◌, ◌<◌, ◌≤◌, Bool, true, false, Option, Some, None, length, OnOk, IfOk, MatchBool, IsTrue, List, [], ◌∷◌, ◌++◌, reverse, take, IfNone, IfSome};
+ghost use Rattle.std.specs.List.{All, filter};
+ghost use Rattle.cnf.specs.Clauses.{AllBelow, AreBelow, IsConflict, all_open, valuation};
+ghost use Rattle.refute_check.specs.Entry.{Entry};
+ghost use Rattle.refute_check.specs.Fresh.{IsNew};
+ghost use Rattle.refute_check.specs.Count.{free_count};
+ghost use Rattle.refute_check.specs.Accepted.{clause_at};
+ghost use Rattle.sat_core.specs.declared.trail.Assigned.{Assigned};
+ghost use Rattle.sat_core.specs.Trail.{falses, Tracks, IsSound, all_of};
+ghost use Rattle.sat_core.specs.Lesson.{IsHalfway, IsLast, IsReady, IsTaught};
+ghost use Rattle.sat_core.specs.Watch.{first_pair, rows, with_pair};
+ghost use Rattle.sat_core.specs.Learn.{seen_at, IsClear, IsAnchored, IsAlone, IsTraced, Explains, StopsBelow, Suffices};
+
+use crate::back::{go_back, is_clear};
+use crate::lists::add_to;
+use crate::trail::{Assigned, Trail};
+use crate::watch::{Pair, Watch};
+use cnf::Dim;
+use refute_check::{Step, clause_of};
+use std::alloc::{AllocError, Global};
+
+/// Marks a variable, and notes it if it was not marked. Answers how many (one or none) were not marked and had their value at
+/// the newest level.
+fn mark_one(
+    trail: &Trail,
+    seen: &mut [bool],
+    touched: &mut Vec<usize>,
+    var: usize,
+) -> Result<usize, AllocError>
+    requires range { var < length seen.old }
+    requires width { length seen.old ≡ length trail.now.values }
+    ensures marked { OnOk result (seen_at seen.new var ≡ true) }
+    ensures more { OnOk result ((v : ℕ) → seen_at seen.old v ≡ true → seen_at seen.new v ≡ true) }
+{
+    if seen[var] {
+        return Ok(0);
+    }
+    seen[var] = true;
+    touched.push(var)?;
+    if trail.level_of(var) == trail.level() {
+        Ok(1)
+    } else {
+        Ok(0)
+    }
+}
+
+/// Marks the variables of a clause, and notes those that were not marked. Answers how many of these had their value at the
+/// newest level.
+fn mark(
+    trail: &Trail,
+    seen: &mut [bool],
+    touched: &mut Vec<usize>,
+    clause: &[Dim],
+) -> Result<usize, AllocError>
+    requires range { AreBelow (length seen.old) clause.now }
+    requires width { length seen.old ≡ length trail.now.values }
+    ensures marked { OnOk result (All (λ d. seen_at seen.new d.var ≡ true) clause.now) }
+    ensures more { OnOk result ((v : ℕ) → seen_at seen.old v ≡ true → seen_at seen.new v ≡ true) }
+{
+    let mut count: usize = 0;
+    for d in clause {
+        count = count.saturating_add(mark_one(trail, seen, touched, d.var)?);
+    }
+    Ok(count)
+}
+
+/// Whether the newest variable is the only one that is seen since the last decision, which there is.
+fn is_alone(trail: &[Assigned], seen: &[bool]) -> bool
+    requires { All (λ e. e.dim.var < length seen.now) trail.now }
+    ensures { IsTrue result → IsAlone seen.now (reverse trail.now) }
+{
+    let n = trail.len();
+    if n == 0 {
+        return false;
+    }
+    if trail[n - 1].reason.is_none() {
+        return true;
+    }
+    is_clear(&trail[..n - 1], seen)
+}
+
+/// Traces a conflict back, and writes the hints that lead to it, the last one first. Answers how much of the trail is left:
+/// nothing, or up to the one literal of its level that is seen.
+fn trace(
+    trail: &Trail,
+    seen: &mut [bool],
+    touched: &mut Vec<usize>,
+    clauses: &[Vec<Dim>],
+    steps: &[Step],
+    conflict: usize,
+    hints: &mut Vec<usize>,
+) -> Result<usize, AllocError>
+    requires width { AllBelow (length trail.now.values) (all_of clauses.now steps.now) }
+    requires sound { IsSound (all_of clauses.now steps.now) trail.now.values trail.now.entries }
+    requires seen { length seen.old ≡ length trail.now.values }
+    requires hints { hints.old.items ≡ [] }
+    requires known { conflict < length (all_of clauses.now steps.now) }
+    requires conflict { IsConflict (valuation trail.now.values) (clause_at (all_of clauses.now steps.now) conflict) }
+    ensures range { IfOk result (λ n. n ≤ length trail.now.entries) }
+    ensures explains { IfOk result (λ n. Explains (all_of clauses.now steps.now) (reverse (take n trail.now.entries)) seen.new hints.new.items) }
+    ensures traced { IfOk result (λ n. IsTraced seen.new (reverse (take n trail.now.entries))) }
+{
+    let entries = trail.entries();
+    let mut count = mark(
+        trail,
+        seen,
+        touched,
+        clause_of(clauses, steps, steps.len(), conflict),
+    )?;
+    hints.push(conflict)?;
+    let mut i = entries.len();
+    while i > 0 {
+        let e = entries[i - 1];
+        if seen[e.dim.var] {
+            if count <= 1 && is_alone(&entries[..i], seen) {
+                return Ok(i);
+            }
+            match e.reason {
+                None => {
+                    return Ok(i);
+                }
+                Some(r) => {
+                    let more = mark(
+                        trail,
+                        seen,
+                        touched,
+                        clause_of(clauses, steps, steps.len(), r),
+                    )?;
+                    seen[e.dim.var] = false;
+                    count = count.saturating_add(more).saturating_sub(1);
+                    hints.push(r)?;
+                }
+            }
+        }
+        i -= 1;
+    }
+    Ok(0)
+}
+
+// Whether it is the variable of this literal, or that one is seen.
+fn is_covered(seen: &[bool], d: Dim, var: usize) -> bool
+    requires { d.var < length seen.now }
+    ensures { IsTrue result → d.var ≢ var → seen_at seen.now d.var ≡ true }
+{
+    d.var == var || seen[d.var]
+}
+
+/// Whether each other variable of a clause is seen.
+fn is_implied(seen: &[bool], clause: &[Dim], var: usize) -> bool
+    requires { AreBelow (length seen.now) clause.now }
+    ensures { IsTrue result → All (λ d. d.var ≢ var → seen_at seen.now d.var ≡ true) clause.now }
+{
+    for d in clause {
+        if !is_covered(seen, *d, var) {
+            return false;
+        }
+    }
+    true
+}
+
+/// Drops the literal at a place of the trail, which is not the last of the first `left`, if the others imply it.
+fn drop_implied(
+    trail: &Trail,
+    seen: &mut [bool],
+    left: usize,
+    i: usize,
+    clauses: &[Vec<Dim>],
+    steps: &[Step],
+    hints: &mut Vec<usize>,
+) -> Result<(), AllocError>
+    requires width { AllBelow (length trail.now.values) (all_of clauses.now steps.now) }
+    requires sound { IsSound (all_of clauses.now steps.now) trail.now.values trail.now.entries }
+    requires seen { length seen.old ≡ length trail.now.values }
+    requires place { i + 1 < left }
+    requires range { left ≤ length trail.now.entries }
+    requires enough { Suffices (all_of clauses.now steps.now) (reverse (take left trail.now.entries)) seen.old hints.old.items }
+    requires traced { IsTraced seen.old (reverse (take left trail.now.entries)) }
+    ensures enough { OnOk result (Suffices (all_of clauses.now steps.now) (reverse (take left trail.now.entries)) seen.new hints.new.items) }
+    ensures traced { OnOk result (IsTraced seen.new (reverse (take left trail.now.entries))) }
+{
+    let e = trail.entries()[i];
+    if !seen[e.dim.var] {
+        return Ok(());
+    }
+    match e.reason {
+        None => Ok(()),
+        Some(r) => {
+            if !is_implied(seen, clause_of(clauses, steps, steps.len(), r), e.dim.var) {
+                return Ok(());
+            }
+            seen[e.dim.var] = false;
+            hints.push(r)?;
+            Ok(())
+        }
+    }
+}
+
+/// Drops the literals that the others imply, but the last of the first `left`.
+fn shorten(
+    trail: &Trail,
+    seen: &mut [bool],
+    left: usize,
+    clauses: &[Vec<Dim>],
+    steps: &[Step],
+    hints: &mut Vec<usize>,
+) -> Result<(), AllocError>
+    requires width { AllBelow (length trail.now.values) (all_of clauses.now steps.now) }
+    requires sound { IsSound (all_of clauses.now steps.now) trail.now.values trail.now.entries }
+    requires seen { length seen.old ≡ length trail.now.values }
+    requires range { left ≤ length trail.now.entries }
+    requires enough { Suffices (all_of clauses.now steps.now) (reverse (take left trail.now.entries)) seen.old hints.old.items }
+    requires traced { IsTraced seen.old (reverse (take left trail.now.entries)) }
+    ensures enough { OnOk result (Suffices (all_of clauses.now steps.now) (reverse (take left trail.now.entries)) seen.new hints.new.items) }
+    ensures traced { OnOk result (IsTraced seen.new (reverse (take left trail.now.entries))) }
+{
+    let mut next = left;
+    while next > 1 {
+        next -= 1;
+        drop_implied(trail, seen, left, next - 1, clauses, steps, hints)?;
+    }
+    Ok(())
+}
+
+/// The literals of the trail that are seen, the newest first.
+fn collect(alloc: Global, trail: &[Assigned], seen: &[bool]) -> Result<Vec<Dim>, AllocError>
+    requires { All (λ e. e.dim.var < length seen.now) trail.now }
+    ensures { IfOk result (λ clause. clause.items ≡ filter (λ d. seen_at seen.now d.var) (falses trail.now)) }
+{
+    let mut clause = Vec::new(alloc);
+    let mut i = trail.len();
+    while i > 0 {
+        i -= 1;
+        let e = trail[i];
+        if seen[e.dim.var] {
+            clause.push(e.dim)?;
+        }
+    }
+    Ok(clause)
+}
+
+/// A new clause, with why it follows, and how much of the trail stood up to its first literal.
+#[derive(Drop)]
+struct Taught {
+    left: usize,
+    step: Step,
+}
+
+/// Learns a clause from a conflict. It is empty where nothing of the trail is left; then the clauses are refuted.
+fn teach(
+    alloc: Global,
+    trail: &Trail,
+    seen: &mut [bool],
+    touched: &mut Vec<usize>,
+    clauses: &[Vec<Dim>],
+    steps: &[Step],
+    conflict: usize,
+) -> Result<Taught, AllocError>
+    requires width { AllBelow (length trail.now.values) (all_of clauses.now steps.now) }
+    requires sound { IsSound (all_of clauses.now steps.now) trail.now.values trail.now.entries }
+    requires seen { length seen.old ≡ length trail.now.values }
+    requires known { conflict < length (all_of clauses.now steps.now) }
+    requires conflict { IsConflict (valuation trail.now.values) (clause_at (all_of clauses.now steps.now) conflict) }
+    ensures range { IfOk result (λ t. t.left ≤ length trail.now.entries) }
+    ensures last { IfOk result (λ t. t.left ≡ 0 → IsLast (length trail.now.values) (all_of clauses.now steps.now) t.step) }
+    ensures taught { IfOk result (λ t. 0 < t.left → IsTaught (length trail.now.values) (all_of clauses.now steps.now) trail.now.entries seen.new t.left t.step) }
+{
+    let mut hints = Vec::new(alloc);
+    let left = trace(trail, seen, touched, clauses, steps, conflict, &mut hints)?;
+    shorten(trail, seen, left, clauses, steps, &mut hints)?;
+    let clause = collect(alloc, &trail.entries()[..left], seen)?;
+    hints.reverse();
+    Ok(Taught {
+        left,
+        step: Step { clause, hints },
+    })
+}
+
+/// The first two literals of a clause that is not empty, or twice the only one.
+fn first_two(clause: &[Dim]) -> Pair
+    requires { 0 < length clause.now }
+    ensures { result ≡ first_pair clause.now }
+{
+    let a = clause[0];
+    let b = clause.get(1).copied().unwrap_or(a);
+    Pair { a, b }
+}
+
+/// Watches the pair of the clause k.
+pub fn watch_pair(
+    pairs: &mut Vec<Pair>,
+    lists: &mut [Vec<Watch>],
+    pair: Pair,
+    k: usize,
+) -> Result<(), AllocError>
+    requires first { 2 * pair.a.var + 1 < length lists.old }
+    requires second { 2 * pair.b.var + 1 < length lists.old }
+    ensures pairs { OnOk result (pairs.new.items ≡ pairs.old.items ++ pair ∷ []) }
+    ensures lists { OnOk result (rows lists.new ≡ with_pair (rows lists.old) pair k) }
+{
+    pairs.push(pair)?;
+    let first = Watch {
+        clause: k,
+        blocker: pair.b,
+    };
+    add_to(lists, pair.a, first)?;
+    let second = Watch {
+        clause: k,
+        blocker: pair.a,
+    };
+    add_to(lists, pair.b, second)?;
+    Ok(())
+}
+
+/// Takes the trail back to where the new clause has one open literal, adds the clause, and makes that literal true. Answers
+/// from where to propagate.
+fn take_up(
+    trail: &mut Trail,
+    seen: &[bool],
+    pairs: &mut Vec<Pair>,
+    lists: &mut [Vec<Watch>],
+    clauses: &[Vec<Dim>],
+    steps: &mut Vec<Step>,
+    left: usize,
+    step: Step,
+) -> Result<usize, AllocError>
+    requires ready { IsReady (length trail.old.values) (all_of clauses.now steps.old.items) pairs.old.items (rows lists.old) trail.old }
+    requires seen { length seen.now ≡ length trail.old.values }
+    requires some { 0 < left }
+    requires range { left ≤ length trail.old.entries }
+    requires taught { IsTaught (length trail.old.values) (all_of clauses.now steps.old.items) trail.old.entries seen.now left step }
+    ensures step { OnOk result (steps.new.items ≡ steps.old.items ++ step ∷ []) }
+    ensures ready { OnOk result (IsReady (length trail.old.values) (all_of clauses.now steps.new.items) pairs.new.items (rows lists.new) trail.new) }
+    ensures half { IfOk result (λ from. IsHalfway (all_of clauses.now steps.new.items) pairs.new.items trail.new from) }
+{
+    let top = trail.entries()[left - 1].dim;
+    go_back(trail, seen, left);
+    let reason = clauses.len() + steps.len();
+    let pair = first_two(step.clause.as_slice());
+    watch_pair(pairs, lists, pair, reason)?;
+    steps.push(step)?;
+    let from = trail.entries().len();
+    trail.assign(Assigned {
+        dim: Dim {
+            var: top.var,
+            negated: !top.negated,
+        },
+        reason: Some(reason),
+    })?;
+    Ok(from)
+}
+
+// Takes the marks away.
+fn clear_marks(seen: &mut [bool], touched: &[usize]) {
+    for var in touched {
+        if let Some(mark) = seen.get_mut(*var) {
+            *mark = false;
+        }
+    }
+}
+
+// Lets the variables be chosen before all others.
+fn bump_all(trail: &mut Trail, touched: &[usize])
+    ensures { trail.new ≡ trail.old }
+{
+    for var in touched {
+        trail.bump(*var);
+    }
+}
+
+/// Learns a clause from a conflict, and makes its first literal true. Answers from where to propagate; or None where the clauses
+/// are refuted, and then the last step is empty.
+pub fn learn(
+    alloc: Global,
+    trail: &mut Trail,
+    seen: &mut [bool],
+    pairs: &mut Vec<Pair>,
+    lists: &mut [Vec<Watch>],
+    clauses: &[Vec<Dim>],
+    steps: &mut Vec<Step>,
+    conflict: usize,
+) -> Result<Option<usize>, AllocError>
+    requires width { AllBelow (length trail.old.values) (all_of clauses.now steps.old.items) }
+    requires ready { IsReady (length trail.old.values) (all_of clauses.now steps.old.items) pairs.old.items (rows lists.old) trail.old }
+    requires seen { length seen.old ≡ length trail.old.values }
+    requires known { conflict < length (all_of clauses.now steps.old.items) }
+    requires conflict { IsConflict (valuation trail.old.values) (clause_at (all_of clauses.now steps.old.items) conflict) }
+    ensures refuted { IfOk result (λ from. IfNone from ((s : Entry) × (steps.new.items ≡ steps.old.items ++ s ∷ [])
+        × IsLast (length trail.old.values) (all_of clauses.now steps.old.items) s)) }
+    ensures learned { IfOk result (λ from. IfSome from (λ _. (s : Entry) × (steps.new.items ≡ steps.old.items ++ s ∷ [])
+        × IsNew (length trail.old.values) (all_of clauses.now steps.old.items) s)) }
+    ensures less { IfOk result (λ from. IfSome from (λ _. free_count (length trail.old.values) (all_of clauses.now steps.new.items) all_open
+        < free_count (length trail.old.values) (all_of clauses.now steps.old.items) all_open)) }
+    ensures ready { IfOk result (λ from. IfSome from (λ _. IsReady (length trail.old.values) (all_of clauses.now steps.new.items) pairs.new.items (rows lists.new) trail.new)) }
+    ensures half { IfOk result (λ from. IfSome from (λ n. IsHalfway (all_of clauses.now steps.new.items) pairs.new.items trail.new n)) }
+{
+    let mut touched = Vec::new(alloc);
+    let Taught { left, step } = teach(
+        alloc,
+        trail,
+        seen,
+        &mut touched,
+        clauses,
+        steps.as_slice(),
+        conflict,
+    )?;
+    if left == 0 {
+        steps.push(step)?;
+        return Ok(None);
+    }
+    bump_all(trail, &touched);
+    let from = take_up(trail, seen, pairs, lists, clauses, steps, left, step)?;
+    clear_marks(seen, &touched);
+    Ok(Some(from))
+}

@@ -1,0 +1,15 @@
+//! Finds a solution of clauses, or a log that refutes them.
+#![tactic(auto)]
+
+mod back;
+mod learn;
+mod lists;
+mod order;
+mod search;
+mod solver;
+mod start;
+mod trail;
+mod walk;
+mod watch;
+
+pub use solver::{SatEnd, solve};

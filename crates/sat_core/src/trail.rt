@@ -1,0 +1,185 @@
+//! The values so far, and the literals that they make false, with why.
+
+ghost use Rattle.std.specs.Prelude.{◌≡◌, ◌+◌, ◌<◌, None, length, OnOk, MatchOption, IfOk, [], ◌∷◌, ◌++◌};
+ghost use Rattle.std.specs.List.{All};
+ghost use Rattle.cnf.specs.Clauses.{all_open, valuation};
+ghost use Rattle.sat_core.specs.Trail.{Tracks, open_count};
+
+use crate::order::Order;
+use cnf::Dim;
+use std::alloc::{AllocError, Global};
+use std::marker::Model;
+
+/// A literal that is false: by a decision, or by the clause that `reason` names.
+#[derive(Clone, Copy)]
+pub struct Assigned {
+    pub dim: Dim,
+    pub reason: Option<usize>,
+}
+
+/// Values of variables, and the literals that they make false in the order in which they came. Contracts see these two
+/// lists. Beside them it keeps, for the choice of decisions alone, the level at which each variable had a value last, that
+/// value, and an order of the variables.
+#[derive(Drop)]
+pub struct Trail {
+    values: Vec<Option<bool>>,
+    entries: Vec<Assigned>,
+    levels: Vec<usize>,
+    phases: Vec<bool>,
+    level: usize,
+    order: Order,
+}
+
+impl Model for Trail {
+    ghost use Rattle.std.specs.Prelude.{◌≡◌, length};
+    ghost use Rattle.sat_core.specs.Lists.{TrailLists};
+
+    ghost Value = { TrailLists };
+
+    ghost view = { λ t. record { values = t.values.items; entries = t.entries.items } };
+
+    ghost invariant = { λ t. (length t.levels.items ≡ length t.values.items) × (length t.phases.items ≡ length t.values.items) };
+}
+
+// The level after one more literal.
+fn level_with(level: usize, e: Assigned) -> usize {
+    if e.reason.is_none() {
+        level.saturating_add(1)
+    } else {
+        level
+    }
+}
+
+// The level without the newest literal.
+fn level_without(level: usize, e: Assigned) -> usize {
+    if e.reason.is_none() {
+        level.saturating_sub(1)
+    } else {
+        level
+    }
+}
+
+// No value for each variable.
+fn open_values(alloc: Global, vars: usize) -> Result<Vec<Option<bool>>, AllocError>
+    ensures width { IfOk result (λ values. length values.items ≡ vars) }
+    ensures open { IfOk result (λ values. valuation values.items ≡ all_open) }
+{
+    let open: Option<bool> = None;
+    let values = vec![in alloc; open; vars]?;
+    Ok(values)
+}
+
+// A variable that has no value.
+fn first_open(values: &[Option<bool>]) -> Option<usize>
+    ensures { MatchOption result (All (λ o. o ≡ None → ⊥) values.now) (λ v. (v < length values.now) × (valuation values.now v ≡ None)) }
+{
+    for (v, value) in values.iter().enumerate() {
+        if value.is_none() {
+            return Some(v);
+        }
+    }
+    None
+}
+
+impl Trail {
+    /// A trail on which each of the variables below `vars` is open.
+    pub fn new(alloc: Global, vars: usize) -> Result<Trail, AllocError>
+        ensures width { IfOk result (λ trail. length trail.values ≡ vars) }
+        ensures open { IfOk result (λ trail. valuation trail.values ≡ all_open) }
+        ensures empty { IfOk result (λ trail. trail.entries ≡ []) }
+    {
+        Ok(Trail {
+            values: open_values(alloc, vars)?,
+            entries: Vec::new(alloc),
+            levels: vec![in alloc; 0; vars]?,
+            phases: vec![in alloc; false; vars]?,
+            level: 0,
+            order: Order::new(alloc, vars)?,
+        })
+    }
+
+    /// The values by the number of the variable.
+    pub fn values(&self) -> &[Option<bool>]
+        ensures { result.now ≡ self.now.values }
+    {
+        self.values.as_slice()
+    }
+
+    /// The literals that are false, the oldest first.
+    pub fn entries(&self) -> &[Assigned]
+        ensures { result.now ≡ self.now.entries }
+    {
+        self.entries.as_slice()
+    }
+
+    /// How many decisions there are.
+    pub fn level(&self) -> usize {
+        self.level
+    }
+
+    /// The level at which the variable had a value last.
+    pub fn level_of(&self, var: usize) -> usize
+        requires { var < length self.now.values }
+    {
+        self.levels[var]
+    }
+
+    /// The value that the variable had last.
+    pub fn phase_of(&self, var: usize) -> bool
+        requires { var < length self.now.values }
+    {
+        self.phases[var]
+    }
+
+    /// A variable that has no value, to be decided next.
+    pub fn choose(&mut self) -> Option<usize>
+        ensures open { MatchOption result (All (λ o. o ≡ None → ⊥) self.old.values) (λ v. (v < length self.old.values) × (valuation self.old.values v ≡ None)) }
+        ensures unchanged { self.new ≡ self.old }
+    {
+        match self.order.choose(&self.values) {
+            Some(var) => Some(var),
+            None => first_open(&self.values),
+        }
+    }
+
+    /// Lets a variable be chosen before all others.
+    pub fn bump(&mut self, var: usize)
+        ensures { self.new ≡ self.old }
+    {
+        self.order.bump(var);
+    }
+
+    /// Makes an open literal false.
+    #[tactic(auto, using(crate::proofs::Trails::tracks_push))]
+    pub fn assign(&mut self, e: Assigned) -> Result<(), AllocError>
+        requires range { e.dim.var < length self.old.values }
+        requires tracks { Tracks self.old.values self.old.entries }
+        requires open { valuation self.old.values e.dim.var ≡ None }
+        ensures tracks { OnOk result (Tracks self.new.values self.new.entries) }
+        ensures entries { OnOk result (self.new.entries ≡ self.old.entries ++ e ∷ []) }
+        ensures width { OnOk result (length self.new.values ≡ length self.old.values) }
+        ensures fewer { OnOk result (open_count self.new.values + 1 ≡ open_count self.old.values) }
+    {
+        self.entries.push(e)?;
+        self.values[e.dim.var] = Some(e.dim.negated);
+        self.level = level_with(self.level, e);
+        self.levels[e.dim.var] = self.level;
+        self.phases[e.dim.var] = e.dim.negated;
+        Ok(())
+    }
+
+    /// Takes the newest literal away.
+    pub fn pop(&mut self) -> Assigned
+        requires some { 0 < length self.old.entries }
+        requires tracks { Tracks self.old.values self.old.entries }
+        ensures tracks { Tracks self.new.values self.new.entries }
+        ensures entries { self.old.entries ≡ self.new.entries ++ result ∷ [] }
+        ensures width { length self.new.values ≡ length self.old.values }
+    {
+        let e = self.entries.pop().unwrap();
+        self.values[e.dim.var] = None;
+        self.level = level_without(self.level, e);
+        self.order.reopen(e.dim.var);
+        e
+    }
+}
