@@ -1,0 +1,14 @@
+pub mod Bounded
+pub mod Capped
+pub mod Climbing
+pub mod First
+pub mod Fronts
+pub mod Heights
+pub mod Laws
+pub mod Level
+pub mod Parts
+pub mod Primaries
+pub mod Selects
+pub mod Shifted
+pub mod Tokens
+pub mod Turns

@@ -1,0 +1,7 @@
+pub mod Answers
+pub mod Climbing
+pub mod Heights
+pub mod Nests
+pub mod Parsed
+pub mod Reading
+pub mod Signs
