@@ -6,52 +6,130 @@ use sv_token::{end_of, lex};
 
 // A text, and behind `=>` its tree and how many tokens that takes, or the number of the refusal and its column.
 static ROWS: &str = "a => a 1
-a ? b : c ? d : e => (a?b:(c?d:e)) 9
-a == b & c => ((a == b) & c) 5
-a & b == c | d => ((a & (b == c)) | d) 7
-a + b * c - d => ((a + (b * c)) - d) 7
-a ** b ** c => ((a ** b) ** c) 5
-- a ** b => ((- a) ** b) 4
-a -> b -> c => (a -> (b -> c)) 5
-a <-> b ? c : d => (a <-> (b?c:d)) 7
-a || b && c ? d : e -> f => (((a || (b && c))?d:e) -> f) 11
-a << 1 < b + c => ((a << 1) < (b + c)) 7
-a ^ b ~^ c ^~ d => (((a ^ b) ~^ c) ^~ d) 7
-! a && ~| b || & c => (((! a) && (~| b)) || (& c)) 8
-~ - + a => (~ (- (+ a))) 4
-( a + b ) * c => (<(a + b)> * c) 7
+12 => 12 1
+8'hF0 => 8'hF0 1
+'x => 'x 1
 a . b [ 1 ] . c [ 3 : 0 ] => a.b[1].c[3:0] 13
-a [ i +: 4 ] [ 0 ] => a[i+:4] 6
+a [ i +: 4 ] => a[i+:4] 6
 a [ i -: 4 ] + b => (a[i-:4] + b) 8
+a [ b ? c : d ] => a[(b?c:d)] 8
+a [ b ? c : d : 0 ] => a[(b?c:d):0] 10
+a [ 3 : 0 ] . b => a[3:0] 6
+a [ i +: 4 ] [ 0 ] => a[i+:4] 6
+( a ) => <a> 3
+( ( a ) ) => <<a>> 5
+{ a } => {a} 3
 { a , b [ 0 ] , { c } } => {a,b[0],{c}} 12
 { 4 { a , b } } => {4{a,b}} 8
 { n + 1 { a } } => {(n + 1){a}} 8
 8 ' ( a ) => 8'(a) 5
 t ' ( a + b ) => t'((a + b)) 7
 ( n + 1 ) ' ( a ) => <(n + 1)>'(a) 9
-signed ' ( a ) + unsigned ' ( b ) => (signed'(a) + unsigned'(b)) 11
+signed ' ( a ) => signed'(a) 5
+unsigned ' ( a ) => unsigned'(a) 5
+$signed ( a ) => $signed(a) 4
+$unsigned ( a ) => $unsigned(a) 4
+$clog2 ( a ) => $clog2(a) 4
++ - ! ~ & ~& | ~| ^ ~^ ^~ a => (+ (- (! (~ (& (~& (| (~| (^ (~^ (^~ a))))))))))) 12
+a ** b ** c => ((a ** b) ** c) 5
+a * b * c => ((a * b) * c) 5
+a / b / c => ((a / b) / c) 5
+a % b % c => ((a % b) % c) 5
+a + b + c => ((a + b) + c) 5
+a - b - c => ((a - b) - c) 5
+a << b << c => ((a << b) << c) 5
+a >> b >> c => ((a >> b) >> c) 5
+a <<< b <<< c => ((a <<< b) <<< c) 5
+a >>> b >>> c => ((a >>> b) >>> c) 5
+a < b < c => ((a < b) < c) 5
+a <= b <= c => ((a <= b) <= c) 5
+a > b > c => ((a > b) > c) 5
+a >= b >= c => ((a >= b) >= c) 5
+a == b == c => ((a == b) == c) 5
+a != b != c => ((a != b) != c) 5
+a & b & c => ((a & b) & c) 5
+a ^ b ^ c => ((a ^ b) ^ c) 5
+a ~^ b ~^ c => ((a ~^ b) ~^ c) 5
+a ^~ b ^~ c => ((a ^~ b) ^~ c) 5
+a | b | c => ((a | b) | c) 5
+a && b && c => ((a && b) && c) 5
+a || b || c => ((a || b) || c) 5
+a ? b : c ? d : e => (a?b:(c?d:e)) 9
+a ? b ? c : d : e => (a?(b?c:d):e) 9
+a -> b -> c => (a -> (b -> c)) 5
+a <-> b <-> c => (a <-> (b <-> c)) 5
+a / b * c => ((a / b) * c) 5
+a % b / c => ((a % b) / c) 5
+a - b + c => ((a - b) + c) 5
+a >>> b << c => ((a >>> b) << c) 5
+a >= b < c => ((a >= b) < c) 5
+a != b == c => ((a != b) == c) 5
+a ^ b ~^ c ^~ d => (((a ^ b) ~^ c) ^~ d) 7
+a <-> b -> c => (a <-> (b -> c)) 5
+- a ** b => ((- a) ** b) 4
+a ** - b => (a ** (- b)) 4
+a ** b * c => ((a ** b) * c) 5
+a * b ** c => (a * (b ** c)) 5
+a * b + c => ((a * b) + c) 5
+a + b * c => (a + (b * c)) 5
+a + b << c => ((a + b) << c) 5
+a << b + c => (a << (b + c)) 5
+a << b < c => ((a << b) < c) 5
+a < b << c => (a < (b << c)) 5
+a < b == c => ((a < b) == c) 5
+a == b < c => (a == (b < c)) 5
+a == b & c => ((a == b) & c) 5
+a & b == c => (a & (b == c)) 5
+a & b ^ c => ((a & b) ^ c) 5
+a ^ b & c => (a ^ (b & c)) 5
+a ^ b | c => ((a ^ b) | c) 5
+a | b ^ c => (a | (b ^ c)) 5
+a | b && c => ((a | b) && c) 5
+a && b | c => (a && (b | c)) 5
+a && b || c => ((a && b) || c) 5
+a || b && c => (a || (b && c)) 5
+a || b ? c : d => ((a || b)?c:d) 7
+a ? b : c || d => (a?b:(c || d)) 7
+a ? b -> c : d => (a?(b -> c):d) 7
+a ? b : c -> d => ((a?b:c) -> d) 7
+a -> b ? c : d => (a -> (b?c:d)) 7
+a + b * c - d => ((a + (b * c)) - d) 7
+( a + b ) * c => (<(a + b)> * c) 7
+! a && ~| b || & c => (((! a) && (~| b)) || (& c)) 8
+a || b && c ? d : e -> f => (((a || (b && c))?d:e) -> f) 11
 $signed ( a ) >>> $clog2 ( $unsigned ( b ) ) => ($signed(a) >>> $clog2($unsigned(b))) 12
+a ) => a 1
 a + ) => a 1
 a + b * => (a + b) 3
+a + b * ( c + => (a + b) 3
 a ? b => a 1
+a ? b + c => a 1
+a ? b : c ? d => (a?b:c) 5
 a [ 1 => a 1
+a . b [ 1 => a.b 3
 a ' b => a 1
+( a ) ' ( b => <a> 3
+8 ' ( a , b ) => 8 1
 a === b => a 1
+ => E8 1
 ( => E8 2
 ) => E8 1
- => E8 1
+- => E8 2
 ( a => E8 4
 { a , } => E8 7
 { } => E8 3
 { 2 { a } => E8 10
+signed a => E8 8
+$clog2 a => E8 8
+module => E8 1
+\"a\" => E8 1
 ( a === b ) => E25 5
+( a !== b ) => E25 5
+( a ==? b ) => E25 5
 ( a !=? b ) => E25 5
 initial => E25 1
 ( a + union ) => E25 7
-$bits ( a ) => E25 1
-module => E8 1
-- => E8 2
-8 ' ( a , b ) => 8 1";
+$bits ( a ) => E25 1";
 
 fn digits(alloc: Global, out: &mut Vec<u8>, n: usize) -> Result<(), TextErr> {
     out.extend_from_slice(format!(in alloc; "{n}")?.as_bytes())?;
@@ -90,7 +168,7 @@ fn operators_bind_and_stop_as_the_table_says(rt: HostRuntime) -> Result<(), Text
             count = count.saturating_add(1);
         }
     }
-    assert_eq!(rt; count, 47);
+    assert_eq!(rt; count, 125);
     Ok(())
 }
 

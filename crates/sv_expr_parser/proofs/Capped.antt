@@ -1,5 +1,5 @@
 -- Heights of the trees that code looks at.
-use Rattle.std.proofs.Common.{◌≡◌, ℕ, ◌+◌, ◌<◌, ◌≤◌, max, min, List, [], ◌∷◌, ◌++◌, length, take, get_or, refl, sym, ap, ◌∙◌, length-append, arith}
+use Rattle.std.proofs.Common.{◌≡◌, ℕ, ◌+◌, ◌<◌, max, min, List, [], ◌∷◌, ◌++◌, length, take, get_or, refl, sym, ap, ◌∙◌, length-append, arith}
 use Rattle.std.proofs.lemmas.List.{take_more}
 use Rattle.sv_outside.specs.declared.refusal.Place.{Place}
 use Rattle.sv_tree.specs.declared.word.Word.{Word}
@@ -97,10 +97,9 @@ of_repeat p x all =
       arith,
       ap peak (made.nests_repeat p x all),
       behind_one (expr_depths x ++ one ++ commas_depths expr_depths all ++ two),
-      peak_append (expr_depths x) (one ++ commas_depths expr_depths all ++ two),
-      peak_append one (commas_depths expr_depths all ++ two),
-      peak_append (commas_depths expr_depths all) two,
-      one_peak,
+      peak_append (expr_depths x ++ one ++ commas_depths expr_depths all) two,
+      peak_append (expr_depths x ++ one) (commas_depths expr_depths all),
+      before_one (expr_depths x),
       two_peak,
       commas_peak all,
     )
@@ -120,9 +119,9 @@ of_cast_paren p y x =
       arith,
       ap peak (made.nests_cast_paren p y x),
       behind_one (expr_depths y ++ three ++ expr_depths x ++ one),
-      peak_append (expr_depths y) (three ++ expr_depths x ++ one),
-      peak_append three (expr_depths x ++ one),
-      before_one (expr_depths x),
+      before_one (expr_depths y ++ three ++ expr_depths x),
+      peak_append (expr_depths y ++ three) (expr_depths x),
+      peak_append (expr_depths y) three,
       three_peak,
     )
 
@@ -144,10 +143,9 @@ of_binary x op p y =
     omega (
       arith,
       ap peak (made.nests_binary x op p y),
-      peak_up (expr_depths x ++ one ++ expr_depths y) (omega (arith, length-append (expr_depths x) (one ++ expr_depths y))),
-      peak_append (expr_depths x) (one ++ expr_depths y),
-      peak_append one (expr_depths y),
-      one_peak,
+      peak_up (expr_depths x ++ one ++ expr_depths y) (omega (arith, length-append (expr_depths x ++ one) (expr_depths y), length-append (expr_depths x) one)),
+      peak_append (expr_depths x ++ one) (expr_depths y),
+      before_one (expr_depths x),
     )
 
 pub of_choose : (x y z : Expr) → capped (e.Choose x y z) ≡ min (max (max (capped x) (capped y)) (capped z) + 1) 255
@@ -156,12 +154,12 @@ of_choose x y z =
     omega (
       arith,
       ap peak (made.nests_choose x y z),
-      peak_up (expr_depths x ++ one ++ expr_depths y ++ one ++ expr_depths z) (omega (arith, length-append (expr_depths x) (one ++ expr_depths y ++ one ++ expr_depths z))),
-      peak_append (expr_depths x) (one ++ expr_depths y ++ one ++ expr_depths z),
-      peak_append one (expr_depths y ++ one ++ expr_depths z),
-      peak_append (expr_depths y) (one ++ expr_depths z),
-      peak_append one (expr_depths z),
-      one_peak,
+      peak_up (expr_depths x ++ one ++ expr_depths y ++ one ++ expr_depths z)
+          (omega (arith, length-append (expr_depths x ++ one ++ expr_depths y ++ one) (expr_depths z), length-append (expr_depths x ++ one ++ expr_depths y) one)),
+      peak_append (expr_depths x ++ one ++ expr_depths y ++ one) (expr_depths z),
+      before_one (expr_depths x ++ one ++ expr_depths y),
+      peak_append (expr_depths x ++ one) (expr_depths y),
+      before_one (expr_depths x),
     )
 
 pub of_member : (p : Place) (w : Word) → capped_select (s.Member p w) ≡ 1
@@ -179,9 +177,9 @@ of_range p x m y =
       arith,
       ap peak (made.nests_range p x m y),
       peak_append one (expr_depths x ++ one ++ expr_depths y ++ one),
-      peak_append (expr_depths x) (one ++ expr_depths y ++ one),
-      peak_append one (expr_depths y ++ one),
-      before_one (expr_depths y),
+      before_one (expr_depths x ++ one ++ expr_depths y),
+      peak_append (expr_depths x ++ one) (expr_depths y),
+      before_one (expr_depths x),
       one_peak,
     )
 

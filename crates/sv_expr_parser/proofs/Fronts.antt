@@ -1,11 +1,11 @@
 -- The longest expression at the front of tokens.
-use Rattle.std.proofs.Common.{◌≡◌, ◌≢◌, ℕ, zero, suc, ◌+◌, ◌-◌, ◌<◌, ◌≤◌, List, [], ◌∷◌, ◌++◌, length, take, drop, Option, Some, None, Result, Ok, Err, ◌⊎◌, inl, inr, refl, sym, ◌∙◌, ap, subst, append-nil, length-append, length-drop, arith}
+use Rattle.std.proofs.Common.{◌≡◌, ℕ, zero, suc, ◌+◌, ◌-◌, ◌<◌, ◌≤◌, List, [], ◌∷◌, ◌++◌, length, take, drop, Some, None, Ok, Err, ◌⊎◌, inl, inr, refl, sym, ◌∙◌, ap, subst, append-nil, length-append, length-drop, arith}
 use Rattle.std.proofs.lemmas.List.{take-append-drop}
 use Rattle.std.proofs.Math.Seq.{take-append_seam}
 use Rattle.sv_outside.specs.declared.text.Token.{Token}
 use Rattle.sv_tree.specs.declared.exprs.Expr.{Expr}
 use Rattle.sv_tree.specs.GrammarExprs.{Spells}
-use Rattle.sv_tree.specs.Nesting.{expr_depths, IsOverAt, IsTooDeep}
+use Rattle.sv_tree.specs.Nesting.{expr_depths, IsTooDeep}
 use Rattle.sv_tree.proofs.Framed.{frame}
 use Rattle.sv_cursor.specs.declared.error.ParseErr.{ParseErr}
 use Rattle.sv_cursor.specs.declared.error.ParseErr.TheVariants.{Memory, Syntax, TooDeep}
@@ -13,8 +13,10 @@ use Rattle.sv_cursor.specs.Parsers.{Outcome, Reads}
 use Rattle.sv_cursor.proofs.Readers.{Agrees, Placed}
 use Rattle.sv_expr_parser.specs.Reading.{expr}
 use Rattle.sv_expr_parser.specs.Answers.{IsSpelled, Decides}
-use Rattle.sv_expr_parser.specs.Parsed.{IsSpelledBy, NoneBeyond, NoneAtAll, IsFront, IsLongest, Refuses}
+use Rattle.sv_expr_parser.specs.Parsed.{IsSpelledBy, NoneBeyond, IsFront, RefusesFront, IsLongest, Refuses}
+use Rattle.sv_expr_parser.specs.Ends.{CanEnd, all_after, nothing_open, ended}
 use Rattle.sv_expr_parser.proofs.Tokens.{Bad, moved_expr}
+use Rattle.sv_expr_parser.proofs.Endings.{can_end}
 use Rattle.sv_expr_parser.proofs.Heights.{short}
 use Rattle.sv_expr_parser.proofs.Laws.{expr_reader, decides, stops_at_end}
 
@@ -50,8 +52,7 @@ rest_of x i j h =
 
 found : (i : List Token) (x : Expr) (j : List Token) → Decides i (Ok (x, j)) → IsLongest i (Ok (x, length i - length j))
 found i x j d =
-    let r = rest_of x i j d.0 in
-    (
+    let r = rest_of x i j d.0 in (
       omega arith,
       front_of x i j d.0,
       λ y h. d.1 y (subst (Spells 0 y i) r.1 (goes_on y i (length i - length j) h)),
@@ -112,31 +113,25 @@ module _ (i : List Token) (m : ℕ) (le : m ≤ length i) where
   pub front_part : (x : Expr) (j : List Token) → expr 201 0 (take m i) ≡ Ok (x, j) → 0 < length j → IsFront i m (Ok None)
   front_part x j e some = λ y h. none_longer (take m i) x y j (subst (Decides (take m i)) e (decides (take m i))) some h
 
-  pub front_none : (left : ℕ) (new : List Token) → Reads {A = Expr} (expr 201 0 (take m i)) (Err (Syntax left)) new → IsFront i m (Ok None)
-  front_none left new h = none_refused (take m i) left (h (λ e. cc))
-
   lower : (k : ℕ) → IsTooDeep IsSpelled expr_depths (take m i) k → IsTooDeep IsSpelled expr_depths i k
   lower k h =
       let len = take_length m i le in
       (h.0, h.1, h.2, omega (arith, h.3, len), λ y spelling s same. h.4 y spelling s (same ∙ sym (take_less (h.0 + 1) m i (omega (arith, h.3, len)))))
 
-  deep_front : (deep left : ℕ) → expr 201 0 (take m i) ≡ Err (TooDeep deep left) → IsFront i m (Err (TooDeep (deep + (length i - m)) left))
-  deep_front deep left e =
+  refuses_deep : (deep left : ℕ) → expr 201 0 (take m i) ≡ Err (TooDeep deep left) → RefusesFront i m (TooDeep deep left)
+  refuses_deep deep left e =
       let len = take_length m i le in
       let inside = deep_inside (take m i) deep left e in
       let same : length (take m i) - deep ≡ length i - (deep + (length i - m)) = omega (arith, len, inside) in
       (omega (arith, len, inside), subst (IsTooDeep IsSpelled expr_depths i) same (lower (length (take m i) - deep) (subst (Decides (take m i)) e (decides (take m i)))))
 
-  pub front_deep : (deep left : ℕ) (new : List Token) → Reads {A = Expr} (expr 201 0 (take m i)) (Err (TooDeep deep left)) new → IsFront i m (Err (TooDeep (deep + (length i - m)) left))
-  front_deep deep left new h = deep_front deep left (h (λ e. cc))
-
-  pub deep_small : (deep left : ℕ) (new : List Token) → Reads {A = Expr} (expr 201 0 (take m i)) (Err (TooDeep deep left)) new → deep ≤ m
-  deep_small deep left new h = let inside = deep_inside (take m i) deep left (h (λ e. cc)) in omega (arith, take_length m i le, inside)
+  pub refuses_front : (z : ParseErr) (new : List Token) → Reads {A = Expr} (expr 201 0 (take m i)) (Err z) new → RefusesFront i m z
+  refuses_front (Syntax left) new h = none_refused (take m i) left (h (λ e. cc))
+  refuses_front (TooDeep deep left) new h = refuses_deep deep left (h (λ e. cc))
+  refuses_front Memory new h = tt
 
   pub longest_found : (x : Expr) → NoneBeyond i m → IsFront i m (Ok (Some x)) → IsLongest i (Ok (x, m))
   longest_found x h d = (le, d.0, d.1, h.none)
-
-pub ruleset fronts = (front_whole, front_part, front_none, front_deep, deep_small)
 
 -- ---- shorter fronts, one by one
 
@@ -149,6 +144,13 @@ last_or_less n m le = grind arith
 
 pub one_less : (i : List Token) (m : ℕ) → NoneBeyond i m → IsFront i m (Ok None) → NoneBeyond i (m - 1)
 one_less i m h d = record { none = λ y n small g. at_most y n m i g d (last_or_less n m (h.none y n small g)) }
+
+pub up_to_end : (i : List Token) (m e : ℕ) → m ≤ length i → NoneBeyond i m → ((n : ℕ) → n ≤ length (take m i) → CanEnd (take m i) n → n ≤ e) → NoneBeyond i e
+up_to_end i m e le h last = record {
+  none = λ y n small g.
+      let nm : n ≤ m = h.none y n small g in
+      last n (omega (arith, take_length m i le)) (subst (λ v. all_after nothing_open v ≡ ended nothing_open) (sym (take_less n m i nm)) (can_end y i n g));
+}
 
 empty : (y : Expr) (n : ℕ) (i : List Token) → n ≤ 0 → IsSpelledBy y i n → ⊥
 empty y zero i le g = let c = (moved_expr 0).count y (take 0 i) [] g in omega (arith, c, short y)

@@ -1,6 +1,7 @@
 pub mod Bounded
 pub mod Capped
 pub mod Climbing
+pub mod Endings
 pub mod First
 pub mod Fronts
 pub mod Heights

@@ -1,11 +1,11 @@
 -- What holds of the tokens from one on, by numbers among all.
-use Rattle.std.proofs.Common.{◌≡◌, ◌⊎◌, inl, inr, ℕ, ◌+◌, ◌-◌, ◌<◌, ◌≤◌, List, length, take, drop, slice_get, Result, Ok, Err, refl, sym, ◌∙◌, ap, subst, length-drop, arith}
+use Rattle.std.proofs.Common.{◌≡◌, inl, inr, ℕ, ◌+◌, ◌-◌, ◌≤◌, List, length, take, drop, slice_get, Ok, Err, refl, sym, ap, subst, length-drop, arith}
 use Rattle.sv_outside.specs.declared.refusal.Place.{Place}
 use Rattle.sv_outside.specs.declared.text.Token.{Token}
 use Rattle.sv_tree.specs.declared.exprs.Expr.{Expr}
-use Rattle.sv_cursor.specs.declared.error.ParseErr.TheVariants.{Memory, Syntax, TooDeep}
+use Rattle.sv_cursor.specs.declared.error.ParseErr.TheVariants.{Syntax, TooDeep}
 use Rattle.sv_expr_parser.specs.Answers.{IsSpelled}
-use Rattle.sv_expr_parser.specs.Parsed.{IsLongest, IsParsed, SpelledFrom, IsSyntax, IsDeep, refused, syntax_number_of, place_at}
+use Rattle.sv_expr_parser.specs.Parsed.{IsLongest, IsParsed, refused, syntax_number_of, place_at}
 
 module _ (tokens : List Token) (end : Place) (at : ℕ) (le : at ≤ length tokens) where
   len : length (drop at tokens) ≡ length tokens - at
@@ -13,8 +13,7 @@ module _ (tokens : List Token) (end : Place) (at : ℕ) (le : at ≤ length toke
 
   pub ok_shifted : (x : Expr) (n : ℕ) → IsLongest (drop at tokens) (Ok (x, n)) → IsParsed tokens end at (Ok (x, at + n))
   ok_shifted x n h =
-      let e : at + n - at ≡ n = omega arith in
-      (
+      let e : at + n - at ≡ n = omega arith in (
         (omega arith, omega (arith, len, h.0), subst (λ m. IsSpelled x (take m (drop at tokens))) (sym e) h.1),
         λ y g. h.2 y (subst (λ m. IsSpelled y (take m (drop at tokens))) e g.2),
         λ y m g. let a = h.3 y (m - at) (omega (arith, len, g.1)) g.2 in omega (arith, a, g.0),

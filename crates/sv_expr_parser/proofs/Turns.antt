@@ -1,6 +1,7 @@
 -- Loops that push at the end, beside parsers of lists that put at the front.
-use Rattle.std.proofs.Common.{◌≡◌, ◌≢◌, ℕ, zero, suc, ◌+◌, ◌-◌, ◌<◌, ◌≤◌, min, Bool, true, false, if◌then◌else◌, nat_lt, nat_le, is_some, List, [], ◌∷◌, ◌++◌, length, Option, Some, None, Result, Ok, Err, refl, sym, ap, ◌∙◌, subst, append-nil, append_assoc, arith}
+use Rattle.std.proofs.Common.{◌≡◌, ◌≢◌, ℕ, zero, suc, ◌-◌, ◌<◌, ◌≤◌, Bool, true, false, if◌then◌else◌, nat_lt, nat_le, is_some, List, [], ◌∷◌, ◌++◌, Option, Some, None, Result, Ok, Err, refl, sym, ap, ◌∙◌, append-nil, append_assoc, arith}
 use Rattle.std.proofs.lemmas.Bool.Decides.{nat_tests}
+use Rattle.std.specs.Result.{IsErrAnd}
 use Rattle.sv_outside.specs.declared.text.Token.{Token}
 use Rattle.sv_tree.specs.declared.exprs.Expr.{Expr}
 use Rattle.sv_cursor.specs.declared.error.ParseErr.{ParseErr}
@@ -8,13 +9,18 @@ use Rattle.sv_cursor.specs.declared.error.ParseErr.TheVariants.{Memory}
 use Rattle.sv_cursor.specs.Parsers.{Outcome, Parser, and_then, pure, told, branch, ◌>>=◌, ◌<$>◌, ◌⊗◌, ◌▷◌, cons, many_from, chain_from, Reads}
 use Rattle.sv_expr_parser.specs.Reading.{height, later, operated, climb}
 use Rattle.sv_expr_parser.specs.Heights.{capped}
-use Rattle.sv_expr_parser.specs.Climbing.{goes_on, stronger}
+use Rattle.sv_expr_parser.specs.Climbing.{goes_on}
 use Rattle.sv_expr_parser.specs.declared.openers.Joiner.{Joiner}
 use Rattle.sv_expr_parser.specs.Signs.{joiner_test, strength_of}
 
 pub fits : (x : Expr) (d : ℕ) → d ≤ 255 → nat_lt (capped x) d ≡ nat_lt (height x) d
 unfolding capped
 fits x d le = grind (arith, nat_tests)
+
+-- what is handed on by `?`
+pub handed : {A : Type 0} (start : Outcome A) (r : Result A ParseErr) (z : ParseErr) (new : List Token) → IsErrAnd r (λ y. y ≡ z) → (z ≢ Memory → start ≡ Err z) → Reads start r new
+handed start (Ok a) z new h f = absurd h
+handed start (Err y) z new h f = λ real. f (λ e. real (h ∙ e)) ∙ ap Err (sym h)
 
 -- what was found before, and then what is read
 abbrev pub after : {A : Type 0} → List A → Outcome (List A) → Outcome (List A)
@@ -32,7 +38,7 @@ none_told : {C : Type 0} (q : Option C) → is_some q ≡ false → q ≡ None
 none_told None e = refl
 none_told (Some c) e = absurd (cc)
 
-abbrev pub some_told : {C : Type 0} (q : Option C) → is_some q ≡ true → (c : C) × (q ≡ Some c)
+some_told : {C : Type 0} (q : Option C) → is_some q ≡ true → (c : C) × (q ≡ Some c)
 some_told None e = absurd (cc)
 some_told (Some c) e = (c, refl)
 

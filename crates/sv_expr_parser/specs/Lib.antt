@@ -1,5 +1,6 @@
 pub mod Answers
 pub mod Climbing
+pub mod Ends
 pub mod Heights
 pub mod Nests
 pub mod Parsed

@@ -1,8 +1,7 @@
 -- What is answered of the expressions that begin with a token of a list.
-use Rattle.std.specs.Prelude.{◌≡◌, ◌⊎◌, ℕ, ◌+◌, ◌-◌, ◌≤◌, Bool, true, false, if◌then◌else◌, List, [], ◌∷◌, codes, length, take, drop, slice_get, Option, Some, None, Result, Ok, Err}
+use Rattle.std.specs.Prelude.{◌≡◌, ◌⊎◌, ℕ, ◌+◌, ◌-◌, ◌≤◌, Bool, true, false, if◌then◌else◌, List, codes, length, take, drop, slice_get, Option, Some, None, Result, Ok, Err}
 use Rattle.std.specs.Str.{bytes_eq}
 use Rattle.sv_outside.specs.declared.refusal.Place.{Place}
-use Rattle.sv_outside.specs.declared.refusal.Refusal.{Refusal}
 use Rattle.sv_outside.specs.declared.refusal.TextErr.{TextErr}
 use Rattle.sv_outside.specs.declared.refusal.TextErr.TheVariants as text_err
 use Rattle.sv_outside.specs.declared.text.Kind.{Kind}
@@ -14,7 +13,6 @@ use Rattle.sv_cursor.specs.declared.error.ParseErr.{ParseErr}
 use Rattle.sv_cursor.specs.declared.error.ParseErr.TheVariants.{Memory, Syntax, TooDeep}
 use Rattle.sv_cursor.specs.declared.sort.Sort.{Sort}
 use Rattle.sv_cursor.specs.declared.sort.Sort.TheVariants as s
-use Rattle.sv_cursor.specs.Parsers.{Outcome}
 use Rattle.sv_cursor.specs.Sorts.{sort}
 use Rattle.sv_expr_parser.specs.Answers.{IsSpelled}
 use Rattle.sv_expr_parser.specs.Reading.{expr}
@@ -38,6 +36,13 @@ IsFront tokens m (Ok None) = (y : Expr) → IsSpelledBy y tokens m → ⊥
 IsFront tokens m (Err (Syntax left)) = ⊥
 IsFront tokens m (Err (TooDeep deep left)) = (deep ≤ length tokens) × IsTooDeep IsSpelled expr_depths tokens (length tokens - deep)
 IsFront tokens m (Err Memory) = Unit {0}
+
+-- The same of a refusal, told by the number of tokens that are left of the first m.
+abbrev pub RefusesFront : List Token → ℕ → ParseErr → Type 0
+RefusesFront tokens m (Syntax left) = (y : Expr) → IsSpelledBy y tokens m → ⊥
+RefusesFront tokens m (TooDeep deep left) =
+    (deep ≤ m) × IsTooDeep IsSpelled expr_depths tokens (length tokens - (deep + (length tokens - m)))
+RefusesFront tokens m Memory = Unit {0}
 
 -- An answer is the longest expression at the front of the tokens, and how many of them it takes. Where the syntax is refused there is none,
 -- and reading from the front stops at the token with so many left. Where nesting is refused, it exceeds the limit.
@@ -92,7 +97,6 @@ abbrev pub refused : ℕ → Place → TextErr
 refused number place = text_err.No (record { number = number; place = place; count = 0 })
 
 -- ---- from a token on
-
 
 -- The tokens from one up to another spell the expression.
 abbrev pub SpelledFrom : List Token → ℕ → Expr → ℕ → Type 0

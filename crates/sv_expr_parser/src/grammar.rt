@@ -17,7 +17,6 @@ use sv_cursor::{Cursor, Mark, ParseErr};
 use sv_outside::Place;
 use sv_tree::{Expr, RangeMark, Select, Sign, UnaryOp};
 
-#[tactic(auto, using(crate::proofs::First::range_index, crate::proofs::First::range_member, crate::proofs::First::range_range))]
 fn is_range(select: &Select) -> bool
     ensures { result ≡ grammar.is_range select.now }
 {
@@ -165,10 +164,7 @@ impl<F: Fn(Global, &mut Cursor<'_>, u8, u8) -> Result<Expr, ParseErr>> Grammar<F
         Ok((mark, last))
     }
 
-    fn maybe_range(
-        &self,
-        tokens: &mut Cursor<'_>,
-    ) -> Result<Option<(RangeMark, Expr)>, ParseErr>
+    fn maybe_range(&self, tokens: &mut Cursor<'_>) -> Result<Option<(RangeMark, Expr)>, ParseErr>
         requires { Nests self.now.depth (F.pre self.now.expr) (F.post self.now.expr) }
         ensures { Reads (spec.maybe_range self.now.depth (spec.expr self.now.depth) tokens.old) result tokens.new }
     {
@@ -202,11 +198,7 @@ impl<F: Fn(Global, &mut Cursor<'_>, u8, u8) -> Result<Expr, ParseErr>> Grammar<F
         }
     }
 
-    fn select_for(
-        &self,
-        tokens: &mut Cursor<'_>,
-        opener: SelectOpener,
-    ) -> Result<Select, ParseErr>
+    fn select_for(&self, tokens: &mut Cursor<'_>, opener: SelectOpener) -> Result<Select, ParseErr>
         requires { Nests self.now.depth (F.pre self.now.expr) (F.post self.now.expr) }
         ensures { Reads (spec.select_for self.now.depth (spec.expr self.now.depth) opener tokens.old) result tokens.new }
     {

@@ -1,6 +1,7 @@
 //! Expressions are read by precedence climbing.
 #![tactic(auto)]
 
+mod ends;
 mod grammar;
 mod nesting;
 mod openers;

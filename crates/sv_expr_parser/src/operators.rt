@@ -160,12 +160,7 @@ impl<F: Fn(Global, &mut Cursor<'_>, u8, u8) -> Result<Expr, ParseErr>> Grammar<F
 
 /// An expression of a level (0 is the loosest, 13 what has no operator between two of its parts), in which fewer than
 /// `depth` expressions hold a token. The cursor stands behind it then.
-pub fn expr(
-    alloc: Global,
-    tokens: &mut Cursor<'_>,
-    depth: u8,
-    least: u8,
-) -> Result<Expr, ParseErr>
+pub fn expr(alloc: Global, tokens: &mut Cursor<'_>, depth: u8, least: u8) -> Result<Expr, ParseErr>
     ensures { Reads (spec.expr depth least tokens.old) result tokens.new }
 {
     if depth == 0 {

@@ -3,12 +3,13 @@ ghost use Rattle.std.specs.Prelude.{◌≡◌, ◌≤◌, length, slice_get};
 ghost use Rattle.std.specs.Str.{bytes_eq};
 ghost use Rattle.sv_cursor.specs.Parsers.{Reads};
 ghost use Rattle.sv_expr_parser.specs.Parsed as spec;
-ghost use Rattle.sv_expr_parser.specs.Parsed.{IsFront, IsLongest, IsParsed, NoneBeyond, Refuses};
+ghost use Rattle.sv_expr_parser.specs.Parsed.{IsFront, IsLongest, IsParsed, NoneBeyond, Refuses, RefusesFront};
 ghost use Rattle.sv_expr_parser.specs.Reading.{expr as expr_read};
 
+use crate::ends::last_end;
 use crate::operators::expr;
 use std::alloc::Global;
-use sv_cursor::{sort_of, Cursor, ParseErr, Sort};
+use sv_cursor::{Cursor, ParseErr, Sort, sort_of};
 use sv_outside::{Kind, Place, Refusal, TextErr, Token};
 use sv_tree::Expr;
 
@@ -21,8 +22,22 @@ fn start(alloc: Global, tokens: &mut Cursor<'_>) -> Result<Expr, ParseErr>
     expr(alloc, tokens, MOST_NESTING + 1, 0)
 }
 
+// What the refusal of a front says of all the tokens.
+fn refused_front(tokens: &[Token], len: usize, refusal: ParseErr) -> Result<Option<Expr>, ParseErr>
+    requires within { len ≤ length tokens.now }
+    requires refuses { RefusesFront tokens.now len refusal }
+    ensures { IsFront tokens.now len result }
+{
+    match refusal {
+        ParseErr::Syntax(_) => Ok(None),
+        ParseErr::TooDeep(deep, left) => {
+            Err(ParseErr::TooDeep(deep + (tokens.len() - len), left))
+        }
+        ParseErr::Memory => Err(ParseErr::Memory),
+    }
+}
+
 // The expression that the first tokens spell, all of them.
-#[tactic(auto, using(crate::proofs::Fronts::fronts))]
 fn front(alloc: Global, tokens: &[Token], len: usize) -> Result<Option<Expr>, ParseErr>
     requires { len ≤ length tokens.now }
     ensures { IsFront tokens.now len result }
@@ -36,12 +51,19 @@ fn front(alloc: Global, tokens: &[Token], len: usize) -> Result<Option<Expr>, Pa
                 Ok(None)
             }
         }
-        Err(ParseErr::Syntax(_)) => Ok(None),
-        Err(ParseErr::TooDeep(deep, left)) => {
-            Err(ParseErr::TooDeep(deep + (tokens.len() - len), left))
-        }
-        Err(ParseErr::Memory) => Err(ParseErr::Memory),
+        Err(refusal) => refused_front(tokens, len, refusal),
     }
+}
+
+// The most tokens behind which an expression can end, where none takes more than so many.
+#[tactic(auto, using(crate::proofs::Fronts::up_to_end))]
+fn shorter(tokens: &[Token], most: usize) -> usize
+    requires within { most ≤ length tokens.now }
+    requires none { NoneBeyond tokens.now most }
+    ensures within { result ≤ most }
+    ensures none { NoneBeyond tokens.now result }
+{
+    last_end(&tokens[..most])
 }
 
 // The longest expression at the front that takes at most so many tokens.
@@ -57,22 +79,18 @@ fn longest_within(
     requires stops { Refuses tokens.now (ParseErr.Syntax left) }
     ensures { IsLongest tokens.now result }
 {
-    let mut len = most;
+    let mut len = shorter(tokens, most);
     while len > 0 {
         if let Some(x) = front(alloc, tokens, len)? {
             return Ok((x, len));
         }
-        len -= 1;
+        len = shorter(tokens, len - 1);
     }
     Err(ParseErr::Syntax(left))
 }
 
 // What is answered where reading on from the front is refused.
-fn or_shorter(
-    alloc: Global,
-    tokens: &[Token],
-    refusal: ParseErr,
-) -> Result<(Expr, usize), ParseErr>
+fn or_shorter(alloc: Global, tokens: &[Token], refusal: ParseErr) -> Result<(Expr, usize), ParseErr>
     requires { Refuses tokens.now refusal }
     ensures { IsLongest tokens.now result }
 {
@@ -149,13 +167,7 @@ fn syntax_number(tokens: &[Token], at: usize) -> u8
     ensures { result ≡ spec.syntax_number_of (slice_get tokens.now at) }
 {
     match tokens.get(at) {
-        Some(token) => {
-            if is_listed(token) {
-                25
-            } else {
-                8
-            }
-        }
+        Some(token) => { if is_listed(token) { 25 } else { 8 } }
         None => 8,
     }
 }

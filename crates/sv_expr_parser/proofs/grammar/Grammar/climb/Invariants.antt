@@ -1,7 +1,7 @@
 use Rattle.std.proofs.Common.{◌≡◌, ◌-◌}
 use Rattle.sv_expr_parser.specs.Climbing.{turns}
 use Rattle.sv_expr_parser.specs.Reading.{climb, expr}
-use Rattle.sv_expr_parser.proofs.operators.Grammar.climb.Given as goal
+use Rattle.sv_expr_parser.proofs.grammar.Grammar.climb.Given as goal
 
 abbrev pub invariant-loop-turn : goal.invariant-loop-turn
 invariant-loop-turn g l =
