@@ -128,7 +128,10 @@ fn show_cast(size: &[u8], x: &Expr, out: &mut Vec<u8>) -> Result<(), AllocError>
 #[cycle(show)]
 pub fn show(x: &Expr, out: &mut Vec<u8>) -> Result<(), AllocError> {
     match x {
-        Expr::Literal(word) => out.extend_from_slice(word.text.bytes()),
+        Expr::Literal(word) => {
+            out.extend_from_slice(word.text.bytes())?;
+            Ok(())
+        }
         Expr::Name(word, all) => {
             out.extend_from_slice(word.text.bytes())?;
             show_selects(all.as_slice(), out)
@@ -139,7 +142,8 @@ pub fn show(x: &Expr, out: &mut Vec<u8>) -> Result<(), AllocError> {
             out.push(b'{')?;
             show(count.get(), out)?;
             show_all(b'{', all.as_slice(), out)?;
-            out.push(b'}')
+            out.push(b'}')?;
+            Ok(())
         }
         Expr::CastLiteral(size, inner) => show_cast(size.text.bytes(), inner.get(), out),
         Expr::CastName(size, inner) => show_cast(size.text.bytes(), inner.get(), out),

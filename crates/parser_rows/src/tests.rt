@@ -207,7 +207,10 @@ fn two_hundred_expressions_may_hold_a_token(rt: HostRuntime) -> Result<(), TextE
     ];
     for (part, times, want) in rows {
         let text = again(rt.alloc(), part, times, b"a")?;
-        assert!(rt; taken(rt.alloc(), text.as_slice())? == want, "{part:?} {times}");
+        assert!(rt;
+            taken(rt.alloc(), text.as_slice())? == want,
+            "{part:?} {times}"
+        );
     }
     Ok(())
 }

@@ -63,15 +63,18 @@ fn take_range(tokens: &mut Cursor<'_>) -> Result<RangeMark, ParseErr>
     }
 }
 
+/// The rules of expressions, over a reader of their parts.
 #[derive(Clone, Copy)]
 pub struct Grammar<F> {
     pub alloc: Global,
     /// How many expressions may hold a part.
     pub depth: u8,
+    /// Reads a part to a depth, of a level.
     pub expr: F,
 }
 
 impl<F: Fn(Global, &mut Cursor<'_>, u8, u8) -> Result<Expr, ParseErr>> Grammar<F> {
+    /// A part of this level.
     pub fn expr(&self, tokens: &mut Cursor<'_>, least: u8) -> Result<Expr, ParseErr>
         requires { Nests self.now.depth (F.pre self.now.expr) (F.post self.now.expr) }
         ensures { Reads (spec.expr self.now.depth least tokens.old) result tokens.new }
@@ -401,6 +404,7 @@ impl<F: Fn(Global, &mut Cursor<'_>, u8, u8) -> Result<Expr, ParseErr>> Grammar<F
         }
     }
 
+    /// What has no operator between two of its parts: a primary, or a unary operator and its operand (A.8.4, A.8.3).
     #[tactic(auto, unfolding(crate::specs::Reading::prefix))]
     pub fn prefix(&self, tokens: &mut Cursor<'_>) -> Result<Expr, ParseErr>
         requires { Nests self.now.depth (F.pre self.now.expr) (F.post self.now.expr) }

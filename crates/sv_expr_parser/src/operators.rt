@@ -147,6 +147,7 @@ impl<F: Fn(Global, &mut Cursor<'_>, u8, u8) -> Result<Expr, ParseErr>> Grammar<F
         Ok(left)
     }
 
+    /// An expression of this level or a tighter one.
     #[tactic(auto, unfolding(crate::specs::Reading::level))]
     pub fn level(&self, tokens: &mut Cursor<'_>, least: u8) -> Result<Expr, ParseErr>
         requires { Nests self.now.depth (F.pre self.now.expr) (F.post self.now.expr) }

@@ -8,6 +8,7 @@ use crate::openers::{Joiner, Opener, SelectOpener};
 use sv_cursor::{Cursor, Keyword, Mark, Sort};
 use sv_tree::{BinaryOp, RangeMark, Sign, UnaryOp};
 
+/// The mark of the operator (A.8.6).
 pub fn unary_mark(op: UnaryOp) -> Mark
     ensures { result ≡ spec.unary_name op }
 {
@@ -26,6 +27,7 @@ pub fn unary_mark(op: UnaryOp) -> Mark
     }
 }
 
+/// The mark of the operator (A.8.6).
 pub fn binary_mark(op: BinaryOp) -> Mark
     ensures { result ≡ spec.binary_name op }
 {
@@ -58,6 +60,7 @@ pub fn binary_mark(op: BinaryOp) -> Mark
     }
 }
 
+/// The word of the sign (A.2.2.1).
 pub fn sign_keyword(sign: Sign) -> Keyword
     ensures { result ≡ spec.sign_name sign }
 {
@@ -67,6 +70,7 @@ pub fn sign_keyword(sign: Sign) -> Keyword
     }
 }
 
+// How tightly the operator binds (table 11-2), 12 for the tightest.
 fn binds(op: BinaryOp) -> u8
     ensures value { result ≡ grammar.binds op }
     ensures small { result ≤ 12 }
@@ -275,6 +279,7 @@ pub fn opener(tokens: &Cursor<'_>) -> Option<Opener>
     opener_of(tokens.sort())
 }
 
+/// What kind of select the next token opens.
 #[tactic(auto, using(crate::proofs::First::select_first))]
 pub fn select_opener(tokens: &Cursor<'_>) -> Option<SelectOpener>
     ensures { result ≡ told spec.select_test tokens.now }
@@ -282,6 +287,7 @@ pub fn select_opener(tokens: &Cursor<'_>) -> Option<SelectOpener>
     select_of(tokens.sort())
 }
 
+/// The mark of a range that comes next.
 #[tactic(auto, using(crate::proofs::First::range_first))]
 pub fn range_mark(tokens: &Cursor<'_>) -> Option<RangeMark>
     ensures { result ≡ told spec.range_test tokens.now }
