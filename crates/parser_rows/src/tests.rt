@@ -172,44 +172,53 @@ fn operators_bind_and_stop_as_the_table_says(rt: HostRuntime) -> Result<(), Text
     Ok(())
 }
 
-// A part again and again, and then the last part.
-fn again(alloc: Global, part: &[u8], times: usize, last: &[u8]) -> Result<Vec<u8>, TextErr> {
+// So many times one text, an `a`, and so many times another, in the second line.
+fn around(alloc: Global, before: &[u8], times: usize, after: &[u8]) -> Result<Vec<u8>, TextErr> {
     let mut text = Vec::new(alloc);
+    text.push(b'\n')?;
     for _ in 0..times {
-        text.extend_from_slice(part)?;
+        text.extend_from_slice(before)?;
     }
-    text.extend_from_slice(last)?;
+    text.push(b'a')?;
+    for _ in 0..times {
+        text.extend_from_slice(after)?;
+    }
     Ok(text)
 }
 
-// How many tokens are taken, or the number of the refusal, beside 0.
-fn taken(alloc: Global, text: &[u8]) -> Result<(usize, u8), TextErr> {
+// How many tokens are taken, or the number of the refusal and its line.
+fn taken(alloc: Global, text: &[u8]) -> Result<(usize, u8, usize), TextErr> {
     let tokens = lex(alloc, 0, text)?;
     let end = end_of(0, text);
     match parse_expr(alloc, tokens.as_slice(), end, 0) {
-        Ok((_, len)) => Ok((len, 0)),
-        Err(TextErr::No(refusal)) => Ok((0, refusal.number)),
+        Ok((_, len)) => Ok((len, 0, 0)),
+        Err(TextErr::No(refusal)) => Ok((0, refusal.number, refusal.place.line)),
         Err(TextErr::Memory) => Err(TextErr::Memory),
     }
 }
 
 #[test]
 fn two_hundred_expressions_may_hold_a_token(rt: HostRuntime) -> Result<(), TextErr> {
-    let rows: [(&[u8], usize, (usize, u8)); 8] = [
-        (b"- ", 200, (201, 0)),
-        (b"- ", 201, (0, 9)),
-        (b"- ", 300, (0, 9)),
-        (b"a+", 200, (401, 0)),
-        (b"a+", 201, (0, 9)),
-        (b"a+", 300, (0, 9)),
-        (b"(", 300, (0, 9)),
-        (b"a?b:", 300, (0, 9)),
+    let rows: [(&[u8], usize, &[u8], (usize, u8, usize)); 13] = [
+        (b"(", 199, b")", (399, 0, 0)),
+        (b"(", 200, b")", (401, 0, 0)),
+        (b"(", 201, b")", (0, 9, 2)),
+        (b"(", 300, b")", (0, 9, 2)),
+        (b"(", 300, b"", (0, 9, 2)),
+        (b"- ", 200, b"", (201, 0, 0)),
+        (b"- ", 201, b"", (0, 9, 2)),
+        (b"a+", 200, b"", (401, 0, 0)),
+        (b"a+", 201, b"", (0, 9, 2)),
+        (b"a->", 200, b"", (401, 0, 0)),
+        (b"a->", 201, b"", (0, 9, 2)),
+        (b"a?b:", 201, b"", (0, 9, 2)),
+        (b"{", 201, b"}", (0, 9, 2)),
     ];
-    for (part, times, want) in rows {
-        let text = again(rt.alloc(), part, times, b"a")?;
+    for (before, times, after, want) in rows {
+        let text = around(rt.alloc(), before, times, after)?;
         assert!(rt;
             taken(rt.alloc(), text.as_slice())? == want,
-            "{part:?} {times}"
+            "{before:?} {times}"
         );
     }
     Ok(())
