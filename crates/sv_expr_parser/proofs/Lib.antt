@@ -9,7 +9,8 @@ pub mod Laws
 pub mod Level
 pub mod Parts
 pub mod Primaries
-pub mod Selects
+pub mod SelectParts
 pub mod Shifted
+pub mod Targets
 pub mod Tokens
 pub mod Turns

@@ -35,7 +35,7 @@ use Rattle.sv_expr_parser.specs.Signs.{opener_test, select_test, opener, unary_n
 use Rattle.sv_expr_parser.specs.Reading.{made_literal, made_name, made_paren, made_brace, parens, cast, literal, selects, name_tail, named, parenthesized, after_comma, more, copies, brace_tail, braced, cast_sign, called, prefixed, prefix_for, prefix}
 use Rattle.sv_expr_parser.proofs.Tokens.{Bad, outside, deeper, inner, part, Stops, Any, stops_at_mark, placed_mark, some_mark, mark_reader, moved_mark, moved_part, in_append, literal_reader, moved_literal, name_reader, moved_name, key_reader, moved_key, SystemSpelled, system_reader, moved_system, mark_begins, other_mark, lift_head, told_to_mark, tick_no_select}
 use Rattle.sv_expr_parser.proofs.Parts.{IsParts, part_reader, own, ParensSpelled, parens_nests, parens_reader, moved_parens, CastSpelled, cast_nests, cast_reader}
-use Rattle.sv_expr_parser.proofs.Selects.{select_part, select_begins, selects_reader, chain_of, of_chain}
+use Rattle.sv_expr_parser.proofs.SelectParts.{select_part, select_begins, selects_reader, chain_of, of_chain}
 
 abbrev pub CastStops : List Token → Type 0
 CastStops o = (told (mark_test m.Tick) o ≡ None) × Any o

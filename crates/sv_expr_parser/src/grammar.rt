@@ -222,7 +222,8 @@ impl<F: Fn(Global, &mut Cursor<'_>, u8, u8) -> Result<Expr, ParseErr>> Grammar<F
         }
     }
 
-    fn selects(&self, tokens: &mut Cursor<'_>) -> Result<Items<Select>, ParseErr>
+    /// The selects behind a name, a range being the last.
+    pub fn selects(&self, tokens: &mut Cursor<'_>) -> Result<Items<Select>, ParseErr>
         requires { Nests self.now.depth (F.pre self.now.expr) (F.post self.now.expr) }
         ensures { Reads (spec.selects self.now.depth (spec.expr self.now.depth) tokens.old) result tokens.new }
     {

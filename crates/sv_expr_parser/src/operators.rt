@@ -10,10 +10,10 @@ use crate::grammar::Grammar;
 use crate::nesting::height;
 use crate::openers::Joiner;
 use crate::signs::{binary_mark, joiner, right_level, strength};
-use items::Boxed;
+use items::{Boxed, Items};
 use std::alloc::{AllocError, Global};
 use sv_cursor::{Cursor, Mark, ParseErr};
-use sv_tree::{BinaryOp, Expr};
+use sv_tree::{BinaryOp, Expr, Select};
 
 fn stronger(joiner: Joiner, least: u8) -> Option<Joiner>
     ensures { result ≡ climbing.stronger least joiner }
@@ -173,4 +173,12 @@ pub fn expr(alloc: Global, tokens: &mut Cursor<'_>, depth: u8, least: u8) -> Res
         expr,
     }
     .level(tokens, least)
+}
+
+/// The selects behind the name of a target, a range being the last, in whose expressions fewer than `depth` hold a
+/// token. The cursor stands behind them then.
+pub fn selects(alloc: Global, tokens: &mut Cursor<'_>, depth: u8) -> Result<Items<Select>, ParseErr>
+    ensures { Reads (spec.selects depth (spec.expr depth) tokens.old) result tokens.new }
+{
+    Grammar { alloc, depth, expr }.selects(tokens)
 }

@@ -1,6 +1,7 @@
 use Rattle.std.proofs.Common.{◌+◌, ◌-◌, sym, ◌∙◌, arith}
 use Rattle.sv_expr_parser.specs.Reading.{expr}
-use Rattle.sv_expr_parser.proofs.Turns.{handed, climb_ends, climb_stops, climb_again, climb_fails, climb_goes}
+use Rattle.sv_cursor.proofs.Turns.{handed}
+use Rattle.sv_expr_parser.proofs.Turns.{climb_ends, climb_stops, climb_again, climb_fails, climb_goes}
 use Rattle.sv_expr_parser.proofs.grammar.Grammar.climb.Goals as goal
 
 pub returns-in_default : goal.returns-in_default

@@ -4,7 +4,7 @@ use Rattle.sv_cursor.specs.declared.sort.Mark.TheVariants as m
 use Rattle.sv_cursor.specs.Parsers.{many_from}
 use Rattle.sv_cursor.specs.Tests.{mark_test}
 use Rattle.sv_expr_parser.specs.Reading.{after_comma, more, expr}
-use Rattle.sv_expr_parser.proofs.Turns.{handed, after_none, many_ends, many_stops, many_fails, many_goes}
+use Rattle.sv_cursor.proofs.Turns.{handed, after_none, many_ends, many_stops, many_fails, many_goes}
 use Rattle.sv_expr_parser.proofs.grammar.Grammar.more.Goals as goal
 
 pub loop-turn-init : goal.loop-turn-init

@@ -3,7 +3,7 @@ use Rattle.sv_cursor.specs.declared.sort.Mark.TheVariants as m
 use Rattle.sv_cursor.specs.Parsers.{many_from}
 use Rattle.sv_cursor.specs.Tests.{mark_test}
 use Rattle.sv_expr_parser.specs.Reading.{after_comma, more, expr}
-use Rattle.sv_expr_parser.proofs.Turns.{after}
+use Rattle.sv_cursor.proofs.Turns.{after}
 use Rattle.sv_expr_parser.proofs.grammar.Grammar.more.Given as goal
 
 abbrev pub invariant-loop-turn : goal.invariant-loop-turn

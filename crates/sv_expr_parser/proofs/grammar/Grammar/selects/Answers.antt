@@ -4,7 +4,7 @@ use Rattle.sv_tree.specs.GrammarExprs.{is_range}
 use Rattle.sv_cursor.specs.Parsers.{chain_from}
 use Rattle.sv_expr_parser.specs.Signs.{select_test}
 use Rattle.sv_expr_parser.specs.Reading.{select, selects, expr}
-use Rattle.sv_expr_parser.proofs.Turns.{handed, after_none, chain_ends, chain_stops, chain_fails, chain_last, chain_goes}
+use Rattle.sv_cursor.proofs.Turns.{handed, after_none, chain_ends, chain_stops, chain_fails, chain_last, chain_goes}
 use Rattle.sv_expr_parser.proofs.grammar.Grammar.selects.Goals as goal
 
 pub loop-turn-init : goal.loop-turn-init

@@ -3,7 +3,7 @@ use Rattle.sv_tree.specs.GrammarExprs.{is_range}
 use Rattle.sv_cursor.specs.Parsers.{chain_from}
 use Rattle.sv_expr_parser.specs.Signs.{select_test}
 use Rattle.sv_expr_parser.specs.Reading.{select, selects, expr}
-use Rattle.sv_expr_parser.proofs.Turns.{after}
+use Rattle.sv_cursor.proofs.Turns.{after}
 use Rattle.sv_expr_parser.proofs.grammar.Grammar.selects.Given as goal
 
 abbrev pub invariant-loop-turn : goal.invariant-loop-turn
