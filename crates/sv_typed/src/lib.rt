@@ -9,7 +9,7 @@ mod value;
 
 pub use make::width_together;
 pub use ops::{
-    Arithmetic, Comparison, Logic, One, Pair, Reduction, Shift, Turn, Two, combined, compared,
-    computed, moved, one_of, reduced, turned, two_of,
+    Arithmetic, Comparison, Logic, One, Pair, Reduction, Shift, Turn, Two, chosen, combined,
+    compared, computed, moved, one_of, reduced, turned, two_of,
 };
 pub use tree::{Origin, Pick, PickPlace, Root, Typed, TypedForm};

@@ -8,8 +8,8 @@ ghost use Rattle.sv_typed.specs.Typed.{worth, own, together, picked, pick_place,
 
 use crate::bits::{extended, filled, fitted, raised, unknown};
 use crate::{
-    Comparison, Pick, PickPlace, Root, Typed, TypedForm, combined, compared, computed, moved,
-    reduced, turned,
+    Comparison, Pick, PickPlace, Root, Typed, TypedForm, chosen, combined, compared, computed,
+    moved, reduced, turned,
 };
 use fourvec::{Four, Spot};
 use sv_literal::Literal;
@@ -134,8 +134,8 @@ impl Typed {
             }
             TypedForm::Chosen(condition, a, b) => {
                 let a = a.get().value(width, signed);
-                let condition = condition.get().own().truth();
-                condition.cond(&a, &b.get().value(width, signed))
+                let b = b.get().value(width, signed);
+                chosen(&condition.get().own(), &a, &b)
             }
             TypedForm::Power(a, exponent) => raised(&a.get().value(width, signed), *exponent),
             TypedForm::Concat(parts) => extended(&together(parts.as_slice()), signed, width),

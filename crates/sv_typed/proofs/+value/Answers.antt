@@ -3,7 +3,6 @@ use Rattle.std.proofs.Common.{length, ◌++◌}
 use Rattle.std.proofs.lemmas.List.{length-append}
 use Rattle.sv_meaning.specs.Meanings.{nowhere}
 use Rattle.sv_typed.proofs.Worth.{together_more}
-use Rattle.fourvec.proofs.Widths.{length-truth_of, length-cond_of}
 use Rattle.sv_typed.specs.Typed.{IsSound, PickIsSound, own, bits_of}
 use Rattle.sv_typed.proofs.Sound.{some_bits, most_bits}
 use Rattle.sv_typed.proofs.Lists.{width_more}
@@ -54,12 +53,6 @@ tree::Typed::value-value-a-requires-in-Chosen t c = search (rules, smaller_parts
 
 pub tree::Typed::value-own-requires-in-Chosen : goal.tree::Typed::value-own-requires-in-Chosen
 tree::Typed::value-own-requires-in-Chosen t c = search (rules, smaller_parts, sound_parts, fitting_parts)
-
-pub tree::Typed::value-value-requires-in-Chosen : goal.tree::Typed::value-value-requires-in-Chosen
-tree::Typed::value-value-requires-in-Chosen t c = search (rules, smaller_parts, sound_parts, fitting_parts)
-
-pub tree::Typed::value-cond-requires-clause-one : goal.tree::Typed::value-cond-requires-clause-one
-tree::Typed::value-cond-requires-clause-one t c = ap length c.truth-condition.ensures ∙ length-truth_of c.own-in-Chosen.result
 
 pub tree::Typed::value-value-requires-in-Power : goal.tree::Typed::value-value-requires-in-Power
 tree::Typed::value-value-requires-in-Power t c = search (rules, smaller_parts, sound_parts, fitting_parts)
@@ -126,5 +119,5 @@ value::together-parts-preserved t c =
       width = omega arith;
     }
 
-pub tree::Typed::value-returns-in-Chosen-clause-width : goal.tree::Typed::value-returns-in-Chosen-clause-width
-tree::Typed::value-returns-in-Chosen-clause-width t c = ap length c.cond.ensures ∙ length-cond_of _ _ _ (c.value-a-in-Chosen.ensures.width ∙ sym c.value-in-Chosen.ensures.width) ∙ c.value-a-in-Chosen.ensures.width
+pub tree::Typed::value-value-b-requires : goal.tree::Typed::value-value-b-requires
+tree::Typed::value-value-b-requires t c = search (rules, smaller_parts, sound_parts, fitting_parts)
