@@ -1,6 +1,7 @@
 pub mod Operators
 pub mod Long
 pub mod Made
+pub mod Names
 pub mod Parts
 pub mod Named
 pub mod Sound

@@ -155,3 +155,5 @@ length-worth t h read w s k = form_long t.width t.form h read w s k
 
 pub length-own : (t : Typed) → IsSound t → (read : Read) → length (own t read) ≡ t.width
 length-own t h read = length-worth t h read t.width t.signed (omega arith)
+
+pub ruleset lengths = (length-worth, length-own)

@@ -202,6 +202,10 @@ unfoldable pub names_picked : List Pick → List (Owner × ℕ)
 names_picked [] = []
 names_picked (p ∷ more) = place_names p.place ++ names_picked more
 
+-- two readings that agree on each bit of these signals
+abbrev pub SameOn : List (Owner × ℕ) → Read → Read → Type 0
+SameOn names r q = (x : Owner × ℕ) → Contains names x → (k : ℕ) → r x.0 x.1 k ≡ q x.0 x.1 k
+
 -- ---- the literal that it is
 
 abbrev pub form_literal : TypedForm → Option l.Literal

@@ -2,11 +2,13 @@
 #![tactic(auto)]
 
 mod bits;
+mod laws;
 mod make;
 mod ops;
 mod tree;
 mod value;
 
+pub use laws::{bits_are_as_many_as_the_context_has, bits_depend_on_names};
 pub use make::width_together;
 pub use ops::{
     Arithmetic, Comparison, Logic, One, Pair, Reduction, Shift, Turn, Two, chosen, combined,
