@@ -9,4 +9,5 @@ pub mod Rows
 pub mod Pushes
 pub mod Backs
 pub mod Starts
+pub mod Restarts
 pub mod Shorter

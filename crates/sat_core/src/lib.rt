@@ -4,6 +4,7 @@
 mod back;
 mod learn;
 mod lists;
+mod luby;
 mod order;
 mod search;
 mod solver;

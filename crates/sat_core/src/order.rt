@@ -4,8 +4,18 @@
 ghost use Rattle.std.specs.Prelude.{◌≡◌, ◌<◌, None, length, IfSome, IsTrue};
 ghost use Rattle.cnf.specs.Clauses.{valuation};
 
+use crate::luby::Luby;
 use idx_list::IdxList;
 use std::alloc::{AllocError, Global};
+
+/// Which of the variables of a conflict comes to the very front.
+#[derive(Clone, Copy, PartialEq, Eq)]
+pub enum Preference {
+    /// The one that has had its value the longest. It suits clauses of gates, and the search never starts anew.
+    Oldest,
+    /// The one that stood in the most of the newest conflicts. The search starts anew now and then.
+    Busiest,
+}
 
 /// All variables, the one that a conflict named last at the front, and a pointer before which the search for an open one need
 /// not look.
@@ -15,6 +25,11 @@ pub struct Order {
     stamps: Vec<u64>,
     clock: u64,
     next: usize,
+    preference: Preference,
+    scores: Vec<u64>,
+    conflicts: u64,
+    ranked: Vec<(u64, usize)>,
+    luby: Luby,
 }
 
 // When the variable was moved to the front last.
@@ -38,9 +53,33 @@ fn after(list: &IdxList, var: usize) -> Option<usize> {
     if list.has(var) { list.next(var) } else { None }
 }
 
+// The score of a variable that stands in this conflict: a mean of the numbers of its conflicts, of which each newer one counts
+// for a sixteenth. (Numbers of conflicts are times 2^16.)
+fn raised(score: u64, conflict: u64) -> u64 {
+    (score - score / 16).saturating_add(conflict.saturating_mul(1 << 12))
+}
+
+// Raises the scores of the variables, and writes them down by rising score.
+fn rank(
+    scores: &mut [u64],
+    ranked: &mut Vec<(u64, usize)>,
+    conflict: u64,
+    walked: &[usize],
+) -> Result<(), AllocError> {
+    ranked.clear();
+    for var in walked {
+        if let Some(score) = scores.get_mut(*var) {
+            *score = raised(*score, conflict);
+            ranked.push((*score, *var))?;
+        }
+    }
+    ranked.sort_unstable();
+    Ok(())
+}
+
 impl Order {
     /// The variables below `vars`, the least first.
-    pub fn new(alloc: Global, vars: usize) -> Result<Order, AllocError> {
+    pub fn new(alloc: Global, vars: usize, preference: Preference) -> Result<Order, AllocError> {
         let mut list = IdxList::new(alloc, vars)?;
         let mut stamps = Vec::with_capacity(alloc, vars)?;
         for var in 0..vars {
@@ -54,11 +93,16 @@ impl Order {
             stamps,
             clock: vars as u64,
             next: 0,
+            preference,
+            scores: vec![in alloc; 0; vars]?,
+            conflicts: 0,
+            ranked: Vec::new(alloc),
+            luby: Luby::new(),
         })
     }
 
-    /// Moves a variable to the front.
-    pub fn bump(&mut self, var: usize) {
+    // Moves a variable to the front.
+    fn bump(&mut self, var: usize) {
         if self.list.has(var) {
             self.list.move_front(var);
         }
@@ -66,6 +110,29 @@ impl Order {
         if let Some(stamp) = self.stamps.get_mut(var) {
             *stamp = self.clock;
         }
+    }
+
+    /// Moves the variables of a conflict, of which the one with the newest value comes first, to the front.
+    pub fn bump_all(&mut self, walked: &[usize]) -> Result<(), AllocError> {
+        self.conflicts = self.conflicts.saturating_add(1);
+        if self.preference == Preference::Oldest {
+            for var in walked {
+                self.bump(*var);
+            }
+            return Ok(());
+        }
+        rank(&mut self.scores, &mut self.ranked, self.conflicts, walked)?;
+        for i in 0..self.ranked.len() {
+            if let Some((_, var)) = self.ranked.get(i).copied() {
+                self.bump(var);
+            }
+        }
+        Ok(())
+    }
+
+    /// Counts a conflict. Whether the search is to start anew.
+    pub fn is_restart_due(&mut self) -> bool {
+        self.preference == Preference::Busiest && self.luby.is_over()
     }
 
     /// Sets the pointer back to a variable that is open again, if it stands before it.

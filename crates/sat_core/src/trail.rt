@@ -5,7 +5,7 @@ ghost use Rattle.std.specs.List.{All};
 ghost use Rattle.cnf.specs.Clauses.{all_open, valuation};
 ghost use Rattle.sat_core.specs.Trail.{Tracks, open_count};
 
-use crate::order::Order;
+use crate::order::{Order, Preference};
 use cnf::Dim;
 use std::alloc::{AllocError, Global};
 use std::marker::Model;
@@ -83,7 +83,7 @@ fn first_open(values: &[Option<bool>]) -> Option<usize>
 
 impl Trail {
     /// A trail on which each of the variables below `vars` is open.
-    pub fn new(alloc: Global, vars: usize) -> Result<Trail, AllocError>
+    pub fn new(alloc: Global, vars: usize, preference: Preference) -> Result<Trail, AllocError>
         ensures width { IfOk result (λ trail. length trail.values ≡ vars) }
         ensures open { IfOk result (λ trail. valuation trail.values ≡ all_open) }
         ensures empty { IfOk result (λ trail. trail.entries ≡ []) }
@@ -94,7 +94,7 @@ impl Trail {
             levels: vec![in alloc; 0; vars]?,
             phases: vec![in alloc; false; vars]?,
             level: 0,
-            order: Order::new(alloc, vars)?,
+            order: Order::new(alloc, vars, preference)?,
         })
     }
 
@@ -142,11 +142,18 @@ impl Trail {
         }
     }
 
-    /// Lets a variable be chosen before all others.
-    pub fn bump(&mut self, var: usize)
+    /// Lets the variables of a conflict, the newest first, be chosen before all others.
+    pub fn bump_all(&mut self, walked: &[usize]) -> Result<(), AllocError>
         ensures { self.new ≡ self.old }
     {
-        self.order.bump(var);
+        self.order.bump_all(walked)
+    }
+
+    /// Whether the search is to start anew.
+    pub fn is_restart_due(&mut self) -> bool
+        ensures { self.new ≡ self.old }
+    {
+        self.order.is_restart_due()
     }
 
     /// Makes an open literal false.
