@@ -10,4 +10,5 @@ pub mod Pushes
 pub mod Backs
 pub mod Starts
 pub mod Restarts
+pub mod Queues
 pub mod Shorter

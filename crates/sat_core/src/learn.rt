@@ -392,7 +392,7 @@ pub fn learn(
         steps.push(step)?;
         return Ok(None);
     }
-    trail.bump_all(&walked)?;
+    trail.bump_all(&mut walked)?;
     let from = take_up(trail, seen, pairs, lists, clauses, steps, left, step)?;
     clear_marks(seen, &walked);
     Ok(Some(from))

@@ -6,6 +6,7 @@ mod learn;
 mod lists;
 mod luby;
 mod order;
+mod queue;
 mod search;
 mod solver;
 mod start;

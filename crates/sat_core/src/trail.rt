@@ -6,6 +6,7 @@ ghost use Rattle.cnf.specs.Clauses.{all_open, valuation};
 ghost use Rattle.sat_core.specs.Trail.{Tracks, open_count};
 
 use crate::order::{Order, Preference};
+use crate::queue::Queue;
 use cnf::Dim;
 use std::alloc::{AllocError, Global};
 use std::marker::Model;
@@ -18,8 +19,8 @@ pub struct Assigned {
 }
 
 /// Values of variables, and the literals that they make false in the order in which they came. Contracts see these two
-/// lists. Beside them it keeps, for the choice of decisions alone, the level at which each variable had a value last, that
-/// value, and an order of the variables.
+/// lists. Beside them it keeps a queue of the variables, and, for the choice of decisions alone, the level at which each variable
+/// had a value last, that value, and what conflicts it stood in.
 #[derive(Drop)]
 pub struct Trail {
     values: Vec<Option<bool>>,
@@ -27,18 +28,21 @@ pub struct Trail {
     levels: Vec<usize>,
     phases: Vec<bool>,
     level: usize,
+    queue: Queue,
     order: Order,
 }
 
 impl Model for Trail {
     ghost use Rattle.std.specs.Prelude.{◌≡◌, length};
     ghost use Rattle.sat_core.specs.Lists.{TrailLists};
+    ghost use Rattle.sat_core.specs.Queue.{IsQueue};
 
     ghost Value = { TrailLists };
 
     ghost view = { λ t. record { values = t.values.items; entries = t.entries.items } };
 
-    ghost invariant = { λ t. (length t.levels.items ≡ length t.values.items) × (length t.phases.items ≡ length t.values.items) };
+    ghost invariant = { λ t. (length t.levels.items ≡ length t.values.items) × (length t.phases.items ≡ length t.values.items)
+        × IsQueue t.values.items t.queue.list.items t.queue.stamps.items t.queue.clock t.queue.next };
 }
 
 // The level after one more literal.
@@ -69,18 +73,6 @@ fn open_values(alloc: Global, vars: usize) -> Result<Vec<Option<bool>>, AllocErr
     Ok(values)
 }
 
-// A variable that has no value.
-fn first_open(values: &[Option<bool>]) -> Option<usize>
-    ensures { MatchOption result (All (λ o. o ≡ None → ⊥) values.now) (λ v. (v < length values.now) × (valuation values.now v ≡ None)) }
-{
-    for (v, value) in values.iter().enumerate() {
-        if value.is_none() {
-            return Some(v);
-        }
-    }
-    None
-}
-
 impl Trail {
     /// A trail on which each of the variables below `vars` is open.
     pub fn new(alloc: Global, vars: usize, preference: Preference) -> Result<Trail, AllocError>
@@ -94,6 +86,7 @@ impl Trail {
             levels: vec![in alloc; 0; vars]?,
             phases: vec![in alloc; false; vars]?,
             level: 0,
+            queue: Queue::new(alloc, vars)?,
             order: Order::new(alloc, vars, preference)?,
         })
     }
@@ -136,17 +129,16 @@ impl Trail {
         ensures open { MatchOption result (All (λ o. o ≡ None → ⊥) self.old.values) (λ v. (v < length self.old.values) × (valuation self.old.values v ≡ None)) }
         ensures unchanged { self.new ≡ self.old }
     {
-        match self.order.choose(&self.values) {
-            Some(var) => Some(var),
-            None => first_open(&self.values),
-        }
+        self.queue.choose(&self.values)
     }
 
     /// Lets the variables of a conflict, the newest first, be chosen before all others.
-    pub fn bump_all(&mut self, walked: &[usize]) -> Result<(), AllocError>
+    pub fn bump_all(&mut self, walked: &mut [usize]) -> Result<(), AllocError>
         ensures { self.new ≡ self.old }
     {
-        self.order.bump_all(walked)
+        self.order.arrange(walked)?;
+        self.queue.bump_all(&self.values, walked);
+        Ok(())
     }
 
     /// Whether the search is to start anew.
@@ -186,7 +178,7 @@ impl Trail {
         let e = self.entries.pop().unwrap();
         self.values[e.dim.var] = None;
         self.level = level_without(self.level, e);
-        self.order.reopen(e.dim.var);
+        self.queue.reopen(e.dim.var);
         e
     }
 }
