@@ -11,4 +11,5 @@ pub mod Backs
 pub mod Starts
 pub mod Restarts
 pub mod Queues
+pub mod Places
 pub mod Shorter

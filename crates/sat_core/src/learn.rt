@@ -393,6 +393,7 @@ pub fn learn(
         return Ok(None);
     }
     trail.bump_all(&mut walked)?;
+    trail.reserve_places(clauses.len().saturating_add(steps.len()).saturating_add(1))?;
     let from = take_up(trail, seen, pairs, lists, clauses, steps, left, step)?;
     clear_marks(seen, &walked);
     Ok(Some(from))

@@ -20,7 +20,7 @@ pub struct Assigned {
 
 /// Values of variables, and the literals that they make false in the order in which they came. Contracts see these two
 /// lists. Beside them it keeps a queue of the variables, and, for the choice of decisions alone, the level at which each variable
-/// had a value last, that value, and what conflicts it stood in.
+/// had a value last, that value, what conflicts it stood in, and the place of each clause at which a literal was found last.
 #[derive(Drop)]
 pub struct Trail {
     values: Vec<Option<bool>>,
@@ -30,6 +30,7 @@ pub struct Trail {
     level: usize,
     queue: Queue,
     order: Order,
+    places: Vec<usize>,
 }
 
 impl Model for Trail {
@@ -63,6 +64,14 @@ fn level_without(level: usize, e: Assigned) -> usize {
     }
 }
 
+// Appends zeros up to a length.
+fn fill_up(places: &mut Vec<usize>, count: usize) -> Result<(), AllocError> {
+    for _ in places.len()..count {
+        places.push(0)?;
+    }
+    Ok(())
+}
+
 // No value for each variable.
 fn open_values(alloc: Global, vars: usize) -> Result<Vec<Option<bool>>, AllocError>
     ensures width { IfOk result (λ values. length values.items ≡ vars) }
@@ -88,6 +97,7 @@ impl Trail {
             level: 0,
             queue: Queue::new(alloc, vars)?,
             order: Order::new(alloc, vars, preference)?,
+            places: Vec::new(alloc),
         })
     }
 
@@ -130,6 +140,27 @@ impl Trail {
         ensures unchanged { self.new ≡ self.old }
     {
         self.queue.choose(&self.values)
+    }
+
+    /// Of each clause, by its number, the place from which to look for a literal that is not false.
+    pub fn places(&self) -> &[usize] {
+        self.places.as_slice()
+    }
+
+    /// Sets the place of a clause, if there is room for it.
+    pub fn set_place(&mut self, clause: usize, place: usize)
+        ensures { self.new ≡ self.old }
+    {
+        if let Some(old) = self.places.get_mut(clause) {
+            *old = place;
+        }
+    }
+
+    /// Makes room for the places of so many clauses.
+    pub fn reserve_places(&mut self, count: usize) -> Result<(), AllocError>
+        ensures { self.new ≡ self.old }
+    {
+        fill_up(&mut self.places, count)
     }
 
     /// Lets the variables of a conflict, the newest first, be chosen before all others.
