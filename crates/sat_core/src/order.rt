@@ -4,12 +4,16 @@
 use crate::luby::Luby;
 use std::alloc::{AllocError, Global};
 
+/// How many conflicts a turn takes.
+const TURN: u64 = 6_000;
+
 /// Which of the variables of a conflict comes to the very front.
 #[derive(Clone, Copy, PartialEq, Eq)]
 pub enum Preference {
-    /// The one that has had its value the longest. It suits clauses of gates, and the search never starts anew.
-    Oldest,
-    /// The one that stood in the most of the newest conflicts. The search starts anew now and then.
+    /// In turns, the one that has had its value the longest, and the one that stood in the most of the newest conflicts. The
+    /// first turn suits clauses of gates, where older values stand nearer to the inputs.
+    InTurns,
+    /// The one that stood in the most of the newest conflicts.
     Busiest,
 }
 
@@ -29,19 +33,24 @@ fn raised(score: u64, conflict: u64) -> u64 {
     (score - score / 16).saturating_add(conflict.saturating_mul(1 << 12))
 }
 
-// Raises the scores of the variables, and puts the variables into the order of their scores.
+// Raises the scores of the variables.
+fn raise(scores: &mut [u64], conflict: u64, walked: &[usize]) {
+    for var in walked {
+        if let Some(score) = scores.get_mut(*var) {
+            *score = raised(*score, conflict);
+        }
+    }
+}
+
+// Puts the variables into the order of their scores, the least first.
 fn rank(
-    scores: &mut [u64],
+    scores: &[u64],
     ranked: &mut Vec<(u64, usize)>,
-    conflict: u64,
     walked: &mut [usize],
 ) -> Result<(), AllocError> {
     ranked.clear();
     for var in walked.iter() {
-        if let Some(score) = scores.get_mut(*var) {
-            *score = raised(*score, conflict);
-            ranked.push((*score, *var))?;
-        }
+        ranked.push((scores.get(*var).copied().unwrap_or(0), *var))?;
     }
     ranked.sort_unstable();
     for i in 0..walked.len() {
@@ -64,18 +73,24 @@ impl Order {
         })
     }
 
+    // Whether the busiest variable is preferred now.
+    fn is_busy_turn(&self) -> bool {
+        self.preference == Preference::Busiest || (self.conflicts / TURN) % 2 == 1
+    }
+
     /// Counts a conflict, and puts its variables, of which the one with the newest value comes first, into the order in which
     /// they are to be moved to the front.
     pub fn arrange(&mut self, walked: &mut [usize]) -> Result<(), AllocError> {
         self.conflicts = self.conflicts.saturating_add(1);
-        if self.preference == Preference::Busiest {
-            rank(&mut self.scores, &mut self.ranked, self.conflicts, walked)?;
+        raise(&mut self.scores, self.conflicts, walked);
+        if self.is_busy_turn() {
+            rank(&self.scores, &mut self.ranked, walked)?;
         }
         Ok(())
     }
 
-    /// Counts a conflict. Whether the search is to start anew.
+    /// Whether the search is to start anew after this conflict. That is so now and then while the busiest variable is preferred.
     pub fn is_restart_due(&mut self) -> bool {
-        self.preference == Preference::Busiest && self.luby.is_over()
+        self.is_busy_turn() && self.luby.is_over()
     }
 }

@@ -150,12 +150,12 @@ fn empty_lists(alloc: Global, count: usize) -> Result<Vec<Vec<Watch>>, AllocErro
     Ok(lists)
 }
 
-// Clauses of gates have some of one or two literals. Where there are none, no variable stands nearer to the inputs.
+// Clauses of gates have some of one or two literals. Where there are none, no variable is nearer to inputs than others.
 fn preference(clauses: &[Vec<Dim>]) -> Preference {
     if clauses.iter().all(|c| c.len() > 2) {
         Preference::Busiest
     } else {
-        Preference::Oldest
+        Preference::InTurns
     }
 }
 
