@@ -1,8 +1,9 @@
 //! The variables in the order in which they are decided, and a pointer before which none is open.
 
-ghost use Rattle.std.specs.Prelude.{◌≡◌, ℕ, ◌+◌, ◌-◌, ◌<◌, ◌≤◌, Bool, Option, Some, None, ◌⊎◌, List, length, IfOk, MatchBool, MatchOption, IfSome, slice_set};
+ghost use Rattle.std.specs.Prelude.{◌≡◌, ℕ, ◌+◌, ◌-◌, ◌<◌, ◌≤◌, Bool, Option, Some, None, ◌⊎◌, ◌^◌, List, ◌∷◌, length, IfOk, MatchBool, MatchOption, IfSome, slice_set};
 ghost use Rattle.std.specs.List.{All};
-ghost use Rattle.cnf.specs.Clauses.{valuation, all_open};
+ghost use Rattle.idx_list.specs.Order.{without};
+ghost use Rattle.cnf.specs.Clauses.{valuation};
 ghost use Rattle.sat_core.specs.Queue.{stamp_at, IsListed, IsQueue};
 
 use idx_list::IdxList;
@@ -90,10 +91,11 @@ impl Queue {
         })
     }
 
-    /// Moves a variable to the front.
+    /// Moves a variable to the front, unless the stamps are used up.
     pub fn bump(&mut self, values: &[Option<bool>], var: usize)
         requires { IsQueue values.now self.old.list.items self.old.stamps.items self.old.clock self.old.next }
-        ensures { IsQueue values.now self.new.list.items self.new.stamps.items self.new.clock self.new.next }
+        ensures front { var < length values.now → self.old.clock + 1 < 2 ^ 64 → self.new.list.items ≡ var ∷ without var self.old.list.items }
+        ensures queue { IsQueue values.now self.new.list.items self.new.stamps.items self.new.clock self.new.next }
     {
         if var >= values.len() || self.clock == u64::MAX {
             return;

@@ -13,10 +13,8 @@ use cnf::{Cnf, Dim};
 use refute_check::{Checker, Log};
 use sat_core::{SatEnd, solve};
 use std::alloc::{AllocError, Global};
-use std::io;
 use std::io::Read;
-use std::mem;
-use std::str;
+use std::{io, mem, str};
 
 fn is_below(vars: usize, clause: &[Dim]) -> bool
     ensures { IsTrue result → All (λ d. d.var < vars) clause.now }
@@ -95,12 +93,8 @@ fn header(line: &str) -> Result<(usize, usize), ReadError> {
 }
 
 impl Reader {
-    /// Takes one number of a clause among `vars` variables.
-    fn take(&mut self, word: &str, vars: usize) -> Result<(), ReadError> {
-        let (negated, n) = number(word)?;
-        if n > vars {
-            return Err(ReadError::Form);
-        }
+    // Takes one number of a clause, where it is not too great.
+    fn add(&mut self, negated: bool, n: usize) -> Result<(), AllocError> {
         match n.checked_sub(1) {
             Some(var) => self.clause.push(Dim { var, negated })?,
             None => {
@@ -108,6 +102,16 @@ impl Reader {
                 self.clauses.push(clause)?;
             }
         }
+        Ok(())
+    }
+
+    /// Takes one number of a clause among `vars` variables.
+    fn take(&mut self, word: &str, vars: usize) -> Result<(), ReadError> {
+        let (negated, n) = number(word)?;
+        if n > vars {
+            return Err(ReadError::Form);
+        }
+        self.add(negated, n)?;
         Ok(())
     }
 
