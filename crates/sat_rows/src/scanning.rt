@@ -85,7 +85,11 @@ impl Scanning {
 
     // Goes back to the newest variable whose other value is untried, and takes that. Answers whether there is one.
     fn go_back(&mut self) -> Result<bool, AllocError> {
-        while let Some(trial) = self.trials.pop() {
+        for _ in 0..self.trials.len() {
+            let trial = match self.trials.pop() {
+                Some(trial) => trial,
+                None => return Ok(false),
+            };
             let negated = value_of(&self.values, trial.var) == Some(true);
             set_value(&mut self.values, trial.var, None);
             if trial.untried {
