@@ -21,49 +21,42 @@ use cnf::Dim;
 use refute_check::{Step, clause_of};
 use std::alloc::{AllocError, Global};
 
-/// Marks a variable, and notes it if it was not marked. Answers how many (one or none) were not marked and had their value at
-/// the newest level.
-fn mark_one(
-    trail: &Trail,
-    seen: &mut [bool],
-    touched: &mut Vec<usize>,
-    var: usize,
-) -> Result<usize, AllocError>
+/// Marks a variable. Answers how many (one or none) were not marked and had their value at the newest level.
+fn mark_one(trail: &Trail, seen: &mut [bool], var: usize) -> usize
     requires range { var < length seen.old }
     requires width { length seen.old ≡ length trail.now.values }
-    ensures marked { OnOk result (seen_at seen.new var ≡ true) }
-    ensures more { OnOk result ((v : ℕ) → seen_at seen.old v ≡ true → seen_at seen.new v ≡ true) }
+    ensures marked { seen_at seen.new var ≡ true }
+    ensures more { (v : ℕ) → seen_at seen.old v ≡ true → seen_at seen.new v ≡ true }
 {
     if seen[var] {
-        return Ok(0);
+        return 0;
     }
     seen[var] = true;
-    touched.push(var)?;
     if trail.level_of(var) == trail.level() {
-        Ok(1)
+        1
     } else {
-        Ok(0)
+        0
     }
 }
 
-/// Marks the variables of a clause, and notes those that were not marked. Answers how many of these had their value at the
-/// newest level.
-fn mark(
-    trail: &Trail,
-    seen: &mut [bool],
-    touched: &mut Vec<usize>,
-    clause: &[Dim],
-) -> Result<usize, AllocError>
+/// Marks the variables of a clause. Answers how many were not marked and had their value at the newest level.
+fn mark(trail: &Trail, seen: &mut [bool], clause: &[Dim]) -> usize
     requires range { AreBelow (length seen.old) clause.now }
     requires width { length seen.old ≡ length trail.now.values }
-    ensures marked { OnOk result (All (λ d. seen_at seen.new d.var ≡ true) clause.now) }
-    ensures more { OnOk result ((v : ℕ) → seen_at seen.old v ≡ true → seen_at seen.new v ≡ true) }
+    ensures marked { All (λ d. seen_at seen.new d.var ≡ true) clause.now }
+    ensures more { (v : ℕ) → seen_at seen.old v ≡ true → seen_at seen.new v ≡ true }
 {
     let mut count: usize = 0;
     for d in clause {
-        count = count.saturating_add(mark_one(trail, seen, touched, d.var)?);
+        count = count.saturating_add(mark_one(trail, seen, d.var));
     }
-    Ok(count)
+    count
+}
+
+// Writes down a variable that was marked.
+fn note(walked: &mut Vec<usize>, var: usize) -> Result<(), AllocError> {
+    walked.push(var)?;
+    Ok(())
 }
 
 /// Whether the newest variable is the only one that is seen since the last decision, which there is.
@@ -81,12 +74,12 @@ fn is_alone(trail: &[Assigned], seen: &[bool]) -> bool
     is_clear(&trail[..n - 1], seen)
 }
 
-/// Traces a conflict back, and writes the hints that lead to it, the last one first. Answers how much of the trail is left:
-/// nothing, or up to the one literal of its level that is seen.
+/// Traces a conflict back, and writes the hints that lead to it, the last one first, and the variables that were seen, the
+/// newest first. Answers how much of the trail is left: nothing, or up to the one literal of its level that is seen.
 fn trace(
     trail: &Trail,
     seen: &mut [bool],
-    touched: &mut Vec<usize>,
+    walked: &mut Vec<usize>,
     clauses: &[Vec<Dim>],
     steps: &[Step],
     conflict: usize,
@@ -106,14 +99,14 @@ fn trace(
     let mut count = mark(
         trail,
         seen,
-        touched,
         clause_of(clauses, steps, steps.len(), conflict),
-    )?;
+    );
     hints.push(conflict)?;
     let mut i = entries.len();
     while i > 0 {
         let e = entries[i - 1];
         if seen[e.dim.var] {
+            note(walked, e.dim.var)?;
             if count <= 1 && is_alone(&entries[..i], seen) {
                 return Ok(i);
             }
@@ -122,12 +115,7 @@ fn trace(
                     return Ok(i);
                 }
                 Some(r) => {
-                    let more = mark(
-                        trail,
-                        seen,
-                        touched,
-                        clause_of(clauses, steps, steps.len(), r),
-                    )?;
+                    let more = mark(trail, seen, clause_of(clauses, steps, steps.len(), r));
                     seen[e.dim.var] = false;
                     count = count.saturating_add(more).saturating_sub(1);
                     hints.push(r)?;
@@ -160,10 +148,12 @@ fn is_implied(seen: &[bool], clause: &[Dim], var: usize) -> bool
     true
 }
 
-/// Drops the literal at a place of the trail, which is not the last of the first `left`, if the others imply it.
+/// Notes the variable at a place of the trail, which is not the last of the first `left`, if it is seen, and drops its literal
+/// if the others imply it.
 fn drop_implied(
     trail: &Trail,
     seen: &mut [bool],
+    walked: &mut Vec<usize>,
     left: usize,
     i: usize,
     clauses: &[Vec<Dim>],
@@ -184,6 +174,7 @@ fn drop_implied(
     if !seen[e.dim.var] {
         return Ok(());
     }
+    note(walked, e.dim.var)?;
     match e.reason {
         None => Ok(()),
         Some(r) => {
@@ -197,10 +188,11 @@ fn drop_implied(
     }
 }
 
-/// Drops the literals that the others imply, but the last of the first `left`.
+/// Notes the variables that are seen, and drops the literals that the others imply, but the last of the first `left`.
 fn shorten(
     trail: &Trail,
     seen: &mut [bool],
+    walked: &mut Vec<usize>,
     left: usize,
     clauses: &[Vec<Dim>],
     steps: &[Step],
@@ -218,7 +210,7 @@ fn shorten(
     let mut next = left;
     while next > 1 {
         next -= 1;
-        drop_implied(trail, seen, left, next - 1, clauses, steps, hints)?;
+        drop_implied(trail, seen, walked, left, next - 1, clauses, steps, hints)?;
     }
     Ok(())
 }
@@ -252,7 +244,7 @@ fn teach(
     alloc: Global,
     trail: &Trail,
     seen: &mut [bool],
-    touched: &mut Vec<usize>,
+    walked: &mut Vec<usize>,
     clauses: &[Vec<Dim>],
     steps: &[Step],
     conflict: usize,
@@ -267,8 +259,8 @@ fn teach(
     ensures taught { IfOk result (λ t. 0 < t.left → IsTaught (length trail.now.values) (all_of clauses.now steps.now) trail.now.entries seen.new t.left t.step) }
 {
     let mut hints = Vec::new(alloc);
-    let left = trace(trail, seen, touched, clauses, steps, conflict, &mut hints)?;
-    shorten(trail, seen, left, clauses, steps, &mut hints)?;
+    let left = trace(trail, seen, walked, clauses, steps, conflict, &mut hints)?;
+    shorten(trail, seen, walked, left, clauses, steps, &mut hints)?;
     let clause = collect(alloc, &trail.entries()[..left], seen)?;
     hints.reverse();
     Ok(Taught {
@@ -352,20 +344,11 @@ fn take_up(
 }
 
 // Takes the marks away.
-fn clear_marks(seen: &mut [bool], touched: &[usize]) {
-    for var in touched {
+fn clear_marks(seen: &mut [bool], walked: &[usize]) {
+    for var in walked {
         if let Some(mark) = seen.get_mut(*var) {
             *mark = false;
         }
-    }
-}
-
-// Lets the variables be chosen before all others.
-fn bump_all(trail: &mut Trail, touched: &[usize])
-    ensures { trail.new ≡ trail.old }
-{
-    for var in touched {
-        trail.bump(*var);
     }
 }
 
@@ -395,12 +378,12 @@ pub fn learn(
     ensures ready { IfOk result (λ from. IfSome from (λ _. IsReady (length trail.old.values) (all_of clauses.now steps.new.items) pairs.new.items (rows lists.new) trail.new)) }
     ensures half { IfOk result (λ from. IfSome from (λ n. IsHalfway (all_of clauses.now steps.new.items) pairs.new.items trail.new n)) }
 {
-    let mut touched = Vec::new(alloc);
+    let mut walked = Vec::new(alloc);
     let Taught { left, step } = teach(
         alloc,
         trail,
         seen,
-        &mut touched,
+        &mut walked,
         clauses,
         steps.as_slice(),
         conflict,
@@ -409,8 +392,9 @@ pub fn learn(
         steps.push(step)?;
         return Ok(None);
     }
-    bump_all(trail, &touched);
+    trail.bump_all(&mut walked)?;
+    trail.reserve_places(clauses.len().saturating_add(steps.len()).saturating_add(1))?;
     let from = take_up(trail, seen, pairs, lists, clauses, steps, left, step)?;
-    clear_marks(seen, &touched);
+    clear_marks(seen, &walked);
     Ok(Some(from))
 }

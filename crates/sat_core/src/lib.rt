@@ -4,7 +4,9 @@
 mod back;
 mod learn;
 mod lists;
+mod luby;
 mod order;
+mod queue;
 mod search;
 mod solver;
 mod start;

@@ -10,7 +10,9 @@ ghost use Rattle.sat_core.specs.Found.{IsFound};
 ghost use Rattle.sat_core.specs.Lesson.{IsHalfway, IsReady};
 ghost use Rattle.sat_core.specs.End.{IsRightEnd};
 
+use crate::back::restart;
 use crate::learn::learn;
+use crate::order::Preference;
 use crate::search::search;
 use crate::start::start;
 use crate::trail::Trail;
@@ -127,7 +129,7 @@ fn run(
                         if is_spent(budget, steps.len()) {
                             return Ok(SatEnd::Spent(Log { steps }));
                         }
-                        from = next;
+                        from = restart(trail, next);
                         found = None;
                     }
                 }
@@ -148,6 +150,15 @@ fn empty_lists(alloc: Global, count: usize) -> Result<Vec<Vec<Watch>>, AllocErro
     Ok(lists)
 }
 
+// Clauses of gates have some of one or two literals. Where there are none, no variable is nearer to inputs than others.
+fn preference(clauses: &[Vec<Dim>]) -> Preference {
+    if clauses.iter().all(|c| c.len() > 2) {
+        Preference::Busiest
+    } else {
+        Preference::InTurns
+    }
+}
+
 /// Makes room and runs.
 fn solve_all(
     alloc: Global,
@@ -160,7 +171,7 @@ fn solve_all(
     ensures { IfOk result (IsRightEnd (formula_of vars (map (λ v. v.items) clauses.now)) budget) }
 {
     let count = vars.checked_mul(2).ok_or(AllocError)?;
-    let mut trail = Trail::new(alloc, vars)?;
+    let mut trail = Trail::new(alloc, vars, preference(clauses))?;
     let mut seen = vec![in alloc; false; vars]?;
     let mut lists = empty_lists(alloc, count)?;
     run(

@@ -25,12 +25,13 @@ pub struct Walk {
     pub read: usize,
 }
 
-/// Decides what is to be done with a clause in the list of `d`, which has become false.
+/// Decides what is to be done with a clause in the list of `d`, which has become false; `places` tell where to begin.
 fn look_at(
     values: &[Option<bool>],
     pairs: &[Pair],
     clauses: &[Vec<Dim>],
     steps: &[Step],
+    places: &[usize],
     watch: Watch,
     d: Dim,
 ) -> Visit
@@ -44,7 +45,8 @@ fn look_at(
         return Visit::Keep(watch.blocker);
     }
     let clause = clause_of(clauses, steps, steps.len(), watch.clause);
-    look_again(values, clause, pairs[watch.clause], watch.blocker, d)
+    let from = places.get(watch.clause).copied().unwrap_or(0);
+    look_again(values, clause, pairs[watch.clause], watch.blocker, d, from)
 }
 
 /// Looks at each clause in the list of the literal `d` that became false at a place of the trail, up to one that is false.
@@ -87,7 +89,15 @@ pub fn work_off(
     let mut kept = 0;
     for i in 0..list.len() {
         let watch = list[i];
-        match look_at(trail.values(), pairs, clauses, steps, watch, d) {
+        match look_at(
+            trail.values(),
+            pairs,
+            clauses,
+            steps,
+            trail.places(),
+            watch,
+            d,
+        ) {
             Visit::Keep(blocker) => {
                 list[kept] = Watch {
                     clause: watch.clause,
@@ -95,7 +105,8 @@ pub fn work_off(
                 };
                 kept += 1;
             }
-            Visit::Move(pair) => {
+            Visit::Move(pair, place) => {
+                trail.set_place(watch.clause, place);
                 pairs[watch.clause] = pair;
                 let moved = Watch {
                     clause: watch.clause,

@@ -13,6 +13,7 @@ use Rattle.sat_core.specs.Found.{IsFound}
 use Rattle.sat_core.specs.Start.{IsStarted}
 use Rattle.sat_core.specs.Lesson.{IsReady, IsHalfway, IsLast}
 use Rattle.sat_core.proofs.Ends.{all_below, fresh_push, accepted_push, sat_end, spent, within_more}
+use Rattle.sat_core.proofs.Restarts.{restarted}
 use Rattle.sat_core.proofs.Starts.{started_none, started_all}
 use Rattle.sat_core.proofs.solver.run.Goals as goal
 
@@ -104,10 +105,14 @@ loop-steps-preserved c =
     subst (λ (o : Option ℕ). IfSome o (λ _. IsReady (length c.conflict_of.new.trail.values) (all_of c.args.clauses.now c.learn.new.steps.items) c.learn.new.pairs.items (rows c.learn.new.lists) c.learn.new.trail)) c.in-Some-2.is c.in_ok-learn-in-Some.ensures.ready in
     let ready : IsReady vars (all_of c.args.clauses.now c.learn.new.steps.items) c.learn.new.pairs.items (rows c.learn.new.lists) c.learn.new.trail =
     subst (λ (m : ℕ). IsReady m (all_of c.args.clauses.now c.learn.new.steps.items) c.learn.new.pairs.items (rows c.learn.new.lists) c.learn.new.trail) wide ready0 in
+    let half : IsHalfway (all_of c.args.clauses.now c.learn.new.steps.items) c.learn.new.pairs.items c.learn.new.trail c.in-Some-2.next =
+    subst (λ (o : Option ℕ). IfSome o (λ n. IsHalfway (all_of c.args.clauses.now c.learn.new.steps.items) c.learn.new.pairs.items c.learn.new.trail n)) c.in-Some-2.is c.in_ok-learn-in-Some.ensures.half in
+    let anew = restarted vars (all_of c.args.clauses.now c.learn.new.steps.items) c.learn.new.pairs.items (rows c.learn.new.lists) c.learn.new.trail c.restart-from.new.trail c.in-Some-2.next c.restart-from.result ready half
+    c.restart-from.ensures.tracks c.restart-from.ensures.width c.restart-from.ensures.back in
     record {
-      width = ready.width;
-      ready = ready;
-      state = subst (λ (o : Option ℕ). IfSome o (λ n. IsHalfway (all_of c.args.clauses.now c.learn.new.steps.items) c.learn.new.pairs.items c.learn.new.trail n)) c.in-Some-2.is c.in_ok-learn-in-Some.ensures.half;
+      width = anew.0.width;
+      ready = anew.0;
+      state = anew.1;
       fresh = fresh2;
       within = subst (λ (m : ℕ). IfSome c.args.budget (λ n. m < n)) len (within_more c.args.budget (length log) c.len.result (len ∙ more) c.loop-steps.invariant.within c.if-is_spent.ensures.1);
     }

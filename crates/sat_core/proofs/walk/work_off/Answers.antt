@@ -78,7 +78,7 @@ loop-i-preserved c =
           let lr : code q.b < length (rows c.loop-i.lists) = code_below q.b (length (rows c.loop-i.lists)) (let e = inv.lists.count in omega arith) in
           let rows2 = set (rows c.loop-i.lists) (code q.b) (row_at (rows c.loop-i.lists) q.b ++ w3 ∷ []) in
           let grown = w.in_ok-add_to-in-Move.ensures in
-          rw (w.trail-is, w.pairs-is, w.lists-is, w.list-is, w.kept-is) (record {
+          rw (w.trail-is ∙ w.set_place.ensures, w.pairs-is, w.lists-is, w.list-is, w.kept-is) (record {
             sound = inv.sound;
             width = inv.width;
             place = inv.place;
