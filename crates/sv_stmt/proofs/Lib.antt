@@ -1,0 +1,4 @@
+pub mod Making
+pub mod Sizing
+pub mod Windows
+pub mod Pieces
