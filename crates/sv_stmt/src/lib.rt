@@ -2,6 +2,7 @@
 #![tactic(auto)]
 
 mod look;
+mod names;
 mod operators;
 mod parts;
 mod sizes;
