@@ -3,3 +3,5 @@ pub mod Sizing
 pub mod Windows
 pub mod Pieces
 pub mod Reading
+pub mod Indices
+pub mod Trees

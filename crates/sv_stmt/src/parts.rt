@@ -5,7 +5,7 @@ ghost use Rattle.fourvec.specs.Spots.{window};
 ghost use Rattle.svex_arena.specs.Shapes.{width_at};
 ghost use Rattle.svex_arena.specs.Arenas.{Extends};
 ghost use Rattle.sv_meaning.specs.Meanings.{copies};
-ghost use Rattle.sv_stmt.specs.Nodes.{IsConstant, FromOne, IsSpan};
+ghost use Rattle.sv_stmt.specs.Nodes.{IsConstant, FromOne, FromTwo, IsSpan};
 
 use crate::steps::{binary, constant, make};
 use fourvec::Four;
@@ -152,5 +152,17 @@ pub fn repeated(alloc: Global, arena: &mut Arena, a: Node, count: u8) -> Result<
     for _more in 1..count {
         node = binary(alloc, arena, Bin::Concat, node, a)?;
     }
+    Ok(node)
+}
+
+/// A node above another.
+pub fn beside(alloc: Global, arena: &mut Arena, high: Node, low: Node) -> Result<Node, AllocError>
+    requires high { high < length arena.old }
+    requires low { low < length arena.old }
+    requires most { width_at arena.old high + width_at arena.old low ≤ 128 }
+    ensures stays { Extends arena.old arena.new }
+    ensures ok { IfOk result (λ n. FromTwo arena.old arena.new (λ x y. y ++ x) high low (width_at arena.old high + width_at arena.old low) n) }
+{
+    let node = binary(alloc, arena, Bin::Concat, high, low)?;
     Ok(node)
 }
