@@ -7,4 +7,6 @@ pub mod Sound
 pub mod Lists
 pub mod Vectors
 pub mod Powers
+pub mod Below
+pub mod Worth
 mod Rows

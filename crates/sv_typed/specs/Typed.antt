@@ -124,6 +124,14 @@ unfoldable pub picked : Read → List Pick → List Bit → List Bit
 picked read [] a = a
 picked read (p ∷ more) a = picked read more (bits_at (pick_place p read) p.width a)
 
+-- bits that may be none, and how many more fit beside them
+abbrev pub bits_of : Option (List Bit) → List Bit
+bits_of None = []
+bits_of (Some a) = a
+
+abbrev pub AboveFits : Option (List Bit) → ℕ → Type 0
+AboveFits above n = length (bits_of above) + n ≤ 128
+
 -- ---- widths and constancy of lists
 
 unfoldable pub row_width : {k : Count} → Row_of-Typed k → ℕ

@@ -5,6 +5,7 @@ mod bits;
 mod make;
 mod ops;
 mod tree;
+mod value;
 
 pub use make::width_together;
 pub use ops::{
