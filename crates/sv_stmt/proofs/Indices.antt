@@ -35,11 +35,11 @@ known_part index v spot place e p = ap (λ z. window v z spot.width) p ∙ sym (
 pub part_unknown : (old new : List Shape) (of : ℕ) (index : List Bit) (spot : Spot) (k : Bool) (n : ℕ) → IsArena old → of < length old → k ≡ is_known index → k ≡ false → IsConstant new (all_x spot.width) n → FromOne old new (λ v. dyn_slice_of v index spot) of spot.width n
 part_unknown old new of index spot k n i l e f h = from_constant old new (λ v. dyn_slice_of v index spot) (all_x spot.width) of spot.width n i l (length-replicate spot.width Unknown) (λ v s. unknown_part index v spot (sym e ∙ f)) h
 
-pub part_known : (old new : List Shape) (of : ℕ) (index : List Bit) (spot : Spot) (k : Bool) (place z : ℤ) (n : ℕ) → k ≡ is_known index → k ≡ true → z ≡ place → place ≡ place_of spot index → FromOne old new (λ v. window v z spot.width) of spot.width n → FromOne old new (λ v. dyn_slice_of v index spot) of spot.width n
-part_known old new of index spot k place z n e f g p h = record {
+pub part_known : (old new : List Shape) (of : ℕ) (index : List Bit) (spot : Spot) (k : Bool) (z : ℤ) (n : ℕ) → k ≡ is_known index → k ≡ true → place_of spot index ≡ z → FromOne old new (λ v. window v z spot.width) of spot.width n → FromOne old new (λ v. dyn_slice_of v index spot) of spot.width n
+part_known old new of index spot k z n e f p h = record {
   within = h.within;
   width = h.width;
-  value = λ bits. h.value bits ∙ known_part index (bits_at_node bits old of) spot z (sym e ∙ f) (g ∙ p);
+  value = λ bits. h.value bits ∙ known_part index (bits_at_node bits old of) spot z (sym e ∙ f) (sym p);
   mentions = h.mentions;
 }
 
@@ -51,5 +51,5 @@ part_far old mid new of at index spot n e l k h = record {
   mentions = λ p m. h.mentions p (variables-extends p old mid of e l ∙ m) (k.mentions p);
 }
 
-pub numbers : ℕ
-numbers = 0
+pub number_below : (a : List Bit) (n : ℕ) → n ≡ low_plane a → n < 2 ^ length a
+number_below a n e = let h = low_plane-lt a in omega arith

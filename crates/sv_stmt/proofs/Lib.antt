@@ -5,3 +5,6 @@ pub mod Pieces
 pub mod Reading
 pub mod Indices
 pub mod Trees
+pub mod Nameless
+pub mod Lowered
+pub mod Chains

@@ -87,20 +87,20 @@ x_only v zero lo zero above e = let none : 0 + (0 + above) ≡ above = omega ari
 x_only v (suc below) lo zero above e = let next : suc below + (0 + above) ≡ suc (below + (0 + above)) = omega arith in ap (λ n. all_x n) next ∙ ap (λ xs. Unknown ∷ xs) (x_only v below lo zero above refl)
 x_only v below lo (suc inside) above e = absurd (omega arith)
 
-pub window_none : (old new : List Shape) (size : ℕ) (place z : ℤ) (width below lo inside above a n : ℕ) → IsArena old → a < length old → size ≡ width_at old a → z ≡ place → IsSpan size z width below lo inside above → inside ≡ 0 →
+pub window_none : (old new : List Shape) (size : ℕ) (place : ℤ) (width below lo inside above a n : ℕ) → IsArena old → a < length old → size ≡ width_at old a → IsSpan size place width below lo inside above → inside ≡ 0 →
     IsConstant new (all_x width) n → FromOne old new (λ v. window v place width) a width n
-window_none old new size place z width below lo inside above a n i l d same s e k = from_constant old new (λ v. window v place width) (all_x width) a width n i l (length-replicate width Unknown)
-    (λ x h. ap (λ n. all_x n) (sym s.sum) ∙ x_only x below lo inside above e ∙ sym (s.gives x (h ∙ sym d)) ∙ ap (λ y. window x y width) same) k
+window_none old new size place width below lo inside above a n i l d s e k = from_constant old new (λ v. window v place width) (all_x width) a width n i l (length-replicate width Unknown)
+    (λ x h. ap (λ n. all_x n) (sym s.sum) ∙ x_only x below lo inside above e ∙ sym (s.gives x (h ∙ sym d))) k
 
-pub window_some : (old one two new : List Shape) (size : ℕ) (place z : ℤ) (width below lo inside above a part more n : ℕ) → IsArena old → a < length old → size ≡ width_at old a → z ≡ place → IsSpan size z width below lo inside above →
+pub window_some : (old one two new : List Shape) (size : ℕ) (place : ℤ) (width below lo inside above a part more n : ℕ) → IsArena old → a < length old → size ≡ width_at old a → IsSpan size place width below lo inside above →
     FromOne old one (λ v. slice_of v lo inside) a inside part → FromOne one two (λ v. v ++ all_x above) part (width_at one part + above) more → FromOne two new (λ v. all_x below ++ v) more (width_at two more + below) n →
     FromOne old new (λ v. window v place width) a width n
-window_some old one two new size place z width below lo inside above a part more n i l d same s f g h = record {
+window_some old one two new size place width below lo inside above a part more n i l d s f g h = record {
   within = h.within;
   width = let p = f.width in let q = g.width in let r = h.width in let t = s.sum in omega arith;
   value = λ bits.
       h.value bits ∙ ap (λ v. all_x below ++ v) (g.value bits ∙ ap (λ v. v ++ all_x above) (f.value bits))
-      ∙ sym (s.gives (bits_at_node bits old a) (length-node bits old a i l ∙ sym d)) ∙ ap (λ y. window (bits_at_node bits old a) y width) same;
+      ∙ sym (s.gives (bits_at_node bits old a) (length-node bits old a i l ∙ sym d));
   mentions = λ p m. h.mentions p (g.mentions p (f.mentions p m));
 }
 

@@ -1,6 +1,6 @@
 -- What names read.
 use Rattle.std.proofs.Common.{◌≡◌, ℕ, zero, suc, ◌+◌, ◌<◌, ◌≤◌, Bool, true, false, List, [], ◌∷◌, length, get_or, map, Option, Some, None, refl, sym, ap, ◌∙◌, subst, arith, IsTrue}
-use Rattle.std.specs.Prelude.{pos}
+use Rattle.std.specs.Prelude.{ℤ, pos}
 use Rattle.std.specs.List.{range_with_len}
 use Rattle.fourvec.specs.declared.Bit.{Bit}
 use Rattle.fourvec.specs.declared.Bit.TheVariants.{Unknown}
@@ -67,13 +67,13 @@ pub wire_reads_variable : (look : Look) (old new : List Shape) (number w n : ℕ
 wire_reads_variable look old new number w n x e f h =
     let P : VarName → Type 0 = λ y. IsMade old (Var y w) new n in variable_read look old new number w n e (subst P f h)
 
-pub wire_reads_node : (look : Look) (old new : List Shape) (number w k n : ℕ) → node_of look number ≡ Some k → FromOne old new (λ v. window v (pos 0) w) k w n → LowersRoot look old new (Signal origin.Wires number w) n
+pub wire_reads_node : (look : Look) (old new : List Shape) (number w k n : ℕ) (z : ℤ) → node_of look number ≡ Some k → z ≡ pos 0 → FromOne old new (λ v. window v z w) k w n → LowersRoot look old new (Signal origin.Wires number w) n
 unfolding look_test
-wire_reads_node look old new number w k n e h = record {
+wire_reads_node look old new number w k n z e d h = record {
   within = h.within;
   width = h.width;
   value = λ bits.
-      h.value bits ∙ window_bits (bits_at_node bits old k) 0 w
+      h.value bits ∙ ap (λ y. window (bits_at_node bits old k) y w) d ∙ window_bits (bits_at_node bits old k) 0 w
       ∙ same_bits (λ i. get_or (bits_at_node bits old k) i Unknown) (look_read look old bits of_wires number) 0 w (λ i. read_node look old bits number k i e);
   mentions = λ p m. h.mentions p (sym (ap (given_or (each_variable p old) (p (wire_variable look number) w)) e) ∙ m);
 }

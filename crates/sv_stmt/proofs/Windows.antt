@@ -1,13 +1,13 @@
 -- How parts lie over vectors.
 use Rattle.std.proofs.Common.{◌≡◌, ℕ, zero, suc, ◌+◌, ◌-◌, ◌<◌, ◌≤◌, min, Bool, true, false, List, [], ◌∷◌, ◌++◌, length, take, drop, replicate, get_or, refl, sym, ap, ◌∙◌, ◌⊎◌, inl, inr, arith, append_assoc}
-use Rattle.std.specs.Prelude.{ℤ, pos, negsuc, neg_ℤ, ◌+ℤ◌, ◌≤ℤ◌, ◌<ℤ◌, unsigned_abs}
+use Rattle.std.specs.Prelude.{ℤ, pos, negsuc, neg_ℤ, ◌+ℤ◌}
 use Rattle.std.proofs.lemmas.Int.{ints}
 use Rattle.std.proofs.lemmas.Bool.{cases_lt}
 use Rattle.std.proofs.lemmas.List.{drop_more, get_or_past}
 use Rattle.fourvec.specs.declared.Bit.{Bit}
 use Rattle.fourvec.specs.declared.Bit.TheVariants.{Unknown}
 use Rattle.fourvec.specs.Bits.{all_x, slice_of}
-use Rattle.fourvec.specs.Spots.{bit_from, window}
+use Rattle.fourvec.specs.Spots.{bit_from, window, reached}
 use Rattle.sv_stmt.specs.Nodes.{IsSpan}
 
 -- ---- windows
@@ -87,20 +87,27 @@ down v j w below inside e f =
         let whole : w - below ≡ w - below - 0 = omega arith in
         window_none v (negsuc j +ℤ pos below) (w - below) none ∙ ap (λ n. all_x n) whole ∙ sym (ap (λ n. slice_of v 0 n ++ all_x (w - below - n)) nothing)
 
-pub span_up : (size : ℕ) (place : ℤ) (width far lo inside above : ℕ) → pos 0 ≤ℤ place → far ≡ unsigned_abs place → lo ≡ min far size → inside ≡ min width (size - lo) → above ≡ width - inside → IsSpan size place width 0 lo inside above
-span_up size (pos k) width far lo inside above p f l i a = record {
-  sum = omega arith;
-  within = omega arith;
-  gives = λ v e. up v k width lo inside (omega arith) (omega arith) ∙ ap (λ n. slice_of v lo inside ++ all_x n) (sym a);
-}
-span_up size (negsuc j) width far lo inside above p f l i a = absurd (omega (arith, ints))
+down_from : (v : List Bit) (far w below inside : ℕ) → below ≡ min far w → inside ≡ min (w - below) (length v) → window v (neg_ℤ (pos far)) w ≡ all_x below ++ (slice_of v 0 inside ++ all_x (w - below - inside))
+down_from v zero w below inside e f =
+    let none : below ≡ 0 = omega arith in
+    let same : w - below ≡ w = omega arith in
+    up v 0 w 0 inside (omega arith) (omega arith) ∙ ap (λ n. slice_of v 0 inside ++ all_x (n - inside)) (sym same) ∙ ap (λ n. all_x n ++ (slice_of v 0 inside ++ all_x (w - below - inside))) (sym none)
+down_from v (suc j) w below inside e f = down v j w below inside e f
 
-pub span_down : (size : ℕ) (place : ℤ) (width far below inside above : ℕ) → place <ℤ pos 0 → far ≡ unsigned_abs place → below ≡ min far width → inside ≡ min (width - below) size → above ≡ width - below - inside → IsSpan size place width below 0 inside above
-span_down size (pos k) width far below inside above p f b i a = absurd (omega (arith, ints))
-span_down size (negsuc j) width far below inside above p f b i a = record {
+pub span_up : (size : ℕ) (b : Bool) (width far lo inside above : ℕ) → b ≡ false → lo ≡ min far size → inside ≡ min width (size - lo) → above ≡ width - inside → IsSpan size (reached b far) width 0 lo inside above
+span_up size false width far lo inside above p l i a = record {
   sum = omega arith;
   within = omega arith;
-  gives = λ v e. down v j width below inside (omega arith) (omega arith) ∙ ap (λ n. all_x below ++ (slice_of v 0 inside ++ all_x n)) (sym a);
+  gives = λ v e. up v far width lo inside (omega arith) (omega arith) ∙ ap (λ n. slice_of v lo inside ++ all_x n) (sym a);
 }
+span_up size true width far lo inside above p l i a = cc
+
+pub span_down : (size : ℕ) (b : Bool) (width far below inside above : ℕ) → b ≡ true → below ≡ min far width → inside ≡ min (width - below) size → above ≡ width - below - inside → IsSpan size (reached b far) width below 0 inside above
+span_down size true width far below inside above p b i a = record {
+  sum = omega arith;
+  within = omega arith;
+  gives = λ v e. down_from v far width below inside (omega arith) (omega arith) ∙ ap (λ n. all_x below ++ (slice_of v 0 inside ++ all_x n)) (sym a);
+}
+span_down size false width far below inside above p b i a = cc
 
 pub ruleset spans = (span_up, span_down)

@@ -16,11 +16,10 @@ use crate::Look;
 use crate::constants::is_nameless;
 use crate::names::root_node;
 use crate::operators::{chosen, combined, compared, computed, moved, reduced, turned};
-use crate::parts::{beside, repeated, windowed};
+use crate::parts::{beside, place_at, repeated, windowed};
 use crate::places::{part_at, part_at_constant};
 use crate::sizes::{extended, fitted};
 use crate::steps::constant;
-use fourvec::Four;
 use std::alloc::{AllocError, Global};
 use sv_typed::{Pick, PickPlace, Typed, TypedForm};
 use svex_arena::{Arena, Node};
@@ -54,20 +53,6 @@ fn common(x: &Typed, y: &Typed) -> Context
     }
 }
 
-fn value(typed: &Typed, width: u8, signed: bool) -> Four
-    requires sound { IsSound typed.now }
-    requires fits { typed.now.width ≤ width }
-    requires most { width ≤ 128 }
-    ensures is { result ≡ worth typed.now nowhere width signed }
-    ensures width { length result ≡ width }
-{
-    if signed && typed.signed {
-        Four::new(1, 1, 1)
-    } else {
-        Four::new(1, 0, 0).zext(128 - width % 128)
-    }
-}
-
 // The node of an expression that names no signal where it is evaluated.
 fn valued(
     alloc: Global,
@@ -80,10 +65,10 @@ fn valued(
     ensures ok { IfOk result (λ n. IsConstant arena.new (worth typed.now nowhere at.width at.signed) n) }
     ensures long { length (worth typed.now nowhere at.width at.signed) ≡ at.width }
 {
-    let value = value(typed, at.width, at.signed);
-    constant(alloc, arena, &value)
+    constant(alloc, arena, &typed.value(at.width, at.signed))
 }
 
+#[tactic(auto, using(svex_arena::proofs::Keeping::extends_on))]
 #[cycle(lower)]
 fn lower_in(
     alloc: Global,
@@ -134,8 +119,9 @@ fn lower_in(
             Ok(node)
         }
         TypedForm::Moved(op, a, b) => {
+            let by = own(b.get());
             let a = lower_in(alloc, arena, a.get(), look, at)?;
-            let b = lower_in(alloc, arena, b.get(), look, own(b.get()))?;
+            let b = lower_in(alloc, arena, b.get(), look, by)?;
             let node = moved(alloc, arena, *op, at.signed, a, b)?;
             Ok(node)
         }
@@ -188,6 +174,7 @@ fn lower_in(
 }
 
 // Parts side by side, the first the most significant.
+#[tactic(auto, using(svex_arena::proofs::Keeping::extends_on))]
 #[cycle(lower)]
 fn lower_parts(
     alloc: Global,
@@ -211,6 +198,7 @@ fn lower_parts(
 }
 
 // What a chain of selects reads of a node.
+#[tactic(auto, using(svex_arena::proofs::Keeping::extends_on))]
 #[cycle(lower)]
 fn lower_picks(
     alloc: Global,
@@ -233,6 +221,7 @@ fn lower_picks(
 }
 
 // A part of a node.
+#[tactic(auto, using(svex_arena::proofs::Keeping::extends_on))]
 #[cycle(lower)]
 fn lower_pick(
     alloc: Global,
@@ -248,15 +237,14 @@ fn lower_pick(
     ensures ok { IfOk result (λ n. LowersPick look.now arena.old arena.new pick.now of n) }
 {
     match &pick.place {
-        PickPlace::Fixed(place) => {
-            let node = windowed(alloc, arena, of, *place, pick.width)?;
+        PickPlace::Fixed(number) => {
+            let node = windowed(alloc, arena, of, place_at(*number), pick.width)?;
             Ok(node)
         }
         PickPlace::Moving { index, spot } => {
             let index = index.get();
             if index.constant && is_nameless(index) {
-                let at = value(index, index.width, index.signed);
-                let node = part_at_constant(alloc, arena, of, &at, spot)?;
+                let node = part_at_constant(alloc, arena, of, &index.own(), spot)?;
                 return Ok(node);
             }
             let at = lower_in(alloc, arena, index, look, own(index))?;

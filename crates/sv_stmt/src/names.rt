@@ -7,7 +7,7 @@ ghost use Rattle.sv_typed.specs.Typed.{root_width, IsWidth};
 ghost use Rattle.sv_stmt.specs.Lowering.{node_of, wire_variable, IsIn, LowersRoot};
 
 use crate::Look;
-use crate::parts::windowed;
+use crate::parts::{place_at, windowed};
 use crate::steps::{constant, make};
 use std::alloc::{AllocError, Global};
 use sv_typed::{Origin, Root};
@@ -54,7 +54,7 @@ fn wire(
 {
     match node_of(look, number) {
         Some(node) => {
-            let node = windowed(alloc, arena, node, 0, width)?;
+            let node = windowed(alloc, arena, node, place_at(0), width)?;
             Ok(node)
         }
         None => {

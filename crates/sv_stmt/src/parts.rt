@@ -1,7 +1,7 @@
 // Parts of nodes, and nodes side by side (IEEE 1800-2017, 11.4.12, 11.5.1).
 ghost use Rattle.std.specs.Prelude.{◌≡◌, ◌<◌, ◌≤◌, ◌+◌, ◌*◌, ◌++◌, length, IfOk};
 ghost use Rattle.fourvec.specs.Bits.{all_x, slice_of};
-ghost use Rattle.fourvec.specs.Spots.{window};
+ghost use Rattle.fourvec.specs.Spots.{window, reached};
 ghost use Rattle.svex_arena.specs.Shapes.{width_at};
 ghost use Rattle.svex_arena.specs.Arenas.{Extends};
 ghost use Rattle.sv_meaning.specs.Meanings.{copies};
@@ -85,14 +85,31 @@ struct Span {
     above: u8,
 }
 
+/// A place of a vector: how far from 0 it is, and whether below.
+#[derive(Clone, Copy)]
+pub struct Place {
+    pub below: bool,
+    pub far: u128,
+}
+
+/// The place with a number.
+#[tactic(auto, using(fourvec::proofs::Places::parts))]
+pub fn place_at(number: i64) -> Place
+    ensures { reached result.below result.far ≡ number }
+{
+    Place {
+        below: number < 0,
+        far: number.unsigned_abs() as u128,
+    }
+}
+
 // How the part of a width from a place on lies over a vector of a size.
 #[tactic(auto, using(crate::proofs::Windows::spans))]
-fn span_of(size: u8, place: i64, width: u8) -> Span
-    ensures { IsSpan size place width result.below result.lo result.inside result.above }
+fn span_of(size: u8, place: Place, width: u8) -> Span
+    ensures { IsSpan size (reached place.below place.far) width result.below result.lo result.inside result.above }
 {
-    let far = place.unsigned_abs();
-    if place < 0 {
-        let below = far.min(width as u64) as u8;
+    if place.below {
+        let below = place.far.min(width as u128) as u8;
         let inside = (width - below).min(size);
         Span {
             below,
@@ -101,7 +118,7 @@ fn span_of(size: u8, place: i64, width: u8) -> Span
             above: width - below - inside,
         }
     } else {
-        let lo = far.min(size as u64) as u8;
+        let lo = place.far.min(size as u128) as u8;
         let inside = width.min(size - lo);
         Span {
             below: 0,
@@ -118,14 +135,14 @@ pub fn windowed(
     alloc: Global,
     arena: &mut Arena,
     a: Node,
-    place: i64,
+    place: Place,
     width: u8,
 ) -> Result<Node, AllocError>
     requires a { a < length arena.old }
     requires some { 0 < width }
     requires most { width ≤ 128 }
     ensures stays { Extends arena.old arena.new }
-    ensures ok { IfOk result (λ n. FromOne arena.old arena.new (λ v. window v place width) a width n) }
+    ensures ok { IfOk result (λ n. FromOne arena.old arena.new (λ v. window v (reached place.below place.far) width) a width n) }
 {
     let _ = arena.len();
     let span = span_of(arena.width(a), place, width);

@@ -1,11 +1,11 @@
 // Parts at places that indices give (IEEE 1800-2017, 11.5.1).
-ghost use Rattle.std.specs.Prelude.{◌≡◌, ◌<◌, ◌≤◌, length, IfOk, IfSome, IsTrue};
-ghost use Rattle.fourvec.specs.Bits.{is_known, is_negative};
-ghost use Rattle.fourvec.specs.Spots.{index_of, place_of, dyn_slice_of};
+ghost use Rattle.std.specs.Prelude.{◌≡◌, ◌-◌, ◌^◌, ◌<◌, ◌≤◌, length, IfOk, IfSome, IsTrue, unsigned_abs};
+ghost use Rattle.fourvec.specs.Bits.{number, signed, is_known, is_negative};
+ghost use Rattle.fourvec.specs.Spots.{place_of, reached, dyn_slice_of};
 ghost use Rattle.svex_arena.specs.Arenas.{Extends};
 ghost use Rattle.sv_stmt.specs.Nodes.{FromOne, FromTwo};
 
-use crate::parts::{unknown, windowed};
+use crate::parts::{Place, unknown, windowed};
 use crate::steps::{constant, make};
 use fourvec::{Bit, Four, Spot};
 use std::alloc::{AllocError, Global};
@@ -43,38 +43,73 @@ fn is_negative(index: &Four) -> bool
     index.bit(index.width() - 1) == Bit::One
 }
 
-// The number of a known index, where it has at most 32 bits.
-#[tactic(auto, using(crate::proofs::Indices::numbers))]
-fn index_of(index: &Four, spot: &Spot) -> Option<i64>
+// The number of a known index.
+#[tactic(auto, using(sv_typed::proofs::Vectors::number_is, crate::proofs::Indices::number_below))]
+fn number(index: &Four) -> u128
     requires { IsTrue (is_known index.now) }
-    ensures { IfSome result (λ i. i ≡ index_of spot.now index.now) }
+    ensures is { result ≡ number index.now }
+    ensures below { result < 2 ^ length index.now }
 {
-    if index.width() > 32 {
-        return None;
-    }
-    let number = index.low() as i64;
-    if spot.signed && is_negative(index) {
-        let full = 1u128 << index.width();
-        number.checked_sub(full as i64)
+    index.low()
+}
+
+// The greatest number of so many bits.
+fn most(width: u8) -> u128
+    requires some { 0 < width }
+    requires most { width ≤ 128 }
+    ensures { result ≡ 2 ^ width - 1 }
+{
+    u128::MAX >> (128 - width)
+}
+
+// The distance of a known index's two's complement number from 0.
+#[tactic(auto, using(fourvec::proofs::Signed::magnitude_by_sign, fourvec::proofs::Signed::negative_some))]
+fn magnitude(index: &Four) -> u128
+    requires { IsTrue (is_known index.now) }
+    ensures { result ≡ unsigned_abs (signed index.now) }
+{
+    let number = number(index);
+    if is_negative(index) {
+        let most = most(index.width());
+        most - number + 1
     } else {
-        Some(number)
+        number
     }
 }
 
-// Where a part at a known index begins, where that is near.
-#[tactic(auto, unfolding(fourvec::specs::Spots::place_of))]
-fn place_of(index: &Four, spot: &Spot) -> Option<i64>
+// Where a part at a known index begins. None only where that is too far from 0.
+#[tactic(auto, using(fourvec::proofs::Places::places))]
+fn place_of(index: &Four, spot: &Spot) -> Option<Place>
     requires { IsTrue (is_known index.now) }
-    ensures { IfSome result (λ p. p ≡ place_of spot.now index.now) }
+    ensures { IfSome result (λ p. place_of spot.now index.now ≡ reached p.below p.far) }
 {
-    let number = index_of(index, spot)?;
-    let turned = if spot.negate {
-        0i64.checked_sub(number)?
+    let below = (spot.signed && is_negative(index)) != spot.negate;
+    let count = if spot.signed {
+        magnitude(index)
     } else {
-        number
+        number(index)
     };
-    let far = turned.checked_mul(spot.each as i64)?;
-    far.checked_add(spot.add)
+    let shift = spot.add.unsigned_abs() as u128;
+    let back = spot.add < 0;
+    let Some(far) = count.checked_mul(spot.each as u128) else {
+        return None;
+    };
+    if below == back {
+        let Some(far) = far.checked_add(shift) else {
+            return None;
+        };
+        Some(Place { below, far })
+    } else if shift <= far {
+        Some(Place {
+            below,
+            far: far - shift,
+        })
+    } else {
+        Some(Place {
+            below: back,
+            far: shift - far,
+        })
+    }
 }
 
 /// The part of a node at a constant index: X where that has an unknown bit.
