@@ -21,6 +21,7 @@ root_nameless (Signal o n w) read h = cc
 
 mutual
   unfolding form_worth each_form
+
   form_nameless : (n : ℕ) (x : TypedForm) (read : Read) (w : ℕ) (s : Bool) → each_form no_signal x ≡ true → form_worth n x read w s ≡ form_worth n x nowhere w s
   form_nameless n (Literal l) read w s h = refl
   form_nameless n (Named' root k picks) read w s h =

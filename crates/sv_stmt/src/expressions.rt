@@ -54,12 +54,7 @@ fn common(x: &Typed, y: &Typed) -> Context
 }
 
 // The node of an expression that names no signal where it is evaluated.
-fn valued(
-    alloc: Global,
-    arena: &mut Arena,
-    typed: &Typed,
-    at: Context,
-) -> Result<Node, AllocError>
+fn valued(alloc: Global, arena: &mut Arena, typed: &Typed, at: Context) -> Result<Node, AllocError>
     requires { Fits typed.now at.width }
     ensures stays { Extends arena.old arena.new }
     ensures ok { IfOk result (λ n. IsConstant arena.new (worth typed.now nowhere at.width at.signed) n) }

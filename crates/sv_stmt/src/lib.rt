@@ -2,8 +2,8 @@
 #![tactic(auto)]
 
 mod constants;
-mod look;
 mod expressions;
+mod look;
 mod names;
 mod operators;
 mod parts;
@@ -11,5 +11,5 @@ mod places;
 mod sizes;
 mod steps;
 
-pub use look::Look;
 pub use expressions::lower;
+pub use look::Look;

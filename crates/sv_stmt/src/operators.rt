@@ -4,7 +4,6 @@ ghost use Rattle.fourvec.specs.Bits.{truth_of, cond_of, not_of, or_of};
 ghost use Rattle.svex_arena.specs.Shapes.{FitsPair, unary_width, binary_width, width_at};
 ghost use Rattle.svex_arena.specs.Values.{unary_value, binary_value};
 ghost use Rattle.svex_arena.specs.Arenas.{Extends};
-ghost use Rattle.sv_meaning.specs.Values.{less};
 ghost use Rattle.sv_typed.specs.Ops.{turned, reduced, computed, moved, compared, combined, combined_truths};
 ghost use Rattle.sv_stmt.specs.Nodes.{FromOne, FromTwo, FromThree};
 
@@ -13,6 +12,7 @@ use std::alloc::{AllocError, Global};
 use sv_typed::{Arithmetic, Comparison, Logic, Reduction, Shift, Turn};
 use svex_arena::{Arena, Bin, Node, Shape, Un};
 
+/// Unary `+`, `-` and `~`. `+` is the operand itself.
 #[tactic(auto, using(crate::proofs::Making::itself, svex_arena::proofs::Keeping::extends_self))]
 pub fn turned(alloc: Global, arena: &mut Arena, op: Turn, a: Node) -> Result<Node, AllocError>
     requires { a < length arena.old }
@@ -38,12 +38,8 @@ fn denied(alloc: Global, arena: &mut Arena, op: Un, a: Node) -> Result<Node, All
     unary(alloc, arena, Un::Not, bit)
 }
 
-pub fn reduced(
-    alloc: Global,
-    arena: &mut Arena,
-    op: Reduction,
-    a: Node,
-) -> Result<Node, AllocError>
+/// An operator of one bit on one operand.
+pub fn reduced(alloc: Global, arena: &mut Arena, op: Reduction, a: Node) -> Result<Node, AllocError>
     requires { a < length arena.old }
     ensures stays { Extends arena.old arena.new }
     ensures ok { IfOk result (λ n. FromOne arena.old arena.new (reduced op) a 1 n) }
@@ -61,7 +57,13 @@ pub fn reduced(
 
 // An operator on two operands of one width, and then its negation.
 #[tactic(auto, using(crate::proofs::Making::two_then, svex_arena::proofs::Keeping::extends_on))]
-fn denied_pair(alloc: Global, arena: &mut Arena, op: Bin, a: Node, b: Node) -> Result<Node, AllocError>
+fn denied_pair(
+    alloc: Global,
+    arena: &mut Arena,
+    op: Bin,
+    a: Node,
+    b: Node,
+) -> Result<Node, AllocError>
     requires a { a < length arena.old }
     requires b { b < length arena.old }
     requires fits { FitsPair op (width_at arena.old a) (width_at arena.old b) }
@@ -72,6 +74,7 @@ fn denied_pair(alloc: Global, arena: &mut Arena, op: Bin, a: Node, b: Node) -> R
     unary(alloc, arena, Un::Not, pair)
 }
 
+/// An operator on two operands of one width.
 pub fn computed(
     alloc: Global,
     arena: &mut Arena,
@@ -101,6 +104,7 @@ pub fn computed(
     }
 }
 
+/// A shift (11.4.10).
 pub fn moved(
     alloc: Global,
     arena: &mut Arena,
@@ -121,6 +125,7 @@ pub fn moved(
     }
 }
 
+/// A comparison of two operands of one width.
 #[tactic(auto, using(crate::proofs::Making::two_swapped))]
 pub fn compared(
     alloc: Global,
@@ -148,13 +153,7 @@ pub fn compared(
 }
 
 // An operator on two bits.
-fn joined(
-    alloc: Global,
-    arena: &mut Arena,
-    op: Logic,
-    a: Node,
-    b: Node,
-) -> Result<Node, AllocError>
+fn joined(alloc: Global, arena: &mut Arena, op: Logic, a: Node, b: Node) -> Result<Node, AllocError>
     requires a { a < length arena.old }
     requires b { b < length arena.old }
     requires first { width_at arena.old a ≡ 1 }
@@ -183,6 +182,7 @@ fn implied(alloc: Global, arena: &mut Arena, a: Node, b: Node) -> Result<Node, A
     binary(alloc, arena, Bin::Or, a, b)
 }
 
+/// An operator on what is true of two operands.
 #[tactic(auto, using(crate::proofs::Making::both_then, svex_arena::proofs::Keeping::extends_on, svex_arena::proofs::Steps::kept_steps))]
 pub fn combined(
     alloc: Global,
@@ -203,7 +203,13 @@ pub fn combined(
 
 /// `c ? a : b` (11.4.11).
 #[tactic(auto, using(crate::proofs::Making::from_choice, svex_arena::proofs::Keeping::extends_on, svex_arena::proofs::Steps::kept_steps))]
-pub fn chosen(alloc: Global, arena: &mut Arena, c: Node, a: Node, b: Node) -> Result<Node, AllocError>
+pub fn chosen(
+    alloc: Global,
+    arena: &mut Arena,
+    c: Node,
+    a: Node,
+    b: Node,
+) -> Result<Node, AllocError>
     requires c { c < length arena.old }
     requires a { a < length arena.old }
     requires b { b < length arena.old }

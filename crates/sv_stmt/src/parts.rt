@@ -24,13 +24,7 @@ pub fn unknown(alloc: Global, arena: &mut Arena, width: u8) -> Result<Node, Allo
 }
 
 // The bits from a place on that the node has. It is the node itself where these are all.
-fn sliced(
-    alloc: Global,
-    arena: &mut Arena,
-    a: Node,
-    lo: u8,
-    width: u8,
-) -> Result<Node, AllocError>
+fn sliced(alloc: Global, arena: &mut Arena, a: Node, lo: u8, width: u8) -> Result<Node, AllocError>
     requires a { a < length arena.old }
     requires some { 0 < width }
     requires within { lo + width ≤ width_at arena.old a }

@@ -20,6 +20,7 @@ pub fn make(alloc: Global, arena: &mut Arena, shape: Shape) -> Result<Node, Allo
     arena.intern(alloc, shape)
 }
 
+/// An operator on one node.
 #[tactic(auto, using(crate::proofs::Making::from_unary))]
 pub fn unary(alloc: Global, arena: &mut Arena, op: Un, a: Node) -> Result<Node, AllocError>
     requires a { a < length arena.old }
@@ -29,8 +30,15 @@ pub fn unary(alloc: Global, arena: &mut Arena, op: Un, a: Node) -> Result<Node, 
     make(alloc, arena, Shape::Unary(op, a))
 }
 
+/// An operator on two nodes whose widths fit it.
 #[tactic(auto, using(crate::proofs::Making::from_binary))]
-pub fn binary(alloc: Global, arena: &mut Arena, op: Bin, a: Node, b: Node) -> Result<Node, AllocError>
+pub fn binary(
+    alloc: Global,
+    arena: &mut Arena,
+    op: Bin,
+    a: Node,
+    b: Node,
+) -> Result<Node, AllocError>
     requires a { a < length arena.old }
     requires b { b < length arena.old }
     requires fits { FitsPair op (width_at arena.old a) (width_at arena.old b) }

@@ -237,10 +237,13 @@ lower_parts-parts-init t c =
     record { stays = c.in_ok-whole.ensures.stays; made = first_part _ _ _ _ _ _ c.requires.some c.index-parts-0.is (lowers_own _ _ _ _ _ _ _ _ _ refl (same_element _ _ _ _ c.requires.some c.index-parts-0.is c.index-parts-0-2.is) c.own.ensures.width c.own.ensures.signed c.in_ok-whole.ensures.ok) }
 
 pub lower_parts-lower_in-requires-in-parts : goal.lower_parts-lower_in-requires-in-parts
-lower_parts-lower_in-requires-in-parts t c =
-    ((let h = below.element_less _ _ _ t c.parts-test.true c.index-parts-i.is c.decreases in omega arith),
-    (fits_own _ _ _ (element IsSound _ _ _ c.requires.sound c.parts-test.true c.index-parts-i.is) (same_element _ _ _ _ c.parts-test.true c.index-parts-i.is c.index-parts-i-in-parts.is) c.own-in-parts.ensures.width,
-    in_later _ _ _ c.requires.look c.parts.invariant.stays))
+lower_parts-lower_in-requires-in-parts t c = (
+  (let h = below.element_less _ _ _ t c.parts-test.true c.index-parts-i.is c.decreases in omega arith),
+  (
+    fits_own _ _ _ (element IsSound _ _ _ c.requires.sound c.parts-test.true c.index-parts-i.is) (same_element _ _ _ _ c.parts-test.true c.index-parts-i.is c.index-parts-i-in-parts.is) c.own-in-parts.ensures.width,
+    in_later _ _ _ c.requires.look c.parts.invariant.stays,
+  ),
+)
 
 pub lower_parts-beside-requires-clause-most : goal.lower_parts-beside-requires-clause-most
 lower_parts-beside-requires-clause-most t c =
@@ -257,8 +260,8 @@ lower_parts-parts-preserved t c =
     record {
       stays = extends_on _ _ _ (extends_on _ _ _ i.stays c.in_ok-part.ensures.stays) c.beside.ensures.stays;
       made = part_more _ _ _ _ _ _ _ _ _ _ _ _ c.parts-test.true c.index-parts-i.is c.requires.look i.stays c.in_ok-part.ensures.stays i.made
-      (lowers_own _ _ _ _ _ _ _ _ _ refl (same_element _ _ _ _ c.parts-test.true c.index-parts-i.is c.index-parts-i-in-parts.is) c.own-in-parts.ensures.width c.own-in-parts.ensures.signed c.in_ok-part.ensures.ok)
-      c.in_ok-whole-2.ensures.ok refl;
+          (lowers_own _ _ _ _ _ _ _ _ _ refl (same_element _ _ _ _ c.parts-test.true c.index-parts-i.is c.index-parts-i-in-parts.is) c.own-in-parts.ensures.width c.own-in-parts.ensures.signed c.in_ok-part.ensures.ok)
+          c.in_ok-whole-2.ensures.ok refl;
     }
 
 pub lower_pick-windowed-requires-clause-some : goal.lower_pick-windowed-requires-clause-some
