@@ -1,5 +1,5 @@
 -- Nodes of parts side by side and of chains of selects, one after another.
-use Rattle.std.proofs.Common.{◌≡◌, ℕ, zero, suc, ◌+◌, ◌<◌, ◌≤◌, Bool, true, false, ◌&&◌, List, [], ◌∷◌, ◌++◌, length, take, get_or, Option, Some, refl, sym, ap, ◌∙◌, subst, arith, IsTrue}
+use Rattle.std.proofs.Common.{◌≡◌, ℕ, zero, suc, ◌+◌, ◌<◌, ◌≤◌, Bool, true, List, [], ◌∷◌, ◌++◌, length, take, get_or, Some, refl, sym, ap, ◌∙◌, subst, arith, IsTrue}
 use Rattle.std.specs.Prelude.{ℤ}
 use Rattle.std.proofs.lemmas.List.{take_all}
 use Rattle.fourvec.specs.declared.Bit.{Bit}
@@ -7,20 +7,17 @@ use Rattle.fourvec.specs.declared.Spot.{Spot}
 use Rattle.fourvec.specs.Spots.{window, dyn_slice_of}
 use Rattle.fourvec.proofs.Order.{both}
 use Rattle.fourvec.proofs.Tables.{left_of, right_of}
-use Rattle.svex_arena.specs.declared.shape.VarName.{VarName}
 use Rattle.svex_arena.specs.declared.shape.Shape.{Shape}
 use Rattle.svex_arena.specs.Shapes.{width_at}
 use Rattle.svex_arena.specs.Arenas.{Extends}
-use Rattle.svex_arena.proofs.Keeping.{extends_on}
 use Rattle.svex_arena.proofs.Steps.{value-extends, width-extends, variables-extends}
 use Rattle.driver_resolve.specs.Drivers.{bitwise}
 use Rattle.sv_meaning.specs.Layouts.{Read, Origin}
 use Rattle.sv_meaning.specs.Meanings.{nowhere, bits_at}
 use Rattle.sv_typed.specs.declared.tree.Pick.{Pick}
-use Rattle.sv_typed.specs.declared.tree.PickPlace.{PickPlace}
 use Rattle.sv_typed.specs.declared.tree.PickPlace.TheVariants as place
 use Rattle.sv_typed.specs.declared.tree.Typed.{Typed}
-use Rattle.sv_typed.specs.Typed.{worth, own, together, picked, pick_place, place_in, spot_place, width_together, picked_width}
+use Rattle.sv_typed.specs.Typed.{own, together, picked, pick_place, spot_place, width_together, picked_width}
 use Rattle.sv_typed.proofs.Worth as worths
 use Rattle.sv_stmt.specs.declared.look.Look.{Look}
 use Rattle.sv_stmt.specs.Nodes.{bits_at_node, FromOne, FromTwo}

@@ -1,17 +1,16 @@
 -- Parts at places that indices give.
-use Rattle.std.proofs.Common.{◌≡◌, ℕ, ◌+◌, ◌-◌, ◌*◌, ◌^◌, ◌<◌, ◌≤◌, Bool, true, false, ◌&&◌, cond, List, length, refl, sym, ap, ◌∙◌, arith, IsTrue}
-use Rattle.std.specs.Prelude.{ℤ, pos, negsuc, neg_ℤ, ◌+ℤ◌, ◌-ℤ◌, ◌*ℤ◌}
-use Rattle.std.proofs.lemmas.Int.{ints}
+use Rattle.std.proofs.Common.{◌≡◌, ℕ, ◌^◌, ◌<◌, Bool, true, false, cond, List, length, sym, ap, ◌∙◌, arith}
+use Rattle.std.specs.Prelude.{ℤ}
 use Rattle.std.proofs.lemmas.List.{length-replicate}
 use Rattle.fourvec.specs.declared.Bit.{Bit}
 use Rattle.fourvec.specs.declared.Bit.TheVariants.{Unknown}
 use Rattle.fourvec.specs.declared.Spot.{Spot}
-use Rattle.fourvec.specs.Bits.{number, is_known, is_negative, low_plane, all_x}
-use Rattle.fourvec.specs.Spots.{index_of, place_of, window, dyn_slice_of}
-use Rattle.fourvec.proofs.Basic.{low_plane-lt, number-lt}
+use Rattle.fourvec.specs.Bits.{is_known, low_plane, all_x}
+use Rattle.fourvec.specs.Spots.{place_of, window, dyn_slice_of}
+use Rattle.fourvec.proofs.Basic.{low_plane-lt}
 use Rattle.svex_arena.specs.declared.shape.Shape.{Shape}
 use Rattle.svex_arena.specs.declared.shape.Shape.TheVariants.{DynSlice}
-use Rattle.svex_arena.specs.Shapes.{width_of, width_at}
+use Rattle.svex_arena.specs.Shapes.{width_of}
 use Rattle.svex_arena.specs.Values.{value_of, each_variable_of}
 use Rattle.svex_arena.specs.Arenas.{IsArena, Extends}
 use Rattle.svex_arena.proofs.Steps.{value-extends, variables-extends}

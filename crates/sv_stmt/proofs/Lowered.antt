@@ -1,10 +1,9 @@
 -- Nodes of each form of tree, from those of its parts.
-use Rattle.std.proofs.Common.{◌≡◌, ℕ, zero, suc, ◌+◌, ◌*◌, ◌<◌, ◌≤◌, max, Bool, true, false, ◌&&◌, List, [], ◌∷◌, ◌++◌, length, take, get_or, Option, refl, sym, ap, ◌∙◌, subst, arith, IsTrue}
+use Rattle.std.proofs.Common.{◌≡◌, ℕ, zero, suc, ◌<◌, ◌≤◌, max, Bool, ◌&&◌, List, [], ◌∷◌, length, get_or, Option, refl, sym, ap, ◌∙◌, subst, arith, IsTrue}
 use Rattle.std.specs.List.{All}
 use Rattle.fourvec.specs.declared.Bit.{Bit}
 use Rattle.fourvec.specs.Bits.{truth_of, cond_of}
 use Rattle.fourvec.proofs.Tables.{left_of, right_of}
-use Rattle.svex_arena.specs.declared.shape.VarName.{VarName}
 use Rattle.svex_arena.specs.declared.shape.Shape.{Shape}
 use Rattle.svex_arena.specs.Shapes.{width_at}
 use Rattle.svex_arena.specs.Arenas.{Extends}
@@ -26,13 +25,12 @@ use Rattle.sv_typed.specs.declared.tree.Typed.{Typed}
 use Rattle.sv_typed.specs.declared.tree.TypedForm.{TypedForm}
 use Rattle.sv_typed.specs.declared.tree.TypedForm.TheVariants as f
 use Rattle.sv_typed.specs.Ops.{turned, reduced, computed, moved, compared, combined}
-use Rattle.sv_typed.specs.Typed.{form_worth, worth, own, raised, together, picked, root_bits, root_width, width_together, picked_width, IsSound}
+use Rattle.sv_typed.specs.Typed.{form_worth, worth, together, picked, root_bits, width_together, IsSound}
 use Rattle.sv_typed.proofs.Sound.{some_bits, most_bits}
-use Rattle.sv_typed.proofs.Below as below
 use Rattle.sv_typed.proofs.Worth as worths
 use Rattle.sv_stmt.specs.declared.look.Look.{Look}
 use Rattle.sv_stmt.specs.Nodes.{bits_at_node, IsConstant, FromOne, FromTwo, FromThree}
-use Rattle.sv_stmt.specs.Lowering.{look_read, look_test, each_root, each_form, each_signal, each_of, each_of_picks, no_signal, IsIn, Fits, Lowers, LowersRoot, LowersParts, LowersPicks}
+use Rattle.sv_stmt.specs.Lowering.{look_read, look_test, each_form, each_signal, each_of, each_of_picks, no_signal, IsIn, Fits, Lowers, LowersRoot, LowersParts, LowersPicks}
 use Rattle.sv_stmt.proofs.Making.{one_then, two_then}
 use Rattle.sv_stmt.proofs.Reading.{read_kept, test_kept}
 use Rattle.sv_stmt.proofs.Trees as trees

@@ -1,5 +1,5 @@
 -- What names no signal has the same bits whatever names read.
-use Rattle.std.proofs.Common.{◌≡◌, ℕ, max, Bool, true, false, ◌&&◌, List, ◌++◌, refl, sym, ap, ◌∙◌, IsTrue}
+use Rattle.std.proofs.Common.{◌≡◌, ℕ, max, Bool, true, ◌&&◌, List, ◌++◌, refl, ap, ◌∙◌, IsTrue}
 use mathlib.Core.Former.{Count}
 use Rattle.fourvec.specs.declared.Bit.{Bit}
 use Rattle.fourvec.specs.Bits.{truth_of, cond_of}

@@ -1,12 +1,11 @@
 -- Parts of nodes, and nodes side by side.
-use Rattle.std.proofs.Common.{◌≡◌, ℕ, zero, suc, ◌+◌, ◌-◌, ◌*◌, ◌<◌, ◌≤◌, Bool, true, false, List, [], ◌∷◌, ◌++◌, length, take, drop, replicate, refl, sym, ap, ◌∙◌, arith, append_assoc}
+use Rattle.std.proofs.Common.{◌≡◌, ℕ, zero, suc, ◌+◌, ◌*◌, ◌<◌, ◌≤◌, List, ◌∷◌, ◌++◌, length, take, drop, refl, sym, ap, ◌∙◌, arith}
 use Rattle.std.specs.Prelude.{ℤ}
 use Rattle.std.proofs.lemmas.List.{take_all, append-nil, length-replicate}
 use Rattle.fourvec.specs.declared.Bit.{Bit}
 use Rattle.fourvec.specs.declared.Bit.TheVariants.{Unknown}
 use Rattle.fourvec.specs.Bits.{all_x, slice_of, concat_of}
 use Rattle.fourvec.specs.Spots.{window}
-use Rattle.svex_arena.specs.declared.shape.VarName.{VarName}
 use Rattle.svex_arena.specs.declared.shape.Shape.{Shape}
 use Rattle.svex_arena.specs.declared.shape.Shape.TheVariants.{Slice}
 use Rattle.svex_arena.specs.Shapes.{width_of, width_at}

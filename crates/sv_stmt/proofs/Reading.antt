@@ -1,5 +1,5 @@
 -- What names read.
-use Rattle.std.proofs.Common.{◌≡◌, ℕ, zero, suc, ◌+◌, ◌<◌, ◌≤◌, Bool, true, false, List, [], ◌∷◌, length, get_or, map, Option, Some, None, refl, sym, ap, ◌∙◌, subst, arith, IsTrue}
+use Rattle.std.proofs.Common.{◌≡◌, ℕ, zero, suc, ◌+◌, ◌<◌, Bool, List, ◌∷◌, length, get_or, map, Option, Some, None, refl, sym, ap, ◌∙◌, subst, arith}
 use Rattle.std.specs.Prelude.{ℤ, pos}
 use Rattle.std.specs.List.{range_with_len}
 use Rattle.fourvec.specs.declared.Bit.{Bit}
@@ -15,7 +15,7 @@ use Rattle.svex_arena.specs.Values.{value_of, each_variable, each_variable_of}
 use Rattle.svex_arena.specs.Arenas.{Extends}
 use Rattle.svex_arena.proofs.Steps.{value-extends, variables-extends}
 use Rattle.driver_resolve.specs.Drivers.{bitwise}
-use Rattle.sv_meaning.specs.Layouts.{Read, Origin, of_wires, of_choice, of_samples}
+use Rattle.sv_meaning.specs.Layouts.{Origin, of_wires, of_choice, of_samples}
 use Rattle.sv_meaning.specs.Meanings.{bits_from}
 use Rattle.sv_typed.specs.declared.tree.Root.{Root}
 use Rattle.sv_typed.specs.declared.tree.Root.TheVariants.{Number, Signal}

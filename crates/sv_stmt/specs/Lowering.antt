@@ -19,7 +19,7 @@ use Rattle.sv_typed.specs.declared.tree.Root.{Root}
 use Rattle.sv_typed.specs.declared.tree.Root.TheVariants.{Number, Signal}
 use Rattle.sv_typed.specs.Typed.{worth, together, picked, pick_place, root_bits, root_width, width_together, picked_width, origin_is, IsSound}
 use Rattle.sv_stmt.specs.declared.look.Look.{Look}
-use Rattle.sv_stmt.specs.declared.look.Look.TheVariants.{Present, Previous, Mixed}
+use Rattle.sv_stmt.specs.declared.look.Look.TheVariants.{Previous, Mixed}
 use Rattle.sv_stmt.specs.Nodes.{bits_at_node}
 
 -- ---- what names read

@@ -7,7 +7,7 @@ use Rattle.sv_typed.proofs.Sound.{some_bits}
 use Rattle.sv_typed.proofs.Below as below
 use Rattle.sv_stmt.proofs.Reading.{in_later}
 use Rattle.sv_stmt.proofs.Lowered.{fits_own, fits_part, fits_left, fits_right, some_room, some_parts, element, same_element, lowers_as, lowers_own, lowers_common, common_sign, lowers_turned, lowers_reduced, lowers_computed, lowers_moved, lowers_compared, lowers_combined, lowers_chosen, lowers_standing, lowers_fitted, lowers_concat, lowers_repeat, lowers_named, lowers_literal, lowers_power, lowers_nameless}
-use Rattle.sv_stmt.proofs.Chains.{first_part, part_more, parts_end, room_for, no_picks, pick_more, picks_end, pick_fixed, pick_known, pick_moving}
+use Rattle.sv_stmt.proofs.Chains.{first_part, part_more, room_for, no_picks, pick_more, picks_end, pick_fixed, pick_known, pick_moving}
 use Rattle.sv_stmt.proofs.expressions.+lower.Goals as goal
 
 pub lower_in-returns-then-is_nameless-clause-ok : goal.lower_in-returns-then-is_nameless-clause-ok

@@ -1,4 +1,3 @@
-use Rattle.std.proofs.Common.{rules}
 use Rattle.fourvec.specs.Bits.{truth_of}
 use Rattle.sv_stmt.proofs.Making.{from_choice}
 use Rattle.sv_stmt.proofs.operators.chosen.Goals as goal

@@ -1,7 +1,7 @@
-use Rattle.std.proofs.Common.{arith, rules, ◌+◌}
+use Rattle.std.proofs.Common.{arith}
 use Rattle.std.proofs.lemmas.List.{length-replicate}
 use Rattle.fourvec.specs.declared.Bit.TheVariants.{Unknown}
-use Rattle.sv_stmt.proofs.Pieces.{widths_kept, raised_none, raised_some}
+use Rattle.sv_stmt.proofs.Pieces.{widths_kept, raised_some}
 use Rattle.sv_stmt.proofs.parts.raised.Goals as goal
 
 pub binary-requires-clause-fits : goal.binary-requires-clause-fits

@@ -1,4 +1,4 @@
-use Rattle.std.proofs.Common.{◌*◌, length}
+use Rattle.std.proofs.Common.{◌*◌}
 use Rattle.svex_arena.specs.Shapes.{width_at}
 use Rattle.svex_arena.specs.Arenas.{Extends}
 use Rattle.sv_meaning.specs.Meanings.{copies}

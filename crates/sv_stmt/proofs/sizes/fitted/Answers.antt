@@ -1,4 +1,3 @@
-use Rattle.std.proofs.Common.{rules}
 use Rattle.sv_stmt.proofs.Sizing.{fitted_cut, fitted_kept}
 use Rattle.sv_stmt.proofs.sizes.fitted.Goals as goal
 
