@@ -1,8 +1,12 @@
-use crate::trees::{Tree, beside, either, less, number, part, part_at, sum, value, wire};
+ghost use Rattle.std.specs.Prelude.{◌<◌, ◌≤◌};
+ghost use Rattle.sv_typed.specs.Typed.{IsSound};
+
+use crate::trees::{beside, number, part, part_at, value, wire};
 use fourvec::{Four, Spot};
 use std::alloc::Global;
 use std::test::Fail;
 use sv_stmt::Look;
+use sv_typed::{Arithmetic, Comparison, Typed};
 use svex_arena::Env;
 
 // So many bits of a number.
@@ -30,23 +34,26 @@ fn environment(alloc: Global) -> Result<Env, Fail> {
     })
 }
 
-fn present(alloc: Global, tree: Tree, width: u8, signed: bool) -> Result<Four, Fail> {
+#[tactic(auto, using(crate::proofs::Lists::present_in))]
+fn present(alloc: Global, typed: Typed, width: u8, signed: bool) -> Result<Four, Fail>
+    requires { IsSound typed }
+{
     let env = environment(alloc)?;
-    value(alloc, &tree, width, signed, &Look::Present, &env)
+    value(alloc, &typed, width, signed, &Look::Present, &env)
 }
 
 #[test]
 fn operands_take_the_size_and_sign_of_their_context(rt: HostRuntime) -> Result<(), Fail> {
     let alloc = rt.alloc();
-    let unsigned = sum(alloc, wire(alloc, 0, 4, false)?, wire(alloc, 1, 8, false)?)?;
+    let unsigned = Typed::computed(alloc, Arithmetic::Add, wire(alloc, 0, 4, false)?, wire(alloc, 1, 8, false)?)?;
     assert_eq!(rt; present(alloc, unsigned, 8, false)?, bits(8, 13));
-    let signed = sum(alloc, wire(alloc, 0, 4, true)?, wire(alloc, 1, 8, true)?)?;
+    let signed = Typed::computed(alloc, Arithmetic::Add, wire(alloc, 0, 4, true)?, wire(alloc, 1, 8, true)?)?;
     assert_eq!(rt; present(alloc, signed, 8, true)?, bits(8, 253));
-    let wide = sum(alloc, wire(alloc, 0, 4, false)?, number(bits(4, 5), false))?;
+    let wide = Typed::computed(alloc, Arithmetic::Add, wire(alloc, 0, 4, false)?, number(bits(4, 5), false))?;
     assert_eq!(rt; present(alloc, wide, 8, false)?, bits(8, 17));
-    let below = less(alloc, wire(alloc, 0, 4, true)?, wire(alloc, 1, 8, true)?)?;
+    let below = Typed::compared(alloc, Comparison::Lt, wire(alloc, 0, 4, true)?, wire(alloc, 1, 8, true)?)?;
     assert_eq!(rt; present(alloc, below, 1, false)?, bits(1, 1));
-    let above = less(alloc, wire(alloc, 0, 4, false)?, wire(alloc, 1, 8, true)?)?;
+    let above = Typed::compared(alloc, Comparison::Lt, wire(alloc, 0, 4, false)?, wire(alloc, 1, 8, true)?)?;
     assert_eq!(rt; present(alloc, above, 2, false)?, bits(2, 0));
     Ok(())
 }
@@ -77,11 +84,12 @@ fn parts_read_x_where_there_is_no_bit(rt: HostRuntime) -> Result<(), Fail> {
     Ok(())
 }
 
+#[tactic(auto, using(crate::proofs::Lists::previous_in))]
 #[test]
 fn choices_and_parts_side_by_side(rt: HostRuntime) -> Result<(), Fail> {
     let alloc = rt.alloc();
     // 2'b0x is unknown: 4'b1100 and 4'b1010 merge to 4'b1xx0
-    let merged = either(
+    let merged = Typed::chosen(
         alloc,
         wire(alloc, 2, 2, false)?,
         wire(alloc, 0, 4, false)?,

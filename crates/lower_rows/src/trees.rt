@@ -10,27 +10,20 @@ use std::alloc::Global;
 use std::test::Fail;
 use sv_literal::Literal;
 use sv_stmt::{Look, lower};
-use sv_typed::{Arithmetic, Comparison, Origin, Pick, PickPlace, Root, Typed, width_together};
+use sv_typed::{Origin, Pick, PickPlace, Root, Typed, width_together};
 use svex_arena::{Arena, Env};
 
-/// A sound expression.
-#[derive(Drop)]
-pub struct Tree {
-    typed: Typed,
-    ghost sound: { IsSound typed },
-}
-
 /// A sized literal.
-pub fn number(value: Four, signed: bool) -> Tree {
+pub fn number(value: Four, signed: bool) -> Typed
+    ensures { IsSound result }
+{
     let literal = Literal {
         value,
         sized: true,
         signed,
         fill: false,
     };
-    Tree {
-        typed: Typed::literal(literal),
-    }
+    Typed::literal(literal)
 }
 
 fn signal(number: usize, width: u8) -> Root
@@ -46,14 +39,15 @@ fn signal(number: usize, width: u8) -> Root
 }
 
 /// A wire.
-pub fn wire(alloc: Global, number: usize, width: u8, signed: bool) -> Result<Tree, Fail> {
+#[tactic(auto, using(crate::proofs::Lists::all_none))]
+pub fn wire(alloc: Global, number: usize, width: u8, signed: bool) -> Result<Typed, Fail>
+    ensures { IfOk result IsSound }
+{
     if width == 0 || width > 128 {
         return Err("width")?;
     }
     let picks = Items::new(alloc);
-    Ok(Tree {
-        typed: Typed::named(signal(number, width), picks, signed),
-    })
+    Ok(Typed::named(signal(number, width), picks, signed))
 }
 
 #[tactic(auto, using(sv_typed::proofs::Sound::sound_fixed))]
@@ -80,28 +74,28 @@ fn alone(alloc: Global, pick: Pick) -> Result<Items<Pick>, Fail>
 }
 
 /// So many bits of a wire from a place on.
-pub fn part(alloc: Global, number: usize, width: u8, place: i64, count: u8) -> Result<Tree, Fail> {
+pub fn part(alloc: Global, number: usize, width: u8, place: i64, count: u8) -> Result<Typed, Fail>
+    ensures { IfOk result IsSound }
+{
     if width == 0 || width > 128 || count == 0 || count > 128 {
         return Err("width")?;
     }
     let picks = alone(alloc, fixed(place, count))?;
-    Ok(Tree {
-        typed: Typed::named(signal(number, width), picks, false),
-    })
+    Ok(Typed::named(signal(number, width), picks, false))
 }
 
 #[tactic(auto, using(sv_typed::proofs::Sound::sound_moving))]
-fn moving(alloc: Global, index: Tree, spot: Spot) -> Result<Pick, Fail>
+fn moving(alloc: Global, index: Typed, spot: Spot) -> Result<Pick, Fail>
+    requires index { IsSound index }
     requires some { 1 ≤ spot.width }
     requires most { spot.width ≤ 128 }
     ensures { IfOk result PickIsSound }
 {
-    let Tree { typed } = index;
     Ok(Pick {
         width: spot.width,
         constant: false,
         place: PickPlace::Moving {
-            index: Boxed::new(alloc, typed)?,
+            index: Boxed::new(alloc, index)?,
             spot,
         },
     })
@@ -112,53 +106,26 @@ pub fn part_at(
     alloc: Global,
     number: usize,
     width: u8,
-    index: Tree,
+    index: Typed,
     spot: Spot,
-) -> Result<Tree, Fail> {
+) -> Result<Typed, Fail>
+    requires { IsSound index }
+    ensures { IfOk result IsSound }
+{
     if width == 0 || width > 128 || spot.width == 0 || spot.width > 128 {
         return Err("width")?;
     }
     let pick = moving(alloc, index, spot)?;
     let picks = alone(alloc, pick)?;
-    Ok(Tree {
-        typed: Typed::named(signal(number, width), picks, false),
-    })
-}
-
-/// A sum.
-pub fn sum(alloc: Global, a: Tree, b: Tree) -> Result<Tree, Fail> {
-    let Tree { typed: a } = a;
-    let Tree { typed: b } = b;
-    Ok(Tree {
-        typed: Typed::computed(alloc, Arithmetic::Add, a, b)?,
-    })
-}
-
-/// Whether the first is less.
-pub fn less(alloc: Global, a: Tree, b: Tree) -> Result<Tree, Fail> {
-    let Tree { typed: a } = a;
-    let Tree { typed: b } = b;
-    Ok(Tree {
-        typed: Typed::compared(alloc, Comparison::Lt, a, b)?,
-    })
-}
-
-/// `c ? a : b`.
-pub fn either(alloc: Global, c: Tree, a: Tree, b: Tree) -> Result<Tree, Fail> {
-    let Tree { typed: c } = c;
-    let Tree { typed: a } = a;
-    let Tree { typed: b } = b;
-    Ok(Tree {
-        typed: Typed::chosen(alloc, c, a, b)?,
-    })
+    Ok(Typed::named(signal(number, width), picks, false))
 }
 
 #[tactic(auto, using(crate::proofs::Lists::all_two))]
-fn pair(alloc: Global, a: Tree, b: Tree) -> Result<Items<Typed>, Fail>
+fn pair(alloc: Global, a: Typed, b: Typed) -> Result<Items<Typed>, Fail>
+    requires first { IsSound a }
+    requires second { IsSound b }
     ensures { IfOk result (λ parts. All IsSound parts) }
 {
-    let Tree { typed: a } = a;
-    let Tree { typed: b } = b;
     let mut parts = Items::new(alloc);
     parts.push(a)?;
     parts.push(b)?;
@@ -166,33 +133,36 @@ fn pair(alloc: Global, a: Tree, b: Tree) -> Result<Items<Typed>, Fail>
 }
 
 /// `{a, b}`.
-pub fn beside(alloc: Global, a: Tree, b: Tree) -> Result<Tree, Fail> {
+pub fn beside(alloc: Global, a: Typed, b: Typed) -> Result<Typed, Fail>
+    requires first { IsSound a }
+    requires second { IsSound b }
+    ensures { IfOk result IsSound }
+{
     let parts = pair(alloc, a, b)?;
     let width = width_together(parts.as_slice());
     if width == 0 || width > 128 {
         return Err("width")?;
     }
-    Ok(Tree {
-        typed: Typed::concat(parts),
-    })
+    Ok(Typed::concat(parts))
 }
 
 /// The bits in a context of so many bits and such a sign.
 pub fn value(
     alloc: Global,
-    tree: &Tree,
+    typed: &Typed,
     width: u8,
     signed: bool,
     look: &Look<'_>,
     env: &Env,
 ) -> Result<Four, Fail>
-    requires { IsIn look.now [] }
+    requires sound { IsSound typed.now }
+    requires look { IsIn look.now [] }
 {
-    if tree.typed.width > width || width > 128 {
+    if typed.width > width || width > 128 {
         return Err("width")?;
     }
     let mut arena = Arena::new(alloc);
-    let node = lower(alloc, &mut arena, &tree.typed, look, width, signed)?;
+    let node = lower(alloc, &mut arena, typed, look, width, signed)?;
     let value = arena.eval(alloc, node, env)?;
     Ok(value)
 }

@@ -44,6 +44,9 @@ fits_own x y w h e k = let m = most_bits x h in let g = ap (λ z. z.width) e in 
 pub fits_part : (t x : Typed) (w : ℕ) → Fits t w → IsSound x → x.width ≤ w → Fits x w
 fits_part t x w h s k = record { sound = s; wide = k; most = h.most }
 
+pub fits_wide : (t : Typed) (w v : ℕ) → IsSound t → w ≤ 128 → v ≡ max w t.width → Fits t v
+fits_wide t w v h k e = let m = most_bits t h in record { sound = h; wide = omega arith; most = omega arith }
+
 pub some_room : (t : Typed) (w : ℕ) → Fits t w → 1 ≤ w
 some_room t w h = let s = some_bits t h.sound in let k = h.wide in omega arith
 

@@ -1,5 +1,5 @@
 // Typed expressions as nodes (IEEE 1800-2017, 11.6.2, 11.8.2).
-ghost use Rattle.std.specs.Prelude.{◌≡◌, ℕ, ◌<◌, ◌≤◌, max, Bool, ◌&&◌, length, IfOk, IsTrue};
+ghost use Rattle.std.specs.Prelude.{◌≡◌, ℕ, ◌<◌, ◌≤◌, max, Bool, ◌&&◌, length, take, IfOk, IsTrue};
 ghost use Rattle.std.specs.List.{All};
 ghost use Rattle.fourvec.specs.declared.Bit.{Bit};
 ghost use Rattle.svex_arena.specs.declared.shape.VarName.{VarName};
@@ -16,7 +16,7 @@ use crate::Look;
 use crate::constants::is_nameless;
 use crate::names::root_node;
 use crate::operators::{chosen, combined, compared, computed, moved, reduced, turned};
-use crate::parts::{beside, place_at, repeated, windowed};
+use crate::parts::{beside, place_at, repeated, sliced, windowed};
 use crate::places::{part_at, part_at_constant};
 use crate::sizes::{extended, fitted};
 use crate::steps::constant;
@@ -278,4 +278,36 @@ pub fn lower(
         → IsTrue (each_signal (look_test look.now arena.old p) typed.now) → IsTrue (each_variable p arena.new n)) }
 {
     lower_in(alloc, arena, typed, look, Context { width, signed })
+}
+
+/// The node of the right side of an assignment to so many bits: the expression is evaluated at the larger of that width and its own,
+/// by its own sign, and cut to the width (IEEE 1800-2017, 10.7).
+#[tactic(auto, using(crate::proofs::Lowered::fits_wide, svex_arena::proofs::Keeping::extends_on))]
+pub fn lower_assigned(
+    alloc: Global,
+    arena: &mut Arena,
+    typed: &Typed,
+    look: &Look<'_>,
+    width: u8,
+) -> Result<Node, AllocError>
+    requires sound { IsSound typed.now }
+    requires some { 0 < width }
+    requires most { width ≤ 128 }
+    requires look { IsIn look.now arena.old }
+    ensures stays { Extends arena.old arena.new }
+    ensures within { IfOk result (λ n. n < length arena.new) }
+    ensures width { IfOk result (λ n. width_at arena.new n ≡ width) }
+    ensures value { IfOk result (λ n. (bits : VarName → ℕ → Bit)
+        → value_at (bitwise bits) arena.new n
+        ≡ take width (worth typed.now (look_read look.now arena.old bits) (max width typed.now.width) typed.now.signed)) }
+    ensures mentions { IfOk result (λ n. (p : VarName → ℕ → Bool)
+        → IsTrue (each_signal (look_test look.now arena.old p) typed.now) → IsTrue (each_variable p arena.new n)) }
+{
+    let wide = Context {
+        width: width.max(typed.width),
+        signed: typed.signed,
+    };
+    let whole = lower_in(alloc, arena, typed, look, wide)?;
+    let part = sliced(alloc, arena, whole, 0, width)?;
+    Ok(part)
 }

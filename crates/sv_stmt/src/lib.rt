@@ -11,5 +11,5 @@ mod places;
 mod sizes;
 mod steps;
 
-pub use expressions::lower;
+pub use expressions::{lower, lower_assigned};
 pub use look::Look;

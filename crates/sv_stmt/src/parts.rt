@@ -23,8 +23,14 @@ pub fn unknown(alloc: Global, arena: &mut Arena, width: u8) -> Result<Node, Allo
     constant(alloc, arena, &Four::new(1, 1, 0).sext(width))
 }
 
-// The bits from a place on that the node has. It is the node itself where these are all.
-fn sliced(alloc: Global, arena: &mut Arena, a: Node, lo: u8, width: u8) -> Result<Node, AllocError>
+/// The bits from a place on, all of which the node has. It is the node itself where these are all its bits.
+pub fn sliced(
+    alloc: Global,
+    arena: &mut Arena,
+    a: Node,
+    lo: u8,
+    width: u8,
+) -> Result<Node, AllocError>
     requires a { a < length arena.old }
     requires some { 0 < width }
     requires within { lo + width ≤ width_at arena.old a }
