@@ -13,3 +13,4 @@ pub mod Restarts
 pub mod Queues
 pub mod Places
 pub mod Shorter
+pub mod Stores

@@ -9,3 +9,4 @@ pub mod Lesson
 pub mod End
 pub mod Start
 pub mod Queue
+pub mod Store

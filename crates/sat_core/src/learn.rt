@@ -8,17 +8,18 @@ ghost use Rattle.refute_check.specs.Fresh.{IsNew};
 ghost use Rattle.refute_check.specs.Count.{free_count};
 ghost use Rattle.refute_check.specs.Accepted.{clause_at};
 ghost use Rattle.sat_core.specs.declared.trail.Assigned.{Assigned};
-ghost use Rattle.sat_core.specs.Trail.{falses, Tracks, IsSound, all_of};
+ghost use Rattle.sat_core.specs.Trail.{falses, Tracks, IsSound};
 ghost use Rattle.sat_core.specs.Lesson.{IsHalfway, IsLast, IsReady, IsTaught};
 ghost use Rattle.sat_core.specs.Watch.{first_pair, rows, with_pair};
 ghost use Rattle.sat_core.specs.Learn.{seen_at, IsClear, IsAnchored, IsAlone, IsTraced, Explains, StopsBelow, Suffices};
 
 use crate::back::{go_back, is_clear};
 use crate::lists::add_to;
+use crate::store::Store;
 use crate::trail::{Assigned, Trail};
 use crate::watch::{Pair, Watch};
 use cnf::Dim;
-use refute_check::{Step, clause_of};
+use refute_check::Step;
 use std::alloc::{AllocError, Global};
 
 /// Marks a variable. Answers how many (one or none) were not marked and had their value at the newest level.
@@ -80,27 +81,22 @@ fn trace(
     trail: &Trail,
     seen: &mut [bool],
     walked: &mut Vec<usize>,
-    clauses: &[Vec<Dim>],
-    steps: &[Step],
+    store: &Store,
     conflict: usize,
     hints: &mut Vec<usize>,
 ) -> Result<usize, AllocError>
-    requires width { AllBelow (length trail.now.values) (all_of clauses.now steps.now) }
-    requires sound { IsSound (all_of clauses.now steps.now) trail.now.values trail.now.entries }
+    requires width { AllBelow (length trail.now.values) store.now }
+    requires sound { IsSound store.now trail.now.values trail.now.entries }
     requires seen { length seen.old ≡ length trail.now.values }
     requires hints { hints.old.items ≡ [] }
-    requires known { conflict < length (all_of clauses.now steps.now) }
-    requires conflict { IsConflict (valuation trail.now.values) (clause_at (all_of clauses.now steps.now) conflict) }
+    requires known { conflict < length store.now }
+    requires conflict { IsConflict (valuation trail.now.values) (clause_at store.now conflict) }
     ensures range { IfOk result (λ n. n ≤ length trail.now.entries) }
-    ensures explains { IfOk result (λ n. Explains (all_of clauses.now steps.now) (reverse (take n trail.now.entries)) seen.new hints.new.items) }
+    ensures explains { IfOk result (λ n. Explains store.now (reverse (take n trail.now.entries)) seen.new hints.new.items) }
     ensures traced { IfOk result (λ n. IsTraced seen.new (reverse (take n trail.now.entries))) }
 {
     let entries = trail.entries();
-    let mut count = mark(
-        trail,
-        seen,
-        clause_of(clauses, steps, steps.len(), conflict),
-    );
+    let mut count = mark(trail, seen, store.clause(conflict));
     hints.push(conflict)?;
     let mut i = entries.len();
     while i > 0 {
@@ -115,7 +111,7 @@ fn trace(
                     return Ok(i);
                 }
                 Some(r) => {
-                    let more = mark(trail, seen, clause_of(clauses, steps, steps.len(), r));
+                    let more = mark(trail, seen, store.clause(r));
                     seen[e.dim.var] = false;
                     count = count.saturating_add(more).saturating_sub(1);
                     hints.push(r)?;
@@ -156,18 +152,17 @@ fn drop_implied(
     walked: &mut Vec<usize>,
     left: usize,
     i: usize,
-    clauses: &[Vec<Dim>],
-    steps: &[Step],
+    store: &Store,
     hints: &mut Vec<usize>,
 ) -> Result<(), AllocError>
-    requires width { AllBelow (length trail.now.values) (all_of clauses.now steps.now) }
-    requires sound { IsSound (all_of clauses.now steps.now) trail.now.values trail.now.entries }
+    requires width { AllBelow (length trail.now.values) store.now }
+    requires sound { IsSound store.now trail.now.values trail.now.entries }
     requires seen { length seen.old ≡ length trail.now.values }
     requires place { i + 1 < left }
     requires range { left ≤ length trail.now.entries }
-    requires enough { Suffices (all_of clauses.now steps.now) (reverse (take left trail.now.entries)) seen.old hints.old.items }
+    requires enough { Suffices store.now (reverse (take left trail.now.entries)) seen.old hints.old.items }
     requires traced { IsTraced seen.old (reverse (take left trail.now.entries)) }
-    ensures enough { OnOk result (Suffices (all_of clauses.now steps.now) (reverse (take left trail.now.entries)) seen.new hints.new.items) }
+    ensures enough { OnOk result (Suffices store.now (reverse (take left trail.now.entries)) seen.new hints.new.items) }
     ensures traced { OnOk result (IsTraced seen.new (reverse (take left trail.now.entries))) }
 {
     let e = trail.entries()[i];
@@ -178,7 +173,7 @@ fn drop_implied(
     match e.reason {
         None => Ok(()),
         Some(r) => {
-            if !is_implied(seen, clause_of(clauses, steps, steps.len(), r), e.dim.var) {
+            if !is_implied(seen, store.clause(r), e.dim.var) {
                 return Ok(());
             }
             seen[e.dim.var] = false;
@@ -194,23 +189,22 @@ fn shorten(
     seen: &mut [bool],
     walked: &mut Vec<usize>,
     left: usize,
-    clauses: &[Vec<Dim>],
-    steps: &[Step],
+    store: &Store,
     hints: &mut Vec<usize>,
 ) -> Result<(), AllocError>
-    requires width { AllBelow (length trail.now.values) (all_of clauses.now steps.now) }
-    requires sound { IsSound (all_of clauses.now steps.now) trail.now.values trail.now.entries }
+    requires width { AllBelow (length trail.now.values) store.now }
+    requires sound { IsSound store.now trail.now.values trail.now.entries }
     requires seen { length seen.old ≡ length trail.now.values }
     requires range { left ≤ length trail.now.entries }
-    requires enough { Suffices (all_of clauses.now steps.now) (reverse (take left trail.now.entries)) seen.old hints.old.items }
+    requires enough { Suffices store.now (reverse (take left trail.now.entries)) seen.old hints.old.items }
     requires traced { IsTraced seen.old (reverse (take left trail.now.entries)) }
-    ensures enough { OnOk result (Suffices (all_of clauses.now steps.now) (reverse (take left trail.now.entries)) seen.new hints.new.items) }
+    ensures enough { OnOk result (Suffices store.now (reverse (take left trail.now.entries)) seen.new hints.new.items) }
     ensures traced { OnOk result (IsTraced seen.new (reverse (take left trail.now.entries))) }
 {
     let mut next = left;
     while next > 1 {
         next -= 1;
-        drop_implied(trail, seen, walked, left, next - 1, clauses, steps, hints)?;
+        drop_implied(trail, seen, walked, left, next - 1, store, hints)?;
     }
     Ok(())
 }
@@ -245,22 +239,21 @@ fn teach(
     trail: &Trail,
     seen: &mut [bool],
     walked: &mut Vec<usize>,
-    clauses: &[Vec<Dim>],
-    steps: &[Step],
+    store: &Store,
     conflict: usize,
 ) -> Result<Taught, AllocError>
-    requires width { AllBelow (length trail.now.values) (all_of clauses.now steps.now) }
-    requires sound { IsSound (all_of clauses.now steps.now) trail.now.values trail.now.entries }
+    requires width { AllBelow (length trail.now.values) store.now }
+    requires sound { IsSound store.now trail.now.values trail.now.entries }
     requires seen { length seen.old ≡ length trail.now.values }
-    requires known { conflict < length (all_of clauses.now steps.now) }
-    requires conflict { IsConflict (valuation trail.now.values) (clause_at (all_of clauses.now steps.now) conflict) }
+    requires known { conflict < length store.now }
+    requires conflict { IsConflict (valuation trail.now.values) (clause_at store.now conflict) }
     ensures range { IfOk result (λ t. t.left ≤ length trail.now.entries) }
-    ensures last { IfOk result (λ t. t.left ≡ 0 → IsLast (length trail.now.values) (all_of clauses.now steps.now) t.step) }
-    ensures taught { IfOk result (λ t. 0 < t.left → IsTaught (length trail.now.values) (all_of clauses.now steps.now) trail.now.entries seen.new t.left t.step) }
+    ensures last { IfOk result (λ t. t.left ≡ 0 → IsLast (length trail.now.values) store.now t.step) }
+    ensures taught { IfOk result (λ t. 0 < t.left → IsTaught (length trail.now.values) store.now trail.now.entries seen.new t.left t.step) }
 {
     let mut hints = Vec::new(alloc);
-    let left = trace(trail, seen, walked, clauses, steps, conflict, &mut hints)?;
-    shorten(trail, seen, walked, left, clauses, steps, &mut hints)?;
+    let left = trace(trail, seen, walked, store, conflict, &mut hints)?;
+    shorten(trail, seen, walked, left, store, &mut hints)?;
     let clause = collect(alloc, &trail.entries()[..left], seen)?;
     hints.reverse();
     Ok(Taught {
@@ -312,25 +305,27 @@ fn take_up(
     seen: &[bool],
     pairs: &mut Vec<Pair>,
     lists: &mut [Vec<Watch>],
-    clauses: &[Vec<Dim>],
+    store: &mut Store,
     steps: &mut Vec<Step>,
     left: usize,
     step: Step,
 ) -> Result<usize, AllocError>
-    requires ready { IsReady (length trail.old.values) (all_of clauses.now steps.old.items) pairs.old.items (rows lists.old) trail.old }
+    requires ready { IsReady (length trail.old.values) store.old pairs.old.items (rows lists.old) trail.old }
     requires seen { length seen.now ≡ length trail.old.values }
     requires some { 0 < left }
     requires range { left ≤ length trail.old.entries }
-    requires taught { IsTaught (length trail.old.values) (all_of clauses.now steps.old.items) trail.old.entries seen.now left step }
+    requires taught { IsTaught (length trail.old.values) store.old trail.old.entries seen.now left step }
     ensures step { OnOk result (steps.new.items ≡ steps.old.items ++ step ∷ []) }
-    ensures ready { OnOk result (IsReady (length trail.old.values) (all_of clauses.now steps.new.items) pairs.new.items (rows lists.new) trail.new) }
-    ensures half { IfOk result (λ from. IsHalfway (all_of clauses.now steps.new.items) pairs.new.items trail.new from) }
+    ensures store { OnOk result (store.new ≡ store.old ++ step.clause ∷ []) }
+    ensures ready { OnOk result (IsReady (length trail.old.values) store.new pairs.new.items (rows lists.new) trail.new) }
+    ensures half { IfOk result (λ from. IsHalfway store.new pairs.new.items trail.new from) }
 {
     let top = trail.entries()[left - 1].dim;
     go_back(trail, seen, left);
-    let reason = clauses.len() + steps.len();
+    let reason = store.len();
     let pair = first_two(step.clause.as_slice());
     watch_pair(pairs, lists, pair, reason)?;
+    store.push(step.clause.as_slice())?;
     steps.push(step)?;
     let from = trail.entries().len();
     trail.assign(Assigned {
@@ -360,41 +355,33 @@ pub fn learn(
     seen: &mut [bool],
     pairs: &mut Vec<Pair>,
     lists: &mut [Vec<Watch>],
-    clauses: &[Vec<Dim>],
+    store: &mut Store,
     steps: &mut Vec<Step>,
     conflict: usize,
 ) -> Result<Option<usize>, AllocError>
-    requires width { AllBelow (length trail.old.values) (all_of clauses.now steps.old.items) }
-    requires ready { IsReady (length trail.old.values) (all_of clauses.now steps.old.items) pairs.old.items (rows lists.old) trail.old }
+    requires width { AllBelow (length trail.old.values) store.old }
+    requires ready { IsReady (length trail.old.values) store.old pairs.old.items (rows lists.old) trail.old }
     requires seen { length seen.old ≡ length trail.old.values }
-    requires known { conflict < length (all_of clauses.now steps.old.items) }
-    requires conflict { IsConflict (valuation trail.old.values) (clause_at (all_of clauses.now steps.old.items) conflict) }
+    requires known { conflict < length store.old }
+    requires conflict { IsConflict (valuation trail.old.values) (clause_at store.old conflict) }
     ensures refuted { IfOk result (λ from. IfNone from ((s : Entry) × (steps.new.items ≡ steps.old.items ++ s ∷ [])
-        × IsLast (length trail.old.values) (all_of clauses.now steps.old.items) s)) }
+        × IsLast (length trail.old.values) store.old s)) }
     ensures learned { IfOk result (λ from. IfSome from (λ _. (s : Entry) × (steps.new.items ≡ steps.old.items ++ s ∷ [])
-        × IsNew (length trail.old.values) (all_of clauses.now steps.old.items) s)) }
-    ensures less { IfOk result (λ from. IfSome from (λ _. free_count (length trail.old.values) (all_of clauses.now steps.new.items) all_open
-        < free_count (length trail.old.values) (all_of clauses.now steps.old.items) all_open)) }
-    ensures ready { IfOk result (λ from. IfSome from (λ _. IsReady (length trail.old.values) (all_of clauses.now steps.new.items) pairs.new.items (rows lists.new) trail.new)) }
-    ensures half { IfOk result (λ from. IfSome from (λ n. IsHalfway (all_of clauses.now steps.new.items) pairs.new.items trail.new n)) }
+        × (store.new ≡ store.old ++ s.clause ∷ []) × IsNew (length trail.old.values) store.old s)) }
+    ensures less { IfOk result (λ from. IfSome from (λ _. free_count (length trail.old.values) store.new all_open
+        < free_count (length trail.old.values) store.old all_open)) }
+    ensures ready { IfOk result (λ from. IfSome from (λ _. IsReady (length trail.old.values) store.new pairs.new.items (rows lists.new) trail.new)) }
+    ensures half { IfOk result (λ from. IfSome from (λ n. IsHalfway store.new pairs.new.items trail.new n)) }
 {
     let mut walked = Vec::new(alloc);
-    let Taught { left, step } = teach(
-        alloc,
-        trail,
-        seen,
-        &mut walked,
-        clauses,
-        steps.as_slice(),
-        conflict,
-    )?;
+    let Taught { left, step } = teach(alloc, trail, seen, &mut walked, store, conflict)?;
     if left == 0 {
         steps.push(step)?;
         return Ok(None);
     }
     trail.bump_all(&mut walked)?;
-    trail.reserve_places(clauses.len().saturating_add(steps.len()).saturating_add(1))?;
-    let from = take_up(trail, seen, pairs, lists, clauses, steps, left, step)?;
+    trail.reserve_places(store.len().saturating_add(1))?;
+    let from = take_up(trail, seen, pairs, lists, store, steps, left, step)?;
     clear_marks(seen, &walked);
     Ok(Some(from))
 }

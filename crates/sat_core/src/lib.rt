@@ -10,6 +10,7 @@ mod queue;
 mod search;
 mod solver;
 mod start;
+mod store;
 mod trail;
 mod walk;
 mod watch;

@@ -4,7 +4,7 @@ ghost use Rattle.std.specs.Prelude.{◌≡◌, ℕ, ◌*◌, ◌+◌, ◌<◌, �
 ghost use Rattle.std.specs.List.{All};
 ghost use Rattle.cnf.specs.Formula.{formula_of};
 ghost use Rattle.cnf.specs.Clauses.{AllBelow, all_open, valuation};
-ghost use Rattle.sat_core.specs.Trail.{IsQuiet, all_of};
+ghost use Rattle.sat_core.specs.Trail.{IsQuiet};
 ghost use Rattle.sat_core.specs.Watch.{rows};
 ghost use Rattle.sat_core.specs.Found.{IsFound};
 ghost use Rattle.sat_core.specs.Lesson.{IsHalfway, IsReady};
@@ -15,6 +15,7 @@ use crate::learn::learn;
 use crate::order::Preference;
 use crate::search::search;
 use crate::start::start;
+use crate::store::Store;
 use crate::trail::Trail;
 use crate::watch::{Pair, Watch};
 use cnf::{Cnf, Dim};
@@ -57,28 +58,19 @@ fn conflict_of(
     lists: &mut [Vec<Watch>],
     found: Option<usize>,
     from: usize,
-    clauses: &[Vec<Dim>],
-    steps: &[Step],
+    store: &Store,
 ) -> Result<Option<usize>, AllocError>
-    requires width { AllBelow (length trail.old.values) (all_of clauses.now steps.now) }
-    requires ready { IsReady (length trail.old.values) (all_of clauses.now steps.now) pairs.old.items (rows lists.old) trail.old }
-    requires found { IsFound (all_of clauses.now steps.now) (valuation trail.old.values) found (IsHalfway (all_of clauses.now steps.now) pairs.old.items trail.old from) }
-    ensures ready { OnOk result (IsReady (length trail.old.values) (all_of clauses.now steps.now) pairs.new.items (rows lists.new) trail.new) }
-    ensures found { IfOk result (λ found. IsFound (all_of clauses.now steps.now) (valuation trail.new.values) found
-        (IsQuiet (all_of clauses.now steps.now) (valuation trail.new.values) × All (λ o. o ≡ None → ⊥) trail.new.values)) }
+    requires width { AllBelow (length trail.old.values) store.now }
+    requires ready { IsReady (length trail.old.values) store.now pairs.old.items (rows lists.old) trail.old }
+    requires found { IsFound store.now (valuation trail.old.values) found (IsHalfway store.now pairs.old.items trail.old from) }
+    ensures ready { OnOk result (IsReady (length trail.old.values) store.now pairs.new.items (rows lists.new) trail.new) }
+    ensures found { IfOk result (λ found. IsFound store.now (valuation trail.new.values) found
+        (IsQuiet store.now (valuation trail.new.values) × All (λ o. o ≡ None → ⊥) trail.new.values)) }
 {
     match found {
         Some(k) => Ok(Some(k)),
         None => {
-            let next = search(
-                alloc,
-                trail,
-                pairs.as_mut_slice(),
-                lists,
-                from,
-                clauses,
-                steps,
-            )?;
+            let next = search(alloc, trail, pairs.as_mut_slice(), lists, from, store)?;
             Ok(next)
         }
     }
@@ -104,25 +96,17 @@ fn run(
 {
     let mut pairs: Vec<Pair> = Vec::new(alloc);
     let mut steps: Vec<Step> = Vec::new(alloc);
+    let mut store = Store::from_clauses(alloc, clauses)?;
     let mut found = start(trail, &mut pairs, lists, clauses)?;
     let mut from = 0;
     loop {
-        match conflict_of(
-            alloc,
-            trail,
-            &mut pairs,
-            lists,
-            found,
-            from,
-            clauses,
-            steps.as_slice(),
-        )? {
+        match conflict_of(alloc, trail, &mut pairs, lists, found, from, &store)? {
             None => {
                 return Ok(SatEnd::Sat(solution(alloc, trail.values())?));
             }
             Some(conflict) => {
                 match learn(
-                    alloc, trail, seen, &mut pairs, lists, clauses, &mut steps, conflict,
+                    alloc, trail, seen, &mut pairs, lists, &mut store, &mut steps, conflict,
                 )? {
                     None => return Ok(SatEnd::Unsat(Log { steps })),
                     Some(next) => {
