@@ -1,0 +1,6 @@
+pub mod Made
+pub mod Lists
+pub mod Sound
+pub mod Read
+pub mod Starts
+pub mod Lookups

@@ -1,0 +1,88 @@
+-- Sound layouts.
+use Rattle.std.proofs.Common.{◌≡◌, ℕ, zero, suc, ◌+◌, ◌-◌, ◌*◌, ◌≤◌, Bool, List, [], ◌∷◌, refl, sym, ap, ◌∙◌, arith, ℤ, pos, IsTrue, subst, All, suc-mul}
+use Rattle.std.proofs.lemmas.Int.{ints}
+use Rattle.sv_const.specs.declared.layout.Layout.{Layout}
+use Rattle.sv_const.specs.declared.layout.Form.{Form, Scalar, Dim', Members', end_of-Layout, more_of-Layout}
+use Rattle.std.specs.List.{AllByRecursion}
+use Rattle.sv_const.specs.declared.layout.Field.{Field}
+use Rattle.sv_const.specs.declared.layout.Form.TheVariants as f
+use Rattle.std.proofs.lemmas.List.Elements.{All-from_recursion}
+use Rattle.sv_meaning.specs.Meanings.{is_bound}
+use Rattle.sv_const.specs.declared.layout.Form.TheBlock.{shape-the_row-Layout-0, hidden-the_row-Layout-0, shape-the_row-Field-1, hidden-the_row-Field-1}
+use Rattle.sv_const.specs.Kinds.{form_is, members_are, members_of, MembersAreSound, FieldIsSound, layout_is, IsWidth, FormIsSound, IsSound}
+use Rattle.sv_meaning.specs.Layouts as m
+
+form_width : (w : ℕ) (s : Bool) (x : Form) → FormIsSound w s x → IsWidth w (form_is s x)
+form_width w s Scalar h = h
+form_width w s (Dim' l r t (more_of-Layout v each form end_of-Layout)) h = h.0
+form_width w s (Members' t all) h = h.0
+
+pub sound_width : (x : Layout) → IsSound x → IsWidth x.width (layout_is x)
+sound_width x h = form_width x.width x.signed x.form h
+
+pub row_members : (all : List Field) → members_are (hidden-the_row-Field-1 all) ≡ members_of all
+unfolding shape-the_row-Field-1 hidden-the_row-Field-1 denote.Hole.Carrier.hidden
+row_members [] = refl
+row_members (f ∷ all) = ap (m.member f.name (layout_is f.layout)) (row_members all)
+
+pub row_sound : (all : List Field) → MembersAreSound (hidden-the_row-Field-1 all) → AllByRecursion FieldIsSound all
+unfolding shape-the_row-Field-1 hidden-the_row-Field-1 denote.Hole.Carrier.hidden
+row_sound [] h = h
+row_sound (f ∷ all) h = (h.0, row_sound all h.1)
+
+pub sound_is : (x : Layout) → IsSound x → x.width ≡ m.width (layout_is x)
+sound_is x h = (sound_width x h).0
+
+pub sound_some : (x : Layout) → IsSound x → 1 ≤ x.width
+sound_some x h = (sound_width x h).1
+
+pub sound_most : (x : Layout) → IsSound x → x.width ≤ 128
+sound_most x h = (sound_width x h).2
+
+pub sign_is : (x : Layout) → x.signed ≡ m.is_signed (layout_is x)
+sign_is x = form_sign x.signed x.form
+  where
+    form_sign : (s : Bool) (f : Form) → s ≡ m.is_signed (form_is s f)
+    form_sign s Scalar = refl
+    form_sign s (Dim' l r t (more_of-Layout v each form end_of-Layout)) = refl
+    form_sign s (Members' t all) = refl
+
+pub some_bits : (n w : ℕ) → 1 ≤ n → 1 ≤ w → 1 ≤ n * w
+some_bits (suc n) w h k = let e : suc n * w ≡ n * w + w = suc-mul n w in omega arith
+some_bits zero w h k = absurd (omega arith)
+
+-- ---- layouts as code takes them apart
+
+pub row_of : (x each : Layout) (l r : ℤ) → x.form ≡ f.Dim l r each → layout_is x ≡ m.dim (m.is_signed (layout_is x)) l r (layout_is each)
+unfolding shape-the_row-Layout-0 hidden-the_row-Layout-0 denote.Hole.Carrier.hidden
+row_of x each l r h = rw h refl
+
+row_sound_of : (x each : Layout) (l r : ℤ) → IsSound x → x.form ≡ f.Dim l r each → IsSound each × IsTrue (is_bound l) × IsTrue (is_bound r)
+unfolding shape-the_row-Layout-0 hidden-the_row-Layout-0 denote.Hole.Carrier.hidden
+row_sound_of x each l r k h = let g = subst (FormIsSound x.width x.signed) h k in (g.3, g.1, g.2)
+
+pub row_each : (x each : Layout) (l r : ℤ) → IsSound x → x.form ≡ f.Dim l r each → IsSound each
+row_each x each l r k h = (row_sound_of x each l r k h).0
+
+pub row_left : (x each : Layout) (l r : ℤ) → IsSound x → x.form ≡ f.Dim l r each → IsTrue (is_bound l)
+row_left x each l r k h = (row_sound_of x each l r k h).1
+
+pub row_right : (x each : Layout) (l r : ℤ) → IsSound x → x.form ≡ f.Dim l r each → IsTrue (is_bound r)
+row_right x each l r k h = (row_sound_of x each l r k h).2
+
+pub fields_of : (x : Layout) (all : List Field) → x.form ≡ f.Members all → layout_is x ≡ m.struct (m.is_signed (layout_is x)) (members_of all)
+unfolding shape-the_row-Field-1 hidden-the_row-Field-1 denote.Hole.Carrier.hidden
+fields_of x all h = rw h (ap (m.struct x.signed) (row_members all))
+
+fields_sound : (x : Layout) (all : List Field) → IsSound x → x.form ≡ f.Members all → (x.width ≡ m.width_all (members_of all)) × All FieldIsSound all
+unfolding shape-the_row-Field-1 hidden-the_row-Field-1 denote.Hole.Carrier.hidden
+fields_sound x all k h = let g = subst (FormIsSound x.width x.signed) h k in (g.0.0 ∙ ap m.width_all (row_members all), All-from_recursion FieldIsSound all (row_sound all g.1))
+
+pub fields_width : (x : Layout) (all : List Field) → IsSound x → x.form ≡ f.Members all → x.width ≡ m.width_all (members_of all)
+fields_width x all k h = (fields_sound x all k h).0
+
+pub fields_all : (x : Layout) (all : List Field) → IsSound x → x.form ≡ f.Members all → All FieldIsSound all
+fields_all x all k h = (fields_sound x all k h).1
+
+pub scalar_of : (x : Layout) → x.form ≡ f.Scalar → layout_is x ≡ m.scalar (m.is_signed (layout_is x))
+scalar_of x h = rw h refl

@@ -1,0 +1,14 @@
+//! Expressions typed over the names of a scope, and the constants among them.
+#![tactic(auto)]
+
+mod cursor;
+mod layout;
+mod literals;
+mod names;
+mod refusals;
+mod scope;
+mod start;
+
+pub use layout::{Field, Form, Known, Layout, Size, What};
+pub use names::Names;
+pub use scope::Scope;
