@@ -1,6 +1,11 @@
 -- Sound layouts.
-use Rattle.std.proofs.Common.{◌≡◌, ℕ, zero, suc, ◌+◌, ◌-◌, ◌*◌, ◌≤◌, Bool, List, [], ◌∷◌, refl, sym, ap, ◌∙◌, arith, ℤ, pos, IsTrue, subst, All, suc-mul}
-use Rattle.std.proofs.lemmas.Int.{ints}
+use Rattle.std.proofs.Common.{◌≡◌, ℕ, zero, suc, ◌+◌, ◌-◌, ◌*◌, ◌≤◌, Bool, List, [], ◌∷◌, refl, sym, ap, ◌∙◌, arith, ℤ, pos, IsTrue, subst, All, suc-mul, Bor, Option, None}
+use Rattle.std.proofs.lemmas.Int.{ints, to_z-of_z}
+use Rattle.std.proofs.lemmas.Bool.Decides.{nat_tests}
+use mir.Syntax.{w64}
+use mir.Val.{to_z, of_z, SFits}
+use Rattle.sv_const.specs.declared.cursor.Each.TheVariants.{Of}
+use Rattle.sv_const.specs.Cursors.{RowIsSound, member_of}
 use Rattle.sv_const.specs.declared.layout.Layout.{Layout}
 use Rattle.sv_const.specs.declared.layout.Form.{Form, Scalar, Dim', Members', end_of-Layout, more_of-Layout}
 use Rattle.std.specs.List.{AllByRecursion}
@@ -86,3 +91,25 @@ fields_all x all k h = (fields_sound x all k h).1
 
 pub scalar_of : (x : Layout) → x.form ≡ f.Scalar → layout_is x ≡ m.scalar (m.is_signed (layout_is x))
 scalar_of x h = rw h refl
+
+-- ---- signed numbers as code holds them
+
+same_bound : (i : ℤ) → IsTrue (is_bound i) → to_z w64 (of_z w64 i) ≡ i
+same_bound i h = to_z-of_z w64 i (bound_fits i h)
+  where
+    bound_fits : (z : ℤ) → IsTrue (is_bound z) → SFits w64 z
+    bound_fits z k = grind (arith, ints, nat_tests)
+
+pub row_is_sound : (x each : Layout) (l r : ℤ) (at : Bor Layout) → IsSound x → x.form ≡ f.Dim l r each → at.now ≡ each →
+    RowIsSound (record { left = to_z w64 (of_z w64 l); right = to_z w64 (of_z w64 r); each = Of at })
+row_is_sound x each l r at k h e = record {
+  each = subst IsSound (sym e) (row_each x each l r k h);
+  left = let b = row_left x each l r k h in subst (λ (z : ℤ). IsTrue (is_bound z)) (sym (same_bound l b)) b;
+  right = let b = row_right x each l r k h in subst (λ (z : ℤ). IsTrue (is_bound z)) (sym (same_bound r b)) b;
+}
+
+pub no_member : (x : Layout) (n : List ℕ) → x.form ≡ f.Scalar → None ≡ member_of n (layout_is x)
+no_member x n h = ap (member_of n) (sym (scalar_of x h))
+
+pub no_member_in_row : (x each : Layout) (l r : ℤ) (n : List ℕ) → x.form ≡ f.Dim l r each → None ≡ member_of n (layout_is x)
+no_member_in_row x each l r n h = ap (member_of n) (sym (row_of x each l r h))

@@ -89,7 +89,6 @@ impl<'a> Cursor<'a> {
     }
 
     // Its elements, where it is a range.
-    #[tactic(auto, using(crate::proofs::Sound::row_of, crate::proofs::Sound::row_each, crate::proofs::Sound::row_left, crate::proofs::Sound::row_right, crate::proofs::Sound::fields_of, crate::proofs::Sound::scalar_of))]
     pub(crate) fn row(&self) -> Option<Row<'a>>
         requires { CursorIsSound self.now }
         ensures is { MatchOption result (IsNoRow (cursor_is self.now)) (λ row. cursor_is self.now ≡ row_is (is_signed (cursor_is self.now)) row) }
@@ -97,14 +96,7 @@ impl<'a> Cursor<'a> {
     {
         match *self {
             Cursor::Whole(Each::Bit) => None,
-            Cursor::Whole(Each::Of(layout)) => match &layout.form {
-                Form::Dim { left, right, each } => Some(Row {
-                    left: *left,
-                    right: *right,
-                    each: Each::Of(each.get()),
-                }),
-                Form::Scalar | Form::Members(_) => None,
-            },
+            Cursor::Whole(Each::Of(layout)) => row_of(layout),
             Cursor::Elements { count, each, .. } => Some(Row {
                 left: count as i64 - 1,
                 right: 0,
@@ -114,19 +106,46 @@ impl<'a> Cursor<'a> {
     }
 
     // A member of a name, where it is a structure.
-    #[tactic(auto, using(crate::proofs::Sound::fields_of, crate::proofs::Sound::fields_width, crate::proofs::Sound::fields_all, crate::proofs::Sound::row_of, crate::proofs::Sound::scalar_of))]
     pub(crate) fn member(&self, name: &[u8]) -> Option<Part<'a>>
         requires { CursorIsSound self.now }
         ensures is { option_map part_is result ≡ member_of name.now (cursor_is self.now) }
         ensures sound { IfSome result (λ part. IsSound part.layout.now) }
     {
-        let Cursor::Whole(Each::Of(layout)) = *self else {
-            return None;
-        };
-        match &layout.form {
-            Form::Members(fields) => member_at(fields.as_slice(), layout.width, name),
-            Form::Scalar | Form::Dim { .. } => None,
+        match *self {
+            Cursor::Whole(Each::Of(layout)) => member_in(layout, name),
+            Cursor::Whole(Each::Bit) | Cursor::Elements { .. } => None,
         }
+    }
+}
+
+// The elements of a layout, where it is a range.
+#[tactic(auto, using(crate::proofs::Sound::row_of, crate::proofs::Sound::fields_of, crate::proofs::Sound::scalar_of))]
+fn row_of<'a>(layout: &'a Layout) -> Option<Row<'a>>
+    requires { IsSound layout.now }
+    ensures is { MatchOption result (IsNoRow (layout_is layout.now)) (λ row. layout_is layout.now ≡ row_is (is_signed (layout_is layout.now)) row) }
+    ensures sound { MatchOption result (IsTrue true) (λ row. RowIsSound row) }
+{
+    match &layout.form {
+        Form::Dim { left, right, each } => Some(Row {
+            left: *left,
+            right: *right,
+            each: Each::Of(each.get()),
+        }),
+        Form::Scalar | Form::Members(_) => None,
+    }
+}
+
+// A member of a layout, where it is a structure.
+#[tactic(auto, using(crate::proofs::Sound::fields_of, crate::proofs::Sound::fields_width, crate::proofs::Sound::fields_all, crate::proofs::Sound::no_member, crate::proofs::Sound::no_member_in_row))]
+fn member_in<'a>(layout: &'a Layout, name: &[u8]) -> Option<Part<'a>>
+    requires { IsSound layout.now }
+    ensures is { option_map part_is result ≡ member_of name.now (layout_is layout.now) }
+    ensures sound { IfSome result (λ part. IsSound part.layout.now) }
+{
+    match &layout.form {
+        Form::Members(fields) => member_at(fields.as_slice(), layout.width, name),
+        Form::Scalar => None,
+        Form::Dim { .. } => None,
     }
 }
 
