@@ -4,3 +4,4 @@ pub mod Sound
 pub mod Read
 pub mod Starts
 pub mod Lookups
+pub mod Vectors

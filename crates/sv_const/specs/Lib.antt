@@ -2,3 +2,5 @@ pub mod Kinds
 pub mod Names
 pub mod Cursors
 pub mod Literals
+pub mod Judging
+pub mod Picks

@@ -1,14 +1,18 @@
 //! Expressions typed over the names of a scope, and the constants among them.
 #![tactic(auto)]
 
+mod chain;
 mod cursor;
+mod fixed;
 mod layout;
 mod literals;
 mod names;
+mod numbers;
 mod refusals;
 mod scope;
 mod start;
 
+pub use chain::{Chain, IndexRule};
 pub use layout::{Field, Form, Known, Layout, Size, What};
 pub use names::Names;
 pub use scope::Scope;

@@ -1,0 +1,9 @@
+// Constants that are wholly 0 and 1.
+use crate::Known;
+
+/// A constant that is wholly 0 and 1, and whether each of its names is a constant.
+#[derive(Clone, Copy)]
+pub struct Fixed {
+    pub known: Known,
+    pub constant: bool,
+}
