@@ -5,3 +5,6 @@ pub mod Read
 pub mod Starts
 pub mod Lookups
 pub mod Vectors
+pub mod Chains
+pub mod Judged
+pub mod Steps

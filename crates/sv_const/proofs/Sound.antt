@@ -4,8 +4,9 @@ use Rattle.std.proofs.lemmas.Int.{ints, to_z-of_z}
 use Rattle.std.proofs.lemmas.Bool.Decides.{nat_tests}
 use mir.Syntax.{w64}
 use mir.Val.{to_z, of_z, SFits}
-use Rattle.sv_const.specs.declared.cursor.Each.TheVariants.{Of}
-use Rattle.sv_const.specs.Cursors.{RowIsSound, member_of}
+use Rattle.sv_const.specs.declared.cursor.Each.{Each}
+use Rattle.sv_const.specs.declared.cursor.Each.TheVariants.{Bit, Of}
+use Rattle.sv_const.specs.Cursors.{RowIsSound, EachIsSound, each_is, member_of}
 use Rattle.sv_const.specs.declared.layout.Layout.{Layout}
 use Rattle.sv_const.specs.declared.layout.Form.{Form, Scalar, Dim', Members', end_of-Layout, more_of-Layout}
 use Rattle.std.specs.List.{AllByRecursion}
@@ -113,3 +114,11 @@ no_member x n h = ap (member_of n) (sym (scalar_of x h))
 
 pub no_member_in_row : (x each : Layout) (l r : ℤ) (n : List ℕ) → x.form ≡ f.Dim l r each → None ≡ member_of n (layout_is x)
 no_member_in_row x each l r n h = ap (member_of n) (sym (row_of x each l r h))
+
+pub each_some : (e : Each) → EachIsSound e → 1 ≤ m.width (each_is e)
+each_some Bit h = omega arith
+each_some (Of x) h = let i = sound_is x.now h in let s = sound_some x.now h in omega arith
+
+pub each_most : (e : Each) → EachIsSound e → m.width (each_is e) ≤ 128
+each_most Bit h = omega arith
+each_most (Of x) h = let i = sound_is x.now h in let s = sound_most x.now h in omega arith

@@ -91,13 +91,17 @@ abbrev pub Leads : (Meaning → Faults) → Layout → Step → Result (Cursor �
 Leads judge x s (Ok t) = Picks judge x s t.1 (cursor_is t.0) × CursorIsSound t.0
 Leads judge x s (Err e) = IsCause (step_faults judge x s) e
 
+-- how many elements a place lies above the one that an index counts from, where it is so many elements further on
+abbrev pub offset_of : Row → ℤ → ℤ
+offset_of row shift = if goes_down row.left row.right then shift -ℤ row.right else row.right -ℤ shift
+
 -- the place of an index, so many elements further on
 abbrev pub spot_of : Row → Bool → ℤ → ℕ → Spot
 spot_of row s shift n = record {
   signed = s;
   negate = not (goes_down row.left row.right);
   each = width (each_is row.each);
-  add = (if goes_down row.left row.right then shift -ℤ row.right else row.right -ℤ shift) *ℤ pos (width (each_is row.each));
+  add = offset_of row shift *ℤ pos (width (each_is row.each));
   width = n;
 }
 
@@ -106,6 +110,10 @@ abbrev pub shift_of : RangeMark → Bool → ℤ → ℤ
 shift_of mark.Down true n = pos 1 -ℤ n
 shift_of mark.Up false n = n -ℤ pos 1
 shift_of m down n = pos 0
+
+abbrev pub is_to : RangeMark → Bool
+is_to mark.To = true
+is_to m = false
 
 -- how many elements a range selects
 pub record IsCount (p : Place) (row : Row) (m : Meaning) (mark : RangeMark) (n : Meaning) (count : ℕ) : Type 0 where

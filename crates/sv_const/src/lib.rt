@@ -8,6 +8,7 @@ mod layout;
 mod literals;
 mod names;
 mod numbers;
+mod picks;
 mod refusals;
 mod scope;
 mod start;
