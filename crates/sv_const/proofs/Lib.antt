@@ -7,4 +7,6 @@ pub mod Lookups
 pub mod Vectors
 pub mod Chains
 pub mod Judged
+pub mod Counts
 pub mod Steps
+pub mod Spans

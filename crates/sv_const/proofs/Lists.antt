@@ -5,6 +5,18 @@ use Rattle.sv_outside.specs.declared.refusal.Refusal.{Refusal}
 use Rattle.sv_outside.specs.declared.refusal.Place.{Place}
 use Rattle.sv_meaning.specs.Faults.{Faults, fault, fault_if, or_then}
 
+contains_behind : {A : Type 0} (y : A) (a : List A) (x : A) → Contains a x → Contains (y ∷ a) x
+contains_behind y a x h = (suc h.0, omega (arith, h.1), h.2)
+
+pub contains_left : {A : Type 0} (a b : List A) (x : A) → Contains a x → Contains (a ++ b) x
+contains_left [] b x (k, h, e) = absurd (omega arith)
+contains_left (y ∷ a) b x (zero, h, e) = (zero, omega arith, e)
+contains_left (y ∷ a) b x (suc k, h, e) = contains_behind y (a ++ b) x (contains_left a b x (k, omega arith, e))
+
+pub contains_right : {A : Type 0} (a b : List A) (x : A) → Contains b x → Contains (a ++ b) x
+contains_right [] b x h = h
+contains_right (y ∷ a) b x h = contains_behind y (a ++ b) x (contains_right a b x h)
+
 behind : (x : Refusal) (a : Faults) (r : Refusal) → Contains a r → Contains (x ∷ a) r
 behind x a r h = (suc h.0, omega (arith, h.1), h.2)
 

@@ -95,7 +95,7 @@ scalar_of x h = rw h refl
 
 -- ---- signed numbers as code holds them
 
-same_bound : (i : ℤ) → IsTrue (is_bound i) → to_z w64 (of_z w64 i) ≡ i
+pub same_bound : (i : ℤ) → IsTrue (is_bound i) → to_z w64 (of_z w64 i) ≡ i
 same_bound i h = to_z-of_z w64 i (bound_fits i h)
   where
     bound_fits : (z : ℤ) → IsTrue (is_bound z) → SFits w64 z

@@ -1,7 +1,6 @@
 -- What an expression is typed as, and why it is refused.
-use Rattle.std.specs.Prelude.{◌≡◌, Bool, true, IsTrue, List, [], Result, Ok, Err}
+use Rattle.std.specs.Prelude.{◌≡◌, List, [], Result, Ok, Err}
 use Rattle.std.specs.List.{Contains}
-use Rattle.fourvec.specs.Bits.{is_known}
 use Rattle.sv_outside.specs.declared.refusal.TextErr.{TextErr}
 use Rattle.sv_outside.specs.declared.refusal.TextErr.TheVariants.{No, Memory}
 use Rattle.sv_typed.specs.declared.tree.Typed.{Typed}
@@ -30,7 +29,6 @@ pub record IsFixed (m : Meaning) (f : Fixed) : Type 0 where
   pub clear : fixed_faults m ≡ []
   pub value : constant_of m ≡ f.known.value
   pub signed : m.sign ≡ f.known.signed
-  pub known : IsTrue (is_known f.known.value)
   pub constant : m.constant ≡ f.constant
 
 abbrev pub Fixes : Meaning → Result Fixed TextErr → Type 0

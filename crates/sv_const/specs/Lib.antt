@@ -3,4 +3,5 @@ pub mod Names
 pub mod Cursors
 pub mod Literals
 pub mod Judging
+pub mod Ranges
 pub mod Picks

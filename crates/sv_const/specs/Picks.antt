@@ -104,24 +104,3 @@ spot_of row s shift n = record {
   add = offset_of row shift *ℤ pos (width (each_is row.each));
   width = n;
 }
-
--- how many elements further on a range begins whose width is given
-abbrev pub shift_of : RangeMark → Bool → ℤ → ℤ
-shift_of mark.Down true n = pos 1 -ℤ n
-shift_of mark.Up false n = n -ℤ pos 1
-shift_of m down n = pos 0
-
-abbrev pub is_to : RangeMark → Bool
-is_to mark.To = true
-is_to m = false
-
--- how many elements a range selects
-pub record IsCount (p : Place) (row : Row) (m : Meaning) (mark : RangeMark) (n : Meaning) (count : ℕ) : Type 0 where
-  pub clear : range_faults p row.left row.right (each_is row.each) m mark n ≡ []
-  pub layout : (ranged row.left row.right (each_is row.each) m mark n).layout ≡ elements count (each_is row.each)
-  pub some : 1 ≤ count
-  pub most : count * width (each_is row.each) ≤ 128
-
-abbrev pub JudgesCount : Place → Row → Meaning → RangeMark → Meaning → Result ℕ Refusal → Type 0
-JudgesCount p row m mark n (Ok count) = IsCount p row m mark n count
-JudgesCount p row m mark n (Err r) = Contains (range_faults p row.left row.right (each_is row.each) m mark n) r

@@ -1,4 +1,7 @@
 // Constants that are wholly 0 and 1.
+ghost use Rattle.std.specs.Prelude.{IsTrue};
+ghost use Rattle.fourvec.specs.Bits.{is_known};
+
 use crate::Known;
 
 /// A constant that is wholly 0 and 1, and whether each of its names is a constant.
@@ -6,4 +9,5 @@ use crate::Known;
 pub struct Fixed {
     pub known: Known,
     pub constant: bool,
+    ghost wholly: { IsTrue (is_known known.value) },
 }

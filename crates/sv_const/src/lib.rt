@@ -9,6 +9,7 @@ mod literals;
 mod names;
 mod numbers;
 mod picks;
+mod ranges;
 mod refusals;
 mod scope;
 mod start;

@@ -1,5 +1,5 @@
 // One select as a part of what it selects from.
-ghost use Rattle.std.specs.Prelude.{◌≡◌, ◌≤◌, ◌*◌, IfOk, IsTrue, List, pos, negsuc, ◌≤ℤ◌, ◌*ℤ◌, unsigned_abs};
+ghost use Rattle.std.specs.Prelude.{◌≡◌, ◌&&◌, false, ◌≤◌, ◌*◌, IfOk, IsTrue, List, pos, negsuc, ◌≤ℤ◌, ◌*ℤ◌, unsigned_abs};
 ghost use Rattle.fourvec.specs.Bits.{is_known};
 ghost use Rattle.sv_outside.specs.declared.refusal.TextErr.TheVariants.{Memory};
 ghost use Rattle.sv_tree.specs.declared.exprs.RangeMark.{RangeMark};
@@ -10,11 +10,13 @@ ghost use Rattle.sv_meaning.specs.Layouts.{width};
 ghost use Rattle.sv_meaning.specs.Meanings.{Meaning, to_member, to_index, to_range, goes_along, is_bound, lowest};
 ghost use Rattle.sv_const.specs.Cursors.{cursor_is, each_is, CursorIsSound, RowIsSound};
 ghost use Rattle.sv_const.specs.Judging.{Types, Fixes, IsFixed};
-ghost use Rattle.sv_const.specs.Picks.{Leads, offset_of, spot_of, shift_of, JudgesCount, is_to};
+ghost use Rattle.sv_const.specs.Picks.{Leads, offset_of, spot_of};
+ghost use Rattle.sv_const.specs.Ranges.{is_to};
 
 use crate::cursor::{Cursor, Each, Row};
 use crate::fixed::Fixed;
-use crate::numbers::{is_negative, small};
+use crate::numbers::small;
+use crate::ranges::{between_count, lowest, many_count, shift};
 use crate::refusals::refusal;
 use fourvec::Spot;
 use items::Boxed;
@@ -44,6 +46,13 @@ pub(crate) fn member_pick<'a>(
         )),
         None => Err(TextErr::No(refusal(23, place))),
     }
+}
+
+// Whether both hold.
+fn both(a: bool, b: bool) -> bool
+    ensures { result ≡ (a && b) }
+{
+    a && b
 }
 
 // How many elements a place lies above the one that an index counts from.
@@ -117,6 +126,82 @@ pub(crate) fn index_pick<'a>(
     let spot = moving(alloc, &row, index, 0, width)?;
     Ok((
         Cursor::Whole(row.each),
+        Pick {
+            width,
+            constant,
+            place: spot,
+        },
+    ))
+}
+
+/// The elements between constant bounds, or E14 or E23.
+#[tactic(auto, using(crate::proofs::Spans::between_left, crate::proofs::Spans::between_right, crate::proofs::Spans::no_row_between))]
+pub(crate) fn between_pick<'a>(
+    at: Cursor<'a>,
+    place: Place,
+    left: Result<Fixed, TextErr>,
+    right: Result<Fixed, TextErr>,
+) -> Result<(Cursor<'a>, Pick), TextErr>
+    requires { CursorIsSound at }
+    ensures { (j : Meaning → Faults) (m n : Meaning) → Fixes m left → Fixes n right → Leads j (cursor_is at.entry) (to_range place m mark.To n) result }
+{
+    let left = left?;
+    let right = right?;
+    let Some(row) = at.row() else {
+        return Err(TextErr::No(refusal(23, place)));
+    };
+    let Some(a) = small(&left.known.value, left.known.signed) else {
+        return Err(TextErr::No(refusal(14, place)));
+    };
+    let Some(b) = small(&right.known.value, right.known.signed) else {
+        return Err(TextErr::No(refusal(14, place)));
+    };
+    let count = between_count(place, &row, a, b)?;
+    let each = row.each.width();
+    let pick = Pick {
+        width: count * each,
+        constant: both(left.constant, right.constant),
+        place: PickPlace::Fixed(in_bits(lowest(&row, a, b), each)),
+    };
+    Ok((
+        Cursor::Elements {
+            signed: false,
+            count,
+            each: row.each,
+        },
+        pick,
+    ))
+}
+
+/// So many elements from a computed one on, or E14 or E23.
+#[tactic(auto, using(crate::proofs::Spans::many_left, crate::proofs::Spans::many_right, crate::proofs::Spans::no_row_range))]
+pub(crate) fn many_pick<'a>(
+    alloc: Global,
+    at: Cursor<'a>,
+    place: Place,
+    mark: RangeMark,
+    left: Result<Typed, TextErr>,
+    right: Result<Fixed, TextErr>,
+) -> Result<(Cursor<'a>, Pick), TextErr>
+    requires at { CursorIsSound at }
+    requires mark { is_to mark ≡ false }
+    ensures { (j : Meaning → Faults) (m n : Meaning) → Types m (j m) left → Fixes n right → Leads j (cursor_is at.entry) (to_range place m mark n) result }
+{
+    let left = left?;
+    let right = right?;
+    let Some(row) = at.row() else {
+        return Err(TextErr::No(refusal(23, place)));
+    };
+    let count = many_count(place, &row, &right.known)?;
+    let width = count * row.each.width();
+    let constant = both(left.constant, right.constant);
+    let spot = moving(alloc, &row, left, shift(mark, row.goes_down(), count), width)?;
+    Ok((
+        Cursor::Elements {
+            signed: false,
+            count,
+            each: row.each,
+        },
         Pick {
             width,
             constant,
