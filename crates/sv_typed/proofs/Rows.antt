@@ -23,7 +23,7 @@ use Rattle.sv_typed.specs.Typed.{worth, own, names_of, IsSound, Stands, clothed}
 use Rattle.sv_typed.specs.Ops.{computed}
 
 unfoldable all_of_it : ⊤
-unfolding expressions typed.form_worth spots.place_of typed.form_names typed.FormIsSound typed.row_width typed.row_picked_width block.shape-the_row-Typed-0 block.hidden-the_row-Typed-0 block.shape-the_row-Typed-2 block.hidden-the_row-Typed-2 block.shape-the_row-Pick-1 block.hidden-the_row-Pick-1 denote.Hole.Carrier.hidden
+unfolding expressions typed.form_worth spots.place_of typed.form_names typed.IsSound typed.Stands typed.FormIsSound typed.row_width typed.row_picked_width block.shape-the_row-Typed-0 block.hidden-the_row-Typed-0 block.shape-the_row-Typed-2 block.hidden-the_row-Typed-2 block.shape-the_row-Pick-1 block.hidden-the_row-Pick-1 denote.Hole.Carrier.hidden
 all_of_it = tt
 
 abbrev literal : ℕ → Bool → ℕ → Typed

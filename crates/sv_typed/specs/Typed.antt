@@ -186,6 +186,14 @@ unfoldable mutual
 abbrev pub names_of : Typed → List (Owner × ℕ)
 names_of t = form_names t.form
 
+unfoldable pub names_together : List Typed → List (Owner × ℕ)
+names_together [] = []
+names_together (a ∷ more) = names_of a ++ names_together more
+
+unfoldable pub names_picked : List Pick → List (Owner × ℕ)
+names_picked [] = []
+names_picked (p ∷ more) = place_names p.place ++ names_picked more
+
 -- ---- the literal that it is
 
 abbrev pub form_literal : TypedForm → Option l.Literal
@@ -210,10 +218,23 @@ clothed t faults names start = record {
   start = start;
 }
 
--- A typed expression stands for a meaning: the two agree in all but the faults and the place, and no other signal is named.
-pub record Stands (t : Typed) (m : Meaning) : Type 0 where
+-- the two agree in all but the faults and the place, and no other signal is named
+pub record Agrees (t : Typed) (m : Meaning) : Type 0 where
   pub is : m ≡ clothed t m.faults m.names m.start
   pub names : (x : Owner × ℕ) → Contains (names_of t) x → Contains m.names x
+
+-- A typed expression stands for a meaning.
+unfoldable pub Stands : Typed → Meaning → Type 0
+Stands t m = Agrees t m
+
+-- A meaning is that of a name with its selects, signed so.
+pub record IsNamed (root : Root) (picks : List Pick) (s : Bool) (m : Meaning) : Type 0 where
+  pub size : m.size ≡ picked_width picks (root_width root)
+  pub sign : m.sign ≡ s
+  pub value : (read : Read) (w : ℕ) (t : Bool) → m.value read w t ≡ extend t w (picked read picks (root_bits root read))
+  pub constant : m.constant ≡ (root_is_constant root && are_constant_picks picks)
+  pub literal : m.literal ≡ None
+  pub names : (x : Owner × ℕ) → Contains (root_names root ++ names_picked picks) x → Contains m.names x
 
 -- ---- soundness
 
@@ -259,5 +280,11 @@ unfoldable mutual
   PlaceIsSound w (Fixed i) = Unit {0}
   PlaceIsSound w (Moving' t (more_of-Typed u p c x end_of-Typed) spot) = (spot.width ≡ w) × FormIsSound u x
 
-abbrev pub IsSound : Typed → Type 0
+unfoldable pub IsSound : Typed → Type 0
 IsSound t = FormIsSound t.width t.form
+
+abbrev pub RootIsSound : Root → Type 0
+RootIsSound root = IsWidth (root_width root)
+
+unfoldable pub PickIsSound : Pick → Type 0
+PickIsSound p = IsWidth p.width × PlaceIsSound p.width p.place
