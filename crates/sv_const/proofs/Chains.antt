@@ -2,7 +2,8 @@
 use Rattle.std.proofs.Common.{◌≡◌, ℕ, suc, ◌+◌, ◌<◌, ◌≤◌, Bool, true, false, ◌&&◌, List, [], ◌∷◌, ◌++◌, length, take, drop, get_or, map, Option, Some, None, refl, sym, ap, ◌∙◌, subst, arith, ℤ, if◌then◌else◌}
 use Rattle.std.proofs.lemmas.List.{append-nil, map-append, take_all}
 use Rattle.std.proofs.Math.Seq.{take-suc, drop-cons}
-use Rattle.std.specs.List.{Contains}
+use Rattle.std.specs.List.{Contains, AllByRecursion}
+use Rattle.std.proofs.lemmas.List.Elements.{All-from_recursion}
 use Rattle.fourvec.specs.declared.Bit.{Bit}
 use Rattle.lhs_alias.specs.declared.segs.WireBit.{WireBit}
 use Rattle.sv_outside.specs.declared.refusal.Refusal.{Refusal}
@@ -11,9 +12,9 @@ use Rattle.sv_meaning.specs.Layouts.{Layout, width, Read, Origin}
 use Rattle.sv_meaning.specs.Meanings.{Meaning, Step, Part, step_in, step_faults, with_part, indices, all_indices, bits_at, nowhere, chain_bits, chain_layout, chain_faults}
 use Rattle.sv_meaning.specs.Targets.{with_place, slots_from, put_at, fixed_place, chain_slots, chain_fixed, put}
 use Rattle.sv_typed.specs.declared.tree.Pick.{Pick}
-use Rattle.sv_typed.specs.Typed.{pick_place, picked, picked_width, are_constant_picks}
+use Rattle.sv_typed.specs.Typed.{pick_place, picked, place_names, picked_width, are_constant_picks, names_picked, PickIsSound}
 use Rattle.sv_const.specs.Picks.{fixed_pick, picked_slots, picked_put, are_fixed, Picks, Chains, Follows}
-use Rattle.sv_const.proofs.Lists.{in_first}
+use Rattle.sv_const.proofs.Lists.{in_first, contains_both}
 
 -- ---- one more
 
@@ -136,6 +137,21 @@ width_of j x y [] (q ∷ picks) h = absurd h
 width_of j x y (s ∷ steps) [] h = absurd h
 width_of j x y (s ∷ steps) (q ∷ picks) (u, m, n) = ap (picked_width picks) (sym m.width) ∙ width_of j u y steps picks n
 
+names_of : (j : Meaning → Faults) (x y : Layout) (steps : List Step) (picks : List Pick) (n : Origin × ℕ) → Chains j x steps picks y → Contains (names_picked picks) n → Contains (all_indices steps).names n
+unfolding Chains all_indices names_picked
+names_of j x y [] [] n h c = absurd (omega (arith, c.1))
+names_of j x y [] (q ∷ picks) n h c = absurd h
+names_of j x y (s ∷ steps) [] n h c = absurd h
+names_of j x y (s ∷ steps) (q ∷ picks) n (u, m, k) c =
+    contains_both (place_names q.place) (names_picked picks) (indices s).names (all_indices steps).names n (m.names n) (names_of j u y steps picks n k) c
+
+sound_of : (j : Meaning → Faults) (x y : Layout) (steps : List Step) (picks : List Pick) → Chains j x steps picks y → AllByRecursion PickIsSound picks
+unfolding Chains
+sound_of j x y [] [] h = tt
+sound_of j x y [] (q ∷ picks) h = absurd h
+sound_of j x y (s ∷ steps) [] h = absurd h
+sound_of j x y (s ∷ steps) (q ∷ picks) (u, m, k) = (m.sound, sound_of j u y steps picks k)
+
 pub follows : (j : Meaning → Faults) (x y : Layout) (steps : List Step) (picks : List Pick) → Chains j x steps picks y → Follows j x steps picks y
 follows j x y steps picks h = record {
   clear = clear_of j x y steps picks h;
@@ -146,4 +162,6 @@ follows j x y steps picks h = record {
   fixed = fixed_of j x y steps picks h;
   constant = constant_of j x y steps picks h;
   width = width_of j x y steps picks h;
+  names = λ n. names_of j x y steps picks n h;
+  sound = All-from_recursion PickIsSound picks (sound_of j x y steps picks h);
 }

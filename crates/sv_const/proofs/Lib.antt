@@ -7,6 +7,9 @@ pub mod Lookups
 pub mod Vectors
 pub mod Chains
 pub mod Judged
+pub mod Fixing
+pub mod Typing
+pub mod Beside
 pub mod Counts
 pub mod Steps
 pub mod Spans

@@ -17,6 +17,12 @@ pub contains_right : {A : Type 0} (a b : List A) (x : A) → Contains b x → Co
 contains_right [] b x h = h
 contains_right (y ∷ a) b x h = contains_behind y (a ++ b) x (contains_right a b x h)
 
+-- what stands in one of two lists stands in two others
+pub contains_both : {A : Type 0} (a b c d : List A) (x : A) → (Contains a x → Contains c x) → (Contains b x → Contains d x) → Contains (a ++ b) x → Contains (c ++ d) x
+contains_both [] b c d x f g h = contains_right c d x (g h)
+contains_both (y ∷ a) b c d x f g (zero, h, e) = contains_left c d x (f (zero, omega arith, e))
+contains_both (y ∷ a) b c d x f g (suc k, h, e) = contains_both a b c d x (λ i. f (contains_behind y a x i)) g (k, omega arith, e)
+
 behind : (x : Refusal) (a : Faults) (r : Refusal) → Contains a r → Contains (x ∷ a) r
 behind x a r h = (suc h.0, omega (arith, h.1), h.2)
 

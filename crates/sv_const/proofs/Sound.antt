@@ -1,5 +1,5 @@
 -- Sound layouts.
-use Rattle.std.proofs.Common.{◌≡◌, ℕ, zero, suc, ◌+◌, ◌-◌, ◌*◌, ◌≤◌, Bool, List, [], ◌∷◌, refl, sym, ap, ◌∙◌, arith, ℤ, pos, IsTrue, subst, All, suc-mul, Bor, Option, None}
+use Rattle.std.proofs.Common.{◌≡◌, ℕ, zero, suc, ◌+◌, ◌-◌, ◌*◌, ◌≤◌, Bool, List, [], ◌∷◌, refl, sym, ap, ◌∙◌, arith, ℤ, pos, IsTrue, subst, All, suc-mul, Bor, Option, None, unsigned_abs}
 use Rattle.std.proofs.lemmas.Int.{ints, to_z-of_z}
 use Rattle.std.proofs.lemmas.Bool.Decides.{nat_tests}
 use mir.Syntax.{w64}
@@ -100,6 +100,12 @@ same_bound i h = to_z-of_z w64 i (bound_fits i h)
   where
     bound_fits : (z : ℤ) → IsTrue (is_bound z) → SFits w64 z
     bound_fits z k = grind (arith, ints, nat_tests)
+
+pub same_small : (i : ℤ) → unsigned_abs i ≤ 1000 → to_z w64 (of_z w64 i) ≡ i
+same_small i h = to_z-of_z w64 i (small_fits i h)
+  where
+    small_fits : (z : ℤ) → unsigned_abs z ≤ 1000 → SFits w64 z
+    small_fits z k = grind (arith, ints, nat_tests)
 
 pub row_is_sound : (x each : Layout) (l r : ℤ) (at : Bor Layout) → IsSound x → x.form ≡ f.Dim l r each → at.now ≡ each →
     RowIsSound (record { left = to_z w64 (of_z w64 l); right = to_z w64 (of_z w64 r); each = Of at })

@@ -139,11 +139,14 @@ part_is : (p : Place) (s : Bool) (row : Row) (m : Meaning) (k : RangeMark) (n : 
     step_in (row_is s row) (to_range p m k n) ≡ Some (ranged row.left row.right (each_is row.each) m k n)
 part_is p s row m k n h = ap (λ f. part_if (is_clear f) (ranged row.left row.right (each_is row.each) m k n)) h
 
-between_row : (j : Meaning → Faults) (m n : Meaning) (s : Bool) (row : Row) (p : Place) (f g : Fixed) (a b i : ℤ) (k w : ℕ) (c : Bool) → RowIsSound row → IsFixed m f → IsFixed n g → number_of m ≡ a → number_of n ≡ b →
-    is_bound a ≡ true → is_bound b ≡ true → IsBetween row a b k → i ≡ lowest_of row a b *ℤ pos (each_width row) → w ≡ k * each_width row → c ≡ (f.constant && g.constant) →
-    Picks j (row_is s row) (to_range p m mark.To n) (record { width = w; constant = c; place = place.Fixed i }) (elements k (each_is row.each))
-unfolding t.place_in t.place_names t.PlaceIsSound
-between_row j m n s row p f g a b i k w c sound h l na nb da db between place width constant =
+no_place_name : {A : Type 0} (x : A) → Contains [] x → ⊥
+no_place_name x h = omega (arith, h.1)
+
+between_row : (j : Meaning → Faults) (m n : Meaning) (s : Bool) (row : Row) (p : Place) (f g : Fixed) (a b : ℤ) (k w : ℕ) (q : PickPlace) (c : Bool) → RowIsSound row → IsFixed m f → IsFixed n g → number_of m ≡ a → number_of n ≡ b →
+    is_bound a ≡ true → is_bound b ≡ true → IsBetween row a b k → q ≡ place.Fixed (lowest_of row a b *ℤ pos (each_width row)) → w ≡ k * each_width row → c ≡ (f.constant && g.constant) →
+    Picks j (row_is s row) (to_range p m mark.To n) (record { width = w; constant = c; place = q }) (elements k (each_is row.each))
+unfolding t.place_in t.place_names t.PlaceIsSound t.PickIsSound
+between_row j m n s row p f g a b k w q c sound h l na nb da db between place width constant =
     let clear = range_of_bounds p row m n a b na nb ∙ between_clear p row a b k sound da db between in
     let some = some_bits k (each_width row) between.some (each_some row.each sound.each) in
     record {
@@ -152,19 +155,18 @@ between_row j m n s row p f g a b i k w c sound h l na nb da db between place wi
       layout = ap (λ x. elements (count_between x (number_of n)) (each_is row.each)) na ∙ ap (λ x. elements (count_between a x) (each_is row.each)) nb ∙ ap (λ x. elements x (each_is row.each)) between.counted;
       clear = then_clear _ _ (both_clear _ _ h.clear l.clear) clear;
       width = elements_width k (each_is row.each) between.some ∙ sym width;
-      place = λ read. ap Some (ap (λ x. lowest row.left row.right (each_width row) x (number_of n)) na ∙ ap (λ x. lowest row.left row.right (each_width row) a x) nb ∙ lowest_ring row a b ∙ sym place);
+      place = λ read. ap Some (ap (λ x. lowest row.left row.right (each_width row) x (number_of n)) na ∙ ap (λ x. lowest row.left row.right (each_width row) a x) nb ∙ lowest_ring row a b) ∙ ap (λ z. t.place_in z read) (sym place);
       constant = ap (λ x. x && n.constant) h.constant ∙ ap (λ x. f.constant && x) l.constant ∙ sym constant;
-      names = λ x q. absurd (omega (arith, q.1));
-      fits = (omega arith, let z = between.most in omega arith);
-      sound = tt;
+      names = λ x o. absurd (no_place_name x (subst (λ z. Contains (t.place_names z) x) place o));
+      sound = ((omega arith, let z = between.most in omega arith), subst (t.PlaceIsSound w) (sym place) tt);
     }
 
-pub between_picks : (j : Meaning → Faults) (x : Layout) (m n : Meaning) (s : Bool) (row : Row) (p : Place) (f g : Fixed) (a b i : ℤ) (k w : ℕ) (c : Bool) → x ≡ row_is s row → RowIsSound row → IsFixed m f → IsFixed n g → number_of m ≡ a → number_of n ≡ b →
-    is_bound a ≡ true → is_bound b ≡ true → IsBetween row a b k → i ≡ lowest_of row a b *ℤ pos (each_width row) → w ≡ k * each_width row → c ≡ (f.constant && g.constant) →
-    Picks j x (to_range p m mark.To n) (record { width = w; constant = c; place = place.Fixed i }) (elements k (each_is row.each))
-between_picks j x m n s row p f g a b i k w c e sound h l na nb da db between at width constant =
-    subst (λ y. Picks j y (to_range p m mark.To n) (record { width = w; constant = c; place = place.Fixed i }) (elements k (each_is row.each))) (sym e)
-    (between_row j m n s row p f g a b i k w c sound h l na nb da db between at width constant)
+pub between_picks : (j : Meaning → Faults) (x : Layout) (m n : Meaning) (s : Bool) (row : Row) (p : Place) (f g : Fixed) (a b : ℤ) (k w : ℕ) (q : PickPlace) (c : Bool) → x ≡ row_is s row → RowIsSound row → IsFixed m f → IsFixed n g → number_of m ≡ a → number_of n ≡ b →
+    is_bound a ≡ true → is_bound b ≡ true → IsBetween row a b k → q ≡ place.Fixed (lowest_of row a b *ℤ pos (each_width row)) → w ≡ k * each_width row → c ≡ (f.constant && g.constant) →
+    Picks j x (to_range p m mark.To n) (record { width = w; constant = c; place = q }) (elements k (each_is row.each))
+between_picks j x m n s row p f g a b k w q c e sound h l na nb da db between at width constant =
+    subst (λ y. Picks j y (to_range p m mark.To n) (record { width = w; constant = c; place = q }) (elements k (each_is row.each))) (sym e)
+    (between_row j m n s row p f g a b k w q c sound h l na nb da db between at width constant)
 
 -- ---- widths
 
@@ -227,6 +229,7 @@ ranged_place row m mark.Down n e i w read h z s =
 many_row : (j : Meaning → Faults) (m : Meaning) (k : RangeMark) (n : Meaning) (s : Bool) (row : Row) (p : Place) (e : Typed) (f : Fixed) (i w : ℕ) (q : PickPlace) (c : Bool) → is_to k ≡ false → RowIsSound row → IsTyped m (j m) e → IsFixed n f →
     IsMany row (number_of n) i → q ≡ place.Moving e (spot_of row e.signed (shift_of k (goes_down row.left row.right) (pos i)) w) → w ≡ i * each_width row → c ≡ (e.constant && f.constant) →
     Picks j (row_is s row) (to_range p m k n) (record { width = w; constant = c; place = q }) (elements i (each_is row.each))
+unfolding t.Stands t.PickIsSound
 many_row j m k n s row p e f i w q c h sound x y many place width constant =
     let clear = many_of p row m k n h ∙ many_clear p row (number_of n) i sound many in
     let some = some_bits i (each_width row) many.some (each_some row.each sound.each) in
@@ -239,8 +242,7 @@ many_row j m k n s row p e f i w q c h sound x y many place width constant =
       place = λ read. ranged_place row m k n e i w read h many.number x.stands ∙ ap (λ z. t.place_in z read) (sym place);
       constant = ap (λ z. z.constant && n.constant) x.stands.is ∙ ap (λ z. e.constant && z) y.constant ∙ sym constant;
       names = λ z o. contains_left m.names n.names z (x.stands.names z (subst (λ l. Contains l z) (ap t.place_names place ∙ moving_names e _) o));
-      fits = (omega arith, let z = many.most in omega arith);
-      sound = subst (t.PlaceIsSound w) (sym place) (moving_sound e _ w refl x.sound);
+      sound = ((omega arith, let z = many.most in omega arith), subst (t.PlaceIsSound w) (sym place) (moving_sound e _ w refl x.sound));
     }
 
 pub many_picks : (j : Meaning → Faults) (x : Layout) (m : Meaning) (k : RangeMark) (n : Meaning) (s : Bool) (row : Row) (p : Place) (e : Typed) (f : Fixed) (i w : ℕ) (q : PickPlace) (c : Bool) → x ≡ row_is s row → is_to k ≡ false → RowIsSound row → IsTyped m (j m) e → IsFixed n f →

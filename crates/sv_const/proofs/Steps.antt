@@ -53,7 +53,7 @@ some_part k x h = ap member_part h
 
 pub member_picks : (j : Meaning → Faults) (x : Layout) (p : Place) (n : Name) (part : c.Part) (i : ℤ) → Some (part_is part) ≡ member_of n x → IsSound part.layout.now → i ≡ pos part.place →
     Picks j x (to_member p n) (record { width = part.layout.now.width; constant = true; place = place.Fixed i }) (layout_is part.layout.now)
-unfolding t.place_in t.place_names t.PlaceIsSound
+unfolding t.place_in t.place_names t.PlaceIsSound t.PickIsSound
 member_picks j (scalar s) p n part i h k e = absurd cc
 member_picks j (dim s l r each) p n part i h k e = absurd cc
 member_picks j (struct s all) p n part i h k e = record {
@@ -65,8 +65,7 @@ member_picks j (struct s all) p n part i h k e = record {
   place = λ read. ap Some (sym e);
   constant = refl;
   names = λ m q. absurd (omega (arith, q.1));
-  fits = (sound_some part.layout.now k, sound_most part.layout.now k);
-  sound = tt;
+  sound = ((sound_some part.layout.now k, sound_most part.layout.now k), tt);
 }
 
 none_fault : (p : Place) (o : Option (ℕ × Layout)) → None ≡ o → Contains (member_faults p o) (record { number = bad_select; place = p; count = 0 })
@@ -100,7 +99,7 @@ known_at false x y h = refl
 
 pub moving_place : (m : Meaning) (e : Typed) (f : ℤ → ℤ) (spot : Spot) (read : Read) → t.Stands e m → ((a : List Bit) → f (whole e.signed a) ≡ spots.place_of spot a) →
     known_place f m read ≡ t.place_in (place.Moving e spot) read
-unfolding t.place_in shape-the_row-Typed-2 hidden-the_row-Typed-2 denote.Hole.Carrier.hidden
+unfolding t.place_in t.Stands shape-the_row-Typed-2 hidden-the_row-Typed-2 denote.Hole.Carrier.hidden
 moving_place m e f spot read h g =
     ap (λ x. known_place f x read) h.is ∙ known_at (is_known (t.own e read)) _ _ (g (t.own e read))
 
@@ -109,7 +108,7 @@ unfolding t.place_names shape-the_row-Typed-2 hidden-the_row-Typed-2 denote.Hole
 moving_names e spot = refl
 
 pub moving_sound : (e : Typed) (spot : Spot) (w : ℕ) → spot.width ≡ w → t.IsSound e → t.PlaceIsSound w (place.Moving e spot)
-unfolding t.PlaceIsSound shape-the_row-Typed-2 hidden-the_row-Typed-2 denote.Hole.Carrier.hidden
+unfolding t.PlaceIsSound t.IsSound shape-the_row-Typed-2 hidden-the_row-Typed-2 denote.Hole.Carrier.hidden
 moving_sound e spot w h k = (h, k)
 
 -- ---- indices
@@ -119,6 +118,7 @@ row_fits row h = (each_some row.each h.each, each_most row.each h.each)
 
 pub index_row : (j : Meaning → Faults) (m : Meaning) (s : Bool) (row : Row) (p : Place) (e : Typed) (w : ℕ) (q : PickPlace) (c : Bool) → RowIsSound row → IsTyped m (j m) e → w ≡ width (each_is row.each) →
     q ≡ place.Moving e (spot_of row e.signed (pos 0) w) → c ≡ e.constant → Picks j (row_is s row) (to_index p m) (record { width = w; constant = c; place = q }) (each_is row.each)
+unfolding t.Stands t.PickIsSound
 index_row j m s row p e w q c h k i g b = record {
   part = record { layout = each_is row.each; place = known_place (place_of row.left row.right (width (each_is row.each))) m };
   is = refl;
@@ -128,8 +128,7 @@ index_row j m s row p e w q c h k i g b = record {
   place = λ read. moving_place m e (place_of row.left row.right (width (each_is row.each))) (spot_of row e.signed (pos 0) w) read k.stands (λ a. let z : whole e.signed a ≡ whole e.signed a +ℤ pos 0 = omega (arith, ints) in ap (place_of row.left row.right (width (each_is row.each))) z ∙ spot_at row e.signed (pos 0) w a) ∙ ap (λ x. t.place_in x read) (sym g);
   constant = ap (λ x. x.constant) k.stands.is ∙ sym b;
   names = λ n z. k.stands.names n (subst (λ l. Contains l n) (ap t.place_names g ∙ moving_names e _) z);
-  fits = let f = row_fits row h in (omega arith, omega arith);
-  sound = subst (t.PlaceIsSound w) (sym g) (moving_sound e _ w refl k.sound);
+  sound = (let f = row_fits row h in (omega arith, omega arith), subst (t.PlaceIsSound w) (sym g) (moving_sound e _ w refl k.sound));
 }
 
 pub index_picks : (j : Meaning → Faults) (m : Meaning) (x : Layout) (s : Bool) (row : Row) (p : Place) (e : Typed) (w : ℕ) (q : PickPlace) (c : Bool) → x ≡ row_is s row → RowIsSound row → IsTyped m (j m) e → w ≡ width (each_is row.each) →

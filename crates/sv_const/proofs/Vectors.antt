@@ -1,40 +1,10 @@
--- Lemmas of vectors made, extended and read.
-use Rattle.std.proofs.Common.{◌≡◌, ℕ, zero, suc, ◌+◌, ◌-◌, ◌*◌, ◌/◌, ◌≤◌, ◌<◌, ◌^◌, ◌%◌, Bool, true, false, IsTrue, IsFalse, List, [], ◌∷◌, ◌++◌, length, take, drop, replicate, refl, sym, ap, ◌∙◌, subst, arith, ℤ, pos, negsuc, int_lt, int_le, ◌&&◌, cond, nat_le}
-use Rattle.std.proofs.lemmas.List.{take-append-le}
-use Rattle.fourvec.specs.declared.Bit.{Bit}
-use Rattle.fourvec.specs.Bits.{vector, planes, all_x, first, top, sext_of, zext_of, is_known, number, low_plane, up_plane, is_one, signed, is_negative, is_odd, truth_bit}
-use Rattle.fourvec.specs.declared.Bit.TheVariants.{Zero, Unknown, One}
-use Rattle.fourvec.proofs.Basic.{planes_of, number_on_planes, up_plane-lt, low_plane-lt}
-use Rattle.fourvec.proofs.Widths.{length-zext_of, length-sext_of}
-use Rattle.std.proofs.lemmas.List.{take_all}
-use Rattle.std.proofs.Math.Pow.{pow-lt}
-use Rattle.std.proofs.Math.Nat.{mod-eq_of_lt}
+-- Vectors read as whole numbers.
+use Rattle.std.proofs.Common.{◌≡◌, ℕ, ◌-◌, ◌≤◌, ◌^◌, Bool, true, false, IsFalse, List, length, refl, sym, ap, ◌∙◌, arith, ℤ, pos, negsuc, cond}
 use Rattle.std.proofs.lemmas.Bool.Decides.{nat_tests}
-use Rattle.sv_meaning.specs.Meanings.{extend, fitted, whole, is_bound, log_from}
-
-pub vector_front : (w v n : ℕ) → w ≤ v → take w (drop 0 (vector v n)) ≡ vector w n
-unfolding vector
-vector_front zero v n h = refl
-vector_front (suc w) zero n h = absurd (omega arith)
-vector_front (suc w) (suc v) n h = ap (λ t. truth_bit (is_odd n) ∷ t) (vector_front w v (n / 2) (omega arith))
-
-pub copies_of_one : (a : List Bit) (w : ℕ) → length a ≡ 1 → 1 ≤ w → sext_of a w ≡ replicate w (first a)
-copies_of_one [] w e h = absurd (omega arith)
-copies_of_one (b ∷ []) zero e h = absurd (omega arith)
-copies_of_one (b ∷ []) (suc w) e h = let d : suc w - 1 ≡ w = omega arith in ap (λ k. b ∷ replicate k b) d
-copies_of_one (b ∷ c ∷ a) w e h = absurd (omega arith)
-
-pub one_x : (w : ℕ) → replicate w (first (planes 1 1 0)) ≡ all_x w
-unfolding planes
-one_x w = refl
-
-pub cut : (s : Bool) (w : ℕ) (a : List Bit) → w ≤ length a → take w (drop 0 a) ≡ fitted s w a
-cut true w a h = sym (take-append-le w a _ h)
-cut false w a h = sym (take-append-le w a _ h)
-
-pub grown : (s : Bool) (w : ℕ) (a : List Bit) → length a ≤ w → extend s w a ≡ fitted s w a
-grown true w a h = sym (take_all w (sext_of a w) (let e = length-sext_of a w h in omega arith))
-grown false w a h = sym (take_all w (zext_of a w) (let e = length-zext_of a w h in omega arith))
+use Rattle.fourvec.specs.declared.Bit.{Bit}
+use Rattle.fourvec.specs.Bits.{planes, is_known, number, low_plane, up_plane, is_negative}
+use Rattle.fourvec.proofs.Basic.{planes_of, number_on_planes, up_plane-lt, low_plane-lt}
+use Rattle.sv_meaning.specs.Meanings.{whole, is_bound}
 
 pub number_is : (a : List Bit) → is_known a ≡ true → low_plane a ≡ number a
 number_is a h =
@@ -58,26 +28,3 @@ pub ruleset wholes = (number_is, whole_negative, whole_unsigned, whole_positive)
 
 pub far_below : (i : ℤ) (n : ℕ) → i ≡ negsuc n → 2 ^ 31 ≤ n → IsFalse (is_bound i)
 far_below i n e h = rw e (grind (arith, nat_tests))
-
--- ---- the least power that is not below
-
-le_test : (a b : ℕ) → a ≤ b → nat_le a b ≡ true
-le_test a b h = grind (arith, nat_tests)
-
-no_le : (a b : ℕ) → b < a → nat_le a b ≡ false
-no_le a b h = grind (arith, nat_tests)
-
-pub shifted : (k : ℕ) → k < 128 → 1 * 2 ^ k % 340282366920938463463374607431768211456 ≡ 2 ^ k
-shifted k h = let p : 2 ^ k < 2 ^ 128 = pow-lt h in let e : 1 * 2 ^ k ≡ 2 ^ k = omega arith in ap (λ x. x % 340282366920938463463374607431768211456) e ∙ mod-eq_of_lt p
-
-pub log_here : (f k n : ℕ) → n ≤ 2 ^ k → log_from (suc f) k n ≡ k
-unfolding log_from
-log_here f k n h = ap (λ b. cond b k (log_from f (suc k) n)) (le_test n (2 ^ k) h)
-
-pub log_on : (f k n : ℕ) → 2 ^ k < n → log_from (suc f) k n ≡ log_from f (suc k) n
-unfolding log_from
-log_on f k n h = ap (λ b. cond b k (log_from f (suc k) n)) (no_le n (2 ^ k) h)
-
-pub log_none : (k n : ℕ) → log_from 0 k n ≡ k
-unfolding log_from
-log_none k n = refl

@@ -1,6 +1,6 @@
 -- Selects behind a name, one by one, as parts of its bits (IEEE 1800-2017, 11.5.1).
 use Rattle.std.specs.Prelude.{◌≡◌, ℕ, ◌+◌, ◌*◌, ◌≤◌, Bool, true, false, ◌&&◌, not, List, [], ◌∷◌, Option, Some, None, ℤ, pos, ◌+ℤ◌, ◌-ℤ◌, ◌*ℤ◌, Result, Ok, Err, if◌then◌else◌}
-use Rattle.std.specs.List.{Contains}
+use Rattle.std.specs.List.{Contains, All}
 use Rattle.fourvec.specs.declared.Bit.{Bit}
 use Rattle.fourvec.specs.declared.Spot.{Spot}
 use Rattle.lhs_alias.specs.declared.segs.WireBit.{WireBit}
@@ -9,7 +9,7 @@ use Rattle.sv_meaning.specs.Layouts.{Layout, width, goes_down, Read, Origin}
 use Rattle.sv_meaning.specs.Meanings.{Meaning, Step, Part, step_in, step_faults, indices, all_indices, bits_at, nowhere, chain_bits, chain_layout, chain_faults, fixed_faults, range_faults, ranged, elements}
 use Rattle.sv_meaning.specs.Targets.{with_place, slots_from, put_at, chain_slots, chain_fixed, put}
 use Rattle.sv_typed.specs.declared.tree.Pick.{Pick}
-use Rattle.sv_typed.specs.Typed.{pick_place, place_names, picked, picked_width, are_constant_picks, IsWidth, PlaceIsSound}
+use Rattle.sv_typed.specs.Typed.{pick_place, place_names, picked, picked_width, are_constant_picks, names_picked, PickIsSound}
 use Rattle.sv_outside.specs.declared.refusal.Place.{Place}
 use Rattle.sv_outside.specs.declared.refusal.Refusal.{Refusal}
 use Rattle.sv_outside.specs.declared.refusal.TextErr.{TextErr}
@@ -62,8 +62,7 @@ pub record Picks (judge : Meaning → Faults) (x : Layout) (s : Step) (p : Pick)
   pub place : (read : Read) → part.place read ≡ pick_place p read
   pub constant : (indices s).constant ≡ p.constant
   pub names : (n : Origin × ℕ) → Contains (place_names p.place) n → Contains (indices s).names n
-  pub fits : IsWidth p.width
-  pub sound : PlaceIsSound p.width p.place
+  pub sound : PickIsSound p
 
 -- ---- a chain of selects
 
@@ -83,6 +82,8 @@ pub record Follows (judge : Meaning → Faults) (x : Layout) (steps : List Step)
   pub fixed : chain_fixed x steps ≡ are_fixed picks
   pub constant : (all_indices steps).constant ≡ are_constant_picks picks
   pub width : picked_width picks (width x) ≡ width y
+  pub names : (n : Origin × ℕ) → Contains (names_picked picks) n → Contains (all_indices steps).names n
+  pub sound : All PickIsSound picks
 
 -- ---- what code finds of one select
 

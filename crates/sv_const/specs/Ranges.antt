@@ -1,5 +1,5 @@
 -- Ranges of elements (IEEE 1800-2017, 11.5.1).
-use Rattle.std.specs.Prelude.{◌≡◌, ℕ, ◌*◌, ◌≤◌, Bool, true, false, ◌&&◌, ◌||◌, not, ℤ, pos, ◌-ℤ◌, int_lt, int_le, nat_abs, Result, Ok, Err, if◌then◌else◌}
+use Rattle.std.specs.Prelude.{◌≡◌, ℕ, ◌*◌, ◌≤◌, Bool, true, false, ◌&&◌, ◌||◌, not, ℤ, pos, ◌-ℤ◌, int_lt, int_le, nat_abs, Option, Some, None, Result, Ok, Err, if◌then◌else◌}
 use Rattle.sv_outside.specs.declared.refusal.Place.{Place}
 use Rattle.sv_outside.specs.declared.refusal.TextErr.{TextErr}
 use Rattle.sv_tree.specs.declared.exprs.RangeMark.{RangeMark}
@@ -64,3 +64,16 @@ shift_of m down n = pos 0
 abbrev pub is_to : RangeMark → Bool
 is_to mark.To = true
 is_to m = false
+
+-- ---- copies
+
+-- so many copies of so many bits are the bits of a vector
+pub record IsCopies (i : ℤ) (each : ℕ) (count : ℕ) : Type 0 where
+  pub number : i ≡ pos count
+  pub some : 1 ≤ count
+  pub bits : 1 ≤ count * each
+  pub most : count * each ≤ 128
+
+abbrev pub JudgesCopies : ℤ → ℕ → Option ℕ → Type 0
+JudgesCopies i each (Some n) = IsCopies i each n
+JudgesCopies i each None = (int_lt (pos 0) i && is_width (nat_abs i * each)) ≡ false

@@ -1,5 +1,5 @@
-// Constants that are wholly 0 and 1.
-ghost use Rattle.std.specs.Prelude.{IsTrue};
+// What is known of a constant position.
+ghost use Rattle.std.specs.Prelude.{◌≡◌, IsTrue};
 ghost use Rattle.fourvec.specs.Bits.{is_known};
 
 use crate::Known;
@@ -10,4 +10,14 @@ pub struct Fixed {
     pub known: Known,
     pub constant: bool,
     ghost wholly: { IsTrue (is_known known.value) },
+}
+
+impl Fixed {
+    pub(crate) fn new(known: Known, constant: bool) -> Fixed
+        requires { IsTrue (is_known known.value) }
+        ensures known { result.known ≡ known }
+        ensures constant { result.constant ≡ constant }
+    {
+        Fixed { known, constant }
+    }
 }

@@ -2,6 +2,7 @@
 #![tactic(auto)]
 
 mod chain;
+mod constants;
 mod cursor;
 mod fixed;
 mod layout;
@@ -11,7 +12,9 @@ mod numbers;
 mod picks;
 mod ranges;
 mod refusals;
+mod rules;
 mod scope;
+mod sides;
 mod start;
 
 pub use chain::{Chain, IndexRule};

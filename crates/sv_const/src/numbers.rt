@@ -1,7 +1,7 @@
 // Vectors read as whole numbers.
-ghost use Rattle.std.specs.Prelude.{◌≡◌, ◌≤◌, IfSome, IfNone, IsTrue, IsFalse};
+ghost use Rattle.std.specs.Prelude.{◌≡◌, IfSome, IfNone, IsTrue, IsFalse};
 ghost use Rattle.fourvec.specs.Bits.{is_known, is_negative};
-ghost use Rattle.sv_meaning.specs.Meanings.{whole, is_bound, log_from};
+ghost use Rattle.sv_meaning.specs.Meanings.{whole, is_bound};
 
 use fourvec::{Bit, Four};
 
@@ -34,17 +34,4 @@ pub(crate) fn small(a: &Four, signed: bool) -> Option<i64>
     } else {
         None
     }
-}
-
-// The least k for which 2 ^ k is not below n.
-pub(crate) fn log_up(n: u128) -> u8
-    ensures is { result ≡ log_from 128 0 n }
-    ensures most { result ≤ 128 }
-{
-    for k in 0..128u8 {
-        if n <= 1u128 << k {
-            return k;
-        }
-    }
-    128
 }

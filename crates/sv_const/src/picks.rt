@@ -1,18 +1,20 @@
 // One select as a part of what it selects from.
-ghost use Rattle.std.specs.Prelude.{◌≡◌, ◌&&◌, false, ◌≤◌, ◌*◌, IfOk, IsTrue, List, pos, negsuc, ◌≤ℤ◌, ◌*ℤ◌, unsigned_abs};
+ghost use Rattle.std.specs.Prelude.{◌≡◌, false, ◌≤◌, ◌*◌, IfOk, IsTrue, List, pos, negsuc, ◌≤ℤ◌, ◌*ℤ◌, unsigned_abs};
 ghost use Rattle.fourvec.specs.Bits.{is_known};
 ghost use Rattle.sv_outside.specs.declared.refusal.TextErr.TheVariants.{Memory};
 ghost use Rattle.sv_tree.specs.declared.exprs.RangeMark.{RangeMark};
 ghost use Rattle.sv_tree.specs.declared.exprs.RangeMark.TheVariants as mark;
 ghost use Rattle.sv_typed.specs.declared.tree.PickPlace.TheVariants.{Moving};
+ghost use Rattle.sv_typed.specs.declared.tree.PickPlace.TheVariants as place_is;
 ghost use Rattle.sv_meaning.specs.Faults.{Faults};
 ghost use Rattle.sv_meaning.specs.Layouts.{width};
-ghost use Rattle.sv_meaning.specs.Meanings.{Meaning, to_member, to_index, to_range, goes_along, is_bound, lowest};
+ghost use Rattle.sv_meaning.specs.Meanings.{Meaning, to_member, to_index, to_range, is_bound};
 ghost use Rattle.sv_const.specs.Cursors.{cursor_is, each_is, CursorIsSound, RowIsSound};
 ghost use Rattle.sv_const.specs.Judging.{Types, Fixes, IsFixed};
 ghost use Rattle.sv_const.specs.Picks.{Leads, offset_of, spot_of};
-ghost use Rattle.sv_const.specs.Ranges.{is_to};
+ghost use Rattle.sv_const.specs.Ranges.{is_to, each_width, lowest_of};
 
+use crate::constants::both;
 use crate::cursor::{Cursor, Each, Row};
 use crate::fixed::Fixed;
 use crate::numbers::small;
@@ -46,13 +48,6 @@ pub(crate) fn member_pick<'a>(
         )),
         None => Err(TextErr::No(refusal(23, place))),
     }
-}
-
-// Whether both hold.
-fn both(a: bool, b: bool) -> bool
-    ensures { result ≡ (a && b) }
-{
-    a && b
 }
 
 // How many elements a place lies above the one that an index counts from.
@@ -134,6 +129,15 @@ pub(crate) fn index_pick<'a>(
     ))
 }
 
+// Where the elements between constant bounds begin.
+fn lowest_place(row: &Row<'_>, a: i64, b: i64) -> PickPlace
+    requires row { RowIsSound row.now }
+    requires b { IsTrue (is_bound b) }
+    ensures { result ≡ place_is.Fixed (lowest_of row.now a b *ℤ pos (each_width row.now)) }
+{
+    PickPlace::Fixed(in_bits(lowest(row, a, b), row.each.width()))
+}
+
 /// The elements between constant bounds, or E14 or E23.
 #[tactic(auto, using(crate::proofs::Spans::between_left, crate::proofs::Spans::between_right, crate::proofs::Spans::no_row_between))]
 pub(crate) fn between_pick<'a>(
@@ -157,11 +161,10 @@ pub(crate) fn between_pick<'a>(
         return Err(TextErr::No(refusal(14, place)));
     };
     let count = between_count(place, &row, a, b)?;
-    let each = row.each.width();
     let pick = Pick {
-        width: count * each,
+        width: count * row.each.width(),
         constant: both(left.constant, right.constant),
-        place: PickPlace::Fixed(in_bits(lowest(&row, a, b), each)),
+        place: lowest_place(&row, a, b),
     };
     Ok((
         Cursor::Elements {

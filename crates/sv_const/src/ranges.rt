@@ -14,7 +14,7 @@ use sv_tree::RangeMark;
 
 // Whether so many elements have no more than 128 bits.
 #[tactic(auto, using(crate::proofs::Counts::fits))]
-fn fits(count: u64, each: u8) -> bool
+pub(crate) fn fits(count: u64, each: u8) -> bool
     requires { 1 ≤ each }
     ensures is { result ≡ nat_le (count * each) 128 }
     ensures most { IsTrue result → count ≤ 128 }

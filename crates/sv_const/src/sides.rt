@@ -1,0 +1,171 @@
+// Concatenations, replications and casts to a size.
+ghost use Rattle.std.specs.Prelude.{◌≡◌, Bool, List, map, length, IfSome, IsTrue, option_map};
+ghost use Rattle.std.specs.Option.{option_copied};
+ghost use Rattle.std.specs.List.{AllZip};
+ghost use Rattle.sv_typed.specs.Typed.{Stands};
+ghost use Rattle.sv_meaning.specs.Layouts.{Scope};
+ghost use Rattle.sv_meaning.specs.Meanings.{Meaning, concat, repeated, sized_by, cast_to, whole, is_bound};
+ghost use Rattle.sv_meaning.specs.Values.{mean};
+ghost use Rattle.sv_const.specs.Judging.{Judges, AreTyped, Loose, IsFixed, Fixes, is_loose};
+ghost use Rattle.sv_const.specs.Kinds.{what_is, WhatIsSound};
+ghost use Rattle.sv_const.specs.Ranges.{JudgesCopies};
+
+use crate::What;
+use crate::fixed::Fixed;
+use crate::numbers::small;
+use crate::ranges::fits;
+use crate::refusals::refusal;
+use crate::start::start;
+use items::Items;
+use std::alloc::Global;
+use sv_outside::{Place, TextErr};
+use sv_tree::{Expr, Word};
+use sv_typed::{Typed, TypedForm, width_together};
+
+// Whether it is a literal without a size.
+fn is_loose(typed: &Typed) -> bool
+    ensures { result ≡ is_loose typed.now }
+{
+    match &typed.form {
+        TypedForm::Literal(literal) => !literal.sized,
+        _ => false,
+    }
+}
+
+// Where the first part stands that has no size.
+pub(crate) fn loose_in(exprs: &[Expr], parts: &[Typed]) -> Option<Place>
+    requires { length exprs.now ≡ length parts.now }
+    ensures { (at : Scope) → AllZip Stands parts.now (map (mean at) exprs.now) → Loose (map (mean at) exprs.now) result }
+{
+    'parts: for i in 0..parts.len() {
+        if is_loose(&parts[i]) {
+            return Some(start(&exprs[i]));
+        }
+    }
+    None
+}
+
+// How many copies of so many bits a number of 32 bits says, where they are the bits of a vector.
+#[tactic(auto, using(crate::proofs::Beside::no_copies, crate::proofs::Beside::many_bits))]
+fn small_copies(count: i64, each: u8) -> Option<u8>
+    requires { IsTrue (is_bound count) }
+    ensures { JudgesCopies count each result }
+{
+    if count <= 0 {
+        None
+    } else if each == 0 {
+        None
+    } else if fits(count as u64, each) {
+        Some(count as u8)
+    } else {
+        None
+    }
+}
+
+// How many copies of so many bits a constant says.
+#[tactic(auto, using(crate::proofs::Beside::far_copies))]
+fn copies(count: &Fixed, each: u8) -> Option<u8>
+    ensures { JudgesCopies (whole count.now.known.signed count.now.known.value) each result }
+{
+    match small(&count.known.value, count.known.signed) {
+        Some(count) => small_copies(count, each),
+        None => None,
+    }
+}
+
+/// Parts side by side, or E14.
+pub(crate) fn concat_typed(
+    place: Place,
+    loose: Option<Place>,
+    parts: Items<Typed>,
+) -> Result<Typed, TextErr>
+    ensures { (all : List Meaning) (c : Bool) → AreTyped all c parts → Loose all loose → Judges (concat place all) c result }
+{
+    let width = width_together(parts.as_slice());
+    match loose {
+        Some(loose) => Err(TextErr::No(refusal(14, loose))),
+        None => {
+            if width == 0 {
+                Err(TextErr::No(refusal(14, place)))
+            } else if width > 128 {
+                Err(TextErr::No(refusal(14, place)))
+            } else {
+                Ok(Typed::concat(parts))
+            }
+        }
+    }
+}
+
+/// So many copies of parts side by side, or E14.
+pub(crate) fn repeat_typed(
+    place: Place,
+    count: &Fixed,
+    loose: Option<Place>,
+    parts: Items<Typed>,
+) -> Result<Typed, TextErr>
+    ensures { (n : Meaning) (all : List Meaning) (c : Bool) → IsFixed n count.now → AreTyped all c parts → Loose all loose → Judges (repeated place n all) c result }
+{
+    let width = width_together(parts.as_slice());
+    match loose {
+        Some(loose) => Err(TextErr::No(refusal(14, loose))),
+        None => match copies(count, width) {
+            Some(count) => Ok(Typed::repeat(count, parts)),
+            None => Err(TextErr::No(refusal(14, place))),
+        },
+    }
+}
+
+/// A cast to a size, or E14.
+pub(crate) fn cast_typed(
+    alloc: Global,
+    start: Place,
+    count: Result<Fixed, TextErr>,
+    x: Result<Typed, TextErr>,
+) -> Result<Typed, TextErr>
+    ensures { (n m : Meaning) (c : Bool) → n.start ≡ start → Fixes n count → Judges m c x → Judges (sized_by n m) c result }
+{
+    let count = count?;
+    let x = x?;
+    let signed = x.signed;
+    match copies(&count, 1) {
+        Some(width) => Ok(Typed::fitted(alloc, width, signed, x)?),
+        None => Err(TextErr::No(refusal(14, start))),
+    }
+}
+
+/// A cast to the size or the type that a name gives, or E12, E14 or E15.
+pub(crate) fn name_cast_typed(
+    alloc: Global,
+    word: &Word,
+    what: Option<&What>,
+    constant: bool,
+    x: Result<Typed, TextErr>,
+) -> Result<Typed, TextErr>
+    requires { IfSome what (λ what. WhatIsSound what.now) }
+    ensures { (m : Meaning) → Judges m constant x → Judges (cast_to word.now (option_map what_is (option_copied what.entry)) m) constant result }
+{
+    match what {
+        Some(What::Kind(layout)) => {
+            let x = x?;
+            Ok(Typed::fitted(alloc, layout.width, layout.signed, x)?)
+        }
+        Some(What::Number(known)) => {
+            if known.value.is_bool() {
+                cast_typed(alloc, word.place, Ok(Fixed::new(*known, true)), x)
+            } else {
+                Err(TextErr::No(refusal(15, word.place)))
+            }
+        }
+        Some(What::Wire { .. }) => Err(TextErr::No(refusal(15, word.place))),
+        Some(What::Chosen { .. }) => Err(TextErr::No(refusal(15, word.place))),
+        Some(What::Sampled { .. }) => Err(TextErr::No(refusal(15, word.place))),
+        Some(What::Genvar) => Err(TextErr::No(refusal(15, word.place))),
+        None => {
+            if constant {
+                Err(TextErr::No(refusal(15, word.place)))
+            } else {
+                Err(TextErr::No(refusal(12, word.place)))
+            }
+        }
+    }
+}
