@@ -1,17 +1,22 @@
 -- Concatenations, replications and casts to a size.
-use Rattle.std.proofs.Common.{◌≡◌, ℕ, zero, suc, ◌+◌, ◌*◌, ◌<◌, ◌≤◌, ◌^◌, Bool, true, false, ◌&&◌, not, nat_le, nat_lt, List, [], ◌∷◌, ◌++◌, length, take, get_or, map, Option, Some, None, refl, sym, ap, ◌∙◌, subst, arith, ℤ, pos, negsuc, nat_abs, int_lt}
+use Rattle.std.proofs.Common.{◌≡◌, ℕ, zero, suc, ◌+◌, ◌*◌, ◌<◌, ◌≤◌, ◌^◌, Bool, true, false, ◌&&◌, ◌||◌, not, min, drop, nat_le, nat_lt, List, [], ◌∷◌, ◌++◌, length, take, get_or, map, Option, Some, None, refl, sym, ap, ◌∙◌, subst, arith, ℤ, pos, negsuc, nat_abs, int_lt}
 use Rattle.std.proofs.lemmas.Bool.Decides.{nat_tests}
+use Rattle.std.proofs.lemmas.List.{at_drop_more, at_drop_all}
 use Rattle.std.specs.List.{Contains, All, AllZip}
 use Rattle.fourvec.specs.declared.Bit.{Bit}
 use Rattle.sv_outside.specs.declared.refusal.Place.{Place}
 use Rattle.sv_outside.specs.declared.refusal.TextErr.{TextErr}
 use Rattle.sv_meaning.specs.Faults.{Faults, fault_if, or_then, bad_width}
-use Rattle.sv_meaning.specs.Meanings.{Meaning, parts, all_loose, concat, repeated, repeat_faults, sized_by, number_of, fixed_faults, is_width, is_bound, whole}
+use Rattle.sv_meaning.specs.Meanings.{Meaning, parts, is_sized, loose, all_loose, concat, repeated, repeat_faults, sized_by, number_of, fixed_faults, is_width, is_bound, whole}
+use Rattle.sv_literal.specs.declared.meaning.Literal.{Literal}
+use Rattle.sv_tree.specs.declared.exprs.Expr.{Expr}
+use Rattle.sv_meaning.specs.Layouts.{Scope}
+use Rattle.sv_meaning.specs.Values.{mean}
 use Rattle.sv_typed.specs.declared.tree.Typed.{Typed}
-use Rattle.sv_typed.specs.Typed.{Stands, IsSound, IsWidth, width_together}
+use Rattle.sv_typed.specs.Typed.{Stands, IsSound, IsWidth, width_together, literal_of, clothed}
 use Rattle.sv_typed.proofs.Parts.{parts_size}
 use Rattle.sv_const.specs.declared.fixed.Fixed.{Fixed}
-use Rattle.sv_const.specs.Judging.{IsTyped, AreTyped, IsFixed}
+use Rattle.sv_const.specs.Judging.{IsTyped, AreTyped, IsFixed, Loose, loose_literal, is_loose, any_loose}
 use Rattle.sv_const.specs.Ranges.{IsCopies}
 use Rattle.sv_const.proofs.Lists.{in_left, in_right, in_first, in_second, in_fault, no_fault, both_clear, then_clear}
 use Rattle.sv_const.proofs.Counts.{times_some}
@@ -129,3 +134,80 @@ cast_ok n m f c x t k i h w s y = record {
   stands = s;
   sound = y;
 }
+
+-- ---- parts without a size
+
+with_literal : Meaning → Option Literal → Meaning
+with_literal m o = record m { literal = o }
+
+twice : (b : Bool) → b ≡ not (not b)
+twice true = refl
+twice false = refl
+
+by_literal : (m : Meaning) (o : Option Literal) → is_sized (with_literal m o) ≡ not (loose_literal o)
+unfolding with_literal
+by_literal m None = refl
+by_literal m (Some l) = twice l.sized
+
+sized_is : (t : Typed) (m : Meaning) → Stands t m → is_sized m ≡ not (is_loose t)
+unfolding Stands with_literal
+sized_is t m h = ap is_sized h.is ∙ by_literal (clothed t m.faults m.names m.start) (literal_of t)
+
+not_twice : (b : Bool) → not (not b) ≡ b
+not_twice true = refl
+not_twice false = refl
+
+loose_is : (t : Typed) (m : Meaning) → Stands t m → loose m ≡ fault_if (is_loose t) bad_width m.start
+loose_is t m h = ap (λ b. fault_if (not b) bad_width m.start) (sized_is t m h) ∙ ap (λ b. fault_if b bad_width m.start) (not_twice (is_loose t))
+
+pub loose_at : (at : Scope) (exprs : List Expr) (parts : List Typed) (i : ℕ) (x : Expr) (t : Typed) (q : Place) → AllZip Stands parts (map (mean at) exprs) → i < length parts → x ≡ get_or exprs i x → t ≡ get_or parts i t →
+    is_loose t ≡ true → (mean at x).start ≡ q → Contains (all_loose (map (mean at) exprs)) (record { number = bad_width; place = q; count = 0 })
+unfolding all_loose
+loose_at at exprs [] i x t q h lt e f b s = absurd (omega arith)
+loose_at at [] (p ∷ parts) i x t q h lt e f b s = absurd h
+loose_at at (y ∷ exprs) (p ∷ parts) zero x t q h lt e f b s =
+    in_left (loose (mean at y)) _ _ (subst (λ v. Contains (loose (mean at v)) (record { number = bad_width; place = q; count = 0 })) e (here x (subst (λ u. Stands u (mean at x)) (sym f) (subst (λ v. Stands p (mean at v)) (sym e) h.0))))
+  where
+    here : (v : Expr) → Stands t (mean at x) → Contains (loose (mean at x)) (record { number = bad_width; place = q; count = 0 })
+    here v k = subst (λ z. Contains z (record { number = bad_width; place = q; count = 0 })) (sym (loose_is t (mean at x) k))
+        (subst (λ z. Contains (fault_if (is_loose t) bad_width z) (record { number = bad_width; place = q; count = 0 })) (sym s) (in_fault (is_loose t) bad_width q b))
+loose_at at (y ∷ exprs) (p ∷ parts) (suc i) x t q h lt e f b s =
+    in_right (loose (mean at y)) _ _ (loose_at at exprs parts i x t q h.1 (omega arith) e f b s)
+
+or_left : (a b : Bool) → (a || b) ≡ false → a ≡ false
+or_left false b h = refl
+or_left true b h = cc
+
+or_right : (a b : Bool) → (a || b) ≡ false → b ≡ false
+or_right false b h = h
+or_right true b h = cc
+
+pub none_loose : (at : Scope) (exprs : List Expr) (parts : List Typed) → AllZip Stands parts (map (mean at) exprs) → any_loose parts ≡ false → all_loose (map (mean at) exprs) ≡ []
+unfolding all_loose any_loose
+none_loose at [] [] h b = refl
+none_loose at [] (p ∷ parts) h b = absurd h
+none_loose at (y ∷ exprs) [] h b = absurd h
+none_loose at (y ∷ exprs) (p ∷ parts) h b =
+    both_clear _ _ (loose_is p (mean at y) h.0 ∙ no_fault _ bad_width _ (or_left _ _ b)) (none_loose at exprs parts h.1 (or_right _ _ b))
+
+pub loose_goes : (all : List Typed) (i : ℕ) (x : Typed) → i < length all → x ≡ get_or all i x → is_loose x ≡ false → any_loose (drop (i + 1) all) ≡ any_loose (drop i all)
+unfolding any_loose
+loose_goes all i x h e k = sym (at_drop_more any_loose all i x h ∙ ap (λ y. is_loose y || any_loose (drop (i + 1) all)) (sym e) ∙ ap (λ y. y || any_loose (drop (i + 1) all)) k)
+
+pub loose_ends : (all : List Typed) (i : ℕ) → length all ≤ i → any_loose (drop i all) ≡ false
+unfolding any_loose
+loose_ends all i h = at_drop_all any_loose all i h
+
+-- ---- widths that are none
+
+pub no_width : (n w : ℕ) → w ≡ min 255 n → w ≡ 0 → is_width n ≡ false
+no_width n w e h = grind (arith, nat_tests)
+
+pub large_width : (n w : ℕ) → w ≡ min 255 n → 128 < w → is_width n ≡ false
+large_width n w e h = grind (arith, nat_tests)
+
+pub just : (all : List Meaning) (o : Option Place) → o ≡ None → Loose all o → all_loose all ≡ []
+just all o e h = subst (Loose all) e h
+
+pub loose_some : (all : List Meaning) (o : Option Place) (p : Place) → o ≡ Some p → Loose all o → Contains (all_loose all) (record { number = bad_width; place = p; count = 0 })
+loose_some all o p e h = subst (Loose all) e h

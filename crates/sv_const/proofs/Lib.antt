@@ -10,6 +10,7 @@ pub mod Judged
 pub mod Fixing
 pub mod Typing
 pub mod Beside
+pub mod Naming
 pub mod Counts
 pub mod Steps
 pub mod Spans

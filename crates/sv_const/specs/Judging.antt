@@ -1,5 +1,5 @@
 -- What an expression is typed as, and why it is refused.
-use Rattle.std.specs.Prelude.{◌≡◌, Bool, false, not, List, [], ◌++◌, Option, Some, None, Result, Ok, Err}
+use Rattle.std.specs.Prelude.{◌≡◌, Bool, false, not, ◌||◌, List, [], ◌∷◌, ◌++◌, Option, Some, None, Result, Ok, Err}
 use Rattle.std.specs.List.{Contains, All, AllZip}
 use Rattle.sv_outside.specs.declared.refusal.Place.{Place}
 use Rattle.sv_outside.specs.declared.refusal.TextErr.{TextErr}
@@ -67,3 +67,7 @@ loose_literal (Some l) = not l.sized
 
 abbrev pub is_loose : Typed → Bool
 is_loose t = loose_literal (literal_of t)
+
+unfoldable pub any_loose : List Typed → Bool
+any_loose [] = false
+any_loose (a ∷ more) = is_loose a || any_loose more

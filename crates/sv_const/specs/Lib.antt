@@ -5,3 +5,4 @@ pub mod Literals
 pub mod Judging
 pub mod Ranges
 pub mod Picks
+pub mod Roots

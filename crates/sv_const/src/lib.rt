@@ -12,6 +12,7 @@ mod numbers;
 mod picks;
 mod ranges;
 mod refusals;
+mod roots;
 mod rules;
 mod scope;
 mod sides;
