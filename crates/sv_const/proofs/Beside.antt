@@ -7,10 +7,10 @@ use Rattle.fourvec.specs.declared.Bit.{Bit}
 use Rattle.sv_outside.specs.declared.refusal.Place.{Place}
 use Rattle.sv_outside.specs.declared.refusal.TextErr.{TextErr}
 use Rattle.sv_meaning.specs.Faults.{Faults, fault_if, or_then, bad_width}
-use Rattle.sv_meaning.specs.Meanings.{Meaning, parts, is_sized, loose, all_loose, concat, repeated, repeat_faults, sized_by, number_of, fixed_faults, is_width, is_bound, whole}
+use Rattle.sv_meaning.specs.Meanings.{Meaning, from, to_layout, parts, is_sized, loose, all_loose, concat, repeated, repeat_faults, sized_by, number_of, fixed_faults, is_width, is_bound, whole}
 use Rattle.sv_literal.specs.declared.meaning.Literal.{Literal}
 use Rattle.sv_tree.specs.declared.exprs.Expr.{Expr}
-use Rattle.sv_meaning.specs.Layouts.{Scope}
+use Rattle.sv_meaning.specs.Layouts.{Scope, Layout}
 use Rattle.sv_meaning.specs.Values.{mean}
 use Rattle.sv_typed.specs.declared.tree.Typed.{Typed}
 use Rattle.sv_typed.specs.Typed.{Stands, IsSound, IsWidth, width_together, literal_of, clothed}
@@ -211,3 +211,33 @@ just all o e h = subst (Loose all) e h
 
 pub loose_some : (all : List Meaning) (o : Option Place) (p : Place) → o ≡ Some p → Loose all o → Contains (all_loose all) (record { number = bad_width; place = p; count = 0 })
 loose_some all o p e h = subst (Loose all) e h
+
+-- ---- a width that is capped
+
+w_times : (k w : ℕ) → 1 ≤ k → w ≤ k * w
+w_times k w h = let e = times_some w k h in omega arith
+
+pub copies_capped : (i : ℤ) (w v k : ℕ) → w ≡ min 255 v → IsCopies i w k → IsCopies i v k
+copies_capped i w v k e h =
+    let t = w_times k w h.some in
+    let m = h.most in
+    let s : w ≡ v = omega arith in
+    record { number = h.number; some = h.some; bits = subst (λ z. 1 ≤ k * z) s h.bits; most = subst (λ z. k * z ≤ 128) s h.most }
+
+pub capped_false : (i : ℤ) (w v : ℕ) → w ≡ min 255 v → (int_lt (pos 0) i && is_width (nat_abs i * w)) ≡ false → (int_lt (pos 0) i && is_width (nat_abs i * v)) ≡ false
+capped_false (negsuc n) w v e h = refl
+capped_false (pos zero) w v e h = refl
+capped_false (pos (suc n)) w v e h = go (nat_le v 255) refl
+  where
+    go : (b : Bool) → nat_le v 255 ≡ b → (int_lt (pos 0) (pos (suc n)) && is_width (suc n * v)) ≡ false
+    go true k = let l : v ≤ 255 = grind (arith, nat_tests) in let s : w ≡ v = omega arith in subst (λ z. (int_lt (pos 0) (pos (suc n)) && is_width (suc n * z)) ≡ false) s h
+    go false k = let l : 255 < v = grind (arith, nat_tests) in and_false _ _ (wide (suc n * v) (let t = w_times (suc n) v (omega arith) in omega arith))
+
+pub some_width : (k v : ℕ) → 1 ≤ k * v → 1 ≤ v
+some_width k zero h = let e : k * 0 ≡ 0 = omega arith in omega arith
+some_width k (suc v) h = omega arith
+
+-- ---- a cast to a type
+
+pub layout_ok : (p : Place) (x : Layout) (m : Meaning) (c : Bool) (a t : Typed) → IsTyped m (m.faults c) a → Stands t (from p (to_layout x m)) → IsSound t → IsTyped (from p (to_layout x m)) (m.faults c) t
+layout_ok p x m c a t h s y = record { clear = h.clear; stands = s; sound = y }

@@ -8,9 +8,11 @@ pub mod Vectors
 pub mod Chains
 pub mod Judged
 pub mod Fixing
-pub mod Typing
+pub mod OfRules
 pub mod Beside
 pub mod Naming
+pub mod Targets
+pub mod Arms
 pub mod Counts
 pub mod Steps
 pub mod Spans

@@ -1,8 +1,11 @@
 -- Names with their selects.
-use Rattle.std.proofs.Common.{◌≡◌, ℕ, suc, ◌+◌, ◌-◌, ◌*◌, ◌≤◌, Bool, true, false, ◌&&◌, nat_lt, List, [], ◌∷◌, ◌++◌, length, Option, Some, None, refl, sym, ap, ◌∙◌, subst, arith, ℤ, pos, if◌then◌else◌}
+use Rattle.std.proofs.Common.{◌≡◌, ℕ, suc, ◌+◌, ◌-◌, ◌*◌, ◌≤◌, Bool, true, false, ◌&&◌, nat_lt, List, [], ◌∷◌, ◌++◌, length, Option, Some, None, refl, sym, ap, ◌∙◌, subst, arith, ℤ, pos, if◌then◌else◌, Bor, option_map}
+use Rattle.std.specs.Option.{option_copied}
+use Rattle.sv_const.specs.declared.layout.What.{What as What'}
+use Rattle.sv_const.specs.Kinds.{what_is}
 use Rattle.std.proofs.lemmas.Bool.Decides.{nat_tests}
 use Rattle.std.proofs.lemmas.Int.{ints}
-use Rattle.std.specs.List.{Contains}
+use Rattle.std.specs.List.{Contains, All}
 use Rattle.fourvec.specs.declared.Bit.{Bit}
 use Rattle.sv_outside.specs.declared.refusal.Place.{Place}
 use Rattle.sv_outside.specs.declared.refusal.TextErr.{TextErr}
@@ -15,7 +18,7 @@ use Rattle.sv_typed.specs.declared.tree.Pick.{Pick}
 use Rattle.sv_typed.specs.declared.tree.Root.{Root}
 use Rattle.sv_typed.specs.declared.tree.Root.TheVariants.{Number, Signal}
 use Rattle.sv_typed.specs.declared.tree.Typed.{Typed}
-use Rattle.sv_typed.specs.Typed.{IsNamed, Stands, IsSound, origin_is, root_width, root_bits, root_names, root_is_constant, picked, picked_width, are_constant_picks, names_picked}
+use Rattle.sv_typed.specs.Typed.{IsNamed, Stands, IsSound, RootIsSound, PickIsSound, origin_is, root_width, root_bits, root_names, root_is_constant, picked, picked_width, are_constant_picks, names_picked}
 use Rattle.sv_const.specs.declared.cursor.Cursor.{Cursor}
 use Rattle.sv_const.specs.declared.chain.Chain.{Chain}
 use Rattle.sv_const.specs.Cursors.{cursor_is}
@@ -123,3 +126,27 @@ name_is w (Some genvar_is) c at root all chain h k = absurd h
 name_is w (Some (number_is v s)) c at root all chain h k = number_named w v s c at root all chain (rule_faults (rule_of c)) h k
 name_is w (Some (signal_is o n x)) c at root all chain h k =
     signal_at w o n x root all chain (rule_faults (rule_of c)) k.layout h.2 (subst (λ y. Follows (rule_faults (rule_of c)) y all chain.picks k.layout) h.1 k.follows) k.signed
+
+-- ---- what code finds under a name
+
+pub what_at : (o : Option (Bor What')) (f : Bor What') (w : What') → o ≡ Some f → f.now ≡ w → option_map what_is (option_copied o) ≡ Some (what_is w)
+what_at o f w h k = ap (λ (z : Option (Bor What')). option_map what_is (option_copied z)) h ∙ ap (λ (z : What'). Some (what_is z)) k
+
+pub name_ok : (w : Word) (what : Option What) (c : Bool) (at : Cursor) (root : Root) (all : List Step) (chain : Chain) (t : Typed) → RootIs what c at root → IsChain (rule_faults (rule_of c)) (cursor_is at) all chain →
+    ((m : Meaning) → IsNamed root chain.picks chain.signed m → Stands t m) → (RootIsSound root → All PickIsSound chain.picks → IsSound t) → IsTyped (named w what all) ((named w what all).faults c) t
+name_ok w what c at root all chain t h k s y = record {
+  clear = named_faults w what c at root all h ∙ k.follows.clear;
+  stands = s (named w what all) (name_is w what c at root all chain h k);
+  sound = y (root_sound what c at root h) k.follows.sound;
+}
+  where
+    root_sound : (o : Option What) (d : Bool) (u : Cursor) (r : Root) → RootIs o d u r → RootIsSound r
+    root_sound None d u r i = absurd i
+    root_sound (Some (type_is t)) d u r i = absurd i
+    root_sound (Some genvar_is) d u r i = absurd i
+    root_sound (Some (number_is v s)) d u r i = subst RootIsSound (sym i.3) (i.0, i.1)
+    root_sound (Some (signal_is o n x)) d u (Number v) i = absurd i.2
+    root_sound (Some (signal_is o n x)) d u (Signal p m q) i = let e = i.2.2 in let f = i.3 in let g = i.4 in (omega arith, omega arith)
+
+pub name_cause : (w : Word) (what : Option What) (c : Bool) (at : Cursor) (root : Root) (all : List Step) (e : TextErr) → RootIs what c at root → IsCause (chain_faults (rule_faults (rule_of c)) (cursor_is at) all) e → IsCause ((named w what all).faults c) e
+name_cause w what c at root all e h k = subst (λ f. IsCause f e) (sym (named_faults w what c at root all h)) k

@@ -6,3 +6,4 @@ pub mod Judging
 pub mod Ranges
 pub mod Picks
 pub mod Roots
+pub mod Casts

@@ -17,8 +17,10 @@ mod rules;
 mod scope;
 mod sides;
 mod start;
+mod typing;
 
 pub use chain::{Chain, IndexRule};
 pub use layout::{Field, Form, Known, Layout, Size, What};
 pub use names::Names;
 pub use scope::Scope;
+pub use typing::typed;

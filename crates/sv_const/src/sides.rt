@@ -1,20 +1,22 @@
 // Concatenations, replications and casts to a size.
-ghost use Rattle.std.specs.Prelude.{◌≡◌, Bool, List, map, length, IfSome, IsTrue, option_map};
+ghost use Rattle.std.specs.Prelude.{◌≡◌, Bool, List, map, Err, IfErr, length, Some, IfSome, IsTrue, option_map};
 ghost use Rattle.std.specs.Option.{option_copied};
 ghost use Rattle.std.specs.List.{AllZip};
 ghost use Rattle.sv_typed.specs.Typed.{Stands};
 ghost use Rattle.sv_meaning.specs.Layouts.{Scope};
-ghost use Rattle.sv_meaning.specs.Meanings.{Meaning, concat, repeated, sized_by, cast_to, whole, is_bound};
+ghost use Rattle.sv_meaning.specs.Meanings.{Meaning, from, to_layout, concat, repeated, sized_by, cast_to, whole, is_bound};
 ghost use Rattle.sv_meaning.specs.Values.{mean};
 ghost use Rattle.sv_const.specs.Judging.{Judges, AreTyped, Loose, IsFixed, Fixes, is_loose};
-ghost use Rattle.sv_const.specs.Kinds.{what_is, WhatIsSound};
+ghost use Rattle.sv_const.specs.Kinds.{what_is, layout_is, IsSound, WhatIsSound};
 ghost use Rattle.sv_const.specs.Ranges.{JudgesCopies};
+ghost use Rattle.sv_const.specs.Casts.{LayoutUnder, CountUnder};
 
-use crate::What;
+use crate::{Layout, What};
 use crate::fixed::Fixed;
 use crate::numbers::small;
 use crate::ranges::fits;
 use crate::refusals::refusal;
+use crate::roots::no_root;
 use crate::start::start;
 use items::Items;
 use std::alloc::Global;
@@ -122,7 +124,8 @@ pub(crate) fn cast_typed(
     count: Result<Fixed, TextErr>,
     x: Result<Typed, TextErr>,
 ) -> Result<Typed, TextErr>
-    ensures { (n m : Meaning) (c : Bool) → n.start ≡ start → Fixes n count → Judges m c x → Judges (sized_by n m) c result }
+    ensures judged { (n m : Meaning) (c : Bool) → n.start ≡ start → Fixes n count → Judges m c x → Judges (sized_by n m) c result }
+    ensures stops { IfErr count (λ e. result ≡ Err e) }
 {
     let count = count?;
     let x = x?;
@@ -130,6 +133,77 @@ pub(crate) fn cast_typed(
     match copies(&count, 1) {
         Some(width) => Ok(Typed::fitted(alloc, width, signed, x)?),
         None => Err(TextErr::No(refusal(14, start))),
+    }
+}
+
+/// A cast to a type.
+fn layout_cast_typed(
+    alloc: Global,
+    place: Place,
+    layout: &Layout,
+    x: Result<Typed, TextErr>,
+) -> Result<Typed, TextErr>
+    requires { IsSound layout.now }
+    ensures { (m : Meaning) (c : Bool) → Judges m c x → Judges (from place (to_layout (layout_is layout.now) m)) c result }
+{
+    let x = x?;
+    Ok(Typed::fitted(alloc, layout.width, layout.signed, x)?)
+}
+
+// The layout of a type.
+fn layout_of(what: &What) -> Option<&Layout>
+    requires { WhatIsSound what.now }
+    ensures { LayoutUnder (Some (what_is what.now)) (option_copied result) }
+{
+    match what {
+        What::Kind(layout) => Some(layout),
+        What::Number(_) => None,
+        What::Wire { .. } => None,
+        What::Chosen { .. } => None,
+        What::Sampled { .. } => None,
+        What::Genvar => None,
+    }
+}
+
+// The layout of a type under a name.
+fn layout_under(what: Option<&What>) -> Option<&Layout>
+    requires { IfSome what (λ what. WhatIsSound what.now) }
+    ensures { LayoutUnder (option_map what_is (option_copied what.entry)) (option_copied result) }
+{
+    match what {
+        Some(what) => layout_of(what),
+        None => None,
+    }
+}
+
+// The size that a constant gives, or E15.
+#[tactic(auto, using(crate::proofs::Targets::castings))]
+fn count_of(word: &Word, what: &What, constant: bool) -> Result<Fixed, TextErr>
+    ensures { CountUnder word.now (Some (what_is what.now)) constant result }
+{
+    match what {
+        What::Number(known) => {
+            if known.value.is_bool() {
+                Ok(Fixed::new(*known, true))
+            } else {
+                Err(TextErr::No(refusal(15, word.place)))
+            }
+        }
+        What::Kind(_) => Err(TextErr::No(refusal(15, word.place))),
+        What::Wire { .. } => Err(TextErr::No(refusal(15, word.place))),
+        What::Chosen { .. } => Err(TextErr::No(refusal(15, word.place))),
+        What::Sampled { .. } => Err(TextErr::No(refusal(15, word.place))),
+        What::Genvar => Err(TextErr::No(refusal(15, word.place))),
+    }
+}
+
+// The size that a constant under a name gives, or E12 or E15.
+fn count_under(word: &Word, what: Option<&What>, constant: bool) -> Result<Fixed, TextErr>
+    ensures { CountUnder word.now (option_map what_is (option_copied what.entry)) constant result }
+{
+    match what {
+        Some(what) => count_of(word, what, constant),
+        None => Err(no_root(word.place, constant)),
     }
 }
 
@@ -144,28 +218,8 @@ pub(crate) fn name_cast_typed(
     requires { IfSome what (λ what. WhatIsSound what.now) }
     ensures { (m : Meaning) → Judges m constant x → Judges (cast_to word.now (option_map what_is (option_copied what.entry)) m) constant result }
 {
-    match what {
-        Some(What::Kind(layout)) => {
-            let x = x?;
-            Ok(Typed::fitted(alloc, layout.width, layout.signed, x)?)
-        }
-        Some(What::Number(known)) => {
-            if known.value.is_bool() {
-                cast_typed(alloc, word.place, Ok(Fixed::new(*known, true)), x)
-            } else {
-                Err(TextErr::No(refusal(15, word.place)))
-            }
-        }
-        Some(What::Wire { .. }) => Err(TextErr::No(refusal(15, word.place))),
-        Some(What::Chosen { .. }) => Err(TextErr::No(refusal(15, word.place))),
-        Some(What::Sampled { .. }) => Err(TextErr::No(refusal(15, word.place))),
-        Some(What::Genvar) => Err(TextErr::No(refusal(15, word.place))),
-        None => {
-            if constant {
-                Err(TextErr::No(refusal(15, word.place)))
-            } else {
-                Err(TextErr::No(refusal(12, word.place)))
-            }
-        }
+    match layout_under(what) {
+        Some(layout) => layout_cast_typed(alloc, word.place, layout, x),
+        None => cast_typed(alloc, word.place, count_under(word, what, constant), x),
     }
 }

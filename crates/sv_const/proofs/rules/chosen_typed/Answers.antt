@@ -1,7 +1,7 @@
 use Rattle.std.proofs.Common.{◌++◌}
 use Rattle.std.proofs.lemmas.Result.{err_from_is_err_and}
 use Rattle.sv_const.proofs.Judged.{typed_err}
-use Rattle.sv_const.proofs.Typing.{cause_left, cause_right}
+use Rattle.sv_const.proofs.OfRules.{cause_left, cause_right}
 use Rattle.sv_const.proofs.rules.chosen_typed.Goals as goal
 
 pub returns-in_err-condition : goal.returns-in_err-condition

@@ -1,4 +1,4 @@
-use Rattle.sv_const.proofs.Typing.{literal_typed}
+use Rattle.sv_const.proofs.OfRules.{literal_typed}
 use Rattle.sv_const.proofs.rules.literal_typed.Goals as goal
 
 pub returns-in-Ok : goal.returns-in-Ok

@@ -1,5 +1,5 @@
 use Rattle.std.proofs.lemmas.Result.{err_from_is_err_and}
-use Rattle.sv_const.proofs.Typing.{pair_cause}
+use Rattle.sv_const.proofs.OfRules.{pair_cause}
 use Rattle.sv_const.proofs.rules.pair_typed.Goals as goal
 
 pub returns-in_err-x : goal.returns-in_err-x

@@ -4,7 +4,7 @@ use Rattle.fourvec.specs.Bits.{is_known}
 use Rattle.sv_outside.specs.declared.refusal.Place.{Place}
 use Rattle.sv_meaning.specs.Meanings.{power, whole}
 use Rattle.sv_meaning.specs.Faults.{not_constant}
-use Rattle.sv_const.proofs.Typing.{power_free, power_below, power_ok}
+use Rattle.sv_const.proofs.OfRules.{power_free, power_below, power_ok}
 use Rattle.sv_const.proofs.rules.power_of.Goals as goal
 
 pub returns-then-not-constant : goal.returns-then-not-constant

@@ -2,7 +2,7 @@ use Rattle.std.proofs.Common.{◌++◌}
 use Rattle.std.proofs.lemmas.Result.{err_from_is_err_and}
 use Rattle.sv_meaning.specs.Meanings.{power_faults}
 use Rattle.sv_const.proofs.Judged.{typed_err, typed_ok}
-use Rattle.sv_const.proofs.Typing.{cause_left, cause_right, cause_first}
+use Rattle.sv_const.proofs.OfRules.{cause_left, cause_right, cause_first}
 use Rattle.sv_const.proofs.rules.power_typed.Goals as goal
 
 pub returns-in_err-x : goal.returns-in_err-x

@@ -1,4 +1,7 @@
 use Rattle.sv_const.proofs.sides.name_cast_typed.Goals as goal
 
-pub returns-in-Some-Kind : goal.returns-in-Some-Kind
-returns-in-Some-Kind c = ?
+pub returns-in-Some : goal.returns-in-Some
+returns-in-Some c = ?
+
+pub returns-in-None : goal.returns-in-None
+returns-in-None c = ?
