@@ -1,7 +1,8 @@
 -- What an expression is typed as, by its production.
-use Rattle.std.proofs.Common.{◌≡◌, ℕ, zero, suc, ◌+◌, ◌<◌, ◌≤◌, Bool, true, false, List, [], ◌∷◌, ◌++◌, length, take, drop, get_or, map, refl, sym, ap, ◌∙◌, subst, Result, Ok, Err, arith, append_assoc, tt}
+use Rattle.std.proofs.Common.{◌≡◌, ℕ, zero, suc, ◌+◌, ◌<◌, ◌≤◌, Bool, true, false, List, [], ◌∷◌, ◌++◌, length, take, drop, get_or, map, refl, sym, ap, ◌∙◌, subst, Result, Ok, Err, arith, append_assoc}
 use Rattle.std.specs.Result.{IfOk}
-use Rattle.std.specs.List.{Contains, All, AllZip}
+use Rattle.std.specs.List.{Contains, All, AllZip, AllByRecursion}
+use Rattle.std.proofs.lemmas.List.Elements.{All-from_recursion, recursion_from_All}
 use Rattle.std.proofs.lemmas.List.{append-nil, map-append, take_all}
 use Rattle.std.proofs.Math.Seq.{take-suc}
 use Rattle.sv_outside.specs.declared.refusal.Refusal.{Refusal}
@@ -18,8 +19,8 @@ use Rattle.sv_tree.specs.declared.exprs.Expr.TheVariants as e
 use Rattle.sv_tree.specs.declared.exprs.Select.{Select}
 use Rattle.sv_tree.specs.declared.exprs.Select.TheVariants as s
 use Rattle.sv_meaning.specs.Faults.{Faults}
-use Rattle.sv_meaning.specs.Layouts.{Layout, Scope, find}
-use Rattle.sv_meaning.specs.Meanings.{Meaning, from, power, chosen, concat, repeated, sized_by, cast_to, to_sign, log_up, of_literal, named, parts, fixed_faults, to_member, to_index, to_range}
+use Rattle.sv_meaning.specs.Layouts.{Layout, Scope, find, width, is_signed}
+use Rattle.sv_meaning.specs.Meanings.{Meaning, from, power, chosen, concat, repeated, sized_by, cast_to, to_sign, log_up, of_literal, named, parts, fixed_faults, Step, step_faults, chain_faults, to_member, to_index, to_range}
 use Rattle.sv_meaning.specs.Values.{mean, step, is_signed_word}
 use Rattle.sv_typed.specs.declared.tree.Typed.{Typed}
 use Rattle.sv_typed.specs.declared.ops.Pair.{Pair}
@@ -33,7 +34,13 @@ use Rattle.sv_const.specs.declared.fixed.Fixed.{Fixed}
 use Rattle.sv_const.specs.declared.cursor.Cursor.{Cursor}
 use Rattle.sv_typed.specs.declared.tree.Pick.{Pick}
 use Rattle.sv_const.specs.Judging.{IsCause, IsTyped, Types, Judges, AreTyped, JudgesAll, IsFixed, Fixes}
-use Rattle.sv_const.specs.Picks.{Leads}
+use Rattle.sv_const.specs.declared.chain.Chain.{Chain}
+use Rattle.sv_const.specs.Picks.{Leads, Picks, Chains, Follows}
+use Rattle.sv_const.specs.Roots.{IsChain}
+use Rattle.sv_const.proofs.Lists.{both_clear}
+use Rattle.sv_const.proofs.Judged.{cause_from}
+use Rattle.sv_const.proofs.OfRules.{cause_left, cause_right}
+use Rattle.sv_const.proofs.Chains.{chain_start, chain_more, cause_behind, follows}
 use Rattle.sv_const.proofs.Fixing.{from_start, fixed_here}
 use Rattle.sv_const.proofs.Made.{mean_literal, mean_name, mean_paren, mean_concat, mean_repeat, mean_cast_literal, mean_cast_name, mean_cast_paren, mean_cast_sign, mean_system, mean_unary, mean_binary, mean_choose, step_member, step_index, step_range}
 
@@ -121,11 +128,86 @@ led_range at j x v p a m b r h k = leads_as j x _ _ r (ap (step at) h ∙ step_r
 
 pub ruleset steps = (led_member, led_index, led_range)
 
+-- ---- a list up to an element, and behind it
+
+split_at : {A : Type 0} (xs : List A) (i : ℕ) (x : A) → i < length xs → x ≡ get_or xs i x → xs ≡ take i xs ++ x ∷ drop (suc i) xs
+split_at [] i x h e = absurd (omega arith)
+split_at (y ∷ xs) zero x h e = ap (λ z. z ∷ xs) (sym e)
+split_at (y ∷ xs) (suc i) x h e = ap (λ z. y ∷ z) (split_at xs i x (omega arith) e)
+
+take_next : {A : Type 0} (xs : List A) (i : ℕ) (x : A) → i < length xs → x ≡ get_or xs i x → take (i + 1) xs ≡ take i xs ++ x ∷ []
+take_next xs i x h e = let n : i + 1 ≡ suc i = omega arith in ap (λ (k : ℕ). take k xs) n ∙ take-suc xs i x h ∙ ap (λ z. take i xs ++ z ∷ []) (sym e)
+
 -- ---- parts of a concatenation
 
-faults_push : (c : Bool) (all : List Meaning) (m : Meaning) → (parts (all ++ m ∷ [])).faults c ≡ (parts all).faults c ++ m.faults c
+faults_join : (c : Bool) (all more : List Meaning) → (parts (all ++ more)).faults c ≡ (parts all).faults c ++ (parts more).faults c
 unfolding parts
-faults_push c [] m = append-nil (m.faults c)
-faults_push c (a ∷ all) m = ap (λ (x : Faults). a.faults c ++ x) (faults_push c all m) ∙ sym (append_assoc (a.faults c) ((parts all).faults c) (m.faults c))
+faults_join c [] more = refl
+faults_join c (a ∷ all) more = ap (λ (x : Faults). a.faults c ++ x) (faults_join c all more) ∙ sym (append_assoc (a.faults c) ((parts all).faults c) ((parts more).faults c))
 
-pub ruleset parts_of = (faults_push)
+one_part : (c : Bool) (m : Meaning) → (parts (m ∷ [])).faults c ≡ m.faults c
+unfolding parts
+one_part c m = append-nil (m.faults c)
+
+zip_push : (xs : List Typed) (ys : List Meaning) (x : Typed) (y : Meaning) → AllZip Stands xs ys → Stands x y → AllZip Stands (xs ++ x ∷ []) (ys ++ y ∷ [])
+zip_push [] [] x y h k = (k, h)
+zip_push [] (b ∷ ys) x y h k = absurd h
+zip_push (a ∷ xs) [] x y h k = absurd h
+zip_push (a ∷ xs) (b ∷ ys) x y h k = (h.0, zip_push xs ys x y h.1 k)
+
+sound_push : (xs : List Typed) (x : Typed) → AllByRecursion IsSound xs → IsSound x → AllByRecursion IsSound (xs ++ x ∷ [])
+sound_push [] x h k = (k, h)
+sound_push (a ∷ xs) x h k = (h.0, sound_push xs x h.1 k)
+
+pub parts_start : (c : Bool) → AreTyped [] c []
+unfolding parts
+parts_start c = record { clear = refl; stands = tt; sound = λ k d lt. absurd (omega arith) }
+
+pub parts_more : (at : Scope) (all : List Expr) (i : ℕ) (x : Expr) (c : Bool) (list : List Typed) (t : Typed) → i < length all → x ≡ get_or all i x → AreTyped (map (mean at) (take i all)) c list → IsTyped (mean at x) ((mean at x).faults c) t →
+    AreTyped (map (mean at) (take (i + 1) all)) c (list ++ t ∷ [])
+parts_more at all i x c list t lt e h k =
+    let P : List Meaning → Type 0 = λ ms. AreTyped ms c (list ++ t ∷ []) in
+    subst P (sym (ap (map (mean at)) (take_next all i x lt e) ∙ map-append (mean at) (take i all) (x ∷ []))) (record {
+      clear = faults_join c (map (mean at) (take i all)) (mean at x ∷ []) ∙ both_clear _ _ h.clear (one_part c (mean at x) ∙ k.clear);
+      stands = zip_push list (map (mean at) (take i all)) t (mean at x) h.stands k.stands;
+      sound = All-from_recursion IsSound (list ++ t ∷ []) (sound_push list t (recursion_from_All IsSound list h.sound) k.sound);
+    })
+
+pub parts_all : (at : Scope) (all : List Expr) (i : ℕ) (c : Bool) (list : List Typed) → length all ≤ i → AreTyped (map (mean at) (take i all)) c list → AreTyped (map (mean at) all) c list
+parts_all at all i c list h x = let P : List Expr → Type 0 = λ xs. AreTyped (map (mean at) xs) c list in subst P (take_all i all h) x
+
+pub parts_cause : (at : Scope) (all : List Expr) (i : ℕ) (x : Expr) (c : Bool) (v : TextErr) → i < length all → x ≡ get_or all i x → IsCause ((mean at x).faults c) v → IsCause ((parts (map (mean at) all)).faults c) v
+unfolding parts
+parts_cause at all i x c v lt e h =
+    let split = ap (map (mean at)) (split_at all i x lt e) ∙ map-append (mean at) (take i all) (x ∷ drop (suc i) all) in
+    let P : Faults → Type 0 = λ f. IsCause f v in
+    subst P (sym (ap (λ (ms : List Meaning). (parts ms).faults c) split ∙ faults_join c (map (mean at) (take i all)) (map (mean at) (x ∷ drop (suc i) all))))
+    (cause_right ((parts (map (mean at) (take i all))).faults c) _ v (cause_left ((mean at x).faults c) _ v h))
+
+pub ruleset parts_of = (parts_start, parts_more, parts_all, parts_cause)
+
+-- ---- chains of selects
+
+pub chain_begins : (j : Meaning → Faults) (x : Layout) → Chains j x [] [] x
+chain_begins j x = chain_start j x
+
+pub chain_next : (at : Scope) (j : Meaning → Faults) (x y z : Layout) (all : List Select) (i : ℕ) (v : Select) (picks : List Pick) (p : Pick) → i < length all → v ≡ get_or all i v →
+    Chains j x (map (step at) (take i all)) picks y → Picks j y (step at v) p z → Chains j x (map (step at) (take (i + 1) all)) (picks ++ p ∷ []) z
+chain_next at j x y z all i v picks p lt e h k =
+    let P : List Step → Type 0 = λ ss. Chains j x ss (picks ++ p ∷ []) z in
+    subst P (sym (ap (map (step at)) (take_next all i v lt e) ∙ map-append (step at) (take i all) (v ∷ []))) (chain_more j x y z (map (step at) (take i all)) picks (step at v) p h k)
+
+pub chain_cause : (at : Scope) (j : Meaning → Faults) (x y : Layout) (all : List Select) (i : ℕ) (v : Select) (picks : List Pick) (w : TextErr) → i < length all → v ≡ get_or all i v →
+    Chains j x (map (step at) (take i all)) picks y → IsCause (step_faults j y (step at v)) w → IsCause (chain_faults j x (map (step at) all)) w
+chain_cause at j x y all i v picks w lt e h k =
+    let split = ap (map (step at)) (split_at all i v lt e) ∙ map-append (step at) (take i all) (v ∷ drop (suc i) all) in
+    let P : List Step → Type 0 = λ ss. IsCause (chain_faults j x ss) w in
+    subst P (sym split) (cause_from (step_faults j y (step at v)) _ (λ r. cause_behind j x y (map (step at) (take i all)) picks (step at v) (map (step at) (drop (suc i) all)) r h) w k)
+
+pub chain_ends : (at : Scope) (j : Meaning → Faults) (x y : Layout) (all : List Select) (i : ℕ) (picks : List Pick) (c : Chain) → length all ≤ i → Chains j x (map (step at) (take i all)) picks y →
+    c.picks ≡ picks → c.width ≡ width y → c.signed ≡ is_signed y → IsChain j x (map (step at) all) c
+chain_ends at j x y all i picks c lt h p w s =
+    let f : Follows j x (map (step at) all) picks y = subst (λ xs. Follows j x (map (step at) xs) picks y) (take_all i all lt) (follows j x y (map (step at) (take i all)) picks h) in
+    record { layout = y; follows = subst (λ q. Follows j x (map (step at) all) q y) (sym p) f; width = sym w; signed = sym s }
+
+pub ruleset chained = (chain_begins, chain_next, chain_cause, chain_ends)

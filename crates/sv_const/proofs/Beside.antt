@@ -241,3 +241,9 @@ some_width k (suc v) h = omega arith
 
 pub layout_ok : (p : Place) (x : Layout) (m : Meaning) (c : Bool) (a t : Typed) → IsTyped m (m.faults c) a → Stands t (from p (to_layout x m)) → IsSound t → IsTyped (from p (to_layout x m)) (m.faults c) t
 layout_ok p x m c a t h s y = record { clear = h.clear; stands = s; sound = y }
+
+pub same_length : (at : Scope) (exprs : List Expr) (parts : List Typed) → AllZip Stands parts (map (mean at) exprs) → length parts ≡ length exprs
+same_length at [] [] h = refl
+same_length at [] (p ∷ parts) h = absurd h
+same_length at (y ∷ exprs) [] h = absurd h
+same_length at (y ∷ exprs) (p ∷ parts) h = ap suc (same_length at exprs parts h.1)

@@ -1,5 +1,5 @@
 -- Casts to the size or the type that a name gives.
-use Rattle.std.proofs.Common.{◌≡◌, ℕ, ◌-◌, ◌*◌, ◌≤◌, Bool, true, false, nat_lt, not, List, [], ◌++◌, length, Option, Some, None, refl, sym, ap, ◌∙◌, subst, arith, pos}
+use Rattle.std.proofs.Common.{◌≡◌, ℕ, ◌-◌, ◌*◌, ◌≤◌, Bool, true, false, nat_lt, not, List, [], ◌++◌, length, Option, Some, None, Result, Ok, Err, refl, sym, ap, ◌∙◌, subst, arith, pos}
 use Rattle.std.proofs.lemmas.Bool.Decides.{nat_tests}
 use Rattle.std.proofs.lemmas.Int.{ints}
 use Rattle.std.specs.List.{Contains}
@@ -11,10 +11,15 @@ use Rattle.sv_outside.specs.declared.refusal.Refusal.{Refusal}
 use Rattle.sv_tree.specs.declared.word.Word.{Word}
 use Rattle.sv_meaning.specs.Faults.{Faults, fault_if, or_then, not_constant, unknown_name}
 use Rattle.sv_meaning.specs.Layouts.{Layout, width, plain, count_between, What, number_is, type_is, signal_is, genvar_is, Origin}
-use Rattle.sv_meaning.specs.Meanings.{Meaning, named, constant_named, cast_to, constant_of, fixed_faults, chain_bits, chain_layout, chain_faults, all_indices, extend}
+use Rattle.sv_meaning.specs.Meanings.{Meaning, from, to_layout, sized_by, named, constant_named, cast_to, constant_of, fixed_faults, chain_bits, chain_layout, chain_faults, all_indices, extend}
 use Rattle.sv_const.specs.declared.fixed.Fixed.{Fixed}
 use Rattle.sv_const.specs.declared.layout.Known.{Known}
-use Rattle.sv_const.specs.Judging.{IsFixed}
+use Rattle.std.specs.Result.{IfErr}
+use Rattle.sv_typed.specs.declared.tree.Typed.{Typed}
+use Rattle.sv_const.specs.declared.layout.Layout as l
+use Rattle.sv_const.specs.Kinds.{layout_is}
+use Rattle.sv_const.specs.Casts.{LayoutUnder, CountUnder, Refuses}
+use Rattle.sv_const.specs.Judging.{IsFixed, Fixes, Judges}
 use Rattle.sv_const.proofs.Lists.{in_left, in_first, in_second, in_fault, no_fault, then_clear}
 
 some_test : (n : ℕ) → 1 ≤ n → nat_lt 0 n ≡ true
@@ -51,9 +56,33 @@ number_unknown : (w : Word) (v : List Bit) (s : Bool) → 1 ≤ length v → is_
 unfolding chain_layout chain_faults
 number_unknown w v s h k = in_fault _ not_constant w.place (ap not (ap is_known (number_own w v s h) ∙ k))
 
-pub number_cause : (w : Word) (v : List Bit) (s : Bool) (m : Meaning) (c : Bool) → 1 ≤ length v → is_known v ≡ false → Contains ((cast_to w (Some (number_is v s)) m).faults c) (record { number = not_constant; place = w.place; count = 0 })
-number_cause w v s m c h k =
-    in_first (fixed_faults (named w (Some (number_is v s)) []) ++ m.faults c) _ _ (in_left (fixed_faults (named w (Some (number_is v s)) [])) (m.faults c) _
-    (subst (λ b. Contains (fixed_faults (constant_named b w v s [])) (record { number = not_constant; place = w.place; count = 0 })) (sym (some_test (length v) h)) (number_unknown w v s h k)))
+pub number_unfixed : (w : Word) (v : List Bit) (s : Bool) → 1 ≤ length v → is_known v ≡ false → Contains (fixed_faults (named w (Some (number_is v s)) [])) (record { number = not_constant; place = w.place; count = 0 })
+number_unfixed w v s h k = subst (λ b. Contains (fixed_faults (constant_named b w v s [])) (record { number = not_constant; place = w.place; count = 0 })) (sym (some_test (length v) h)) (number_unknown w v s h k)
 
-pub ruleset castings = (number_fixed, number_cause)
+pub ruleset castings = (number_fixed, number_unfixed)
+
+-- ---- the two kinds of targets
+
+pub cast_type : (w : Word) (o : Option What) (x : l.Layout) (m : Meaning) (c : Bool) (r : Result Typed TextErr) → LayoutUnder o (Some x) → Judges (from w.place (to_layout (layout_is x) m)) c r → Judges (cast_to w o m) c r
+cast_type w None x m c r h k = absurd h
+cast_type w (Some (number_is v s)) x m c r h k = absurd h
+cast_type w (Some (type_is t)) x m c r h k = subst (λ y. Judges (from w.place (to_layout y m)) c r) h.0 k
+cast_type w (Some (signal_is o n y)) x m c r h k = absurd h
+cast_type w (Some genvar_is) x m c r h k = absurd h
+
+number_start : (b : Bool) (w : Word) (v : List Bit) (s : Bool) → (constant_named b w v s []).start ≡ w.place
+unfolding chain_layout
+number_start true w v s = refl
+number_start false w v s = refl
+
+refused_cast : (k : Meaning → Meaning) (m : Meaning) (c : Bool) (count : Result Fixed TextErr) (r : Result Typed TextErr) → Refuses k c count → IfErr count (λ e. r ≡ Err e) → Judges (k m) c r
+refused_cast k m c (Ok f) r h e = absurd h
+refused_cast k m c (Err x) r h e = subst (Judges (k m) c) (sym e) (h m)
+
+pub cast_other : (w : Word) (o : Option What) (m : Meaning) (c : Bool) (count : Result Fixed TextErr) (r : Result Typed TextErr) → LayoutUnder o None → CountUnder w o c count →
+    ((n : Meaning) → n.start ≡ w.place → Fixes n count → Judges (sized_by n m) c r) → IfErr count (λ e. r ≡ Err e) → Judges (cast_to w o m) c r
+cast_other w None m c count r h k j e = refused_cast (cast_to w None) m c count r k e
+cast_other w (Some (number_is v s)) m c count r h k j e = j (named w (Some (number_is v s)) []) (number_start (nat_lt 0 (length v)) w v s) k
+cast_other w (Some (type_is t)) m c count r h k j e = absurd h
+cast_other w (Some (signal_is o n y)) m c count r h k j e = refused_cast (cast_to w (Some (signal_is o n y))) m c count r k e
+cast_other w (Some genvar_is) m c count r h k j e = refused_cast (cast_to w (Some genvar_is)) m c count r k e

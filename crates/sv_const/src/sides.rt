@@ -1,12 +1,12 @@
 // Concatenations, replications and casts to a size.
-ghost use Rattle.std.specs.Prelude.{◌≡◌, Bool, List, map, Err, IfErr, length, Some, IfSome, IsTrue, option_map};
+ghost use Rattle.std.specs.Prelude.{◌≡◌, Bool, List, map, Err, IfErr, Some, IfSome, IsTrue, option_map};
 ghost use Rattle.std.specs.Option.{option_copied};
 ghost use Rattle.std.specs.List.{AllZip};
 ghost use Rattle.sv_typed.specs.Typed.{Stands};
 ghost use Rattle.sv_meaning.specs.Layouts.{Scope};
 ghost use Rattle.sv_meaning.specs.Meanings.{Meaning, from, to_layout, concat, repeated, sized_by, cast_to, whole, is_bound};
 ghost use Rattle.sv_meaning.specs.Values.{mean};
-ghost use Rattle.sv_const.specs.Judging.{Judges, AreTyped, Loose, IsFixed, Fixes, is_loose};
+ghost use Rattle.sv_const.specs.Judging.{Judges, JudgesAll, AreTyped, Loose, IsFixed, Fixes, is_loose};
 ghost use Rattle.sv_const.specs.Kinds.{what_is, layout_is, IsSound, WhatIsSound};
 ghost use Rattle.sv_const.specs.Ranges.{JudgesCopies};
 ghost use Rattle.sv_const.specs.Casts.{LayoutUnder, CountUnder};
@@ -35,11 +35,10 @@ fn is_loose(typed: &Typed) -> bool
 }
 
 // Where the first part stands that has no size.
-pub(crate) fn loose_in(exprs: &[Expr], parts: &[Typed]) -> Option<Place>
-    requires { length exprs.now ≡ length parts.now }
+fn loose_in(exprs: &[Expr], parts: &[Typed]) -> Option<Place>
     ensures { (at : Scope) → AllZip Stands parts.now (map (mean at) exprs.now) → Loose (map (mean at) exprs.now) result }
 {
-    'parts: for i in 0..parts.len() {
+    'parts: for i in 0..parts.len().min(exprs.len()) {
         if is_loose(&parts[i]) {
             return Some(start(&exprs[i]));
         }
@@ -76,7 +75,7 @@ fn copies(count: &Fixed, each: u8) -> Option<u8>
 }
 
 /// Parts side by side, or E14.
-pub(crate) fn concat_typed(
+fn concat_typed(
     place: Place,
     loose: Option<Place>,
     parts: Items<Typed>,
@@ -99,7 +98,7 @@ pub(crate) fn concat_typed(
 }
 
 /// So many copies of parts side by side, or E14.
-pub(crate) fn repeat_typed(
+fn repeat_typed(
     place: Place,
     count: &Fixed,
     loose: Option<Place>,
@@ -115,6 +114,34 @@ pub(crate) fn repeat_typed(
             None => Err(TextErr::No(refusal(14, place))),
         },
     }
+}
+
+/// A concatenation of these expressions, typed.
+pub(crate) fn concat_of(
+    place: Place,
+    exprs: &[Expr],
+    list: Result<Items<Typed>, TextErr>,
+) -> Result<Typed, TextErr>
+    ensures { (at : Scope) (c : Bool) → JudgesAll (map (mean at) exprs.now) c list → Judges (concat place (map (mean at) exprs.now)) c result }
+{
+    let list = list?;
+    let loose = loose_in(exprs, list.as_slice());
+    concat_typed(place, loose, list)
+}
+
+/// So many copies of these expressions, typed.
+pub(crate) fn repeat_of(
+    place: Place,
+    count: Result<Fixed, TextErr>,
+    exprs: &[Expr],
+    list: Result<Items<Typed>, TextErr>,
+) -> Result<Typed, TextErr>
+    ensures { (at : Scope) (n : Meaning) (c : Bool) → Fixes n count → JudgesAll (map (mean at) exprs.now) c list → Judges (repeated place n (map (mean at) exprs.now)) c result }
+{
+    let count = count?;
+    let list = list?;
+    let loose = loose_in(exprs, list.as_slice());
+    repeat_typed(place, &count, loose, list)
 }
 
 /// A cast to a size, or E14.

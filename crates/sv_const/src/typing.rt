@@ -19,7 +19,7 @@ use crate::roots::{named_by, root_of, rule_of};
 use crate::rules::{
     chosen_typed, literal_typed, log_typed, one_typed, pair_typed, power_typed, sign_typed,
 };
-use crate::sides::{cast_typed, concat_typed, loose_in, name_cast_typed, repeat_typed};
+use crate::sides::{cast_typed, concat_of, name_cast_typed, repeat_of};
 use crate::start::{is_signed, start};
 use items::Items;
 use std::alloc::Global;
@@ -29,7 +29,7 @@ use sv_typed::{One, Pick, Turn, Two, Typed, one_of, two_of};
 
 /// An expression typed over the names of a place, where it has to be `constant` or may name signals; or why it is refused:
 /// E2, E12, E14, E15, E16, E23 or E25.
-#[tactic(auto, using(crate::proofs::Arms::judged))]
+#[tactic(auto, using(crate::proofs::Arms::judged, crate::proofs::Arms::sound_of_judged))]
 #[cycle(expr)]
 pub fn typed(
     alloc: Global,
@@ -47,17 +47,17 @@ pub fn typed(
             One::Turned(Turn::Plus),
             typed(alloc, inner.get(), names, constant),
         ),
-        Expr::Concat(place, parts) => {
-            let list = typed_parts(alloc, parts.as_slice(), names, constant)?;
-            let loose = loose_in(parts.as_slice(), list.as_slice());
-            concat_typed(*place, loose, list)
-        }
-        Expr::Repeat(place, count, parts) => {
-            let count = fixed(alloc, count.get(), names)?;
-            let list = typed_parts(alloc, parts.as_slice(), names, constant)?;
-            let loose = loose_in(parts.as_slice(), list.as_slice());
-            repeat_typed(*place, &count, loose, list)
-        }
+        Expr::Concat(place, parts) => concat_of(
+            *place,
+            parts.as_slice(),
+            typed_parts(alloc, parts.as_slice(), names, constant),
+        ),
+        Expr::Repeat(place, count, parts) => repeat_of(
+            *place,
+            fixed(alloc, count.get(), names),
+            parts.as_slice(),
+            typed_parts(alloc, parts.as_slice(), names, constant),
+        ),
         Expr::CastLiteral(word, inner) => cast_typed(
             alloc,
             word.place,
@@ -168,6 +168,7 @@ fn named_typed(
 }
 
 /// The selects behind a place of a layout as parts of its bits, where each index is judged so; or why they are refused.
+#[tactic(auto, using(crate::proofs::Arms::chained))]
 #[cycle(expr)]
 pub(crate) fn select_chain(
     alloc: Global,

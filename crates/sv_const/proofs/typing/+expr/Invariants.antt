@@ -6,11 +6,11 @@ use Rattle.sv_const.specs.Names.{names_are}
 use Rattle.sv_const.specs.Picks.{Chains, rule_faults}
 use Rattle.sv_const.proofs.typing.+expr.Given as goal
 
-abbrev pub invariant-selects : goal.invariant-selects
-invariant-selects l = record {
+abbrev pub invariant-select_chain-selects : goal.invariant-select_chain-selects
+invariant-select_chain-selects l = record {
   chains : Chains (rule_faults l.rule) (cursor_is l.at) (map (step (names_are l.names)) (take l.select-index l.selects)) l.picks (cursor_is l.end);
   sound : CursorIsSound l.end;
 }
 
-abbrev pub invariant-parts : goal.invariant-parts
-invariant-parts l = AreTyped (map (mean (names_are l.names)) (take l.expr-index l.all)) l.constant l.list
+abbrev pub invariant-typed_parts-parts : goal.invariant-typed_parts-parts
+invariant-typed_parts-parts l = AreTyped (map (mean (names_are l.names)) (take l.expr-index l.all)) l.constant l.list
