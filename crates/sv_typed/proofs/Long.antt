@@ -1,14 +1,14 @@
 -- The bits of a sound expression are as many as its context has.
-use Rattle.std.proofs.Common.{◌≡◌, ℕ, zero, suc, ◌+◌, ◌*◌, ◌≤◌, max, Bool, true, false, ◌&&◌, List, [], ◌∷◌, ◌++◌, length, replicate, Option, Some, None, refl, sym, ap, ◌∙◌, arith, cond}
+use Rattle.std.proofs.Common.{◌≡◌, ℕ, zero, suc, ◌≤◌, max, Bool, true, false, ◌&&◌, List, length, replicate, Option, Some, None, refl, sym, ap, ◌∙◌, arith, cond}
 use Rattle.std.proofs.lemmas.List.{length-replicate, length-append}
 use mathlib.Core.Former.{Count}
 use Rattle.fourvec.specs.declared.Bit.{Bit}
 use Rattle.fourvec.specs.declared.Bit.TheVariants.{Unknown}
-use Rattle.fourvec.specs.Bits.{first, is_known, all_x, truth_of}
+use Rattle.fourvec.specs.Bits.{first, is_known, truth_of}
 use Rattle.fourvec.proofs.Widths as widths
 use Rattle.sv_literal.specs.declared.meaning.Literal as l
 use Rattle.sv_meaning.specs.Layouts.{Read}
-use Rattle.sv_meaning.specs.Meanings.{nowhere, power_of, copies, fitted, bits_at, bits_from, extend}
+use Rattle.sv_meaning.specs.Meanings.{power_of, bits_at, bits_from, extend}
 use Rattle.sv_meaning.proofs.Good.{length-extend, length-quotient, length-remainder, length-moved_down, length-less}
 use Rattle.sv_meaning.proofs.Rising.{length-copies, length-fitted, length-bits_at}
 use Rattle.sv_typed.specs.declared.ops.Turn.{Turn}
@@ -28,7 +28,7 @@ use Rattle.sv_typed.specs.declared.tree.Root.TheVariants.{Number, Signal}
 use Rattle.sv_typed.specs.declared.tree.Typed.{Typed}
 use Rattle.sv_typed.specs.declared.tree.TypedForm.{TypedForm, Literal, Named', Turned', Reduced', Computed', Moved', Compared', Combined', Chosen', Power', Concat', Repeat', Standing', Fitted', Row_of-Typed, end_of-Typed, more_of-Typed, Row_of-Pick, end_of-Pick, more_of-Pick}
 use Rattle.sv_typed.specs.Ops.{turned, reduced, computed, moved, compared, combined, combined_truths}
-use Rattle.sv_typed.specs.Typed.{form_worth, row_together, row_picked, row_width, row_picked_width, place_in, root_bits, root_width, raised, literal_bits, LiteralIsSound, FormIsSound, RowIsSound, ArePicksSound, IsSound, worth, own}
+use Rattle.sv_typed.specs.Typed.{form_worth, row_together, row_picked, row_width, row_picked_width, place_in, root_bits, root_width, raised, literal_bits, FormIsSound, RowIsSound, IsSound, worth, own}
 
 -- ---- operators
 
@@ -155,3 +155,5 @@ length-worth t h read w s k = form_long t.width t.form h read w s k
 
 pub length-own : (t : Typed) → IsSound t → (read : Read) → length (own t read) ≡ t.width
 length-own t h read = length-worth t h read t.width t.signed (omega arith)
+
+pub ruleset lengths = (length-worth, length-own)

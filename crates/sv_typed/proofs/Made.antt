@@ -1,5 +1,5 @@
 -- What a node made of typed parts stands for, and that it is sound.
-use Rattle.std.proofs.Common.{◌≡◌, ℕ, ◌+◌, ◌*◌, ◌≤◌, max, Bool, true, false, ◌&&◌, List, [], ◌∷◌, ◌++◌, Option, Some, None, refl, sym, ap, ◌∙◌, subst, arith, cond, ℤ, pos, negsuc, nat_abs, int_lt, not, inl, inr, ◌⊎◌}
+use Rattle.std.proofs.Common.{◌≡◌, ℕ, max, Bool, true, false, ◌&&◌, List, ◌++◌, None, refl, sym, ap, ◌∙◌, subst, cond, ℤ, pos, negsuc, nat_abs, int_lt, not, inl, inr}
 use Rattle.std.specs.List.{Contains}
 use Rattle.std.proofs.lemmas.List.Elements.{Contains-append_left, Contains-append_right, Contains-append_cases}
 use Rattle.sv_outside.specs.declared.refusal.Place.{Place}
@@ -7,7 +7,7 @@ use Rattle.fourvec.specs.declared.Bit.{Bit}
 use Rattle.fourvec.specs.Bits.{all_x, is_known}
 use Rattle.sv_meaning.specs.Faults.{Faults, fault_if, bad_width}
 use Rattle.sv_meaning.specs.Layouts.{Read, Origin as Owner, Layout, width, is_signed}
-use Rattle.sv_meaning.specs.Meanings.{Meaning, nowhere, from, needs, with_faults, joined, context_one, context_two, shift, comparison, reduction, logical, chosen, power, power_of, to_power, power_faults, constant_of, number_of, whole, to_sign, to_layout, sized_by, standing, fitted, fixed_faults, is_width}
+use Rattle.sv_meaning.specs.Meanings.{Meaning, nowhere, from, needs, with_faults, joined, context_one, context_two, shift, comparison, reduction, logical, chosen, power, to_power, power_faults, constant_of, number_of, whole, to_sign, to_layout, sized_by, standing, fitted, fixed_faults, is_width}
 use Rattle.sv_typed.specs.declared.ops.Turn.{Turn}
 use Rattle.sv_typed.specs.declared.ops.Reduction.{Reduction}
 use Rattle.sv_typed.specs.declared.ops.Arithmetic.{Arithmetic}
@@ -19,7 +19,7 @@ use Rattle.sv_typed.specs.declared.tree.TypedForm.{TypedForm}
 use Rattle.sv_typed.specs.declared.tree.TypedForm.TheVariants as f
 use Rattle.sv_typed.specs.declared.tree.PickPlace.TheBlock.{shape-the_row-Typed-0, hidden-the_row-Typed-0}
 use Rattle.sv_typed.specs.Ops.{turned, reduced, computed, moved, compared, combined_truths}
-use Rattle.sv_typed.specs.Typed.{form_worth, form_names, form_literal, names_of, literal_of, clothed, Stands, worth, own, raised, natural, exponent_of, IsWidth, FormIsSound, IsSound}
+use Rattle.sv_typed.specs.Typed.{form_worth, form_names, names_of, literal_of, clothed, Stands, worth, own, raised, natural, exponent_of}
 
 -- ---- trees that are equal
 

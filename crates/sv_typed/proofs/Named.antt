@@ -1,22 +1,20 @@
 -- Names with their selects, literals and logarithms.
-use Rattle.std.proofs.Common.{◌≡◌, ℕ, zero, suc, ◌≤◌, Bool, true, false, ◌&&◌, List, [], ◌∷◌, ◌++◌, length, replicate, Option, Some, None, refl, sym, ap, ◌∙◌, subst, arith, IsTrue}
-use Rattle.std.specs.List.{Contains, AllByRecursion, All}
-use Rattle.std.proofs.lemmas.List.Elements.{recursion_from_All}
+use Rattle.std.proofs.Common.{◌≡◌, ℕ, Bool, true, ◌&&◌, List, [], ◌∷◌, ◌++◌, length, refl, sym, ap, ◌∙◌, subst, arith}
+use Rattle.std.specs.List.{Contains, AllByRecursion}
 use Rattle.fourvec.specs.declared.Bit.{Bit}
-use Rattle.fourvec.specs.declared.Bit.TheVariants.{Unknown}
 use Rattle.fourvec.specs.Bits.{vector, number, is_known, low_plane}
 use Rattle.sv_outside.specs.declared.refusal.Place.{Place}
 use Rattle.sv_literal.specs.declared.meaning.Literal as l
 use Rattle.sv_meaning.specs.Faults.{Faults}
 use Rattle.sv_meaning.specs.Layouts.{Read, Origin as Owner}
-use Rattle.sv_meaning.specs.Meanings.{Meaning, from, nowhere, bits_at, bits_from, extend, literal_meaning, log_up, log_from, constant_of}
+use Rattle.sv_meaning.specs.Meanings.{Meaning, from, bits_at, extend, literal_meaning, log_up, log_from, constant_of}
 use Rattle.sv_typed.specs.declared.tree.Typed.{Typed}
 use Rattle.sv_typed.specs.declared.tree.TypedForm.TheVariants as f
 use Rattle.sv_typed.specs.declared.tree.Pick.{Pick}
 use Rattle.sv_typed.specs.declared.tree.Root.{Root}
-use Rattle.sv_typed.specs.declared.tree.Root.TheVariants.{Number, Signal}
+use Rattle.sv_typed.specs.declared.tree.Root.TheVariants.{Number}
 use Rattle.sv_typed.specs.declared.tree.PickPlace.TheBlock.{shape-the_row-Pick-1, hidden-the_row-Pick-1}
-use Rattle.sv_typed.specs.Typed.{form_worth, form_names, form_literal, row_picked, row_picked_width, pick_names, place_in, place_names, ArePicksSound, PickIsSound, FormIsSound, names_of, names_picked, root_bits, root_names, root_width, root_is_constant, are_constant_picks, picked, picked_width, worth, literal_bits, Stands, IsNamed}
+use Rattle.sv_typed.specs.Typed.{form_worth, form_names, form_literal, row_picked, row_picked_width, pick_names, place_in, place_names, ArePicksSound, PickIsSound, FormIsSound, names_of, names_picked, root_bits, root_names, root_width, root_is_constant, are_constant_picks, picked, picked_width, worth, Stands, IsNamed}
 use Rattle.sv_typed.proofs.Made.{stands_by}
 use Rattle.sv_typed.proofs.Vectors.{number_is}
 

@@ -1,5 +1,5 @@
 -- Parts side by side, as trees hold them and as lists.
-use Rattle.std.proofs.Common.{◌≡◌, ℕ, zero, suc, ◌+◌, ◌-◌, ◌*◌, ◌≤◌, max, Bool, true, false, ◌&&◌, List, [], ◌∷◌, ◌++◌, length, Option, Some, None, refl, sym, ap, ◌∙◌, subst, arith, nat_abs, int_lt, pos, not}
+use Rattle.std.proofs.Common.{◌≡◌, ℕ, ◌+◌, ◌*◌, Bool, false, ◌&&◌, List, [], ◌∷◌, ◌++◌, length, refl, sym, ap, ◌∙◌, subst, arith, nat_abs, not}
 use Rattle.std.proofs.lemmas.List.{length-append}
 use Rattle.std.specs.List.{Contains, AllZip, AllByRecursion, All}
 use Rattle.std.proofs.lemmas.List.Elements.{recursion_from_All}
@@ -11,12 +11,11 @@ use Rattle.sv_meaning.specs.Layouts.{Read, Origin as Owner}
 use Rattle.sv_meaning.specs.Meanings.{Meaning, from, needs, with_faults, standing, joined, parts, copies, concat, repeated, number_of, fixed_faults, is_width, all_loose, repeat_faults, extend}
 use Rattle.sv_meaning.specs.Meanings as meanings
 use Rattle.sv_typed.specs.declared.tree.Typed.{Typed}
-use Rattle.sv_typed.specs.declared.tree.TypedForm.{TypedForm}
 use Rattle.sv_typed.specs.declared.tree.TypedForm.TheVariants as f
 use Rattle.sv_typed.specs.declared.tree.PickPlace.TheBlock.{shape-the_row-Typed-2, hidden-the_row-Typed-2}
 use Rattle.sv_typed.specs.Typed.{form_worth, form_names, row_together, row_width, row_names, RowIsSound, form_literal, names_of, names_together, together, width_together, are_constant, worth, own, Stands, FormIsSound, IsSound}
 use Rattle.sv_typed.proofs.Long.{length-own}
-use Rattle.sv_typed.proofs.Made.{both_among, named_as, stands_by, stands_needs, stands_faults, stands_from}
+use Rattle.sv_typed.proofs.Made.{both_among, stands_by, stands_needs, stands_faults}
 
 -- ---- rows of trees are lists
 

@@ -1,7 +1,6 @@
 -- The bits, names and soundness of small trees, worked out by hand.
 use Rattle.std.proofs.Common.{◌≡◌, ℕ, Bool, true, false, [], ◌∷◌, refl, pos, lit≤}
 use Rattle.std.specs.Prelude.{⊤, slice_index_or}
-use Rattle.fourvec.specs.declared.Bit.{Bit}
 use Rattle.fourvec.specs.declared.Bit.TheVariants.{Zero, One, Unknown}
 use Rattle.fourvec.specs.Bits.{vector}
 use Rattle.fourvec.specs.Spots as spots
@@ -15,7 +14,7 @@ use Rattle.sv_typed.specs.declared.tree.TypedForm.TheVariants as form
 use Rattle.sv_typed.specs.declared.tree.Pick.{Pick}
 use Rattle.sv_typed.specs.declared.tree.PickPlace.TheVariants as place
 use Rattle.sv_typed.specs.declared.tree.PickPlace.TheBlock as block
-use Rattle.sv_typed.specs.declared.tree.Root.TheVariants.{Number, Signal}
+use Rattle.sv_typed.specs.declared.tree.Root.TheVariants.{Signal}
 use Rattle.sv_typed.specs.declared.tree.Origin.TheVariants as origin
 use Rattle.sv_typed.specs.declared.ops.Arithmetic.TheVariants as op
 use Rattle.sv_typed.specs.Typed as typed

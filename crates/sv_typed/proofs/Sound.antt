@@ -1,8 +1,7 @@
 -- Sound trees: what is made of sound parts, and the parts of what is sound.
-use Rattle.std.proofs.Common.{◌≡◌, ℕ, zero, suc, ◌+◌, ◌*◌, ◌≤◌, max, Bool, true, false, List, [], ◌∷◌, length, Option, Some, None, refl, sym, ap, ◌∙◌, subst, arith, ℤ}
+use Rattle.std.proofs.Common.{◌≡◌, ℕ, ◌*◌, ◌≤◌, max, List, [], ◌∷◌, length, Option, sym, ap, ◌∙◌, subst, arith, ℤ}
 use Rattle.std.specs.List.{AllByRecursion, All}
-use Rattle.std.proofs.lemmas.List.Elements.{recursion_from_All, All-from_recursion}
-use mathlib.Core.Former.{Count}
+use Rattle.std.proofs.lemmas.List.Elements.{recursion_from_All}
 use Rattle.fourvec.specs.declared.Spot.{Spot}
 use Rattle.fourvec.specs.declared.Bit.{Bit}
 use Rattle.sv_literal.specs.declared.meaning.Literal as l
@@ -15,15 +14,14 @@ use Rattle.sv_typed.specs.declared.ops.Logic.{Logic}
 use Rattle.sv_typed.specs.declared.tree.Root.{Root}
 use Rattle.sv_typed.specs.declared.tree.Root.TheVariants.{Number}
 use Rattle.sv_typed.specs.declared.tree.Pick.{Pick}
-use Rattle.sv_typed.specs.declared.tree.PickPlace.{PickPlace}
 use Rattle.sv_typed.specs.declared.tree.PickPlace.TheVariants as place
 use Rattle.sv_typed.specs.declared.tree.Typed.{Typed}
-use Rattle.sv_typed.specs.declared.tree.TypedForm.{TypedForm, Literal, Named', Turned', Reduced', Computed', Moved', Compared', Combined', Chosen', Power', Concat', Repeat', Standing', Fitted', Row_of-Typed, end_of-Typed, more_of-Typed, Row_of-Pick, end_of-Pick, more_of-Pick}
+use Rattle.sv_typed.specs.declared.tree.TypedForm.{TypedForm, Literal, Named', Turned', Reduced', Computed', Moved', Compared', Combined', Chosen', Power', Concat', Repeat', Standing', Fitted', end_of-Typed, more_of-Typed}
 use Rattle.sv_typed.specs.declared.tree.TypedForm.TheVariants as f
 use Rattle.sv_typed.specs.declared.tree.PickPlace.TheBlock.{shape-the_row-Typed-0, hidden-the_row-Typed-0}
 use Rattle.sv_typed.specs.Typed.{LiteralIsSound, FormIsSound, PlaceIsSound, RootIsSound, PickIsSound, IsSound, IsWidth, root_width, width_together, picked_width}
-use Rattle.sv_typed.proofs.Parts.{row_is_sound, row_width_is, sound_row}
-use Rattle.sv_typed.proofs.Named.{picks_are_sound, row_picked_width_is, sound_picks}
+use Rattle.sv_typed.proofs.Parts.{row_is_sound, row_width_is}
+use Rattle.sv_typed.proofs.Named.{picks_are_sound, row_picked_width_is}
 
 -- ---- each has 1 to 128 bits
 
@@ -136,103 +134,3 @@ sound_fixed p i e h = (h, subst (λ x. PlaceIsSound p.width x) (sym e) tt)
 pub sound_moving : (p : Pick) (a : Typed) (spot : Spot) → p.place ≡ place.Moving a spot → IsWidth p.width → spot.width ≡ p.width → IsSound a → PickIsSound p
 unfolding PickIsSound IsSound FormIsSound shape-the_row-Typed-0 hidden-the_row-Typed-0 denote.Hole.Carrier.hidden
 sound_moving p a spot e h w k = (h, subst (λ x. PlaceIsSound p.width x) (sym e) (w, k))
-
-pub ruleset made = (sound_turned, sound_reduced, sound_computed, sound_moved, sound_compared, sound_combined, sound_chosen, sound_power, sound_standing, sound_fitted, sound_literal, sound_concat, sound_repeat, sound_named)
-
--- ---- parts of what is sound
-
-pub turned_part : (t : Typed) (op : Turn) (a : Typed) → IsSound t → t.form ≡ f.Turned op a → IsSound a
-unfolding IsSound FormIsSound shape-the_row-Typed-0 hidden-the_row-Typed-0 denote.Hole.Carrier.hidden
-turned_part t op a h e = (subst (λ x. FormIsSound t.width x) e h).1
-
-pub turned_fits : (t : Typed) (op : Turn) (a : Typed) → IsSound t → t.form ≡ f.Turned op a → a.width ≤ t.width
-unfolding IsSound FormIsSound shape-the_row-Typed-0 hidden-the_row-Typed-0 denote.Hole.Carrier.hidden
-turned_fits t op a h e = (subst (λ x. FormIsSound t.width x) e h).2
-
-pub reduced_part : (t : Typed) (op : Reduction) (a : Typed) → IsSound t → t.form ≡ f.Reduced op a → IsSound a
-unfolding IsSound FormIsSound shape-the_row-Typed-0 hidden-the_row-Typed-0 denote.Hole.Carrier.hidden
-reduced_part t op a h e = (subst (λ x. FormIsSound t.width x) e h).1
-
-pub computed_left : (t : Typed) (op : Arithmetic) (a b : Typed) → IsSound t → t.form ≡ f.Computed op a b → IsSound a
-unfolding IsSound FormIsSound shape-the_row-Typed-0 hidden-the_row-Typed-0 denote.Hole.Carrier.hidden
-computed_left t op a b h e = (subst (λ x. FormIsSound t.width x) e h).1
-
-pub computed_right : (t : Typed) (op : Arithmetic) (a b : Typed) → IsSound t → t.form ≡ f.Computed op a b → IsSound b
-unfolding IsSound FormIsSound shape-the_row-Typed-0 hidden-the_row-Typed-0 denote.Hole.Carrier.hidden
-computed_right t op a b h e = (subst (λ x. FormIsSound t.width x) e h).2
-
-pub computed_left_fits : (t : Typed) (op : Arithmetic) (a b : Typed) → IsSound t → t.form ≡ f.Computed op a b → a.width ≤ t.width
-unfolding IsSound FormIsSound shape-the_row-Typed-0 hidden-the_row-Typed-0 denote.Hole.Carrier.hidden
-computed_left_fits t op a b h e = (subst (λ x. FormIsSound t.width x) e h).3
-
-pub computed_right_fits : (t : Typed) (op : Arithmetic) (a b : Typed) → IsSound t → t.form ≡ f.Computed op a b → b.width ≤ t.width
-unfolding IsSound FormIsSound shape-the_row-Typed-0 hidden-the_row-Typed-0 denote.Hole.Carrier.hidden
-computed_right_fits t op a b h e = (subst (λ x. FormIsSound t.width x) e h).4
-
-pub moved_left : (t : Typed) (op : Shift) (a b : Typed) → IsSound t → t.form ≡ f.Moved op a b → IsSound a
-unfolding IsSound FormIsSound shape-the_row-Typed-0 hidden-the_row-Typed-0 denote.Hole.Carrier.hidden
-moved_left t op a b h e = (subst (λ x. FormIsSound t.width x) e h).1
-
-pub moved_right : (t : Typed) (op : Shift) (a b : Typed) → IsSound t → t.form ≡ f.Moved op a b → IsSound b
-unfolding IsSound FormIsSound shape-the_row-Typed-0 hidden-the_row-Typed-0 denote.Hole.Carrier.hidden
-moved_right t op a b h e = (subst (λ x. FormIsSound t.width x) e h).2
-
-pub moved_fits : (t : Typed) (op : Shift) (a b : Typed) → IsSound t → t.form ≡ f.Moved op a b → a.width ≤ t.width
-unfolding IsSound FormIsSound shape-the_row-Typed-0 hidden-the_row-Typed-0 denote.Hole.Carrier.hidden
-moved_fits t op a b h e = (subst (λ x. FormIsSound t.width x) e h).3
-
-pub compared_left : (t : Typed) (op : Comparison) (a b : Typed) → IsSound t → t.form ≡ f.Compared op a b → IsSound a
-unfolding IsSound FormIsSound shape-the_row-Typed-0 hidden-the_row-Typed-0 denote.Hole.Carrier.hidden
-compared_left t op a b h e = (subst (λ x. FormIsSound t.width x) e h).1
-
-pub compared_right : (t : Typed) (op : Comparison) (a b : Typed) → IsSound t → t.form ≡ f.Compared op a b → IsSound b
-unfolding IsSound FormIsSound shape-the_row-Typed-0 hidden-the_row-Typed-0 denote.Hole.Carrier.hidden
-compared_right t op a b h e = (subst (λ x. FormIsSound t.width x) e h).2
-
-pub combined_left : (t : Typed) (op : Logic) (a b : Typed) → IsSound t → t.form ≡ f.Combined op a b → IsSound a
-unfolding IsSound FormIsSound shape-the_row-Typed-0 hidden-the_row-Typed-0 denote.Hole.Carrier.hidden
-combined_left t op a b h e = (subst (λ x. FormIsSound t.width x) e h).1
-
-pub combined_right : (t : Typed) (op : Logic) (a b : Typed) → IsSound t → t.form ≡ f.Combined op a b → IsSound b
-unfolding IsSound FormIsSound shape-the_row-Typed-0 hidden-the_row-Typed-0 denote.Hole.Carrier.hidden
-combined_right t op a b h e = (subst (λ x. FormIsSound t.width x) e h).2
-
-pub chosen_condition : (t : Typed) (l a b : Typed) → IsSound t → t.form ≡ f.Chosen l a b → IsSound l
-unfolding IsSound FormIsSound shape-the_row-Typed-0 hidden-the_row-Typed-0 denote.Hole.Carrier.hidden
-chosen_condition t l a b h e = (subst (λ x. FormIsSound t.width x) e h).1
-
-pub chosen_left : (t : Typed) (l a b : Typed) → IsSound t → t.form ≡ f.Chosen l a b → IsSound a
-unfolding IsSound FormIsSound shape-the_row-Typed-0 hidden-the_row-Typed-0 denote.Hole.Carrier.hidden
-chosen_left t l a b h e = (subst (λ x. FormIsSound t.width x) e h).2
-
-pub chosen_right : (t : Typed) (l a b : Typed) → IsSound t → t.form ≡ f.Chosen l a b → IsSound b
-unfolding IsSound FormIsSound shape-the_row-Typed-0 hidden-the_row-Typed-0 denote.Hole.Carrier.hidden
-chosen_right t l a b h e = (subst (λ x. FormIsSound t.width x) e h).3
-
-pub chosen_left_fits : (t : Typed) (l a b : Typed) → IsSound t → t.form ≡ f.Chosen l a b → a.width ≤ t.width
-unfolding IsSound FormIsSound shape-the_row-Typed-0 hidden-the_row-Typed-0 denote.Hole.Carrier.hidden
-chosen_left_fits t l a b h e = (subst (λ x. FormIsSound t.width x) e h).4
-
-pub chosen_right_fits : (t : Typed) (l a b : Typed) → IsSound t → t.form ≡ f.Chosen l a b → b.width ≤ t.width
-unfolding IsSound FormIsSound shape-the_row-Typed-0 hidden-the_row-Typed-0 denote.Hole.Carrier.hidden
-chosen_right_fits t l a b h e = (subst (λ x. FormIsSound t.width x) e h).5
-
-pub power_part : (t : Typed) (a : Typed) (n : Option ℕ) → IsSound t → t.form ≡ f.Power a n → IsSound a
-unfolding IsSound FormIsSound shape-the_row-Typed-0 hidden-the_row-Typed-0 denote.Hole.Carrier.hidden
-power_part t a n h e = (subst (λ x. FormIsSound t.width x) e h).1
-
-pub power_fits : (t : Typed) (a : Typed) (n : Option ℕ) → IsSound t → t.form ≡ f.Power a n → a.width ≤ t.width
-unfolding IsSound FormIsSound shape-the_row-Typed-0 hidden-the_row-Typed-0 denote.Hole.Carrier.hidden
-power_fits t a n h e = (subst (λ x. FormIsSound t.width x) e h).2
-
-pub standing_part : (t : Typed) (a : Typed) → IsSound t → t.form ≡ f.Standing a → IsSound a
-unfolding IsSound FormIsSound shape-the_row-Typed-0 hidden-the_row-Typed-0 denote.Hole.Carrier.hidden
-standing_part t a h e = (subst (λ x. FormIsSound t.width x) e h).0
-
-pub standing_fits : (t : Typed) (a : Typed) → IsSound t → t.form ≡ f.Standing a → t.width ≡ a.width
-unfolding IsSound FormIsSound shape-the_row-Typed-0 hidden-the_row-Typed-0 denote.Hole.Carrier.hidden
-standing_fits t a h e = (subst (λ x. FormIsSound t.width x) e h).1
-
-pub fitted_part : (t : Typed) (a : Typed) → IsSound t → t.form ≡ f.Fitted a → IsSound a
-unfolding IsSound FormIsSound shape-the_row-Typed-0 hidden-the_row-Typed-0 denote.Hole.Carrier.hidden
-fitted_part t a h e = (subst (λ x. FormIsSound t.width x) e h).1

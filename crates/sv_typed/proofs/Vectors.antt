@@ -1,16 +1,15 @@
 -- Lemmas of vectors made, extended and read.
-use Rattle.std.proofs.Common.{◌≡◌, ℕ, zero, suc, ◌+◌, ◌-◌, ◌*◌, ◌/◌, ◌≤◌, ◌<◌, ◌^◌, ◌%◌, Bool, true, false, IsTrue, IsFalse, List, [], ◌∷◌, ◌++◌, length, take, drop, replicate, refl, sym, ap, ◌∙◌, subst, arith, Option, Some, None, ℤ, pos, negsuc, int_lt, int_le, ◌&&◌, cond, nat_le}
+use Rattle.std.proofs.Common.{◌≡◌, ℕ, zero, suc, ◌-◌, ◌*◌, ◌/◌, ◌≤◌, ◌<◌, ◌^◌, ◌%◌, Bool, true, false, List, [], ◌∷◌, length, take, drop, replicate, refl, sym, ap, ◌∙◌, arith, Some, None, pos, negsuc, cond, nat_le}
 use Rattle.std.proofs.lemmas.List.{take-append-le}
 use Rattle.fourvec.specs.declared.Bit.{Bit}
-use Rattle.fourvec.specs.Bits.{vector, planes, all_x, first, top, sext_of, zext_of, is_known, number, low_plane, up_plane, is_one, signed, is_negative, is_odd, truth_bit}
-use Rattle.fourvec.specs.declared.Bit.TheVariants.{Zero, Unknown, One}
+use Rattle.fourvec.specs.Bits.{vector, planes, all_x, first, sext_of, zext_of, is_known, number, low_plane, up_plane, is_negative, is_odd, truth_bit}
 use Rattle.fourvec.proofs.Basic.{vector_cut, planes_of, number_on_planes, up_plane-lt, low_plane-lt}
 use Rattle.fourvec.proofs.Widths.{length-zext_of, length-sext_of}
 use Rattle.std.proofs.lemmas.List.{take_all}
 use Rattle.std.proofs.Math.Pow.{pow-lt}
 use Rattle.std.proofs.Math.Nat.{mod-eq_of_lt}
 use Rattle.std.proofs.lemmas.Bool.Decides.{nat_tests}
-use Rattle.sv_meaning.specs.Meanings.{extend, fitted, whole, log_from, power_of}
+use Rattle.sv_meaning.specs.Meanings.{extend, fitted, whole, log_from}
 use Rattle.sv_typed.specs.Typed.{natural, exponent_of, raised}
 
 pub vector_front : (w v n : ℕ) → w ≤ v → take w (drop 0 (vector v n)) ≡ vector w n

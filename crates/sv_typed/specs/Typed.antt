@@ -124,6 +124,14 @@ unfoldable pub picked : Read → List Pick → List Bit → List Bit
 picked read [] a = a
 picked read (p ∷ more) a = picked read more (bits_at (pick_place p read) p.width a)
 
+-- bits that may be none, and how many more fit beside them
+abbrev pub bits_of : Option (List Bit) → List Bit
+bits_of None = []
+bits_of (Some a) = a
+
+abbrev pub AboveFits : Option (List Bit) → ℕ → Type 0
+AboveFits above n = length (bits_of above) + n ≤ 128
+
 -- ---- widths and constancy of lists
 
 unfoldable pub row_width : {k : Count} → Row_of-Typed k → ℕ
@@ -193,6 +201,10 @@ names_together (a ∷ more) = names_of a ++ names_together more
 unfoldable pub names_picked : List Pick → List (Owner × ℕ)
 names_picked [] = []
 names_picked (p ∷ more) = place_names p.place ++ names_picked more
+
+-- two readings that agree on each bit of these signals
+abbrev pub SameOn : List (Owner × ℕ) → Read → Read → Type 0
+SameOn names r q = (x : Owner × ℕ) → Contains names x → (k : ℕ) → r x.0 x.1 k ≡ q x.0 x.1 k
 
 -- ---- the literal that it is
 

@@ -1,5 +1,6 @@
 // Operators, by how their operands are sized, and what each gives of the bits of its operands.
 ghost use Rattle.std.specs.Prelude.{◌≡◌, ◌≤◌, length};
+ghost use Rattle.fourvec.specs.Bits.{cond_of, truth_of};
 ghost use Rattle.sv_typed.specs.Ops.{one_of, two_of, turned, reduced, computed, moved, compared, combined};
 ghost use Rattle.sv_meaning.specs.Values.{less};
 
@@ -237,4 +238,14 @@ pub fn combined(op: Logic, a: &Four, b: &Four) -> Four
         Logic::Implies => a.not().or(&b),
         Logic::Equivalent => a.xor(&b).not(),
     }
+}
+
+/// `? :` of a condition by itself (11.4.11).
+#[tactic(auto, using(fourvec::proofs::Widths::widths))]
+pub fn chosen(condition: &Four, a: &Four, b: &Four) -> Four
+    requires { length a.now ≡ length b.now }
+    ensures is { result ≡ cond_of (truth_of condition.now) a.now b.now }
+    ensures width { length result ≡ length a.now }
+{
+    condition.truth().cond(a, b)
 }

@@ -1,4 +1,4 @@
-use Rattle.std.proofs.Common.{◌≡◌, ℕ, suc, ◌+◌, ◌-◌, ◌≤◌, ◌<◌, ◌^◌, ◌*◌, ◌%◌, refl, sym, ap, ◌∙◌, arith}
+use Rattle.std.proofs.Common.{◌≡◌, ℕ, suc, ◌+◌, ◌-◌, sym, ap, ◌∙◌, arith}
 use Rattle.sv_meaning.specs.Meanings.{log_from}
 use Rattle.sv_typed.proofs.Vectors.{log_here, log_on, log_none, shifted}
 use Rattle.sv_typed.proofs.bits.log_up.Goals as goal

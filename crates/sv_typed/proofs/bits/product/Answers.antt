@@ -1,4 +1,4 @@
-use Rattle.std.proofs.Common.{◌≡◌, ◌*◌, ◌/◌, ◌%◌, ◌^◌, ℕ, refl, sym, subst, arith}
+use Rattle.std.proofs.Common.{◌≡◌, ◌*◌, ◌/◌, ◌%◌, ◌^◌, ℕ, sym, subst, arith}
 use Rattle.sv_typed.proofs.Powers.{even_step, odd_step}
 use Rattle.sv_typed.proofs.bits.product.Goals as goal
 use Rattle.sv_typed.proofs.bits.product.Goals.{then-rest-eq1, else-rest-eq1}

@@ -1,7 +1,6 @@
-use Rattle.std.proofs.Common.{◌≡◌, ◌≤◌, ℕ, List, length, take, drop, refl, sym, ap, ◌∙◌, arith}
+use Rattle.std.proofs.Common.{List, length, take, drop, ap, ◌∙◌, arith}
 use Rattle.fourvec.specs.declared.Bit.{Bit}
 use Rattle.fourvec.proofs.Basic.{vector_on_planes, length-vector}
-use Rattle.fourvec.specs.Bits.{vector, planes}
 use Rattle.sv_typed.proofs.Vectors.{vector_front}
 use Rattle.sv_typed.proofs.bits.vector.Goals as goal
 
