@@ -1,13 +1,12 @@
 // Constants that are wholly 0 and 1.
 ghost use Rattle.std.specs.Prelude.{◌≡◌, ◌&&◌, true, IfOk};
-ghost use Rattle.sv_typed.specs.Typed.{IsSound, own};
-ghost use Rattle.sv_meaning.specs.Meanings.{Meaning, from, nowhere, fixed_faults};
+ghost use Rattle.sv_typed.specs.Typed.{IsSound};
+ghost use Rattle.sv_meaning.specs.Meanings.{Meaning, from, fixed_faults};
 ghost use Rattle.sv_const.specs.Judging.{Judges, Types, Fixes};
 
 use crate::Known;
 use crate::fixed::Fixed;
 use crate::refusals::refusal;
-use fourvec::Four;
 use sv_outside::{Place, TextErr};
 use sv_typed::Typed;
 
@@ -18,13 +17,6 @@ pub(crate) fn both(a: bool, b: bool) -> bool
     a && b
 }
 
-pub(crate) fn own_bits(typed: &Typed) -> Four
-    requires { IsSound typed.now }
-    ensures { result ≡ own typed.now nowhere }
-{
-    Four::new(typed.width, 0, 0)
-}
-
 /// A constant wholly 0 and 1 that begins at a place, or E15.
 #[tactic(auto, using(crate::proofs::Fixing::fixings))]
 pub(crate) fn fixed_of(start: Place, x: Result<Typed, TextErr>) -> Result<Fixed, TextErr>
@@ -32,7 +24,7 @@ pub(crate) fn fixed_of(start: Place, x: Result<Typed, TextErr>) -> Result<Fixed,
     ensures { (m : Meaning) → Judges m true x → Fixes (from start m) result }
 {
     let x = x?;
-    let value = own_bits(&x);
+    let value = x.own();
     if value.is_bool() {
         Ok(Fixed::new(
             Known {
@@ -53,7 +45,7 @@ pub(crate) fn fixed_index(start: Place, x: Result<Typed, TextErr>) -> Result<Typ
     ensures { (m : Meaning) → m.start ≡ start → Judges m true x → Types m (fixed_faults m) result }
 {
     let x = x?;
-    if own_bits(&x).is_bool() {
+    if x.own().is_bool() {
         Ok(x)
     } else {
         Err(TextErr::No(refusal(15, start)))

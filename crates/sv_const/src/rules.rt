@@ -7,7 +7,7 @@ ghost use Rattle.sv_typed.specs.Typed.{IsSound};
 ghost use Rattle.sv_meaning.specs.Meanings.{Meaning, from, of_literal, to_sign, log_up, chosen, power, whole};
 ghost use Rattle.sv_const.specs.Judging.{Judges, JudgesBoth, Fixes, IsTyped};
 
-use crate::constants::{both, own_bits};
+use crate::constants::both;
 use crate::fixed::Fixed;
 use crate::literals::read;
 use crate::numbers::is_negative;
@@ -126,7 +126,7 @@ fn power_of(
     requires { IsSound y }
     ensures { (m n : Meaning) (c : Bool) → m.start ≡ start → IsTyped m (m.faults c) x → IsTyped n (n.faults c) y → Judges (power place m n) c result }
 {
-    let bits = own_bits(&y);
+    let bits = y.own();
     let constant = both(x.constant, y.constant);
     if !constant {
         return Err(TextErr::No(refusal(25, place)));

@@ -1,7 +1,8 @@
 // Concatenations, replications and casts to a size.
-ghost use Rattle.std.specs.Prelude.{◌≡◌, Bool, List, map, Err, IfErr, Some, IfSome, IsTrue, option_map};
+ghost use Rattle.std.specs.Prelude.{◌≡◌, ◌≤◌, Bool, List, length, map, Err, IfErr, Some, IfSome, IsTrue, option_map};
 ghost use Rattle.std.specs.Option.{option_copied};
 ghost use Rattle.std.specs.List.{AllZip};
+ghost use Rattle.fourvec.specs.Bits.{is_known};
 ghost use Rattle.sv_typed.specs.Typed.{Stands};
 ghost use Rattle.sv_meaning.specs.Layouts.{Scope};
 ghost use Rattle.sv_meaning.specs.Meanings.{Meaning, from, to_layout, concat, repeated, sized_by, cast_to, whole, is_bound};
@@ -11,7 +12,7 @@ ghost use Rattle.sv_const.specs.Kinds.{what_is, layout_is, IsSound, WhatIsSound}
 ghost use Rattle.sv_const.specs.Ranges.{JudgesCopies};
 ghost use Rattle.sv_const.specs.Casts.{LayoutUnder, CountUnder};
 
-use crate::{Layout, What};
+use crate::{Known, Layout, What};
 use crate::fixed::Fixed;
 use crate::numbers::small;
 use crate::ranges::fits;
@@ -203,6 +204,15 @@ fn layout_under(what: Option<&What>) -> Option<&Layout>
     }
 }
 
+// Whether a constant is wholly 0 and 1.
+fn is_wholly(known: &Known) -> bool
+    ensures is { result ≡ is_known known.now.value }
+    ensures some { 1 ≤ length known.now.value }
+{
+    let some = known.value.width() > 0;
+    known.value.is_bool() && some
+}
+
 // The size that a constant gives, or E15.
 #[tactic(auto, using(crate::proofs::Targets::castings))]
 fn count_of(word: &Word, what: &What, constant: bool) -> Result<Fixed, TextErr>
@@ -210,7 +220,7 @@ fn count_of(word: &Word, what: &What, constant: bool) -> Result<Fixed, TextErr>
 {
     match what {
         What::Number(known) => {
-            if known.value.is_bool() {
+            if is_wholly(known) {
                 Ok(Fixed::new(*known, true))
             } else {
                 Err(TextErr::No(refusal(15, word.place)))
