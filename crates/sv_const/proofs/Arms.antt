@@ -62,6 +62,31 @@ fixed_expr m p r h k = fixes_here m p r h k
 judged_as : (m n : Meaning) (c : Bool) (r : Result Typed TextErr) → m ≡ n → Judges n c r → Judges m c r
 judged_as m n c r h j = subst (λ x. Judges x c r) (sym h) j
 
+-- the same of trees that are equal
+
+pub judged_at : (at : Scope) (a b : Expr) (c : Bool) (r : Result Typed TextErr) → a ≡ b → Judges (mean at a) c r → Judges (mean at b) c r
+judged_at at a b c r h j = subst (λ x. Judges (mean at x) c r) h j
+
+pub types_at : (at : Scope) (f : Meaning → Faults) (a b : Expr) (r : Result Typed TextErr) → a ≡ b → Types (mean at a) (f (mean at a)) r → Types (mean at b) (f (mean at b)) r
+types_at at f a b r h j = subst (λ x. Types (mean at x) (f (mean at x)) r) h j
+
+pub fixes_at : (at : Scope) (a b : Expr) (r : Result Fixed TextErr) → a ≡ b → Fixes (mean at a) r → Fixes (mean at b) r
+fixes_at at a b r h j = subst (λ x. Fixes (mean at x) r) h j
+
+pub starts_at : (at : Scope) (a b : Expr) (p : Place) → a ≡ b → (mean at a).start ≡ p → (mean at b).start ≡ p
+starts_at at a b p h j = subst (λ x. (mean at x).start ≡ p) h j
+
+pub all_at : (at : Scope) (a b : List Expr) (c : Bool) (r : Result (List Typed) TextErr) → a ≡ b → JudgesAll (map (mean at) a) c r → JudgesAll (map (mean at) b) c r
+all_at at a b c r h j = subst (λ (x : List Expr). JudgesAll (map (mean at) x) c r) h j
+
+pub concat_at : (at : Scope) (p : Place) (a b : List Expr) (c : Bool) (r : Result Typed TextErr) → a ≡ b → Judges (concat p (map (mean at) a)) c r → Judges (concat p (map (mean at) b)) c r
+concat_at at p a b c r h j = subst (λ (x : List Expr). Judges (concat p (map (mean at) x)) c r) h j
+
+pub repeat_at : (at : Scope) (p : Place) (n : Meaning) (a b : List Expr) (c : Bool) (r : Result Typed TextErr) → a ≡ b → Judges (repeated p n (map (mean at) a)) c r → Judges (repeated p n (map (mean at) b)) c r
+repeat_at at p n a b c r h j = subst (λ (x : List Expr). Judges (repeated p n (map (mean at) x)) c r) h j
+
+-- each production
+
 pub judged_literal : (at : Scope) (x : Expr) (w : Word) (c : Bool) (r : Result Typed TextErr) → x ≡ e.Literal w → Judges (of_literal w) c r → Judges (mean at x) c r
 judged_literal at x w c r h j = judged_as _ _ c r (ap (mean at) h ∙ mean_literal at w) j
 

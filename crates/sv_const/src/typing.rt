@@ -82,15 +82,15 @@ pub fn typed(
             is_signed(*sign),
             typed(alloc, inner.get(), names, constant),
         ),
-        Expr::System(SystemName::Signed, _, inner) => {
-            sign_typed(alloc, true, typed(alloc, inner.get(), names, constant))
-        }
-        Expr::System(SystemName::Unsigned, _, inner) => {
-            sign_typed(alloc, false, typed(alloc, inner.get(), names, constant))
-        }
-        Expr::System(SystemName::Clog2, _, inner) => {
-            log_typed(alloc, fixed(alloc, inner.get(), names))
-        }
+        Expr::System(name, _, inner) => match *name {
+            SystemName::Signed => {
+                sign_typed(alloc, true, typed(alloc, inner.get(), names, constant))
+            }
+            SystemName::Unsigned => {
+                sign_typed(alloc, false, typed(alloc, inner.get(), names, constant))
+            }
+            SystemName::Clog2 => log_typed(alloc, fixed(alloc, inner.get(), names)),
+        },
         Expr::Unary(op, _, inner) => one_typed(
             alloc,
             one_of(*op),
@@ -212,28 +212,30 @@ fn select_step<'a>(
         Select::Index(place, index) => {
             index_pick(alloc, at, *place, typed_index(alloc, index.get(), names, rule))
         }
-        Select::Range(place, left, RangeMark::To, right) => between_pick(
-            at,
-            *place,
-            fixed(alloc, left.get(), names),
-            fixed(alloc, right.get(), names),
-        ),
-        Select::Range(place, left, RangeMark::Up, right) => many_pick(
-            alloc,
-            at,
-            *place,
-            RangeMark::Up,
-            typed_index(alloc, left.get(), names, rule),
-            fixed(alloc, right.get(), names),
-        ),
-        Select::Range(place, left, RangeMark::Down, right) => many_pick(
-            alloc,
-            at,
-            *place,
-            RangeMark::Down,
-            typed_index(alloc, left.get(), names, rule),
-            fixed(alloc, right.get(), names),
-        ),
+        Select::Range(place, left, mark, right) => match *mark {
+            RangeMark::To => between_pick(
+                at,
+                *place,
+                fixed(alloc, left.get(), names),
+                fixed(alloc, right.get(), names),
+            ),
+            RangeMark::Up => many_pick(
+                alloc,
+                at,
+                *place,
+                RangeMark::Up,
+                typed_index(alloc, left.get(), names, rule),
+                fixed(alloc, right.get(), names),
+            ),
+            RangeMark::Down => many_pick(
+                alloc,
+                at,
+                *place,
+                RangeMark::Down,
+                typed_index(alloc, left.get(), names, rule),
+                fixed(alloc, right.get(), names),
+            ),
+        },
     }
 }
 
