@@ -16,3 +16,4 @@ pub mod Arms
 pub mod Counts
 pub mod Steps
 pub mod Spans
+pub mod Valued

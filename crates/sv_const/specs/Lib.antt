@@ -7,3 +7,4 @@ pub mod Ranges
 pub mod Picks
 pub mod Roots
 pub mod Casts
+pub mod Sizes

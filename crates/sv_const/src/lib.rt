@@ -4,6 +4,7 @@
 mod chain;
 mod constants;
 mod cursor;
+mod evaluate;
 mod fixed;
 mod layout;
 mod literals;
@@ -23,4 +24,5 @@ pub use chain::{Chain, IndexRule};
 pub use layout::{Field, Form, Known, Layout, Size, What};
 pub use names::Names;
 pub use scope::Scope;
+pub use evaluate::{eval_const, select_chain, sized};
 pub use typing::typed;

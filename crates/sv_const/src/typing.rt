@@ -161,7 +161,7 @@ fn named_typed(
 {
     match root_of(word, names.find(word.text.bytes()), constant) {
         Ok((at, root)) => {
-            named_by(root, select_chain(alloc, at, selects, names, rule_of(constant)))
+            named_by(root, chain_behind(alloc, at, selects, names, rule_of(constant)))
         }
         Err(why) => Err(why),
     }
@@ -170,7 +170,7 @@ fn named_typed(
 /// The selects behind a place of a layout as parts of its bits, where each index is judged so; or why they are refused.
 #[tactic(auto, using(crate::proofs::Arms::chained))]
 #[cycle(expr)]
-pub(crate) fn select_chain(
+pub(crate) fn chain_behind(
     alloc: Global,
     at: Cursor<'_>,
     selects: &[Select],

@@ -23,20 +23,20 @@ pub named_typed-returns-in-Ok : goal.named_typed-returns-in-Ok
 named_typed-returns-in-Ok t c =
     subst (λ o. Judges (named c.args.word.now o (map (step (names_are c.args.names.now)) c.args.selects.now)) c.args.constant c.named_by.result) (c.find.ensures.is ∙ ap (λ (n : List ℕ). find n (names_are c.args.names.now)) c.bytes.ensures)
     (c.named_by.ensures c.args.word.now (option_map what_is (option_copied c.find.result)) c.args.constant c.in-Ok.at (map (step (names_are c.args.names.now)) c.args.selects.now) (subst (JudgesRoot c.args.word.now (option_map what_is (option_copied c.find.result)) c.args.constant) c.in-Ok.is c.root_of.ensures).0
-      (subst (λ r. JudgesChain (rule_faults r) (cursor_is c.in-Ok.at) (map (step (names_are c.args.names.now)) c.args.selects.now) c.select_chain.result) c.rule_of.ensures c.select_chain.ensures))
+      (subst (λ r. JudgesChain (rule_faults r) (cursor_is c.in-Ok.at) (map (step (names_are c.args.names.now)) c.args.selects.now) c.chain_behind.result) c.rule_of.ensures c.chain_behind.ensures))
 
 pub named_typed-returns-in-Err : goal.named_typed-returns-in-Err
 named_typed-returns-in-Err t c =
     subst (λ o. IsCause ((named c.args.word.now o (map (step (names_are c.args.names.now)) c.args.selects.now)).faults c.args.constant) c.in-Err.why) (c.find.ensures.is ∙ ap (λ (n : List ℕ). find n (names_are c.args.names.now)) c.bytes.ensures)
     (subst (JudgesRoot c.args.word.now (option_map what_is (option_copied c.find.result)) c.args.constant) c.in-Err.is c.root_of.ensures (map (step (names_are c.args.names.now)) c.args.selects.now))
 
-pub select_chain-returns-in-Err : goal.select_chain-returns-in-Err
-select_chain-returns-in-Err t c =
+pub chain_behind-returns-in-Err : goal.chain_behind-returns-in-Err
+chain_behind-returns-in-Err t c =
     chain_cause (names_are c.args.names.now) (rule_faults c.args.rule) (cursor_is c.args.at) (cursor_is c.selects.end) c.args.selects.now c.selects.select-index c.select-item.result c.selects.picks c.in-Err.why c.selects-test.true c.select-item.is
     c.selects.invariant.chains (subst (Leads (rule_faults c.args.rule) (cursor_is c.selects.end) (step (names_are c.args.names.now) c.select-item.result)) c.in-Err.is c.select_step.ensures)
 
-pub select_chain-returns : goal.select_chain-returns
-select_chain-returns t c =
+pub chain_behind-returns : goal.chain_behind-returns
+chain_behind-returns t c =
     chain_ends (names_are c.args.names.now) (rule_faults c.args.rule) (cursor_is c.args.at) (cursor_is c.selects.end) c.args.selects.now c.selects.select-index c.selects.picks c.chain_of.result (omega arith)
     c.selects.invariant.chains c.chain_of.ensures.picks c.chain_of.ensures.width c.chain_of.ensures.signed
 

@@ -6,8 +6,8 @@ use Rattle.sv_const.specs.Names.{names_are}
 use Rattle.sv_const.specs.Picks.{Chains, rule_faults}
 use Rattle.sv_const.proofs.typing.+expr.Given as goal
 
-abbrev pub invariant-select_chain-selects : goal.invariant-select_chain-selects
-invariant-select_chain-selects l = record {
+abbrev pub invariant-chain_behind-selects : goal.invariant-chain_behind-selects
+invariant-chain_behind-selects l = record {
   chains : Chains (rule_faults l.rule) (cursor_is l.at) (map (step (names_are l.names)) (take l.select-index l.selects)) l.picks (cursor_is l.end);
   sound : CursorIsSound l.end;
 }
