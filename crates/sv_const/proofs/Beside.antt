@@ -108,7 +108,7 @@ pub repeat_ok : (p : Place) (n : Meaning) (f : Fixed) (all : List Meaning) (c : 
     Stands t (repeated p n all) → IsSound t → IsTyped (repeated p n all) ((repeated p n all).faults c) t
 repeat_ok p n f all c list k t i h l w x y = record {
   clear = then_clear (fixed_faults n ++ (parts all).faults c) _ (both_clear _ _ i.clear h.clear)
-    (then_clear (all_loose all) _ l (no_fault _ bad_width p (ap not (repeat_test n f all c list i h ∙ copies_test _ _ k w))));
+      (then_clear (all_loose all) _ l (no_fault _ bad_width p (ap not (repeat_test n f all c list i h ∙ copies_test _ _ k w))));
   stands = x;
   sound = y;
 }

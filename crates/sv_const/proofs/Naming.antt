@@ -102,20 +102,21 @@ number_named w v s c at root all chain j h k =
     let Q : Bool → Type 0 = λ b. IsNamed (Number v) chain.picks chain.signed (constant_named b w v s all) in
     subst P (sym h.3) (subst Q (sym (some_bits (length v) h.0))
     (sel_named (chain_layout (plain (length v) s) all) k.layout true (index_faults (plain (length v) s) all) w.place [] all (plain (length v) s) (λ read. v) (Number v) chain.picks chain.signed
-      f.layout (sym f.width ∙ ap (picked_width chain.picks) (plain_width (length v) s h.0)) k.signed (λ read. f.bits read v) f.constant f.names))
+    f.layout (sym f.width ∙ ap (picked_width chain.picks) (plain_width (length v) s h.0)) k.signed (λ read. f.bits read v) f.constant f.names))
 
 signal_at : (w : Word) (o : Origin) (n : ℕ) (x : Layout) (root : Root) (all : List Step) (chain : Chain) (j : Meaning → Faults) (y : Layout) → IsSignal o n x root → Follows j x all chain.picks y → is_signed y ≡ chain.signed →
     IsNamed root chain.picks chain.signed (named w (Some (signal_is o n x)) all)
 signal_at w o n x (Number v) all chain j y h f g = absurd h
 signal_at w o n x (Signal p m u) all chain j y h f g =
     sel_named (chain_layout x all) y false _ w.place ((o, n) ∷ []) all x (λ read. bits_from (read o n) 0 (width x)) (Signal p m u) chain.picks chain.signed
-      f.layout (sym f.width ∙ ap (picked_width chain.picks) (sym h.2)) g
-      (λ read. f.bits read (bits_from (read o n) 0 (width x)) ∙ ap (picked read chain.picks) (bits read))
-      refl
-      (λ z. contains_both ((origin_is p, m) ∷ []) (names_picked chain.picks) ((o, n) ∷ []) (all_indices all).names z (name z) (f.names z))
+    f.layout (sym f.width ∙ ap (picked_width chain.picks) (sym h.2)) g
+    (λ read. f.bits read (bits_from (read o n) 0 (width x)) ∙ ap (picked read chain.picks) (bits read))
+    refl
+    (λ z. contains_both ((origin_is p, m) ∷ []) (names_picked chain.picks) ((o, n) ∷ []) (all_indices all).names z (name z) (f.names z))
   where
     bits : (read : Read) → bits_from (read o n) 0 (width x) ≡ bits_from (read (origin_is p) m) 0 u
     bits read = ap (λ q. bits_from (read q n) 0 (width x)) (sym h.0) ∙ ap (λ q. bits_from (read (origin_is p) q) 0 (width x)) (sym h.1) ∙ ap (bits_from (read (origin_is p) m) 0) (sym h.2)
+
     name : (z : Origin × ℕ) → Contains ((origin_is p, m) ∷ []) z → Contains ((o, n) ∷ []) z
     name z q = subst (λ i. Contains ((i, n) ∷ []) z) h.0 (subst (λ i. Contains ((origin_is p, i) ∷ []) z) h.1 q)
 

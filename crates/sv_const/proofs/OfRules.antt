@@ -85,7 +85,7 @@ pub power_ok : (p : Place) (m n : Meaning) (c : Bool) (x y t : Typed) → IsType
     (is_known (own y nowhere) && int_lt (whole y.signed (own y nowhere)) (pos 0)) ≡ false → Stands t (power p m n) → IsSound t → IsTyped (power p m n) ((power p m n).faults c) t
 power_ok p m n c x y t h k e b s z = record {
   clear = then_clear (m.faults c ++ n.faults c) (power_faults p m n) (both_clear _ _ h.clear k.clear)
-    (then_clear _ _ (no_fault _ out_of_scope p (ap not (constants m n x y h.stands k.stands ∙ e))) (no_fault _ not_constant m.start (below_is n y k.stands ∙ b)));
+      (then_clear _ _ (no_fault _ out_of_scope p (ap not (constants m n x y h.stands k.stands ∙ e))) (no_fault _ not_constant m.start (below_is n y k.stands ∙ b)));
   stands = s;
   sound = z;
 }

@@ -47,7 +47,6 @@ times_negated a (suc w) = let i = times_negated a w in let p = times_suc (neg_�
 
 -- ---- members
 
-
 some_part : (k : Option (ℕ × Layout)) (x : ℕ × Layout) → k ≡ Some x → member_part k ≡ Some (record { layout = x.1; place = λ read. Some (pos x.0) })
 some_part k x h = ap member_part h
 

@@ -24,11 +24,7 @@ use sv_typed::Typed;
 
 // The value of a typed constant at the larger of a width and its own length, or E15 where it begins.
 #[tactic(auto, using(sv_typed::proofs::Sound::most_bits))]
-fn constant_of(
-    start: Place,
-    width: u8,
-    x: Result<Typed, TextErr>,
-) -> Result<Known, TextErr>
+fn constant_of(start: Place, width: u8, x: Result<Typed, TextErr>) -> Result<Known, TextErr>
     requires sound { IfOk x (λ t. typed_is.IsSound t) }
     requires most { width ≤ 128 }
     ensures { (m : Meaning) → m.start ≡ start → Judges m true x → JudgesConstant width m result }

@@ -21,8 +21,8 @@ mod start;
 mod typing;
 
 pub use chain::{Chain, IndexRule};
+pub use evaluate::{eval_const, select_chain, sized};
 pub use layout::{Field, Form, Known, Layout, Size, What};
 pub use names::Names;
 pub use scope::Scope;
-pub use evaluate::{eval_const, select_chain, sized};
 pub use typing::typed;

@@ -198,7 +198,13 @@ pub(crate) fn many_pick<'a>(
     let count = many_count(place, &row, &right.known)?;
     let width = count * row.each.width();
     let constant = both(left.constant, right.constant);
-    let spot = moving(alloc, &row, left, shift(mark, row.goes_down(), count), width)?;
+    let spot = moving(
+        alloc,
+        &row,
+        left,
+        shift(mark, row.goes_down(), count),
+        width,
+    )?;
     Ok((
         Cursor::Elements {
             signed: false,

@@ -29,11 +29,7 @@ pub(crate) fn literal_typed(word: &Word) -> Result<Typed, TextErr>
 }
 
 /// An operator on one operand.
-pub(crate) fn one_typed(
-    alloc: Global,
-    op: One,
-    x: Result<Typed, TextErr>,
-) -> Result<Typed, TextErr>
+pub(crate) fn one_typed(alloc: Global, op: One, x: Result<Typed, TextErr>) -> Result<Typed, TextErr>
     ensures { (m : Meaning) (c : Bool) (p : Place) → Judges m c x → Judges (from p (one_meaning op m)) c result }
 {
     let x = x?;
@@ -116,13 +112,7 @@ fn is_below_zero(bits: &Four, signed: bool) -> bool
 }
 
 /// `**` of typed operands, or E25 or E15.
-fn power_of(
-    alloc: Global,
-    place: Place,
-    start: Place,
-    x: Typed,
-    y: Typed,
-) -> Result<Typed, TextErr>
+fn power_of(alloc: Global, place: Place, start: Place, x: Typed, y: Typed) -> Result<Typed, TextErr>
     requires { IsSound y }
     ensures { (m n : Meaning) (c : Bool) → m.start ≡ start → IsTyped m (m.faults c) x → IsTyped n (n.faults c) y → Judges (power place m n) c result }
 {

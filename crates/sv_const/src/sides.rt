@@ -12,13 +12,13 @@ ghost use Rattle.sv_const.specs.Kinds.{what_is, layout_is, IsSound, WhatIsSound}
 ghost use Rattle.sv_const.specs.Ranges.{JudgesCopies};
 ghost use Rattle.sv_const.specs.Casts.{LayoutUnder, CountUnder};
 
-use crate::{Known, Layout, What};
 use crate::fixed::Fixed;
 use crate::numbers::small;
 use crate::ranges::fits;
 use crate::refusals::refusal;
 use crate::roots::no_root;
 use crate::start::start;
+use crate::{Known, Layout, What};
 use items::Items;
 use std::alloc::Global;
 use sv_outside::{Place, TextErr};
@@ -76,11 +76,7 @@ fn copies(count: &Fixed, each: u8) -> Option<u8>
 }
 
 /// Parts side by side, or E14.
-fn concat_typed(
-    place: Place,
-    loose: Option<Place>,
-    parts: Items<Typed>,
-) -> Result<Typed, TextErr>
+fn concat_typed(place: Place, loose: Option<Place>, parts: Items<Typed>) -> Result<Typed, TextErr>
     ensures { (all : List Meaning) (c : Bool) → AreTyped all c parts → Loose all loose → Judges (concat place all) c result }
 {
     let width = width_together(parts.as_slice());

@@ -161,7 +161,10 @@ fn named_typed(
 {
     match root_of(word, names.find(word.text.bytes()), constant) {
         Ok((at, root)) => {
-            named_by(root, chain_behind(alloc, at, selects, names, rule_of(constant)))
+            named_by(
+                root,
+                chain_behind(alloc, at, selects, names, rule_of(constant)),
+            )
         }
         Err(why) => Err(why),
     }
@@ -210,7 +213,12 @@ fn select_step<'a>(
     match select {
         Select::Member(place, word) => member_pick(at, *place, word.text.bytes()),
         Select::Index(place, index) => {
-            index_pick(alloc, at, *place, typed_index(alloc, index.get(), names, rule))
+            index_pick(
+                alloc,
+                at,
+                *place,
+                typed_index(alloc, index.get(), names, rule),
+            )
         }
         Select::Range(place, left, mark, right) => match *mark {
             RangeMark::To => between_pick(

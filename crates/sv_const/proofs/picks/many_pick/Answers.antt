@@ -16,7 +16,7 @@ returns-in_err-right c = λ j m n h k.
     let p = err_from_is_err_and c.from_residual-in_err-right.result c.from_residual-in_err-right.ensures.1 in
     rw (p.1, p.2)
     (cause_from (fixed_faults n) (step_faults j (cursor_is c.args.at) (to_range c.args.place m c.args.mark n)) (λ r. many_right j (cursor_is c.args.at) c.args.place m c.args.mark n r c.requires.mark)
-      c.in_err-right.field-0.0 (fixed_err n c.args.right c.in_err-right.field-0.0 c.in_err-right.was k))
+    c.in_err-right.field-0.0 (fixed_err n c.args.right c.in_err-right.field-0.0 c.in_err-right.was k))
 
 pub returns-in_err-count : goal.returns-in_err-count
 returns-in_err-count c = λ j m n h k.
@@ -24,9 +24,9 @@ returns-in_err-count c = λ j m n h k.
     let f = c.in_ok-right.right in
     rw (p.1, p.2)
     (cause_from (many_faults c.args.place c.in-Some.row (whole f.known.signed f.known.value)) (step_faults j (cursor_is c.args.at) (to_range c.args.place m c.args.mark n))
-      (λ r. many_fault j (cursor_is c.args.at) (is_signed (cursor_is c.args.at)) c.in-Some.row c.args.place m c.args.mark n c.in_ok-left.left f r c.in-Some.ensures.is c.requires.mark
-        (typed_ok m (j m) c.args.left c.in_ok-left.left c.in_ok-left.was h) (fixed_ok n c.args.right f c.in_ok-right.was k))
-      c.in_err-count.field-0.0 c.in_err-count.ensures)
+    (λ r. many_fault j (cursor_is c.args.at) (is_signed (cursor_is c.args.at)) c.in-Some.row c.args.place m c.args.mark n c.in_ok-left.left f r c.in-Some.ensures.is c.requires.mark
+    (typed_ok m (j m) c.args.left c.in_ok-left.left c.in_ok-left.was h) (fixed_ok n c.args.right f c.in_ok-right.was k))
+    c.in_err-count.field-0.0 c.in_err-count.ensures)
 
 pub returns : goal.returns
 returns c = λ j m n h k.
@@ -35,8 +35,9 @@ returns c = λ j m n h k.
     let f = c.in_ok-right.right in
     let i = c.in_ok-count.count in
     let fixed = fixed_ok n c.args.right f c.in_ok-right.was k in
-    let s = same_small c.shift.result c.shift.ensures.most ∙ c.shift.ensures.is ∙ ap (λ d. shift_of c.args.mark d (pos i)) c.goes_down.ensures in
-    (many_picks j (cursor_is c.args.at) m c.args.mark n (is_signed (cursor_is c.args.at)) row c.args.place e f i (i * c.width.result) c.in_ok-spot.spot c.both-constant.result
-      c.in-Some.ensures.is c.requires.mark c.in-Some.ensures.sound (typed_ok m (j m) c.args.left e c.in_ok-left.was h) fixed
-      (subst (λ (z : ℤ). IsMany row z i) (sym (fixed_number n f fixed)) c.in_ok-count.ensures) (c.in_ok-spot.ensures ∙ ap (λ (z : ℤ). place.Moving e (spot_of row e.signed z (i * c.width.result))) s) (ap (λ w. i * w) c.width.ensures.is) c.both-constant.ensures,
-    (c.in-Some.ensures.sound.each, c.in_ok-count.ensures.some, c.in_ok-count.ensures.most))
+    let s = same_small c.shift.result c.shift.ensures.most ∙ c.shift.ensures.is ∙ ap (λ d. shift_of c.args.mark d (pos i)) c.goes_down.ensures in (
+      many_picks j (cursor_is c.args.at) m c.args.mark n (is_signed (cursor_is c.args.at)) row c.args.place e f i (i * c.width.result) c.in_ok-spot.spot c.both-constant.result
+          c.in-Some.ensures.is c.requires.mark c.in-Some.ensures.sound (typed_ok m (j m) c.args.left e c.in_ok-left.was h) fixed
+          (subst (λ (z : ℤ). IsMany row z i) (sym (fixed_number n f fixed)) c.in_ok-count.ensures) (c.in_ok-spot.ensures ∙ ap (λ (z : ℤ). place.Moving e (spot_of row e.signed z (i * c.width.result))) s) (ap (λ w. i * w) c.width.ensures.is) c.both-constant.ensures,
+      (c.in-Some.ensures.sound.each, c.in_ok-count.ensures.some, c.in_ok-count.ensures.most),
+    )

@@ -16,7 +16,7 @@ returns-then-not-goes_along c =
     let b = same_bound c.args.b c.requires.b in
     let e = rw (l, r, a, b) at c.goes_along.ensures in
     subst (Contains (between_faults c.args.place c.args.row.now c.args.a c.args.b)) (sym c.refusal.ensures)
-      (goes_against c.args.place c.args.row.now c.args.a c.args.b (sym e ∙ c.if-not-goes_along.true))
+    (goes_against c.args.place c.args.row.now c.args.a c.args.b (sym e ∙ c.if-not-goes_along.true))
 
 pub returns-then-fits : goal.returns-then-fits
 returns-then-fits c =
@@ -26,7 +26,7 @@ returns-then-fits c =
     let b = same_bound c.args.b c.requires.b in
     let e = rw (l, r, a, b) at c.goes_along.ensures in
     between_ok c.args.row.now c.args.a c.args.b (c.abs_diff-count.result + 1) (sym e ∙ c.if-not-goes_along.false) (omega (arith, ints)) (omega arith)
-      (ap (λ w. nat_le ((c.abs_diff-count.result + 1) * w) 128) (sym c.width.ensures.is) ∙ sym c.fits.ensures.is ∙ c.if-fits.true)
+    (ap (λ w. nat_le ((c.abs_diff-count.result + 1) * w) 128) (sym c.width.ensures.is) ∙ sym c.fits.ensures.is ∙ c.if-fits.true)
 
 pub returns-else-fits : goal.returns-else-fits
 returns-else-fits c =
@@ -36,5 +36,5 @@ returns-else-fits c =
     let b = same_bound c.args.b c.requires.b in
     let e = rw (l, r, a, b) at c.goes_along.ensures in
     subst (Contains (between_faults c.args.place c.args.row.now c.args.a c.args.b)) (sym c.refusal-else-fits.ensures)
-      (too_many c.args.place c.args.row.now c.args.a c.args.b (c.abs_diff-count.result + 1) (sym e ∙ c.if-not-goes_along.false) (omega (arith, ints))
-        (ap (λ w. nat_le ((c.abs_diff-count.result + 1) * w) 128) (sym c.width.ensures.is) ∙ sym c.fits.ensures.is ∙ c.if-fits.false))
+    (too_many c.args.place c.args.row.now c.args.a c.args.b (c.abs_diff-count.result + 1) (sym e ∙ c.if-not-goes_along.false) (omega (arith, ints))
+    (ap (λ w. nat_le ((c.abs_diff-count.result + 1) * w) 128) (sym c.width.ensures.is) ∙ sym c.fits.ensures.is ∙ c.if-fits.false))

@@ -12,4 +12,4 @@ returns-in-None c =
     let all = many_faults c.args.place c.args.row.now (whole k.signed k.value) in
     let P : ℕ → Type 0 = λ n. Contains all (record { number = n; place = c.args.place; count = 0 }) in
     subst (Contains all) (sym c.refusal.ensures)
-      (subst P (sym c.large_refusal.ensures) (large c.args.place c.args.row.now k.signed k.value c.in-None.ensures.none (each_some c.args.row.now.each c.requires.row.each)))
+    (subst P (sym c.large_refusal.ensures) (large c.args.place c.args.row.now k.signed k.value c.in-None.ensures.none (each_some c.args.row.now.each c.requires.row.each)))

@@ -13,13 +13,13 @@ pub returns-in_err-count-clause-judged : goal.returns-in_err-count-clause-judged
 returns-in_err-count-clause-judged c = λ n m d s h k.
     let p = err_from_is_err_and c.from_residual.result c.from_residual.ensures.1 in
     rw (p.1, p.2) (cause_first (fixed_faults n ++ m.faults d) (fault_if (not (int_lt (pos 0) (number_of n) && is_width (nat_abs (number_of n)))) bad_width n.start) c.in_err-count.field-0.0
-      (cause_left (fixed_faults n) (m.faults d) c.in_err-count.field-0.0 (fixed_err n c.args.count c.in_err-count.field-0.0 c.in_err-count.was h)))
+    (cause_left (fixed_faults n) (m.faults d) c.in_err-count.field-0.0 (fixed_err n c.args.count c.in_err-count.field-0.0 c.in_err-count.was h)))
 
 pub returns-in_err-x-clause-judged : goal.returns-in_err-x-clause-judged
 returns-in_err-x-clause-judged c = λ n m d s h k.
     let p = err_from_is_err_and c.from_residual-in_err-x.result c.from_residual-in_err-x.ensures.1 in
     rw (p.1, p.2) (cause_first (fixed_faults n ++ m.faults d) (fault_if (not (int_lt (pos 0) (number_of n) && is_width (nat_abs (number_of n)))) bad_width n.start) c.in_err-x.field-0.0
-      (cause_right (fixed_faults n) (m.faults d) c.in_err-x.field-0.0 (typed_err m (m.faults d) c.args.x c.in_err-x.field-0.0 c.in_err-x.was k)))
+    (cause_right (fixed_faults n) (m.faults d) c.in_err-x.field-0.0 (typed_err m (m.faults d) c.args.x c.in_err-x.field-0.0 c.in_err-x.was k)))
 
 pub returns-in-None-clause-judged : goal.returns-in-None-clause-judged
 returns-in-None-clause-judged c = λ n m d s h k.

@@ -19,4 +19,4 @@ returns-else-is_wholly c =
     let k = c.in-Number.known in
     subst (λ o. CountUnder c.args.word.now (Some (what_is o)) c.args.constant (Err (No c.refusal.result))) (sym c.in-Number.is)
     (subst (Contains (fixed_faults (named c.args.word.now (Some (number_is k.value k.signed)) []))) (sym c.refusal.ensures)
-      (number_unfixed c.args.word.now k.value k.signed c.is_wholly.ensures.some (sym c.is_wholly.ensures.is ∙ c.if-is_wholly.false)))
+    (number_unfixed c.args.word.now k.value k.signed c.is_wholly.ensures.some (sym c.is_wholly.ensures.is ∙ c.if-is_wholly.false)))

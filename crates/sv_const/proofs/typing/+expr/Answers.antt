@@ -23,7 +23,7 @@ pub named_typed-returns-in-Ok : goal.named_typed-returns-in-Ok
 named_typed-returns-in-Ok t c =
     subst (λ o. Judges (named c.args.word.now o (map (step (names_are c.args.names.now)) c.args.selects.now)) c.args.constant c.named_by.result) (c.find.ensures.is ∙ ap (λ (n : List ℕ). find n (names_are c.args.names.now)) c.bytes.ensures)
     (c.named_by.ensures c.args.word.now (option_map what_is (option_copied c.find.result)) c.args.constant c.in-Ok.at (map (step (names_are c.args.names.now)) c.args.selects.now) (subst (JudgesRoot c.args.word.now (option_map what_is (option_copied c.find.result)) c.args.constant) c.in-Ok.is c.root_of.ensures).0
-      (subst (λ r. JudgesChain (rule_faults r) (cursor_is c.in-Ok.at) (map (step (names_are c.args.names.now)) c.args.selects.now) c.chain_behind.result) c.rule_of.ensures c.chain_behind.ensures))
+    (subst (λ r. JudgesChain (rule_faults r) (cursor_is c.in-Ok.at) (map (step (names_are c.args.names.now)) c.args.selects.now) c.chain_behind.result) c.rule_of.ensures c.chain_behind.ensures))
 
 pub named_typed-returns-in-Err : goal.named_typed-returns-in-Err
 named_typed-returns-in-Err t c =
@@ -80,23 +80,23 @@ pub typed-returns-in-Concat : goal.typed-returns-in-Concat
 typed-returns-in-Concat t c =
     judged_concat (names_are c.args.names.now) c.args.expr.now c.in-Concat.place c.in-Concat.parts c.args.constant c.concat_of.result c.in-Concat.is
     (concat_at (names_are c.args.names.now) c.in-Concat.place _ _ c.args.constant c.concat_of.result c.as_slice-in-Concat.ensures
-      (c.concat_of.ensures (names_are c.args.names.now) c.args.constant (all_at (names_are c.args.names.now) _ _ c.args.constant _ (c.as_slice-in-Concat-2.ensures ∙ sym c.as_slice-in-Concat.ensures) c.typed_parts.ensures)))
+    (c.concat_of.ensures (names_are c.args.names.now) c.args.constant (all_at (names_are c.args.names.now) _ _ c.args.constant _ (c.as_slice-in-Concat-2.ensures ∙ sym c.as_slice-in-Concat.ensures) c.typed_parts.ensures)))
 
 pub typed-returns-in-Repeat : goal.typed-returns-in-Repeat
 typed-returns-in-Repeat t c =
     let n = mean (names_are c.args.names.now) c.in-Repeat.count in
     judged_repeat (names_are c.args.names.now) c.args.expr.now c.in-Repeat.place c.in-Repeat.count c.in-Repeat.parts c.args.constant c.repeat_of.result c.in-Repeat.is
     (repeat_at (names_are c.args.names.now) c.in-Repeat.place n _ _ c.args.constant c.repeat_of.result c.as_slice-in-Repeat.ensures
-      (c.repeat_of.ensures (names_are c.args.names.now) n c.args.constant (fixes_at (names_are c.args.names.now) _ _ _ c.get-in-Repeat.ensures c.fixed.ensures)
-        (all_at (names_are c.args.names.now) _ _ c.args.constant _ (c.as_slice-in-Repeat-2.ensures ∙ sym c.as_slice-in-Repeat.ensures) c.typed_parts-in-Repeat.ensures)))
+    (c.repeat_of.ensures (names_are c.args.names.now) n c.args.constant (fixes_at (names_are c.args.names.now) _ _ _ c.get-in-Repeat.ensures c.fixed.ensures)
+    (all_at (names_are c.args.names.now) _ _ c.args.constant _ (c.as_slice-in-Repeat-2.ensures ∙ sym c.as_slice-in-Repeat.ensures) c.typed_parts-in-Repeat.ensures)))
 
 pub typed-returns-in-CastLiteral : goal.typed-returns-in-CastLiteral
 typed-returns-in-CastLiteral t c =
     let w = c.in-CastLiteral.word in
     judged_cast_literal (names_are c.args.names.now) c.args.expr.now w c.in-CastLiteral.inner c.args.constant c.cast_typed.result c.in-CastLiteral.is
     (c.cast_typed.ensures.judged (of_literal w) (mean (names_are c.args.names.now) c.in-CastLiteral.inner) c.args.constant refl
-      (fixed_expr (of_literal w) w.place c.fixed_of.result refl (c.fixed_of.ensures (of_literal w) (c.literal_typed-in-CastLiteral.ensures true)))
-      (judged_at (names_are c.args.names.now) _ _ _ _ c.get-in-CastLiteral.ensures c.typed-in-CastLiteral.ensures))
+    (fixed_expr (of_literal w) w.place c.fixed_of.result refl (c.fixed_of.ensures (of_literal w) (c.literal_typed-in-CastLiteral.ensures true)))
+    (judged_at (names_are c.args.names.now) _ _ _ _ c.get-in-CastLiteral.ensures c.typed-in-CastLiteral.ensures))
 
 pub typed-returns-in-CastName : goal.typed-returns-in-CastName
 typed-returns-in-CastName t c =
@@ -104,15 +104,15 @@ typed-returns-in-CastName t c =
     let m = mean (names_are c.args.names.now) c.in-CastName.inner in
     judged_cast_name (names_are c.args.names.now) c.args.expr.now w c.in-CastName.inner c.args.constant c.name_cast_typed.result c.in-CastName.is
     (subst (λ o. Judges (cast_to w o m) c.args.constant c.name_cast_typed.result) (c.find.ensures.is ∙ ap (λ (n : List ℕ). find n (names_are c.args.names.now)) c.bytes.ensures)
-      (c.name_cast_typed.ensures m (judged_at (names_are c.args.names.now) _ _ _ _ c.get-in-CastName.ensures c.typed-in-CastName.ensures)))
+    (c.name_cast_typed.ensures m (judged_at (names_are c.args.names.now) _ _ _ _ c.get-in-CastName.ensures c.typed-in-CastName.ensures)))
 
 pub typed-returns-in-CastParen : goal.typed-returns-in-CastParen
 typed-returns-in-CastParen t c =
     let n = mean (names_are c.args.names.now) c.in-CastParen.count in
     judged_cast_paren (names_are c.args.names.now) c.args.expr.now c.in-CastParen.place c.in-CastParen.count c.in-CastParen.inner c.args.constant c.cast_typed-in-CastParen.result c.in-CastParen.is
     (c.cast_typed-in-CastParen.ensures.judged (from c.in-CastParen.place n) (mean (names_are c.args.names.now) c.in-CastParen.inner) c.args.constant refl
-      (c.fixed_of-in-CastParen.ensures n (judged_at (names_are c.args.names.now) _ _ _ _ c.get-in-CastParen.ensures c.typed-in-CastParen.ensures))
-      (judged_at (names_are c.args.names.now) _ _ _ _ c.get-in-CastParen-2.ensures c.typed-in-CastParen-2.ensures))
+    (c.fixed_of-in-CastParen.ensures n (judged_at (names_are c.args.names.now) _ _ _ _ c.get-in-CastParen.ensures c.typed-in-CastParen.ensures))
+    (judged_at (names_are c.args.names.now) _ _ _ _ c.get-in-CastParen-2.ensures c.typed-in-CastParen-2.ensures))
 
 pub typed-returns-in-CastSign : goal.typed-returns-in-CastSign
 typed-returns-in-CastSign t c =
@@ -139,13 +139,13 @@ typed-returns-in-Unary t c =
     let m = mean (names_are c.args.names.now) c.in-Unary.inner in
     judged_unary (names_are c.args.names.now) c.args.expr.now c.in-Unary.op c.in-Unary.field-1 c.in-Unary.inner c.args.constant c.one_typed-in-Unary.result c.in-Unary.is
     (subst (λ o. Judges (from c.in-Unary.field-1 (one_meaning o m)) c.args.constant c.one_typed-in-Unary.result) c.one_of.ensures
-      (c.one_typed-in-Unary.ensures m c.args.constant c.in-Unary.field-1 (judged_at (names_are c.args.names.now) _ _ _ _ c.get-in-Unary.ensures c.typed-in-Unary.ensures)))
+    (c.one_typed-in-Unary.ensures m c.args.constant c.in-Unary.field-1 (judged_at (names_are c.args.names.now) _ _ _ _ c.get-in-Unary.ensures c.typed-in-Unary.ensures)))
 
 pub typed-returns-in-Power : goal.typed-returns-in-Power
 typed-returns-in-Power t c =
     judged_power (names_are c.args.names.now) c.args.expr.now c.in-Binary.x c.in-Binary.op c.in-Binary.place c.in-Binary.y c.args.constant c.power_typed.result c.in-Binary.is (sym c.two_of.ensures ∙ c.in-Power.is)
     (c.power_typed.ensures (mean (names_are c.args.names.now) c.in-Binary.x) (mean (names_are c.args.names.now) c.in-Binary.y) c.args.constant (starts_at (names_are c.args.names.now) _ _ _ c.get-in-Power.ensures (c.start.ensures (names_are c.args.names.now)))
-      (judged_at (names_are c.args.names.now) _ _ _ _ c.get-in-Power-2.ensures c.typed-in-Power.ensures) (judged_at (names_are c.args.names.now) _ _ _ _ c.get-in-Power-3.ensures c.typed-in-Power-2.ensures))
+    (judged_at (names_are c.args.names.now) _ _ _ _ c.get-in-Power-2.ensures c.typed-in-Power.ensures) (judged_at (names_are c.args.names.now) _ _ _ _ c.get-in-Power-3.ensures c.typed-in-Power-2.ensures))
 
 pub typed-returns-in-Pair : goal.typed-returns-in-Pair
 typed-returns-in-Pair t c =
@@ -156,7 +156,7 @@ pub typed-returns-in-Choose : goal.typed-returns-in-Choose
 typed-returns-in-Choose t c =
     judged_choose (names_are c.args.names.now) c.args.expr.now c.in-Choose.condition c.in-Choose.x c.in-Choose.y c.args.constant c.chosen_typed.result c.in-Choose.is
     (c.chosen_typed.ensures (mean (names_are c.args.names.now) c.in-Choose.condition) (mean (names_are c.args.names.now) c.in-Choose.x) (mean (names_are c.args.names.now) c.in-Choose.y) c.args.constant
-      (judged_at (names_are c.args.names.now) _ _ _ _ c.get-in-Choose.ensures c.typed-in-Choose.ensures) (judged_at (names_are c.args.names.now) _ _ _ _ c.get-in-Choose-2.ensures c.typed-in-Choose-2.ensures) (judged_at (names_are c.args.names.now) _ _ _ _ c.get-in-Choose-3.ensures c.typed-in-Choose-3.ensures))
+    (judged_at (names_are c.args.names.now) _ _ _ _ c.get-in-Choose.ensures c.typed-in-Choose.ensures) (judged_at (names_are c.args.names.now) _ _ _ _ c.get-in-Choose-2.ensures c.typed-in-Choose-2.ensures) (judged_at (names_are c.args.names.now) _ _ _ _ c.get-in-Choose-3.ensures c.typed-in-Choose-3.ensures))
 
 pub typed_index-returns-in-Fixed : goal.typed_index-returns-in-Fixed
 typed_index-returns-in-Fixed t c =
@@ -167,4 +167,4 @@ pub typed_parts-parts-preserved : goal.typed_parts-parts-preserved
 typed_parts-parts-preserved t c =
     subst (AreTyped (map (mean (names_are c.args.names.now)) (take (c.parts.expr-index + 1) c.args.all.now)) c.args.constant) (sym c.in_ok-push.ensures.ok)
     (parts_more (names_are c.args.names.now) c.args.all.now c.parts.expr-index c.expr-item.result c.args.constant c.parts.list c.in_ok-part.part c.parts-test.true c.expr-item.is c.parts.invariant
-      (subst (Judges (mean (names_are c.args.names.now) c.expr-item.result) c.args.constant) c.in_ok-part.was c.typed.ensures))
+    (subst (Judges (mean (names_are c.args.names.now) c.expr-item.result) c.args.constant) c.in_ok-part.was c.typed.ensures))
