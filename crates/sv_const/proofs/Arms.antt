@@ -1,11 +1,10 @@
 -- What an expression is typed as, by its production.
 use Rattle.std.proofs.Common.{◌≡◌, ℕ, zero, suc, ◌+◌, ◌<◌, ◌≤◌, Bool, true, false, List, [], ◌∷◌, ◌++◌, length, take, drop, get_or, map, refl, sym, ap, ◌∙◌, subst, Result, Ok, Err, arith, append_assoc}
 use Rattle.std.specs.Result.{IfOk}
-use Rattle.std.specs.List.{Contains, All, AllZip, AllByRecursion}
+use Rattle.std.specs.List.{AllZip, AllByRecursion}
 use Rattle.std.proofs.lemmas.List.Elements.{All-from_recursion, recursion_from_All}
 use Rattle.std.proofs.lemmas.List.{append-nil, map-append, take_all}
 use Rattle.std.proofs.Math.Seq.{take-suc}
-use Rattle.sv_outside.specs.declared.refusal.Refusal.{Refusal}
 use Rattle.sv_outside.specs.declared.refusal.TextErr.{TextErr}
 use Rattle.sv_outside.specs.declared.refusal.Place.{Place}
 use Rattle.sv_tree.specs.declared.word.Word.{Word}
@@ -20,7 +19,7 @@ use Rattle.sv_tree.specs.declared.exprs.Select.{Select}
 use Rattle.sv_tree.specs.declared.exprs.Select.TheVariants as s
 use Rattle.sv_meaning.specs.Faults.{Faults}
 use Rattle.sv_meaning.specs.Layouts.{Layout, Scope, find, width, is_signed}
-use Rattle.sv_meaning.specs.Meanings.{Meaning, from, power, chosen, concat, repeated, sized_by, cast_to, to_sign, log_up, of_literal, named, parts, fixed_faults, Step, step_faults, chain_faults, to_member, to_index, to_range}
+use Rattle.sv_meaning.specs.Meanings.{Meaning, from, power, chosen, concat, repeated, sized_by, cast_to, to_sign, log_up, of_literal, named, parts, Step, step_faults, chain_faults, to_member, to_index, to_range}
 use Rattle.sv_meaning.specs.Values.{mean, step, is_signed_word}
 use Rattle.sv_typed.specs.declared.tree.Typed.{Typed}
 use Rattle.sv_typed.specs.declared.ops.Pair.{Pair}
@@ -33,7 +32,7 @@ use Rattle.sv_typed.proofs.Operators.{unary_is, binary_is}
 use Rattle.sv_const.specs.declared.fixed.Fixed.{Fixed}
 use Rattle.sv_const.specs.declared.cursor.Cursor.{Cursor}
 use Rattle.sv_typed.specs.declared.tree.Pick.{Pick}
-use Rattle.sv_const.specs.Judging.{IsCause, IsTyped, Types, Judges, AreTyped, JudgesAll, IsFixed, Fixes}
+use Rattle.sv_const.specs.Judging.{IsCause, IsTyped, Types, Judges, AreTyped, JudgesAll, Fixes}
 use Rattle.sv_const.specs.declared.chain.Chain.{Chain}
 use Rattle.sv_const.specs.Picks.{Leads, Picks, Chains, Follows}
 use Rattle.sv_const.specs.Roots.{IsChain}

@@ -1,19 +1,17 @@
 -- Concatenations, replications and casts to a size.
-use Rattle.std.proofs.Common.{◌≡◌, ℕ, zero, suc, ◌+◌, ◌*◌, ◌<◌, ◌≤◌, ◌^◌, Bool, true, false, ◌&&◌, ◌||◌, not, min, drop, nat_le, nat_lt, List, [], ◌∷◌, ◌++◌, length, take, get_or, map, Option, Some, None, refl, sym, ap, ◌∙◌, subst, arith, ℤ, pos, negsuc, nat_abs, int_lt}
+use Rattle.std.proofs.Common.{◌≡◌, ℕ, zero, suc, ◌+◌, ◌*◌, ◌<◌, ◌≤◌, ◌^◌, Bool, true, false, ◌&&◌, ◌||◌, not, min, drop, nat_le, List, [], ◌∷◌, ◌++◌, length, get_or, map, Option, Some, None, refl, sym, ap, ◌∙◌, subst, arith, ℤ, pos, negsuc, nat_abs, int_lt}
 use Rattle.std.proofs.lemmas.Bool.Decides.{nat_tests}
 use Rattle.std.proofs.lemmas.List.{at_drop_more, at_drop_all}
-use Rattle.std.specs.List.{Contains, All, AllZip}
-use Rattle.fourvec.specs.declared.Bit.{Bit}
+use Rattle.std.specs.List.{Contains, AllZip}
 use Rattle.sv_outside.specs.declared.refusal.Place.{Place}
-use Rattle.sv_outside.specs.declared.refusal.TextErr.{TextErr}
-use Rattle.sv_meaning.specs.Faults.{Faults, fault_if, or_then, bad_width}
-use Rattle.sv_meaning.specs.Meanings.{Meaning, from, to_layout, parts, is_sized, loose, all_loose, concat, repeated, repeat_faults, sized_by, number_of, fixed_faults, is_width, is_bound, whole}
+use Rattle.sv_meaning.specs.Faults.{fault_if, bad_width}
+use Rattle.sv_meaning.specs.Meanings.{Meaning, from, to_layout, parts, is_sized, loose, all_loose, concat, repeated, sized_by, number_of, fixed_faults, is_width, is_bound, whole}
 use Rattle.sv_literal.specs.declared.meaning.Literal.{Literal}
 use Rattle.sv_tree.specs.declared.exprs.Expr.{Expr}
 use Rattle.sv_meaning.specs.Layouts.{Scope, Layout}
 use Rattle.sv_meaning.specs.Values.{mean}
 use Rattle.sv_typed.specs.declared.tree.Typed.{Typed}
-use Rattle.sv_typed.specs.Typed.{Stands, IsSound, IsWidth, width_together, literal_of, clothed}
+use Rattle.sv_typed.specs.Typed.{Stands, IsSound, width_together, literal_of, clothed}
 use Rattle.sv_typed.proofs.Parts.{parts_size}
 use Rattle.sv_const.specs.declared.fixed.Fixed.{Fixed}
 use Rattle.sv_const.specs.Judging.{IsTyped, AreTyped, IsFixed, Loose, loose_literal, is_loose, any_loose}

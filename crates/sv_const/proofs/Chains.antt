@@ -1,7 +1,6 @@
 -- Picks that stand for the selects of a chain: one more of them, and what follows of all.
-use Rattle.std.proofs.Common.{◌≡◌, ℕ, suc, ◌+◌, ◌<◌, ◌≤◌, Bool, true, false, ◌&&◌, List, [], ◌∷◌, ◌++◌, length, take, drop, get_or, map, Option, Some, None, refl, sym, ap, ◌∙◌, subst, arith, ℤ, if◌then◌else◌}
-use Rattle.std.proofs.lemmas.List.{append-nil, map-append, take_all}
-use Rattle.std.proofs.Math.Seq.{take-suc, drop-cons}
+use Rattle.std.proofs.Common.{◌≡◌, ℕ, false, ◌&&◌, List, [], ◌∷◌, ◌++◌, Option, Some, None, refl, sym, ap, ◌∙◌, subst, arith, ℤ, if◌then◌else◌}
+use Rattle.std.proofs.lemmas.List.{append-nil}
 use Rattle.std.specs.List.{Contains, AllByRecursion}
 use Rattle.std.proofs.lemmas.List.Elements.{All-from_recursion}
 use Rattle.fourvec.specs.declared.Bit.{Bit}
@@ -9,7 +8,7 @@ use Rattle.lhs_alias.specs.declared.segs.WireBit.{WireBit}
 use Rattle.sv_outside.specs.declared.refusal.Refusal.{Refusal}
 use Rattle.sv_meaning.specs.Faults.{Faults, or_then}
 use Rattle.sv_meaning.specs.Layouts.{Layout, width, Read, Origin}
-use Rattle.sv_meaning.specs.Meanings.{Meaning, Step, Part, step_in, step_faults, with_part, indices, all_indices, bits_at, nowhere, chain_bits, chain_layout, chain_faults}
+use Rattle.sv_meaning.specs.Meanings.{Meaning, Step, step_in, step_faults, with_part, indices, all_indices, bits_at, nowhere, chain_bits, chain_layout, chain_faults}
 use Rattle.sv_meaning.specs.Targets.{with_place, slots_from, put_at, fixed_place, chain_slots, chain_fixed, put}
 use Rattle.sv_typed.specs.declared.tree.Pick.{Pick}
 use Rattle.sv_typed.specs.Typed.{pick_place, picked, place_names, picked_width, are_constant_picks, names_picked, PickIsSound}

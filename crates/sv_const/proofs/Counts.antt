@@ -1,8 +1,7 @@
 -- Counts of elements, and what stands against them.
-use Rattle.std.proofs.Common.{◌≡◌, ℕ, zero, suc, ◌+◌, ◌*◌, ◌/◌, ◌<◌, ◌≤◌, ◌^◌, Bool, true, false, ◌&&◌, not, nat_le, nat_lt, leb, IsTrue, IsFalse, List, refl, sym, ap, ◌∙◌, subst, arith, ℤ, pos, negsuc, ◌-ℤ◌, ◌*ℤ◌, nat_abs, int_lt, int_le, if◌then◌else◌}
-use Rattle.std.proofs.lemmas.Int.{ints}
+use Rattle.std.proofs.Common.{◌≡◌, ℕ, ◌*◌, ◌/◌, ◌<◌, ◌≤◌, ◌^◌, Bool, true, false, ◌&&◌, not, nat_le, List, refl, sym, ap, ◌∙◌, arith, ℤ, pos, negsuc, int_lt, if◌then◌else◌}
 use Rattle.std.proofs.lemmas.Bool.Decides.{nat_tests}
-use Rattle.std.proofs.Math.Nat.{le-div_iff_mul-le, mul-le-mul_left, mul-le-mul_right}
+use Rattle.std.proofs.Math.Nat.{le-div_iff_mul-le, mul-le-mul_left}
 use Rattle.std.specs.List.{Contains}
 use Rattle.fourvec.specs.declared.Bit.{Bit}
 use Rattle.fourvec.specs.Bits.{is_negative, number}
@@ -11,8 +10,7 @@ use Rattle.sv_meaning.specs.Faults.{bad_width, bad_select}
 use Rattle.sv_meaning.specs.Layouts.{count_between}
 use Rattle.sv_meaning.specs.Meanings.{goes_along, is_width, is_bound, whole}
 use Rattle.sv_const.specs.declared.cursor.Row.{Row}
-use Rattle.sv_const.specs.Cursors.{each_is, RowIsSound}
-use Rattle.sv_const.specs.Ranges.{each_width, IsBetween, between_faults, IsMany, many_faults}
+use Rattle.sv_const.specs.Ranges.{each_width, IsBetween, between_faults, many_faults}
 use Rattle.sv_const.proofs.Lists.{in_first, in_second, in_fault, no_fault}
 
 true_le : (a b : ℕ) → a ≤ b → nat_le a b ≡ true

@@ -1,13 +1,11 @@
 -- Constants that are wholly 0 and 1.
-use Rattle.std.proofs.Common.{◌≡◌, Bool, true, false, not, List, [], IsTrue, refl, sym, ap, ◌∙◌, subst}
+use Rattle.std.proofs.Common.{◌≡◌, true, false, not, sym, ap, ◌∙◌, subst}
 use Rattle.std.specs.List.{Contains}
-use Rattle.fourvec.specs.declared.Bit.{Bit}
 use Rattle.fourvec.specs.Bits.{is_known}
 use Rattle.sv_outside.specs.declared.refusal.Refusal.{Refusal}
 use Rattle.sv_outside.specs.declared.refusal.Place.{Place}
-use Rattle.sv_meaning.specs.Faults.{Faults, fault_if, or_then, not_constant}
+use Rattle.sv_meaning.specs.Faults.{fault_if, or_then, not_constant}
 use Rattle.sv_meaning.specs.Meanings.{Meaning, from, nowhere, constant_of, fixed_faults}
-use Rattle.sv_meaning.specs.Meanings as m
 use Rattle.sv_typed.specs.declared.tree.Typed.{Typed}
 use Rattle.sv_typed.specs.Typed.{Stands, own}
 use Rattle.sv_const.specs.declared.fixed.Fixed.{Fixed}

@@ -1,9 +1,9 @@
 -- Lists of faults.
-use Rattle.std.proofs.Common.{◌≡◌, ℕ, zero, suc, ◌+◌, ◌<◌, Bool, true, false, not, List, [], ◌∷◌, ◌++◌, length, refl, sym, ap, ◌∙◌, arith}
+use Rattle.std.proofs.Common.{◌≡◌, ℕ, zero, suc, Bool, true, false, List, [], ◌∷◌, ◌++◌, refl, arith}
 use Rattle.std.specs.List.{Contains}
 use Rattle.sv_outside.specs.declared.refusal.Refusal.{Refusal}
 use Rattle.sv_outside.specs.declared.refusal.Place.{Place}
-use Rattle.sv_meaning.specs.Faults.{Faults, fault, fault_if, or_then}
+use Rattle.sv_meaning.specs.Faults.{Faults, fault_if, or_then}
 
 contains_behind : {A : Type 0} (y : A) (a : List A) (x : A) → Contains a x → Contains (y ∷ a) x
 contains_behind y a x h = (suc h.0, omega (arith, h.1), h.2)

@@ -1,5 +1,5 @@
 -- Names with their selects.
-use Rattle.std.proofs.Common.{◌≡◌, ℕ, suc, ◌+◌, ◌-◌, ◌*◌, ◌≤◌, Bool, true, false, ◌&&◌, nat_lt, List, [], ◌∷◌, ◌++◌, length, Option, Some, None, refl, sym, ap, ◌∙◌, subst, arith, ℤ, pos, if◌then◌else◌, Bor, option_map}
+use Rattle.std.proofs.Common.{◌≡◌, ℕ, ◌-◌, ◌*◌, ◌≤◌, Bool, true, false, ◌&&◌, nat_lt, List, [], ◌∷◌, ◌++◌, length, Option, Some, None, refl, sym, ap, ◌∙◌, subst, arith, pos, if◌then◌else◌, Bor, option_map}
 use Rattle.std.specs.Option.{option_copied}
 use Rattle.sv_const.specs.declared.layout.What.{What as What'}
 use Rattle.sv_const.specs.Kinds.{what_is}

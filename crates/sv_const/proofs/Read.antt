@@ -1,19 +1,14 @@
 -- Literals.
-use Rattle.std.proofs.Common.{◌≡◌, ◌↔◌, ℕ, ◌-◌, ◌≤◌, ◌<◌, Bool, true, false, not, IsTrue, IsFalse, List, [], ◌∷◌, ◌++◌, length, replicate, refl, sym, ap, ◌∙◌, subst, arith, Result, Ok, Err, cond, if◌then◌else◌}
-use Rattle.std.proofs.lemmas.List.{append-nil}
+use Rattle.std.proofs.Common.{◌≡◌, ◌↔◌, Bool, true, false, not, IsTrue, IsFalse, [], refl, ap, Result, Ok, Err}
 use Rattle.std.specs.List.{Contains}
-use Rattle.fourvec.specs.declared.Bit.{Bit}
-use Rattle.fourvec.specs.Bits.{first, top, sext_of, zext_of}
-use Rattle.fourvec.specs.declared.Bit.TheVariants.{Zero}
 use Rattle.sv_literal.specs.declared.meaning.Literal.{Literal}
 use Rattle.sv_literal.specs.declared.meaning.LitErr.{LitErr}
 use Rattle.sv_literal.specs.declared.meaning.LitErr.TheVariants.{Shape, Wide, Range}
-use Rattle.sv_literal.specs.Meaning.{meaning_of, number_of, based_of, fill_of, is_wide, is_out_of_range}
-use Rattle.sv_outside.specs.Literals.{is_literal, is_number, is_based}
-use Rattle.sv_outside.specs.declared.refusal.Refusal.{Refusal}
+use Rattle.sv_literal.specs.Meaning.{is_wide, is_out_of_range}
+use Rattle.sv_outside.specs.Literals.{is_literal}
 use Rattle.sv_tree.specs.declared.word.Word.{Word}
-use Rattle.sv_meaning.specs.Faults.{Faults, fault, fault_if, or_then, bad_token, bad_width, literal_range}
-use Rattle.sv_meaning.specs.Meanings.{Meaning, of_literal, literal_faults, extend, own, nowhere, is_sized}
+use Rattle.sv_meaning.specs.Faults.{bad_token, bad_width, literal_range}
+use Rattle.sv_meaning.specs.Meanings.{literal_faults}
 use Rattle.sv_const.specs.Literals.{refused}
 use Rattle.sv_const.proofs.Lists.{in_first, in_second, in_fault, no_fault, then_clear}
 

@@ -1,17 +1,15 @@
 -- Ranges, and the picks that stand for them.
-use Rattle.std.proofs.Common.{◌≡◌, ℕ, zero, suc, ◌+◌, ◌-◌, ◌*◌, ◌<◌, ◌≤◌, Bool, true, false, ◌&&◌, ◌||◌, not, IsTrue, IsFalse, List, [], ◌∷◌, ◌++◌, Option, Some, None, refl, sym, ap, ◌∙◌, subst, arith, ℤ, pos, negsuc, ◌+ℤ◌, ◌-ℤ◌, ◌*ℤ◌, nat_abs, int_lt, int_le, if◌then◌else◌}
+use Rattle.std.proofs.Common.{◌≡◌, ℕ, ◌-◌, ◌*◌, ◌≤◌, Bool, true, false, ◌&&◌, ◌||◌, not, [], ◌++◌, Some, refl, sym, ap, ◌∙◌, subst, arith, ℤ, pos, ◌+ℤ◌, ◌-ℤ◌, ◌*ℤ◌, nat_abs, int_lt, int_le, if◌then◌else◌}
 use Rattle.std.proofs.lemmas.Int.{ints}
 use Rattle.std.proofs.lemmas.Bool.Decides.{nat_tests}
 use Rattle.std.specs.List.{Contains}
-use Rattle.fourvec.specs.declared.Bit.{Bit}
-use Rattle.fourvec.specs.Spots as spots
 use Rattle.sv_outside.specs.declared.refusal.Refusal.{Refusal}
 use Rattle.sv_outside.specs.declared.refusal.Place.{Place}
 use Rattle.sv_tree.specs.declared.exprs.RangeMark.{RangeMark}
 use Rattle.sv_tree.specs.declared.exprs.RangeMark.TheVariants as mark
 use Rattle.sv_meaning.specs.Faults.{Faults, fault_if, or_then, is_clear, bad_width, bad_select}
 use Rattle.sv_meaning.specs.Layouts.{Layout, scalar, dim, struct, width, goes_down, place_of, count_between, Read}
-use Rattle.sv_meaning.specs.Meanings.{Meaning, Part, to_range, step_in, step_faults, indices, known_place, whole, own, number_of, fixed_faults, is_bound, is_width, goes_along, elements, lowest, part_if, ranged, range_faults, end_faults, no_faults}
+use Rattle.sv_meaning.specs.Meanings.{Meaning, to_range, step_in, step_faults, whole, number_of, fixed_faults, is_bound, is_width, elements, lowest, part_if, ranged, range_faults, end_faults, no_faults}
 use Rattle.sv_typed.specs.declared.tree.PickPlace.{PickPlace}
 use Rattle.sv_typed.specs.declared.tree.PickPlace.TheVariants as place
 use Rattle.sv_typed.specs.declared.tree.Typed.{Typed}
@@ -23,7 +21,7 @@ use Rattle.sv_const.specs.Judging.{IsTyped, IsFixed}
 use Rattle.sv_const.specs.Picks.{Picks, spot_of}
 use Rattle.sv_const.specs.Ranges.{each_width, is_turned, lowest_of, IsBetween, between_faults, IsMany, many_faults, shift_of, is_to}
 use Rattle.sv_const.proofs.Lists.{contains_left, in_left, in_right, in_first, in_second, both_clear, then_clear, in_fault, no_fault}
-use Rattle.sv_const.proofs.Sound.{each_some, each_most, some_bits}
+use Rattle.sv_const.proofs.Sound.{each_some, some_bits}
 use Rattle.sv_const.proofs.Steps.{spot_at, moving_place, moving_names, moving_sound}
 
 -- ---- causes

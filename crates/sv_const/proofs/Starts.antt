@@ -1,6 +1,5 @@
 -- Where expressions begin.
-use Rattle.std.proofs.Common.{◌≡◌, ℕ, Bool, true, false, not, nat_lt, List, [], ◌∷◌, length, Option, Some, None, refl, sym, ap, ◌∙◌}
-use mathlib.Core.Former.{Count}
+use Rattle.std.proofs.Common.{◌≡◌, ℕ, Bool, true, false, nat_lt, List, [], length, Option, Some, None, refl, ap, ◌∙◌}
 use Rattle.fourvec.specs.declared.Bit.{Bit}
 use Rattle.sv_outside.specs.declared.refusal.Place.{Place}
 use Rattle.sv_tree.specs.declared.word.Word.{Word}
@@ -8,13 +7,12 @@ use Rattle.sv_tree.specs.declared.exprs.Sign.{Sign}
 use Rattle.sv_tree.specs.declared.exprs.SystemName.{SystemName}
 use Rattle.sv_tree.specs.declared.exprs.UnaryOp.{UnaryOp}
 use Rattle.sv_tree.specs.declared.exprs.BinaryOp.{BinaryOp}
-use Rattle.sv_tree.specs.declared.exprs.Expr.{Expr, Literal, Name', Concat', Repeat', end_of-Expr, more_of-Expr}
+use Rattle.sv_tree.specs.declared.exprs.Expr.{Expr, Literal}
 use Rattle.sv_tree.specs.declared.exprs.Expr.TheVariants as e
 use Rattle.sv_tree.specs.declared.exprs.Select.{Select}
-use Rattle.sv_meaning.specs.Patterns.{paren, cast_literal, cast_name, cast_paren, cast_sign, system, unary, binary, choose}
 use Rattle.sv_meaning.specs.Faults.{Faults}
 use Rattle.sv_meaning.specs.Layouts.{Layout, Scope, find, What, number_is, type_is, signal_is, genvar_is, Origin, Read, plain}
-use Rattle.sv_meaning.specs.Meanings.{Meaning, Step, selected, constant_named, named, cast_to, is_sized, chain_layout, index_faults}
+use Rattle.sv_meaning.specs.Meanings.{Meaning, Step, selected, constant_named, named, cast_to, chain_layout}
 use Rattle.sv_meaning.specs.Values.{mean, binary_meaning}
 use Rattle.sv_tree.specs.declared.exprs.BinaryOp.TheVariants as two
 use Rattle.sv_const.proofs.Made.{mean_literal, mean_name, mean_paren, mean_concat, mean_repeat, mean_cast_literal, mean_cast_name, mean_cast_paren, mean_cast_sign, mean_system, mean_unary, mean_binary, mean_choose}

@@ -1,27 +1,22 @@
 -- One select, and the pick that stands for it.
-use Rattle.std.proofs.Common.{◌≡◌, ℕ, zero, suc, ◌+◌, ◌*◌, ◌<◌, ◌≤◌, Bool, true, false, ◌&&◌, not, IsTrue, List, [], ◌∷◌, ◌++◌, Option, Some, None, option_map, refl, sym, ap, ◌∙◌, subst, arith, ℤ, pos, negsuc, ◌+ℤ◌, ◌-ℤ◌, ◌*ℤ◌, neg_ℤ, if◌then◌else◌}
-use Rattle.std.proofs.lemmas.Int.{ints, to_z-of_z}
-use Rattle.std.proofs.lemmas.Bool.Decides.{nat_tests}
+use Rattle.std.proofs.Common.{◌≡◌, ℕ, zero, suc, Bool, true, false, not, List, Option, Some, None, refl, sym, ap, ◌∙◌, subst, arith, ℤ, pos, ◌+ℤ◌, ◌-ℤ◌, ◌*ℤ◌, neg_ℤ, if◌then◌else◌}
+use Rattle.std.proofs.lemmas.Int.{ints}
 use lib.IntN.{*ℤ_comm, suc_ℤ-*ℤ, *ℤ-zero}
-use mir.Syntax.{w64}
-use mir.Val.{to_z, of_z}
 use Rattle.std.specs.List.{Contains}
 use Rattle.fourvec.specs.declared.Bit.{Bit}
 use Rattle.fourvec.specs.declared.Spot.{Spot}
-use Rattle.fourvec.specs.Bits.{is_known, signed, number}
+use Rattle.fourvec.specs.Bits.{is_known}
 use Rattle.fourvec.specs.Spots as spots
 use Rattle.sv_outside.specs.declared.refusal.Refusal.{Refusal}
 use Rattle.sv_outside.specs.declared.refusal.Place.{Place}
-use Rattle.sv_meaning.specs.Faults.{Faults, fault, or_then, bad_select}
-use Rattle.sv_meaning.specs.Layouts.{Name, Layout, scalar, dim, struct, width, is_signed, member_in, goes_down, place_of, Read, Origin}
-use Rattle.sv_meaning.specs.Meanings.{Meaning, Step, Part, to_member, to_index, to_range, step_in, step_faults, indices, known_place, whole, own, member_part, member_faults}
-use Rattle.sv_typed.specs.declared.tree.Pick.{Pick}
+use Rattle.sv_meaning.specs.Faults.{Faults, bad_select}
+use Rattle.sv_meaning.specs.Layouts.{Name, Layout, scalar, dim, struct, width, member_in, goes_down, place_of, Read}
+use Rattle.sv_meaning.specs.Meanings.{Meaning, to_member, to_index, step_faults, known_place, whole, member_part, member_faults}
 use Rattle.sv_typed.specs.declared.tree.PickPlace.{PickPlace}
 use Rattle.sv_typed.specs.declared.tree.PickPlace.TheVariants as place
 use Rattle.sv_typed.specs.declared.tree.PickPlace.TheBlock.{shape-the_row-Typed-2, hidden-the_row-Typed-2}
 use Rattle.sv_typed.specs.declared.tree.Typed.{Typed}
 use Rattle.sv_typed.specs.Typed as t
-use Rattle.sv_const.specs.declared.layout.Layout as l
 use Rattle.sv_const.specs.declared.cursor.Row.{Row}
 use Rattle.sv_const.specs.declared.cursor.Part as c
 use Rattle.sv_const.specs.Kinds.{layout_is, IsSound}

@@ -1,5 +1,5 @@
 -- Casts to the size or the type that a name gives.
-use Rattle.std.proofs.Common.{◌≡◌, ℕ, ◌-◌, ◌*◌, ◌≤◌, Bool, true, false, nat_lt, not, List, [], ◌++◌, length, Option, Some, None, Result, Ok, Err, refl, sym, ap, ◌∙◌, subst, arith, pos}
+use Rattle.std.proofs.Common.{◌≡◌, ℕ, ◌-◌, ◌*◌, ◌≤◌, Bool, true, false, nat_lt, not, List, [], length, Option, Some, None, Result, Ok, Err, refl, sym, ap, ◌∙◌, subst, arith, pos}
 use Rattle.std.proofs.lemmas.Bool.Decides.{nat_tests}
 use Rattle.std.proofs.lemmas.Int.{ints}
 use Rattle.std.specs.List.{Contains}
@@ -7,10 +7,9 @@ use Rattle.fourvec.specs.declared.Bit.{Bit}
 use Rattle.fourvec.specs.Bits.{is_known}
 use Rattle.fourvec.proofs.Moves.{extend_none}
 use Rattle.sv_outside.specs.declared.refusal.TextErr.{TextErr}
-use Rattle.sv_outside.specs.declared.refusal.Refusal.{Refusal}
 use Rattle.sv_tree.specs.declared.word.Word.{Word}
-use Rattle.sv_meaning.specs.Faults.{Faults, fault_if, or_then, not_constant, unknown_name}
-use Rattle.sv_meaning.specs.Layouts.{Layout, width, plain, count_between, What, number_is, type_is, signal_is, genvar_is, Origin}
+use Rattle.sv_meaning.specs.Faults.{not_constant}
+use Rattle.sv_meaning.specs.Layouts.{width, plain, count_between, What, number_is, type_is, signal_is, genvar_is}
 use Rattle.sv_meaning.specs.Meanings.{Meaning, from, to_layout, sized_by, named, constant_named, cast_to, constant_of, fixed_faults, chain_bits, chain_layout, chain_faults, all_indices, extend}
 use Rattle.sv_const.specs.declared.fixed.Fixed.{Fixed}
 use Rattle.sv_const.specs.declared.layout.Known.{Known}
@@ -20,7 +19,7 @@ use Rattle.sv_const.specs.declared.layout.Layout as l
 use Rattle.sv_const.specs.Kinds.{layout_is}
 use Rattle.sv_const.specs.Casts.{LayoutUnder, CountUnder, Refuses}
 use Rattle.sv_const.specs.Judging.{IsFixed, Fixes, Judges}
-use Rattle.sv_const.proofs.Lists.{in_left, in_first, in_second, in_fault, no_fault, then_clear}
+use Rattle.sv_const.proofs.Lists.{in_fault, no_fault}
 
 some_test : (n : ℕ) → 1 ≤ n → nat_lt 0 n ≡ true
 some_test n e = grind (arith, nat_tests)

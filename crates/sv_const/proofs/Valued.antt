@@ -1,10 +1,10 @@
 -- Values at a width, and sizes.
-use Rattle.std.proofs.Common.{◌≡◌, ℕ, ◌≤◌, max, Bool, true, false, not, [], refl, sym, ap, ◌∙◌, subst, arith}
+use Rattle.std.proofs.Common.{◌≡◌, ℕ, ◌≤◌, max, true, false, not, sym, ap, ◌∙◌, subst}
 use Rattle.std.specs.List.{Contains}
 use Rattle.fourvec.specs.Bits.{is_known}
 use Rattle.sv_outside.specs.declared.refusal.Place.{Place}
 use Rattle.sv_outside.specs.declared.refusal.TextErr.{TextErr}
-use Rattle.sv_meaning.specs.Faults.{Faults, fault_if, or_then, not_constant}
+use Rattle.sv_meaning.specs.Faults.{not_constant}
 use Rattle.sv_meaning.specs.Meanings.{Meaning, nowhere, constant_at, fixed_faults_at}
 use Rattle.sv_typed.specs.declared.tree.Typed.{Typed}
 use Rattle.sv_typed.specs.Typed.{Stands, worth}
@@ -13,7 +13,7 @@ use Rattle.sv_const.specs.declared.layout.Known.{Known}
 use Rattle.sv_const.specs.declared.layout.Size.{Size}
 use Rattle.sv_const.specs.Judging.{IsTyped, IsCause}
 use Rattle.sv_const.specs.Sizes.{IsConstant, IsSize}
-use Rattle.sv_const.proofs.Lists.{in_first, in_second, in_fault, no_fault, then_clear}
+use Rattle.sv_const.proofs.Lists.{in_second, in_fault, no_fault, then_clear}
 use Rattle.sv_const.proofs.OfRules.{cause_first}
 
 pub value_is : (w : ℕ) (t : Typed) (m : Meaning) → Stands t m → constant_at w m ≡ worth t nowhere (max w t.width) t.signed

@@ -1,5 +1,5 @@
 -- Where a chain of selects stands in a layout.
-use Rattle.std.specs.Prelude.{◌≡◌, ℕ, ◌≤◌, ◌-◌, ◌*◌, Bool, false, IsTrue, pos, List, Option, None}
+use Rattle.std.specs.Prelude.{ℕ, ◌≤◌, ◌-◌, ◌*◌, Bool, false, IsTrue, pos, List, Option, None}
 use Rattle.sv_const.specs.declared.cursor.Each.{Each}
 use Rattle.sv_const.specs.declared.cursor.Each.TheVariants.{Bit, Of}
 use Rattle.sv_const.specs.declared.cursor.Cursor.{Cursor}

@@ -1,12 +1,11 @@
 -- What layouts, and what names stand for, mean; and which layouts are sound.
-use Rattle.std.specs.Prelude.{◌≡◌, ℕ, ◌≤◌, Bool, true, false, IsTrue, List, [], ◌∷◌, ◌++◌, map}
+use Rattle.std.specs.Prelude.{◌≡◌, ℕ, ◌≤◌, Bool, IsTrue, List, [], ◌∷◌, map}
 use mathlib.Core.Former.{Count}
 use Rattle.sv_const.specs.declared.layout.Layout.{Layout}
-use Rattle.sv_const.specs.declared.layout.Known.{Known}
 use Rattle.sv_const.specs.declared.layout.Field.{Field}
 use Rattle.sv_const.specs.declared.layout.What.{What}
 use Rattle.sv_const.specs.declared.layout.What.TheVariants.{Number, Kind, Wire, Chosen, Sampled, Genvar}
-use Rattle.sv_const.specs.declared.layout.Form.{Form, Scalar, Dim', Members', Row_of-Field, end_of-Field, more_of-Field, Row_of-Layout, end_of-Layout, more_of-Layout}
+use Rattle.sv_const.specs.declared.layout.Form.{Form, Scalar, Dim', Members', Row_of-Field, end_of-Field, more_of-Field, end_of-Layout, more_of-Layout}
 use Rattle.sv_meaning.specs.Layouts as m
 use Rattle.sv_meaning.specs.Meanings.{is_bound}
 

@@ -1,20 +1,16 @@
 -- Selects behind a name, one by one, as parts of its bits (IEEE 1800-2017, 11.5.1).
-use Rattle.std.specs.Prelude.{◌≡◌, ℕ, ◌+◌, ◌*◌, ◌≤◌, Bool, true, false, ◌&&◌, not, List, [], ◌∷◌, Option, Some, None, ℤ, pos, ◌+ℤ◌, ◌-ℤ◌, ◌*ℤ◌, Result, Ok, Err, if◌then◌else◌}
+use Rattle.std.specs.Prelude.{◌≡◌, ℕ, Bool, true, false, not, List, [], ◌∷◌, Option, Some, None, ℤ, pos, ◌-ℤ◌, ◌*ℤ◌, Result, Ok, Err, if◌then◌else◌}
 use Rattle.std.specs.List.{Contains, All}
 use Rattle.fourvec.specs.declared.Bit.{Bit}
 use Rattle.fourvec.specs.declared.Spot.{Spot}
 use Rattle.lhs_alias.specs.declared.segs.WireBit.{WireBit}
 use Rattle.sv_meaning.specs.Faults.{Faults}
 use Rattle.sv_meaning.specs.Layouts.{Layout, width, goes_down, Read, Origin}
-use Rattle.sv_meaning.specs.Meanings.{Meaning, Step, Part, step_in, step_faults, indices, all_indices, bits_at, nowhere, chain_bits, chain_layout, chain_faults, fixed_faults, range_faults, ranged, elements}
+use Rattle.sv_meaning.specs.Meanings.{Meaning, Step, Part, step_in, step_faults, indices, all_indices, bits_at, nowhere, chain_bits, chain_layout, chain_faults, fixed_faults}
 use Rattle.sv_meaning.specs.Targets.{with_place, slots_from, put_at, chain_slots, chain_fixed, put}
 use Rattle.sv_typed.specs.declared.tree.Pick.{Pick}
 use Rattle.sv_typed.specs.Typed.{pick_place, place_names, picked, picked_width, are_constant_picks, names_picked, PickIsSound}
-use Rattle.sv_outside.specs.declared.refusal.Place.{Place}
-use Rattle.sv_outside.specs.declared.refusal.Refusal.{Refusal}
 use Rattle.sv_outside.specs.declared.refusal.TextErr.{TextErr}
-use Rattle.sv_tree.specs.declared.exprs.RangeMark.{RangeMark}
-use Rattle.sv_tree.specs.declared.exprs.RangeMark.TheVariants as mark
 use Rattle.sv_const.specs.declared.cursor.Cursor.{Cursor}
 use Rattle.sv_const.specs.declared.cursor.Row.{Row}
 use Rattle.sv_const.specs.Cursors.{cursor_is, each_is, CursorIsSound}

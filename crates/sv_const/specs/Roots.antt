@@ -1,10 +1,9 @@
 -- What names lead to before their selects.
-use Rattle.std.specs.Prelude.{◌≡◌, ℕ, ◌≤◌, Bool, true, false, List, [], length, Option, Some, None, Result, Ok, Err}
+use Rattle.std.specs.Prelude.{◌≡◌, ℕ, ◌≤◌, Bool, true, false, List, length, Option, Some, Result, Ok, Err}
 use Rattle.sv_outside.specs.declared.refusal.TextErr.{TextErr}
 use Rattle.sv_tree.specs.declared.word.Word.{Word}
 use Rattle.sv_typed.specs.declared.tree.Root.{Root}
 use Rattle.sv_typed.specs.declared.tree.Root.TheVariants.{Number, Signal}
-use Rattle.sv_typed.specs.declared.tree.Origin.TheVariants as origin
 use Rattle.sv_typed.specs.Typed.{origin_is}
 use Rattle.sv_meaning.specs.Layouts.{Layout, width, plain, What, number_is, signal_is, Origin}
 use Rattle.sv_meaning.specs.Meanings.{Meaning, Step, named}
@@ -14,7 +13,7 @@ use Rattle.sv_const.specs.declared.chain.Chain.{Chain}
 use Rattle.sv_const.specs.declared.cursor.Cursor.{Cursor}
 use Rattle.sv_const.specs.Cursors.{cursor_is, CursorIsSound}
 use Rattle.sv_const.specs.Judging.{IsCause}
-use Rattle.sv_const.specs.Picks.{Follows, rule_faults}
+use Rattle.sv_const.specs.Picks.{Follows}
 use Rattle.sv_meaning.specs.Faults.{Faults}
 use Rattle.sv_meaning.specs.Meanings.{chain_faults}
 use Rattle.sv_meaning.specs.Layouts.{is_signed}

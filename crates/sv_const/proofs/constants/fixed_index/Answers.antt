@@ -1,4 +1,4 @@
-use Rattle.std.proofs.Common.{◌≡◌, ◌∙◌, true, sym, subst, ap}
+use Rattle.std.proofs.Common.{◌∙◌, true, sym, subst, ap}
 use Rattle.std.specs.List.{Contains}
 use Rattle.fourvec.specs.Bits.{is_known}
 use Rattle.sv_meaning.specs.Meanings.{fixed_faults}

@@ -1,5 +1,5 @@
-use Rattle.std.proofs.Common.{◌≡◌, ◌+◌, ◌-◌, ◌<◌, ◌≤◌, suc, ℕ, List, Bool, true, false, length, drop, bytes_eq, Option, Some, None, refl, subst, sym, ap, ◌∙◌, arith, if◌then◌else◌}
-use Rattle.sv_meaning.specs.Layouts.{width_all, member_in, member, Members, Layout}
+use Rattle.std.proofs.Common.{◌≡◌, ◌+◌, ◌-◌, suc, ℕ, List, true, false, drop, bytes_eq, Some, subst, sym, ap, ◌∙◌, arith}
+use Rattle.sv_meaning.specs.Layouts.{width_all, member_in, Members}
 use Rattle.sv_const.specs.Kinds.{FieldIsSound, members_of, layout_is}
 use Rattle.sv_const.proofs.Lookups.{members_from, in_here, in_rest, drop_all}
 use Rattle.sv_const.proofs.Sound.{sound_is}

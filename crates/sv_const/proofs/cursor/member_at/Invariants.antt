@@ -1,6 +1,5 @@
-use Rattle.std.proofs.Common.{◌≡◌, drop, option_map}
+use Rattle.std.proofs.Common.{◌≡◌, drop}
 use Rattle.sv_const.specs.Kinds.{members_of}
-use Rattle.sv_const.specs.Cursors.{part_is}
 use Rattle.sv_meaning.specs.Layouts.{width_all, member_in}
 use Rattle.sv_const.proofs.cursor.member_at.Given as goal
 

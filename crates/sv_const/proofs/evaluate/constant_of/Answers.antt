@@ -1,4 +1,4 @@
-use Rattle.std.proofs.Common.{◌≡◌, ◌∙◌, true, false, sym, subst, ap, refl, max}
+use Rattle.std.proofs.Common.{◌∙◌, true, sym, subst, ap, refl}
 use Rattle.std.specs.List.{Contains}
 use Rattle.std.proofs.lemmas.Result.{err_from_is_err_and}
 use Rattle.fourvec.specs.Bits.{is_known}

@@ -1,4 +1,4 @@
-use Rattle.std.proofs.Common.{◌≡◌, ◌-◌, suc, refl, sym, ap, ◌∙◌, arith}
+use Rattle.std.proofs.Common.{◌-◌, arith}
 use Rattle.sv_const.specs.Kinds.{what_is}
 use Rattle.sv_const.proofs.Lookups.{found_frame, passed_frame, no_frame}
 use Rattle.sv_const.proofs.names.found_in.Goals as goal

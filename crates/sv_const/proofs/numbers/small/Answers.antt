@@ -1,10 +1,7 @@
-use Rattle.std.proofs.Common.{◌≡◌, ◌≤◌, ◌<◌, ◌^◌, ◌-◌, ◌/◌, ℕ, refl, sym, ap, ◌∙◌, arith, pos, negsuc, IsFalse, cond, int_le, int_lt, ◌&&◌, IsTrue, true, false, Bool}
+use Rattle.std.proofs.Common.{◌^◌, ℕ, sym, ap, ◌∙◌, arith}
 use Rattle.std.proofs.lemmas.Int.{ints}
-use Rattle.std.proofs.lemmas.Bool.Decides.{nat_tests}
 use Rattle.fourvec.proofs.Planes.{mask_is}
 use Rattle.fourvec.proofs.Basic.{low_plane-lt}
-use Rattle.fourvec.specs.Bits.{low_plane, number}
-use Rattle.sv_meaning.specs.Meanings.{is_bound}
 use Rattle.sv_const.proofs.Vectors.{whole_negative, number_is, far_below}
 use Rattle.sv_const.proofs.numbers.small.Goals as goal
 

@@ -1,4 +1,4 @@
-use Rattle.std.proofs.Common.{◌≡◌, ◌*◌, ◌∙◌, sym, subst, ap, arith}
+use Rattle.std.proofs.Common.{◌*◌, ◌∙◌, sym, subst, ap}
 use Rattle.std.proofs.lemmas.Result.{err_from_is_err_and}
 use Rattle.std.specs.List.{Contains}
 use Rattle.sv_tree.specs.declared.exprs.RangeMark.TheVariants as mark

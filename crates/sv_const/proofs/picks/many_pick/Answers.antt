@@ -1,6 +1,6 @@
-use Rattle.std.proofs.Common.{◌≡◌, ◌*◌, ◌∙◌, ℤ, pos, sym, subst, ap}
+use Rattle.std.proofs.Common.{◌*◌, ◌∙◌, ℤ, pos, sym, subst, ap}
 use Rattle.std.proofs.lemmas.Result.{err_from_is_err_and}
-use Rattle.sv_meaning.specs.Layouts.{is_signed, goes_down}
+use Rattle.sv_meaning.specs.Layouts.{is_signed}
 use Rattle.sv_meaning.specs.Meanings.{to_range, step_faults, fixed_faults, whole}
 use Rattle.sv_typed.specs.declared.tree.PickPlace.TheVariants as place
 use Rattle.sv_const.specs.Cursors.{cursor_is}

@@ -1,9 +1,7 @@
-use Rattle.std.proofs.Common.{◌≡◌, ◌+◌, ◌*◌, nat_le, ap, sym, ◌∙◌, subst, arith, true, false, Bool}
+use Rattle.std.proofs.Common.{◌+◌, ◌*◌, nat_le, ap, sym, ◌∙◌, subst, arith}
 use Rattle.std.proofs.lemmas.Int.{ints}
 use Rattle.std.specs.List.{Contains}
-use Rattle.sv_meaning.specs.Layouts.{count_between}
-use Rattle.sv_meaning.specs.Meanings.{goes_along}
-use Rattle.sv_const.specs.Ranges.{between_faults, each_width}
+use Rattle.sv_const.specs.Ranges.{between_faults}
 use Rattle.sv_const.proofs.Sound.{same_bound}
 use Rattle.sv_const.proofs.Counts.{between_ok, goes_against, too_many}
 use Rattle.sv_const.proofs.ranges.between_count.Goals as goal

@@ -1,4 +1,4 @@
-use Rattle.std.proofs.Common.{◌≡◌, ◌∙◌, ◌&&◌, sym, subst, ap, int_lt, pos}
+use Rattle.std.proofs.Common.{◌∙◌, ◌&&◌, sym, subst, ap, int_lt, pos}
 use Rattle.std.specs.List.{Contains}
 use Rattle.fourvec.specs.Bits.{is_known}
 use Rattle.sv_outside.specs.declared.refusal.Place.{Place}

@@ -1,4 +1,4 @@
-use Rattle.std.proofs.Common.{◌≡◌, ◌<◌, ◌-◌, suc, ℕ, List, length, take, Bool, true, false, bytes_eq, Some, None, refl, sym, ap, ◌∙◌, arith, if◌then◌else◌}
+use Rattle.std.proofs.Common.{◌≡◌, ◌-◌, ℕ, List, take, Bool, true, false, bytes_eq, Some, sym, ap, ◌∙◌, arith, if◌then◌else◌}
 use Rattle.sv_meaning.specs.Layouts.{find}
 use Rattle.sv_const.specs.Kinds.{what_is, scope_is}
 use Rattle.sv_const.proofs.Lookups.{find_last}

@@ -1,4 +1,4 @@
-use Rattle.std.proofs.Common.{◌≡◌, ◌++◌, sym, subst, not, ◌&&◌, int_lt, pos, nat_abs}
+use Rattle.std.proofs.Common.{◌++◌, sym, subst, not, ◌&&◌, int_lt, pos, nat_abs}
 use Rattle.std.specs.List.{Contains}
 use Rattle.std.proofs.lemmas.Result.{err_from_is_err_and}
 use Rattle.sv_outside.specs.declared.refusal.Place.{Place}

@@ -1,4 +1,4 @@
-use Rattle.std.proofs.Common.{◌≡◌, ◌∙◌, List, min, sym, subst, ap, arith}
+use Rattle.std.proofs.Common.{◌∙◌, List, min, sym, subst, ap, arith}
 use Rattle.std.specs.List.{Contains}
 use Rattle.sv_meaning.specs.Meanings.{concat}
 use Rattle.sv_typed.specs.declared.tree.Typed.{Typed}

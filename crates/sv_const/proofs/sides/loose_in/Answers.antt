@@ -1,4 +1,4 @@
-use Rattle.std.proofs.Common.{◌≡◌, ◌∙◌, sym, arith}
+use Rattle.std.proofs.Common.{◌∙◌, sym, arith}
 use Rattle.sv_const.proofs.Beside.{loose_at, none_loose, loose_goes, loose_ends, same_length}
 use Rattle.sv_const.proofs.sides.loose_in.Goals as goal
 

@@ -1,4 +1,4 @@
-use Rattle.std.proofs.Common.{sym, subst, Some, None, option_map}
+use Rattle.std.proofs.Common.{option_map}
 use Rattle.std.specs.Option.{option_copied}
 use Rattle.sv_const.specs.Kinds.{what_is}
 use Rattle.sv_const.proofs.Targets.{cast_type, cast_other}

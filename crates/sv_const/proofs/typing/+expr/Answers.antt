@@ -1,4 +1,4 @@
-use Rattle.std.proofs.Common.{◌≡◌, ℕ, ◌+◌, Bool, true, false, List, map, take, refl, sym, ap, ◌∙◌, subst, option_map, arith}
+use Rattle.std.proofs.Common.{ℕ, ◌+◌, true, List, map, take, refl, sym, ap, ◌∙◌, subst, option_map, arith}
 use Rattle.std.specs.Option.{option_copied}
 use Rattle.sv_tree.specs.declared.exprs.RangeMark.TheVariants as mark
 use Rattle.sv_tree.specs.declared.exprs.Select.TheVariants as s
