@@ -1,5 +1,5 @@
 -- Contributions rise with the previous and the present valuation, and none is added or lost.
-use Rattle.std.proofs.Common.{ℕ, max, Bool, true, false, List, [], ◌∷◌, ◌++◌, map, refl, arith, IsTrue, Option, Some, None, cond, ◌==◌}
+use Rattle.std.proofs.Common.{ℕ, max, Bool, true, false, List, [], ◌∷◌, refl, arith, IsTrue, Option, Some, None, cond, ◌==◌}
 use Rattle.fourvec.specs.declared.Bit.{Bit}
 use Rattle.fourvec.specs.Bits.{bit_below, all_pairs, not_of, each, each_pair}
 use Rattle.fourvec.specs.Laws.{Below}
@@ -16,7 +16,7 @@ use Rattle.sv_meaning.specs.Meanings.{Meaning, assigned}
 use Rattle.sv_meaning.specs.Values.{mean}
 use Rattle.lhs_alias.specs.declared.segs.WireBit.{WireBit}
 use Rattle.lhs_alias.specs.Segs.{bit}
-use Rattle.settling.specs.Settling.{Store, value_at, Contribution}
+use Rattle.settling.specs.Settling.{Store, Contribution}
 use Rattle.sv_meaning.specs.Targets.{Target, targets, widths, slots}
 use Rattle.sv_meaning.specs.Deeds.{Deed, deed}
 use Rattle.sv_meaning.specs.Blocks.{has_bit, distinct, reads, all_unknown, comb_look, comb_end, clocked_look, clocked_value, trigger_bit, Manner, comb, clocked, no_manner, manner, block_value}

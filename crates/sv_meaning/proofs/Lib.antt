@@ -1,5 +1,6 @@
 pub mod Good
 pub mod Rising
+pub mod Declaring
 pub mod Stores
 pub mod Contributions
 pub mod Leasts

@@ -18,7 +18,7 @@ use Rattle.sv_tree.specs.declared.exprs.RangeMark.TheVariants as mark
 use Rattle.sv_tree.specs.declared.exprs.Expr.{Expr, Literal, Name', Concat', Repeat', Row_of-Expr, end_of-Expr, more_of-Expr, Row_of-Select, end_of-Select, more_of-Select}
 use Rattle.sv_tree.specs.declared.exprs.Select.{Select, Member}
 use Rattle.sv_meaning.specs.Patterns.{paren, cast_literal, cast_name, cast_paren, cast_sign, system, unary, binary, choose, index, range}
-use Rattle.sv_meaning.specs.Layouts.{Layout, scalar, dim, struct, width, is_signed, plain, place_of, goes_down, count_between, What, number_is, type_is, signal_is, Origin, Read, Scope, find, member_in}
+use Rattle.sv_meaning.specs.Layouts.{Layout, scalar, dim, struct, width, is_signed, plain, place_of, goes_down, count_between, What, number_is, type_is, signal_is, NamedSignal, Read, Scope, find, member_in}
 use Rattle.sv_literal.specs.declared.meaning.Literal.{Literal as LiteralValue}
 use Rattle.sv_outside.specs.declared.refusal.Place.{Place}
 use Rattle.sv_tree.specs.declared.word.Word.{Word}
@@ -221,7 +221,7 @@ unfolding bits_from all_pairs
 bits_from-rise f g h k zero = refl
 bits_from-rise f g h k (suc w) = order.both _ _ (h k) (bits_from-rise f g h (suc k) w)
 
-good-selected : (o : Option Layout) (k : Bool) (why : Bool → Faults) (p : Place) (names : List (Origin × ℕ)) (all : List Step) (x : Layout) (f : Read → List Bit)
+good-selected : (o : Option Layout) (k : Bool) (why : Bool → Faults) (p : Place) (names : List NamedSignal) (all : List Step) (x : Layout) (f : Read → List Bit)
     → chain_layout x all ≡ o → GoodSteps all → ((r : Read) → length (f r) ≡ width x) → ((r t : Read) → Rises r t → Below (f r) (f t)) → Good (selected o k why p names all x f)
 good-selected None k why p names all x f e g long rises = good-none why p
 good-selected (Some y) k why p names all x f e g long rises =
@@ -246,7 +246,7 @@ good-constant false w v s all h g = good-none _ _
 
 pub good-named : (w : Word) (x : Option What) (all : List Step) → GoodSteps all → Good (named w x all)
 good-named w (Some (number_is v s)) all g = good-constant (nat_lt 0 (length v)) w v s all refl g
-good-named w (Some (signal_is o n x)) all g = good-selected (chain_layout x all) false _ _ ((o, n) ∷ []) all x (λ read. bits_from (read o n) 0 (width x)) refl g
+good-named w (Some (signal_is o n x)) all g = good-selected (chain_layout x all) false _ _ (record { owner = o; number = n; width = width x } ∷ []) all x (λ read. bits_from (read o n) 0 (width x)) refl g
     (λ r. length-bits_from (r o n) 0 (width x)) (λ r t i. bits_from-rise (r o n) (t o n) (λ k. i o n k) 0 (width x))
 good-named w (Some (type_is t)) all g = good-none _ _
 good-named w (Some genvar_is) all g = good-none _ _

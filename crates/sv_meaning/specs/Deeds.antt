@@ -20,7 +20,7 @@ use Rattle.sv_outside.specs.declared.refusal.Place.{Place}
 use Rattle.sv_literal.specs.declared.meaning.Literal.{Literal}
 use Rattle.sv_tree.specs.declared.word.Word.{Word}
 use Rattle.sv_meaning.specs.Faults.{Faults, fault, fault_if, or_then, Judged, provided, ◌>>=◌, loop_long}
-use Rattle.sv_meaning.specs.Layouts.{Name, Scope, number_is, Origin, Read}
+use Rattle.sv_meaning.specs.Layouts.{Name, Scope, number_is, NamedSignal, Read}
 use Rattle.sv_meaning.specs.Meanings.{Meaning, fixed_faults, free_faults, nowhere, nowhere_in_text, assigned, truth, named, literal_meaning, all_indices}
 use Rattle.sv_meaning.specs.Values.{mean, binary_meaning}
 use Rattle.sv_meaning.specs.Forms.{Entry}
@@ -101,7 +101,7 @@ pub record Deed : Type 0 where
   -- the store afterwards, where each store shows what names read
   pub run : (Store → Read) → Store → Store
   pub targets : List WireBit
-  pub names : List (Origin × ℕ)
+  pub names : List NamedSignal
   pub faults : Faults
   -- the turns of its loops, and what stands against them where so many were made before
   pub turns : ℕ
@@ -143,7 +143,7 @@ needing m a = record a { names = m.names ++ a.names; faults = free_faults m ++ a
 abbrev pub if_else : Meaning → Deed → Deed → Deed
 if_else c a b = needing c (either (truth c) a b)
 
-unfoldable pub target_names : List Target → List (Origin × ℕ)
+unfoldable pub target_names : List Target → List NamedSignal
 target_names [] = []
 target_names (t ∷ more) = (all_indices t.steps).names ++ target_names more
 
@@ -176,7 +176,7 @@ unfoldable pub all_faults : List Meaning → Faults
 all_faults [] = []
 all_faults (m ∷ more) = free_faults m ++ all_faults more
 
-unfoldable pub all_names : List Meaning → List (Origin × ℕ)
+unfoldable pub all_names : List Meaning → List NamedSignal
 all_names [] = []
 all_names (m ∷ more) = m.names ++ all_names more
 

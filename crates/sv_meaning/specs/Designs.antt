@@ -9,7 +9,7 @@ use Rattle.sv_tree.specs.declared.design.Way.{Way}
 use Rattle.sv_tree.specs.declared.design.Way.TheVariants as way
 use Rattle.sv_tree.specs.declared.word.Word.{Word}
 use Rattle.sv_meaning.specs.Faults.{Faults, fault, or_then, is_clear, bad_target}
-use Rattle.sv_meaning.specs.Layouts.{Name, Layout, width, Scope, signal_is, of_wires, of_choice, of_samples, Origin, find}
+use Rattle.sv_meaning.specs.Layouts.{Name, Layout, width, Scope, signal_is, of_wires, Origin, NamedSignal, find}
 use Rattle.sv_meaning.specs.Meanings.{Meaning, fixed_faults, free_faults, assigned, named}
 use Rattle.sv_meaning.specs.Values.{mean, steps}
 use Rattle.lhs_alias.specs.declared.segs.WireBit.{WireBit}
@@ -175,11 +175,14 @@ Settles d stim prev now = SettlesBy (links_of d.works) (given_in d stim prev now
 
 -- ---- what feeds what
 
-unfoldable pub wires_named : List (Origin × ℕ) → List ℕ
+-- the number of a wire before others, and of no other signal
+abbrev pub wire_before : Origin → ℕ → List ℕ → List ℕ
+wire_before of_wires n all = n ∷ all
+wire_before o n all = all
+
+unfoldable pub wires_named : List NamedSignal → List ℕ
 wires_named [] = []
-wires_named ((of_wires, n) ∷ more) = n ∷ wires_named more
-wires_named ((of_choice, n) ∷ more) = wires_named more
-wires_named ((of_samples, n) ∷ more) = wires_named more
+wires_named (s ∷ more) = wire_before s.owner s.number (wires_named more)
 
 abbrev pub width_of_wire : Option Wire → ℕ
 width_of_wire None = 0

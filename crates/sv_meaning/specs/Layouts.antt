@@ -1,5 +1,6 @@
 -- What names stand for: layouts of bits, constants, signals, and the scopes that hold them.
-use Rattle.std.specs.Prelude.{ℕ, suc, ◌+◌, ◌-◌, ◌*◌, Bool, false, List, [], ◌∷◌, Option, Some, None, ℤ, pos, ◌-ℤ◌, ◌*ℤ◌, nat_abs, int_le, bytes_eq, if◌then◌else◌}
+use Rattle.std.specs.Prelude.{◌≡◌, ℕ, suc, ◌+◌, ◌-◌, ◌*◌, Bool, false, List, [], ◌∷◌, Option, Some, None, ℤ, pos, ◌-ℤ◌, ◌*ℤ◌, nat_abs, int_le, bytes_eq, if◌then◌else◌}
+use Rattle.std.specs.List.{Contains}
 use Rattle.fourvec.specs.declared.Bit.{Bit}
 
 abbrev pub Name : Type 0
@@ -63,6 +64,12 @@ pub data Origin : Type 0 where
   of_choice : Origin
   of_samples : Origin
 
+-- a signal that is named, with the width at which it is
+pub record NamedSignal : Type 0 where
+  pub owner : Origin
+  pub number : ℕ
+  pub width : ℕ
+
 pub data What : Type 0 where
   -- a constant: its bits and its sign
   number_is : List Bit → Bool → What
@@ -82,6 +89,13 @@ or_else None other = other
 unfoldable pub find : Name → Scope → Option What
 find n [] = None
 find n (e ∷ more) = or_else (find n more) (if bytes_eq e.0 n then Some e.1 else None)
+
+-- An entry stands for this signal, by a layout of its width.
+pub record Declared (at : Scope) (s : NamedSignal) : Type 0 where
+  pub name : Name
+  pub layout : Layout
+  pub is_there : Contains at (name, signal_is s.owner s.number layout)
+  pub wide : width layout ≡ s.width
 
 -- a value for each bit of each signal
 abbrev pub Read : Type 0

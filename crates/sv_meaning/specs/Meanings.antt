@@ -13,7 +13,7 @@ use Rattle.sv_outside.specs.Literals.{is_literal}
 use Rattle.sv_outside.specs.declared.refusal.Place.{Place}
 use Rattle.sv_tree.specs.declared.word.Word.{Word}
 use Rattle.sv_meaning.specs.Faults.{Faults, fault, fault_if, or_then, is_clear, bad_token, unknown_name, bad_width, not_constant, literal_range, bad_select, out_of_scope}
-use Rattle.sv_meaning.specs.Layouts.{Name, Layout, dim, struct, width, is_signed, plain, goes_down, place_of, count_between, member_in, What, number_is, type_is, signal_is, Origin, Read}
+use Rattle.sv_meaning.specs.Layouts.{Name, Layout, dim, struct, width, is_signed, plain, goes_down, place_of, count_between, member_in, What, number_is, type_is, signal_is, NamedSignal, Read}
 
 pub record Meaning : Type 0 where
   -- its own length and sign (11.6.1, 11.8.1)
@@ -25,8 +25,8 @@ pub record Meaning : Type 0 where
   pub constant : Bool
   -- what stands against it, where it has to be constant (true) and where it may name signals (false)
   pub faults : Bool → Faults
-  -- the signals that it names
-  pub names : List (Origin × ℕ)
+  -- the signals that it names, each at its width
+  pub names : List NamedSignal
   -- the literal that it is
   pub literal : Option Literal
   -- where its first token stands
@@ -371,7 +371,7 @@ bits_from f k zero = []
 bits_from f k (suc w) = f k ∷ bits_from f (suc k) w
 
 -- so many bits of such a layout, where the chain of selects is sound
-abbrev pub selected : Option Layout → Bool → (Bool → Faults) → Place → List (Origin × ℕ) → List Step → Layout → (Read → List Bit) → Meaning
+abbrev pub selected : Option Layout → Bool → (Bool → Faults) → Place → List NamedSignal → List Step → Layout → (Read → List Bit) → Meaning
 selected None c why p names all x f = no_meaning why p
 selected (Some y) c why p names all x f =
     standing (width y) (is_signed y) (λ read. chain_bits read x all (f read))
@@ -398,7 +398,7 @@ no_value p c = if c then fault not_constant p else fault unknown_name p
 abbrev pub named : Word → Option What → List Step → Meaning
 named w (Some (number_is v s)) all = constant_named (nat_lt 0 (length v)) w v s all
 named w (Some (signal_is o n x)) all =
-    selected (chain_layout x all) false (signal_faults w.place x all) w.place ((o, n) ∷ []) all x (λ read. bits_from (read o n) 0 (width x))
+    selected (chain_layout x all) false (signal_faults w.place x all) w.place (record { owner = o; number = n; width = width x } ∷ []) all x (λ read. bits_from (read o n) 0 (width x))
 named w x all = no_meaning (no_value w.place) w.place
 
 -- a cast to the size or the type that a name gives
