@@ -6,7 +6,7 @@ use Rattle.sv_outside.specs.declared.refusal.Place.{Place}
 use Rattle.fourvec.specs.declared.Bit.{Bit}
 use Rattle.fourvec.specs.Bits.{all_x, is_known}
 use Rattle.sv_meaning.specs.Faults.{Faults, fault_if, bad_width}
-use Rattle.sv_meaning.specs.Layouts.{Read, Origin as Owner, Layout, width, is_signed}
+use Rattle.sv_meaning.specs.Layouts.{Read, NamedSignal, Layout, width, is_signed}
 use Rattle.sv_meaning.specs.Meanings.{Meaning, nowhere, from, needs, with_faults, joined, context_one, context_two, shift, comparison, reduction, logical, chosen, power, to_power, power_faults, constant_of, number_of, whole, to_sign, to_layout, sized_by, standing, fitted, fixed_faults, is_width}
 use Rattle.sv_typed.specs.declared.ops.Turn.{Turn}
 use Rattle.sv_typed.specs.declared.ops.Reduction.{Reduction}
@@ -28,17 +28,17 @@ typed_is t w s c x i j k l = λ n. record { width = sym i n; signed = sym j n; c
 
 -- ---- signals of two parts
 
-pub both_among : (a b c d : List (Owner × ℕ)) → ((x : Owner × ℕ) → Contains a x → Contains c x) → ((x : Owner × ℕ) → Contains b x → Contains d x) → (x : Owner × ℕ) → Contains (a ++ b) x → Contains (c ++ d) x
+pub both_among : (a b c d : List NamedSignal) → ((x : NamedSignal) → Contains a x → Contains c x) → ((x : NamedSignal) → Contains b x → Contains d x) → (x : NamedSignal) → Contains (a ++ b) x → Contains (c ++ d) x
 both_among a b c d g h x k = elim (Contains-append_cases a b x k) [ inl l ↦ Contains-append_left c d x (g x l) | inr r ↦ Contains-append_right c d x (h x r) ]
 
-pub named_as : (t : Typed) (x : TypedForm) (names : List (Owner × ℕ)) → t.form ≡ x → ((y : Owner × ℕ) → Contains (form_names x) y → Contains names y) → (y : Owner × ℕ) → Contains (names_of t) y → Contains names y
+pub named_as : (t : Typed) (x : TypedForm) (names : List NamedSignal) → t.form ≡ x → ((y : NamedSignal) → Contains (form_names x) y → Contains names y) → (y : NamedSignal) → Contains (names_of t) y → Contains names y
 named_as t x names e h y k = h y (subst (λ (z : TypedForm). Contains (form_names z) y) e k)
 
 -- ---- what changes no bits
 
 -- in a context, field by field
 pub stands_by : (t : Typed) (m : Meaning) → m.size ≡ t.width → m.sign ≡ t.signed → ((read : Read) (w : ℕ) (s : Bool) → m.value read w s ≡ worth t read w s) → m.constant ≡ t.constant → m.literal ≡ literal_of t →
-    ((x : Owner × ℕ) → Contains (names_of t) x → Contains m.names x) → Stands t m
+    ((x : NamedSignal) → Contains (names_of t) x → Contains m.names x) → Stands t m
 unfolding Stands
 stands_by t m w s v c l n = record {
   is = λ i. record {

@@ -6,7 +6,7 @@ use Rattle.fourvec.specs.Bits.{vector, number, is_known, low_plane}
 use Rattle.sv_outside.specs.declared.refusal.Place.{Place}
 use Rattle.sv_literal.specs.declared.meaning.Literal as l
 use Rattle.sv_meaning.specs.Faults.{Faults}
-use Rattle.sv_meaning.specs.Layouts.{Read, Origin as Owner}
+use Rattle.sv_meaning.specs.Layouts.{Read, NamedSignal}
 use Rattle.sv_meaning.specs.Meanings.{Meaning, from, bits_at, extend, literal_meaning, log_up, log_from, constant_of}
 use Rattle.sv_typed.specs.declared.tree.Typed.{Typed}
 use Rattle.sv_typed.specs.declared.tree.TypedForm.TheVariants as f
@@ -51,7 +51,7 @@ named_worth : (t : Typed) (root : Root) (picks : List Pick) (read : Read) (w : �
 unfolding form_worth
 named_worth t root picks read w s e = ap (λ x. form_worth t.width x read w s) e ∙ ap (λ x. extend s w x) (row_picked_is picks read (root_bits root read))
 
-named_names : (t : Typed) (root : Root) (picks : List Pick) (x : Owner × ℕ) → t.form ≡ f.Named root picks → Contains (names_of t) x → Contains (root_names root ++ names_picked picks) x
+named_names : (t : Typed) (root : Root) (picks : List Pick) (x : NamedSignal) → t.form ≡ f.Named root picks → Contains (names_of t) x → Contains (root_names root ++ names_picked picks) x
 unfolding form_names
 named_names t root picks x e h = subst (λ y. Contains y x) (ap form_names e ∙ ap (λ y. root_names root ++ y) (pick_names_is picks)) h
 
@@ -63,7 +63,7 @@ stands_named t root picks s m h w z c x =
 
 -- ---- literals and logarithms
 
-no_names : (x : Owner × ℕ) (all : List (Owner × ℕ)) → Contains [] x → Contains all x
+no_names : (x : NamedSignal) (all : List NamedSignal) → Contains [] x → Contains all x
 no_names x all (k, h, e) = absurd (omega arith)
 
 pub stands_literal : (t : Typed) (x : l.Literal) (all : Faults) (p : Place) → t.width ≡ length x.value → t.signed ≡ x.signed → t.constant ≡ true → t.form ≡ f.Literal x → Stands t (literal_meaning all p x)

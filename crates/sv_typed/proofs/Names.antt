@@ -4,7 +4,7 @@ use Rattle.std.proofs.lemmas.List.Elements.{Contains-append_left, Contains-appen
 use mathlib.Core.Former.{Count}
 use Rattle.fourvec.specs.declared.Bit.{Bit}
 use Rattle.fourvec.specs.Bits.{truth_of, cond_of}
-use Rattle.sv_meaning.specs.Layouts.{Read, Origin as Owner}
+use Rattle.sv_meaning.specs.Layouts.{Read, NamedSignal}
 use Rattle.sv_meaning.specs.Meanings.{extend, fitted, copies, bits_at, bits_from}
 use Rattle.sv_typed.specs.declared.tree.PickPlace.{PickPlace, Fixed, Moving'}
 use Rattle.sv_typed.specs.declared.tree.Root.{Root}
@@ -14,10 +14,10 @@ use Rattle.sv_typed.specs.declared.tree.TypedForm.{TypedForm, Literal, Named', T
 use Rattle.sv_typed.specs.Ops.{turned, reduced, computed, moved, compared, combined}
 use Rattle.sv_typed.specs.Typed.{form_worth, row_together, row_picked, place_in, form_names, row_names, pick_names, place_names, names_of, root_bits, root_names, spot_place, worth, SameOn}
 
-left : (a b : List (Owner × ℕ)) (r q : Read) → SameOn (a ++ b) r q → SameOn a r q
+left : (a b : List NamedSignal) (r q : Read) → SameOn (a ++ b) r q → SameOn a r q
 left a b r q h x i k = h x (Contains-append_left a b x i) k
 
-right : (a b : List (Owner × ℕ)) (r q : Read) → SameOn (a ++ b) r q → SameOn b r q
+right : (a b : List NamedSignal) (r q : Read) → SameOn (a ++ b) r q → SameOn b r q
 right a b r q h x i k = h x (Contains-append_right a b x i) k
 
 same_bits : (f g : ℕ → Bit) (k w : ℕ) → ((i : ℕ) → f i ≡ g i) → bits_from f k w ≡ bits_from g k w

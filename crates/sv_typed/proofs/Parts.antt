@@ -7,7 +7,7 @@ use Rattle.fourvec.specs.declared.Bit.{Bit}
 use Rattle.fourvec.proofs.Moves.{extend_none}
 use Rattle.sv_outside.specs.declared.refusal.Place.{Place}
 use Rattle.sv_meaning.specs.Faults.{Faults, fault_if, or_then, bad_width}
-use Rattle.sv_meaning.specs.Layouts.{Read, Origin as Owner}
+use Rattle.sv_meaning.specs.Layouts.{Read, NamedSignal}
 use Rattle.sv_meaning.specs.Meanings.{Meaning, from, needs, with_faults, standing, joined, parts, copies, concat, repeated, number_of, fixed_faults, is_width, all_loose, repeat_faults, extend}
 use Rattle.sv_meaning.specs.Meanings as meanings
 use Rattle.sv_typed.specs.declared.tree.Typed.{Typed}
@@ -65,7 +65,7 @@ parts_constant [] (m ∷ ms) h = absurd h
 parts_constant (a ∷ all) [] h = absurd h
 parts_constant (a ∷ all) (m ∷ ms) h = ap (λ x. x.constant && (parts ms).constant) h.0.is ∙ ap (λ x. a.constant && x) (parts_constant all ms h.1)
 
-pub parts_names : (all : List Typed) (ms : List Meaning) → AllZip Stands all ms → (x : Owner × ℕ) → Contains (names_together all) x → Contains (parts ms).names x
+pub parts_names : (all : List Typed) (ms : List Meaning) → AllZip Stands all ms → (x : NamedSignal) → Contains (names_together all) x → Contains (parts ms).names x
 unfolding parts Stands names_together
 parts_names [] [] h x k = k
 parts_names [] (m ∷ ms) h x k = absurd h
@@ -105,7 +105,7 @@ concat_worth : (t : Typed) (all : List Typed) (read : Read) (w : ℕ) (s : Bool)
 unfolding form_worth
 concat_worth t all read w s e = ap (λ x. form_worth t.width x read w s) e ∙ ap (λ x. extend s w x) (row_together_is all read)
 
-concat_names : (t : Typed) (all : List Typed) (x : Owner × ℕ) → t.form ≡ f.Concat all → Contains (names_of t) x → Contains (names_together all) x
+concat_names : (t : Typed) (all : List Typed) (x : NamedSignal) → t.form ≡ f.Concat all → Contains (names_of t) x → Contains (names_together all) x
 unfolding form_names
 concat_names t all x e h = subst (λ y. Contains y x) (ap form_names e ∙ row_names_is all) h
 
@@ -126,7 +126,7 @@ repeat_worth : (t : Typed) (count : ℕ) (all : List Typed) (read : Read) (w : �
 unfolding form_worth
 repeat_worth t count all read w s e = ap (λ x. form_worth t.width x read w s) e ∙ ap (λ x. extend s w (copies count x)) (row_together_is all read)
 
-repeat_names : (t : Typed) (count : ℕ) (all : List Typed) (x : Owner × ℕ) → t.form ≡ f.Repeat count all → Contains (names_of t) x → Contains (names_together all) x
+repeat_names : (t : Typed) (count : ℕ) (all : List Typed) (x : NamedSignal) → t.form ≡ f.Repeat count all → Contains (names_of t) x → Contains (names_together all) x
 unfolding form_names
 repeat_names t count all x e h = subst (λ y. Contains y x) (ap form_names e ∙ row_names_is all) h
 

@@ -70,7 +70,7 @@ beside_worth : own beside values ≡ vector 6 37
 unfolding all_of_it
 beside_worth = refl
 
-beside_names : names_of beside ≡ (of_wires, 7) ∷ []
+beside_names : names_of beside ≡ record { owner = of_wires; number = 7; width = 4 } ∷ []
 unfolding all_of_it
 beside_names = refl
 
@@ -102,7 +102,7 @@ part_nowhere : own part nowhere ≡ Unknown ∷ Unknown ∷ Unknown ∷ []
 unfolding all_of_it
 part_nowhere = refl
 
-part_names : names_of part ≡ (of_wires, 7) ∷ (of_choice, 0) ∷ []
+part_names : names_of part ≡ record { owner = of_wires; number = 7; width = 4 } ∷ record { owner = of_choice; number = 0; width = 3 } ∷ []
 unfolding all_of_it
 part_names = refl
 

@@ -10,7 +10,7 @@ use Rattle.fourvec.specs.Spots.{place_of}
 use Rattle.sv_outside.specs.declared.refusal.Place.{Place}
 use Rattle.sv_literal.specs.declared.meaning.Literal as l
 use Rattle.sv_meaning.specs.Faults.{Faults}
-use Rattle.sv_meaning.specs.Layouts.{Read, Origin as Owner, of_wires, of_choice, of_samples}
+use Rattle.sv_meaning.specs.Layouts.{Read, Origin as Owner, of_wires, of_choice, of_samples, NamedSignal}
 use Rattle.sv_meaning.specs.Meanings.{Meaning, nowhere, extend, fitted, whole, power_of, copies, bits_at, bits_from}
 use Rattle.sv_typed.specs.declared.tree.Typed.{Typed}
 use Rattle.sv_typed.specs.declared.tree.TypedForm.{TypedForm, Literal, Named', Turned', Reduced', Computed', Moved', Compared', Combined', Chosen', Power', Concat', Repeat', Standing', Fitted', Row_of-Typed, end_of-Typed, more_of-Typed, Row_of-Pick, end_of-Pick, more_of-Pick}
@@ -38,9 +38,9 @@ abbrev pub root_width : Root → ℕ
 root_width (Number v) = length v
 root_width (Signal o n w) = w
 
-abbrev pub root_names : Root → List (Owner × ℕ)
+abbrev pub root_names : Root → List NamedSignal
 root_names (Number v) = []
-root_names (Signal o n w) = (origin_is o, n) ∷ []
+root_names (Signal o n w) = record { owner = origin_is o; number = n; width = w } ∷ []
 
 abbrev pub root_is_constant : Root → Bool
 root_is_constant (Number v) = true
@@ -162,7 +162,7 @@ are_constant_picks (p ∷ more) = p.constant && are_constant_picks more
 -- ---- the signals that are named, in the order in which they stand
 
 unfoldable mutual
-  pub form_names : TypedForm → List (Owner × ℕ)
+  pub form_names : TypedForm → List NamedSignal
   form_names (Literal l) = []
   form_names (Named' root k picks) = root_names root ++ pick_names picks
   form_names (Turned' op t (more_of-Typed u p c x end_of-Typed)) = form_names x
@@ -179,32 +179,32 @@ unfoldable mutual
   form_names (Standing' t (more_of-Typed u p c x end_of-Typed)) = form_names x
   form_names (Fitted' t (more_of-Typed u p c x end_of-Typed)) = form_names x
 
-  pub row_names : {k : Count} → Row_of-Typed k → List (Owner × ℕ)
+  pub row_names : {k : Count} → Row_of-Typed k → List NamedSignal
   row_names end_of-Typed = []
   row_names (more_of-Typed u p c x all) = form_names x ++ row_names all
 
-  pub pick_names : {k : Count} → Row_of-Pick k → List (Owner × ℕ)
+  pub pick_names : {k : Count} → Row_of-Pick k → List NamedSignal
   pick_names end_of-Pick = []
   pick_names (more_of-Pick w c place all) = place_names place ++ pick_names all
 
-  pub place_names : PickPlace → List (Owner × ℕ)
+  pub place_names : PickPlace → List NamedSignal
   place_names (Fixed i) = []
   place_names (Moving' t (more_of-Typed u p c x end_of-Typed) spot) = form_names x
 
-abbrev pub names_of : Typed → List (Owner × ℕ)
+abbrev pub names_of : Typed → List NamedSignal
 names_of t = form_names t.form
 
-unfoldable pub names_together : List Typed → List (Owner × ℕ)
+unfoldable pub names_together : List Typed → List NamedSignal
 names_together [] = []
 names_together (a ∷ more) = names_of a ++ names_together more
 
-unfoldable pub names_picked : List Pick → List (Owner × ℕ)
+unfoldable pub names_picked : List Pick → List NamedSignal
 names_picked [] = []
 names_picked (p ∷ more) = place_names p.place ++ names_picked more
 
 -- two readings that agree on each bit of these signals
-abbrev pub SameOn : List (Owner × ℕ) → Read → Read → Type 0
-SameOn names r q = (x : Owner × ℕ) → Contains names x → (k : ℕ) → r x.0 x.1 k ≡ q x.0 x.1 k
+abbrev pub SameOn : List NamedSignal → Read → Read → Type 0
+SameOn names r q = (x : NamedSignal) → Contains names x → (k : ℕ) → r x.owner x.number k ≡ q x.owner x.number k
 
 -- ---- the literal that it is
 
@@ -218,7 +218,7 @@ literal_of t = form_literal t.form
 -- ---- meanings
 
 -- with what stands against it, the signals that it names, and the place of its first token
-abbrev pub clothed : Typed → (Bool → Faults) → List (Owner × ℕ) → Place → Meaning
+abbrev pub clothed : Typed → (Bool → Faults) → List NamedSignal → Place → Meaning
 clothed t faults names start = record {
   size = t.width;
   sign = t.signed;
@@ -233,7 +233,7 @@ clothed t faults names start = record {
 -- the two agree in all but the faults and the place, and no other signal is named
 pub record Agrees (t : Typed) (m : Meaning) : Type 0 where
   pub is : m ≡ clothed t m.faults m.names m.start
-  pub names : (x : Owner × ℕ) → Contains (names_of t) x → Contains m.names x
+  pub names : (x : NamedSignal) → Contains (names_of t) x → Contains m.names x
 
 -- A typed expression stands for a meaning.
 unfoldable pub Stands : Typed → Meaning → Type 0
@@ -246,7 +246,7 @@ pub record IsNamed (root : Root) (picks : List Pick) (s : Bool) (m : Meaning) : 
   pub value : (read : Read) (w : ℕ) (t : Bool) → m.value read w t ≡ extend t w (picked read picks (root_bits root read))
   pub constant : m.constant ≡ (root_is_constant root && are_constant_picks picks)
   pub literal : m.literal ≡ None
-  pub names : (x : Owner × ℕ) → Contains (root_names root ++ names_picked picks) x → Contains m.names x
+  pub names : (x : NamedSignal) → Contains (root_names root ++ names_picked picks) x → Contains m.names x
 
 -- ---- soundness
 
