@@ -1,5 +1,5 @@
 -- Picks that stand for the selects of a chain: one more of them, and what follows of all.
-use Rattle.std.proofs.Common.{◌≡◌, ℕ, false, ◌&&◌, List, [], ◌∷◌, ◌++◌, Option, Some, None, refl, sym, ap, ◌∙◌, subst, arith, ℤ, if◌then◌else◌}
+use Rattle.std.proofs.Common.{◌≡◌, false, ◌&&◌, List, [], ◌∷◌, ◌++◌, Option, Some, None, refl, sym, ap, ◌∙◌, subst, arith, ℤ, if◌then◌else◌}
 use Rattle.std.proofs.lemmas.List.{append-nil}
 use Rattle.std.specs.List.{Contains, AllByRecursion}
 use Rattle.std.proofs.lemmas.List.Elements.{All-from_recursion}
@@ -7,7 +7,7 @@ use Rattle.fourvec.specs.declared.Bit.{Bit}
 use Rattle.lhs_alias.specs.declared.segs.WireBit.{WireBit}
 use Rattle.sv_outside.specs.declared.refusal.Refusal.{Refusal}
 use Rattle.sv_meaning.specs.Faults.{Faults, or_then}
-use Rattle.sv_meaning.specs.Layouts.{Layout, width, Read, Origin}
+use Rattle.sv_meaning.specs.Layouts.{Layout, width, Read, NamedSignal}
 use Rattle.sv_meaning.specs.Meanings.{Meaning, Step, step_in, step_faults, with_part, indices, all_indices, bits_at, nowhere, chain_bits, chain_layout, chain_faults}
 use Rattle.sv_meaning.specs.Targets.{with_place, slots_from, put_at, fixed_place, chain_slots, chain_fixed, put}
 use Rattle.sv_typed.specs.declared.tree.Pick.{Pick}
@@ -136,7 +136,7 @@ width_of j x y [] (q ∷ picks) h = absurd h
 width_of j x y (s ∷ steps) [] h = absurd h
 width_of j x y (s ∷ steps) (q ∷ picks) (u, m, n) = ap (picked_width picks) (sym m.width) ∙ width_of j u y steps picks n
 
-names_of : (j : Meaning → Faults) (x y : Layout) (steps : List Step) (picks : List Pick) (n : Origin × ℕ) → Chains j x steps picks y → Contains (names_picked picks) n → Contains (all_indices steps).names n
+names_of : (j : Meaning → Faults) (x y : Layout) (steps : List Step) (picks : List Pick) (n : NamedSignal) → Chains j x steps picks y → Contains (names_picked picks) n → Contains (all_indices steps).names n
 unfolding Chains all_indices names_picked
 names_of j x y [] [] n h c = absurd (omega (arith, c.1))
 names_of j x y [] (q ∷ picks) n h c = absurd h

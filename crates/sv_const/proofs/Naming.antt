@@ -12,7 +12,7 @@ use Rattle.sv_outside.specs.declared.refusal.TextErr.{TextErr}
 use Rattle.sv_outside.specs.declared.refusal.TextErr.TheVariants.{No}
 use Rattle.sv_tree.specs.declared.word.Word.{Word}
 use Rattle.sv_meaning.specs.Faults.{Faults, not_constant, unknown_name}
-use Rattle.sv_meaning.specs.Layouts.{Layout, width, is_signed, plain, count_between, What, number_is, type_is, signal_is, genvar_is, Origin, Read}
+use Rattle.sv_meaning.specs.Layouts.{Layout, width, is_signed, plain, count_between, What, number_is, type_is, signal_is, genvar_is, Origin, NamedSignal, Read}
 use Rattle.sv_meaning.specs.Meanings.{Meaning, Step, chain_layout, chain_faults, chain_bits, all_indices, selected, constant_named, named, index_faults, extend, bits_from}
 use Rattle.sv_typed.specs.declared.tree.Pick.{Pick}
 use Rattle.sv_typed.specs.declared.tree.Root.{Root}
@@ -42,7 +42,7 @@ type_root w x c all e h = subst (IsCause ((named w (Some (type_is x)) all).fault
 pub genvar_root : (w : Word) (c : Bool) (all : List Step) (e : TextErr) → e ≡ No (record { number = if c then not_constant else unknown_name; place = w.place; count = 0 }) → IsCause ((named w (Some genvar_is) all).faults c) e
 genvar_root w c all e h = subst (IsCause ((named w (Some genvar_is) all).faults c)) (sym h) (no_value_cause w c)
 
-sel_faults : (o : Option Layout) (k : Bool) (why : Bool → Faults) (p : Place) (names : List (Origin × ℕ)) (all : List Step) (x : Layout) (f : Read → List Bit) (c : Bool) → (selected o k why p names all x f).faults c ≡ why c
+sel_faults : (o : Option Layout) (k : Bool) (why : Bool → Faults) (p : Place) (names : List NamedSignal) (all : List Step) (x : Layout) (f : Read → List Bit) (c : Bool) → (selected o k why p names all x f).faults c ≡ why c
 sel_faults None k why p names all x f c = refl
 sel_faults (Some y) k why p names all x f c = refl
 
@@ -75,9 +75,9 @@ named_faults w (Some (signal_is o n x)) false at root all h =
     sel_faults (chain_layout x all) false _ w.place _ all x _ false ∙ ap (λ y. chain_faults (λ m. m.faults false) y all) (sym h.1)
 
 -- what is selected, where the chain is sound
-sel_named : (o : Option Layout) (y : Layout) (k : Bool) (why : Bool → Faults) (p : Place) (names : List (Origin × ℕ)) (all : List Step) (x : Layout) (f : Read → List Bit) (root : Root) (picks : List Pick) (s : Bool) →
+sel_named : (o : Option Layout) (y : Layout) (k : Bool) (why : Bool → Faults) (p : Place) (names : List NamedSignal) (all : List Step) (x : Layout) (f : Read → List Bit) (root : Root) (picks : List Pick) (s : Bool) →
     o ≡ Some y → width y ≡ picked_width picks (root_width root) → is_signed y ≡ s → ((read : Read) → chain_bits read x all (f read) ≡ picked read picks (root_bits root read)) →
-    (k && (all_indices all).constant) ≡ (root_is_constant root && are_constant_picks picks) → ((n : Origin × ℕ) → Contains (root_names root ++ names_picked picks) n → Contains (names ++ (all_indices all).names) n) →
+    (k && (all_indices all).constant) ≡ (root_is_constant root && are_constant_picks picks) → ((n : NamedSignal) → Contains (root_names root ++ names_picked picks) n → Contains (names ++ (all_indices all).names) n) →
     IsNamed root picks s (selected o k why p names all x f)
 sel_named None y k why p names all x f root picks s h w g v c n = cc
 sel_named (Some z) y k why p names all x f root picks s h w g v c n =
@@ -108,17 +108,20 @@ signal_at : (w : Word) (o : Origin) (n : ℕ) (x : Layout) (root : Root) (all : 
     IsNamed root chain.picks chain.signed (named w (Some (signal_is o n x)) all)
 signal_at w o n x (Number v) all chain j y h f g = absurd h
 signal_at w o n x (Signal p m u) all chain j y h f g =
-    sel_named (chain_layout x all) y false _ w.place ((o, n) ∷ []) all x (λ read. bits_from (read o n) 0 (width x)) (Signal p m u) chain.picks chain.signed
+    sel_named (chain_layout x all) y false _ w.place (record { owner = o; number = n; width = width x } ∷ []) all x (λ read. bits_from (read o n) 0 (width x)) (Signal p m u) chain.picks chain.signed
     f.layout (sym f.width ∙ ap (picked_width chain.picks) (sym h.2)) g
     (λ read. f.bits read (bits_from (read o n) 0 (width x)) ∙ ap (picked read chain.picks) (bits read))
     refl
-    (λ z. contains_both ((origin_is p, m) ∷ []) (names_picked chain.picks) ((o, n) ∷ []) (all_indices all).names z (name z) (f.names z))
+    (λ z. contains_both (record { owner = origin_is p; number = m; width = u } ∷ []) (names_picked chain.picks) (record { owner = o; number = n; width = width x } ∷ []) (all_indices all).names z (name z) (f.names z))
   where
     bits : (read : Read) → bits_from (read o n) 0 (width x) ≡ bits_from (read (origin_is p) m) 0 u
     bits read = ap (λ q. bits_from (read q n) 0 (width x)) (sym h.0) ∙ ap (λ q. bits_from (read (origin_is p) q) 0 (width x)) (sym h.1) ∙ ap (bits_from (read (origin_is p) m) 0) (sym h.2)
 
-    name : (z : Origin × ℕ) → Contains ((origin_is p, m) ∷ []) z → Contains ((o, n) ∷ []) z
-    name z q = subst (λ i. Contains ((i, n) ∷ []) z) h.0 (subst (λ i. Contains ((origin_is p, i) ∷ []) z) h.1 q)
+    same : Path NamedSignal (record { owner = origin_is p; number = m; width = u }) (record { owner = o; number = n; width = width x })
+    same = λ i. record { owner = h.0 i; number = h.1 i; width = h.2 i }
+
+    name : (z : NamedSignal) → Contains (record { owner = origin_is p; number = m; width = u } ∷ []) z → Contains (record { owner = o; number = n; width = width x } ∷ []) z
+    name z q = subst (λ t. Contains (t ∷ []) z) same q
 
 pub name_is : (w : Word) (what : Option What) (c : Bool) (at : Cursor) (root : Root) (all : List Step) (chain : Chain) → RootIs what c at root → IsChain (rule_faults (rule_of c)) (cursor_is at) all chain → IsNamed root chain.picks chain.signed (named w what all)
 name_is w None c at root all chain h k = absurd h

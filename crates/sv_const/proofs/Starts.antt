@@ -1,5 +1,5 @@
 -- Where expressions begin.
-use Rattle.std.proofs.Common.{◌≡◌, ℕ, Bool, true, false, nat_lt, List, [], length, Option, Some, None, refl, ap, ◌∙◌}
+use Rattle.std.proofs.Common.{◌≡◌, Bool, true, false, nat_lt, List, [], length, Option, Some, None, refl, ap, ◌∙◌}
 use Rattle.fourvec.specs.declared.Bit.{Bit}
 use Rattle.sv_outside.specs.declared.refusal.Place.{Place}
 use Rattle.sv_tree.specs.declared.word.Word.{Word}
@@ -11,7 +11,7 @@ use Rattle.sv_tree.specs.declared.exprs.Expr.{Expr, Literal}
 use Rattle.sv_tree.specs.declared.exprs.Expr.TheVariants as e
 use Rattle.sv_tree.specs.declared.exprs.Select.{Select}
 use Rattle.sv_meaning.specs.Faults.{Faults}
-use Rattle.sv_meaning.specs.Layouts.{Layout, Scope, find, What, number_is, type_is, signal_is, genvar_is, Origin, Read, plain}
+use Rattle.sv_meaning.specs.Layouts.{Layout, Scope, find, What, number_is, type_is, signal_is, genvar_is, NamedSignal, Read, plain}
 use Rattle.sv_meaning.specs.Meanings.{Meaning, Step, selected, constant_named, named, cast_to, chain_layout}
 use Rattle.sv_meaning.specs.Values.{mean, binary_meaning}
 use Rattle.sv_tree.specs.declared.exprs.BinaryOp.TheVariants as two
@@ -22,7 +22,7 @@ start_of m = m.start
 
 -- ---- where meanings start
 
-selected_start : (o : Option Layout) (c : Bool) (why : Bool → Faults) (p : Place) (names : List (Origin × ℕ)) (all : List Step) (x : Layout) (f : Read → List Bit) →
+selected_start : (o : Option Layout) (c : Bool) (why : Bool → Faults) (p : Place) (names : List NamedSignal) (all : List Step) (x : Layout) (f : Read → List Bit) →
     (selected o c why p names all x f).start ≡ p
 selected_start None c why p names all x f = refl
 selected_start (Some y) c why p names all x f = refl

@@ -5,7 +5,7 @@ use Rattle.fourvec.specs.declared.Bit.{Bit}
 use Rattle.fourvec.specs.declared.Spot.{Spot}
 use Rattle.lhs_alias.specs.declared.segs.WireBit.{WireBit}
 use Rattle.sv_meaning.specs.Faults.{Faults}
-use Rattle.sv_meaning.specs.Layouts.{Layout, width, goes_down, Read, Origin}
+use Rattle.sv_meaning.specs.Layouts.{Layout, width, goes_down, Read, NamedSignal}
 use Rattle.sv_meaning.specs.Meanings.{Meaning, Step, Part, step_in, step_faults, indices, all_indices, bits_at, nowhere, chain_bits, chain_layout, chain_faults, fixed_faults}
 use Rattle.sv_meaning.specs.Targets.{with_place, slots_from, put_at, chain_slots, chain_fixed, put}
 use Rattle.sv_typed.specs.declared.tree.Pick.{Pick}
@@ -57,7 +57,7 @@ pub record Picks (judge : Meaning → Faults) (x : Layout) (s : Step) (p : Pick)
   pub width : width y ≡ p.width
   pub place : (read : Read) → part.place read ≡ pick_place p read
   pub constant : (indices s).constant ≡ p.constant
-  pub names : (n : Origin × ℕ) → Contains (place_names p.place) n → Contains (indices s).names n
+  pub names : (n : NamedSignal) → Contains (place_names p.place) n → Contains (indices s).names n
   pub sound : PickIsSound p
 
 -- ---- a chain of selects
@@ -78,7 +78,7 @@ pub record Follows (judge : Meaning → Faults) (x : Layout) (steps : List Step)
   pub fixed : chain_fixed x steps ≡ are_fixed picks
   pub constant : (all_indices steps).constant ≡ are_constant_picks picks
   pub width : picked_width picks (width x) ≡ width y
-  pub names : (n : Origin × ℕ) → Contains (names_picked picks) n → Contains (all_indices steps).names n
+  pub names : (n : NamedSignal) → Contains (names_picked picks) n → Contains (all_indices steps).names n
   pub sound : All PickIsSound picks
 
 -- ---- what code finds of one select
