@@ -21,7 +21,8 @@ pub fn start(expr: &Expr) -> Place
     }
 }
 
-pub(crate) fn is_signed(sign: Sign) -> bool
+/// Whether it is `signed`.
+pub fn is_signed(sign: Sign) -> bool
     ensures { result ≡ is_signed_word sign }
 {
     match sign {

@@ -3,7 +3,7 @@ ghost use Rattle.std.specs.Prelude.{◌≡◌, ◌≤◌, true, false, IfOk, map
 ghost use Rattle.sv_meaning.specs.Meanings.{Meaning};
 ghost use Rattle.sv_meaning.specs.Values.{mean, step};
 ghost use Rattle.sv_typed.specs.Typed as typed_is;
-ghost use Rattle.sv_const.specs.Judging.{Judges};
+ghost use Rattle.sv_const.specs.Judging.{Judges, Fixes};
 ghost use Rattle.sv_const.specs.Kinds.{layout_is, IsSound};
 ghost use Rattle.sv_const.specs.Names.{names_are};
 ghost use Rattle.sv_const.specs.Picks.{rule_faults};
@@ -13,9 +13,10 @@ ghost use Rattle.sv_const.specs.Sizes.{JudgesConstant, JudgesSize};
 use crate::begins::start;
 use crate::chain::{Chain, IndexRule};
 use crate::cursor::{Cursor, Each};
+use crate::fixed::Fixed;
 use crate::names::Names;
 use crate::refusals::refusal;
-use crate::typing::{chain_behind, typed};
+use crate::typing::{chain_behind, fixed, typed};
 use crate::{Known, Layout, Size};
 use std::alloc::Global;
 use sv_outside::{Place, TextErr};
@@ -65,6 +66,13 @@ pub fn eval_const(
     ensures { JudgesConstant width (mean (names_are names.now) expr.now) result }
 {
     constant_of(start(expr), width, typed(alloc, expr, names, true))
+}
+
+/// The value of a constant expression at its own length, wholly 0 and 1; or why it is refused, as for `eval_const`.
+pub fn eval_fixed(alloc: Global, expr: &Expr, names: &Names<'_>) -> Result<Fixed, TextErr>
+    ensures { Fixes (mean (names_are names.now) expr.now) result }
+{
+    fixed(alloc, expr, names)
 }
 
 /// The own length and sign of an expression that may name signals; or why it is refused: E2, E12, E14, E15, E16, E23 or

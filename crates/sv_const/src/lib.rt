@@ -22,8 +22,12 @@ mod typing;
 
 pub use begins::start;
 pub use chain::{Chain, IndexRule};
-pub use evaluate::{eval_const, select_chain, sized};
+pub use evaluate::{eval_const, eval_fixed, select_chain, sized};
+pub use fixed::Fixed;
 pub use layout::{Field, Form, Known, Layout, Size, What};
 pub use names::Names;
+pub use numbers::small;
+pub use refusals::refusal;
 pub use scope::Scope;
+pub use sides::layout_under;
 pub use typing::typed;

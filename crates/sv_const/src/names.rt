@@ -1,5 +1,5 @@
 // What names stand for at a place of a text.
-ghost use Rattle.std.specs.Prelude.{◌≡◌, [], ◌∷◌, ◌++◌, take, OnOk, OnErr, IfSome, MatchOption, option_map};
+ghost use Rattle.std.specs.Prelude.{◌≡◌, [], ◌∷◌, ◌++◌, length, take, OnOk, OnErr, IfSome, MatchOption, option_map};
 ghost use Rattle.std.specs.Option.{option_copied};
 ghost use Rattle.sv_const.specs.declared.layout.What.TheVariants.{Number};
 ghost use Rattle.sv_const.specs.Kinds.{what_is, scope_is, WhatIsSound};
@@ -50,11 +50,26 @@ impl<'a> Names<'a> {
 
     /// Enters a loop, whose variable has this value. Where memory is out, nothing changes.
     pub fn push_loop(&mut self, name: Name, value: Known) -> Result<(), AllocError>
-        ensures frames { OnOk result (frames_of self.new ≡ frames_of self.old) }
+        ensures frames { frames_of self.new ≡ frames_of self.old }
         ensures loops { OnOk result (loops_of self.new ≡ loops_of self.old ++ (name, Number value) ∷ []) }
-        ensures err { OnErr result (entries_of self.new ≡ entries_of self.old) }
+        ensures err { OnErr result (loops_of self.new ≡ loops_of self.old) }
     {
         self.loops.push(name, What::Number(value))
+    }
+
+    /// How many loops are entered.
+    pub fn loops(&self) -> usize
+        ensures { result ≡ length (loops_of self.now) }
+    {
+        self.loops.len()
+    }
+
+    /// Leaves all loops but the first so many.
+    pub fn leave_loops(&mut self, count: usize)
+        ensures frames { frames_of self.new ≡ frames_of self.old }
+        ensures loops { loops_of self.new ≡ take count (loops_of self.old) }
+    {
+        self.loops.truncate(count);
     }
 
     /// Leaves the innermost loop, if there is one.

@@ -13,9 +13,9 @@ pub(crate) fn is_negative(a: &Four) -> bool
     a.bit(a.width() - 1) == Bit::One
 }
 
-// The whole number of a known vector, where it has 32 bits.
+/// The whole number of a known vector by such a sign, where it has 32 bits.
 #[tactic(auto, using(crate::proofs::Vectors::wholes))]
-pub(crate) fn small(a: &Four, signed: bool) -> Option<i64>
+pub fn small(a: &Four, signed: bool) -> Option<i64>
     requires { IsTrue (is_known a.now) }
     ensures some { IfSome result (λ n. n ≡ whole signed a.now) }
     ensures bound { IfSome result (λ n. IsTrue (is_bound n)) }

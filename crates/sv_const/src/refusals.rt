@@ -3,7 +3,8 @@ ghost use Rattle.std.specs.Prelude.{◌≡◌};
 
 use sv_outside::{Place, Refusal};
 
-pub(crate) fn refusal(number: u8, place: Place) -> Refusal
+/// A refusal of this number at a place.
+pub fn refusal(number: u8, place: Place) -> Refusal
     ensures { result ≡ record { number = number; place = place; count = 0 } }
 {
     Refusal {

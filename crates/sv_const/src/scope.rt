@@ -67,6 +67,13 @@ impl Scope {
         self.list.pop()
     }
 
+    /// Takes all declarations off but the first so many.
+    pub fn truncate(&mut self, count: usize)
+        ensures { self.new ≡ take count self.old }
+    {
+        self.list.truncate(count);
+    }
+
     /// The last declaration of a name among the first `before`.
     pub fn find(&self, name: &[u8], before: usize) -> Option<&What>
         ensures is { option_map what_is (option_copied result) ≡ find name.now (scope_is (take before self.now)) }

@@ -189,8 +189,8 @@ fn layout_of(what: &What) -> Option<&Layout>
     }
 }
 
-// The layout of a type under a name.
-fn layout_under(what: Option<&What>) -> Option<&Layout>
+/// The layout of a type, where a name stands for one (6.18).
+pub fn layout_under(what: Option<&What>) -> Option<&Layout>
     requires { IfSome what (λ what. WhatIsSound what.now) }
     ensures { LayoutUnder (option_map what_is (option_copied what.entry)) (option_copied result) }
 {

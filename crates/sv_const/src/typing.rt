@@ -123,7 +123,7 @@ pub fn typed(
 // A constant position.
 #[tactic(auto, using(crate::proofs::Arms::fixed_expr, crate::proofs::Arms::sound_of_judged))]
 #[cycle(expr)]
-fn fixed(alloc: Global, expr: &Expr, names: &Names<'_>) -> Result<Fixed, TextErr>
+pub(crate) fn fixed(alloc: Global, expr: &Expr, names: &Names<'_>) -> Result<Fixed, TextErr>
     ensures { Fixes (mean (names_are names.now) expr.now) result }
 {
     fixed_of(start(expr), typed(alloc, expr, names, true))
