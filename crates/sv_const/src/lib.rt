@@ -20,7 +20,7 @@ mod scope;
 mod sides;
 mod typing;
 
-pub use begins::start;
+pub use begins::{is_signed, start};
 pub use chain::{Chain, IndexRule};
 pub use evaluate::{eval_const, eval_fixed, select_chain, sized};
 pub use fixed::Fixed;
