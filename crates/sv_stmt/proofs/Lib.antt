@@ -6,5 +6,7 @@ pub mod Reading
 pub mod Indices
 pub mod Trees
 pub mod Nameless
+pub mod Naming
+pub mod Sources
 pub mod Lowered
 pub mod Chains

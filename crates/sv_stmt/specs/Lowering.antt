@@ -9,7 +9,7 @@ use Rattle.svex_arena.specs.declared.shape.Shape.{Shape}
 use Rattle.svex_arena.specs.Shapes.{width_at}
 use Rattle.svex_arena.specs.Values.{each_variable}
 use Rattle.svex_arena.specs.Substs.{entry_at, given_or}
-use Rattle.sv_meaning.specs.Layouts.{Read, Origin, of_wires, of_choice, of_samples}
+use Rattle.sv_meaning.specs.Layouts.{Read, Scope, Origin, of_wires, of_choice, of_samples, NamedSignal, Declared}
 use Rattle.sv_meaning.specs.Meanings.{bits_at}
 use Rattle.sv_typed.specs.declared.tree.Typed.{Typed}
 use Rattle.sv_typed.specs.declared.tree.TypedForm.{TypedForm, Literal, Named', Turned', Reduced', Computed', Moved', Compared', Combined', Chosen', Power', Concat', Repeat', Standing', Fitted', Row_of-Typed, end_of-Typed, more_of-Typed, Row_of-Pick, end_of-Pick, more_of-Pick}
@@ -19,7 +19,7 @@ use Rattle.sv_typed.specs.declared.tree.Root.{Root}
 use Rattle.sv_typed.specs.declared.tree.Root.TheVariants.{Number, Signal}
 use Rattle.sv_typed.specs.Typed.{worth, together, picked, pick_place, root_bits, root_width, width_together, picked_width, origin_is, IsSound}
 use Rattle.sv_stmt.specs.declared.look.Look.{Look}
-use Rattle.sv_stmt.specs.declared.look.Look.TheVariants.{Previous, Mixed}
+use Rattle.sv_stmt.specs.declared.look.Look.TheVariants.{Present, Previous, Mixed}
 use Rattle.sv_stmt.specs.Nodes.{bits_at_node}
 
 -- ---- what names read
@@ -50,6 +50,10 @@ unfoldable pub look_test : Look → List Shape → (VarName → ℕ → Bool) �
 look_test look shapes p of_wires n w = given_or (each_variable p shapes) (p (wire_variable look n) w) (node_of look n)
 look_test look shapes p of_choice n w = p (Chosen n) w
 look_test look shapes p of_samples n w = p (Sampled n) w
+
+-- A test of variables holds of what each signal that a scope declares reads in the present.
+abbrev pub HoldsOfDeclared : Scope → (VarName → ℕ → Bool) → Type 0
+HoldsOfDeclared at p = (s : NamedSignal) → Declared at s → IsTrue (look_test Present [] p s.owner s.number s.width)
 
 -- ---- a test of each signal that is named, with its width
 

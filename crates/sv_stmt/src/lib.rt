@@ -9,7 +9,9 @@ mod operators;
 mod parts;
 mod places;
 mod sizes;
+mod source;
 mod steps;
 
 pub use expressions::{lower, lower_assigned};
 pub use look::Look;
+pub use source::lower_expr;

@@ -1,4 +1,4 @@
-use Rattle.std.proofs.Common.{◌≤◌, take, ap, ◌∙◌, arith}
+use Rattle.std.proofs.Common.{take, ap, ◌∙◌, arith}
 use Rattle.sv_typed.specs.Typed.{worth}
 use Rattle.sv_stmt.specs.Lowering.{look_read}
 use Rattle.sv_stmt.proofs.Lowered.{fits_wide}
