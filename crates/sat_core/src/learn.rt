@@ -240,23 +240,17 @@ fn shorten(
     Ok(())
 }
 
-// How many variables of the trail are seen.
-fn count_seen(trail: &[Assigned], seen: &[bool]) -> usize {
-    let mut count: usize = 0;
-    for e in trail {
-        if seen.get(e.dim.var).copied().unwrap_or(false) {
-            count = count.saturating_add(1);
-        }
-    }
-    count
-}
-
-/// The literals of the trail that are seen, the newest first.
-fn collect(alloc: Global, trail: &[Assigned], seen: &[bool]) -> Result<Vec<Dim>, AllocError>
+/// The literals of the trail that are seen, the newest first. There is room for so many from the beginning.
+fn collect(
+    alloc: Global,
+    trail: &[Assigned],
+    seen: &[bool],
+    room: usize,
+) -> Result<Vec<Dim>, AllocError>
     requires { All (λ e. e.dim.var < length seen.now) trail.now }
     ensures { IfOk result (λ clause. clause.items ≡ filter (λ d. seen_at seen.now d.var) (falses trail.now)) }
 {
-    let mut clause = Vec::with_capacity(alloc, count_seen(trail, seen))?;
+    let mut clause = Vec::with_capacity(alloc, room)?;
     let mut i = trail.len();
     while i > 0 {
         i -= 1;
@@ -297,8 +291,10 @@ fn teach(
     walked.clear();
     hints.clear();
     let left = trace(trail, seen, walked, store, conflict, hints)?;
+    let traced = walked.len();
     shorten(trail, seen, walked, left, store, hints)?;
-    let clause = collect(alloc, &trail.entries()[..left], seen)?;
+    let room = walked.len().saturating_sub(traced).saturating_add(1);
+    let clause = collect(alloc, &trail.entries()[..left], seen, room)?;
     hints.reverse();
     let kept = Vec::from_slice(alloc, hints.as_slice())?;
     Ok(Taught {

@@ -79,7 +79,7 @@ fn first_free(values: &[Option<bool>], clause: &[Lit], other: Dim) -> Option<usi
     ensures { IsFreeAt (valuation values.now) clause.now other result }
 {
     for (i, d) in clause.iter().enumerate() {
-        if d.dim() != other && !is_false(values, *d) {
+        if !is_false(values, *d) && d.dim() != other {
             return Some(i);
         }
     }

@@ -1,10 +1,9 @@
-use Rattle.std.proofs.Common.{rules, ◌≡◌, ◌+◌, ◌-◌, ◌∷◌, ◌++◌, [], ◌∙◌, ℕ, length, List, get_or, sym, subst, ap, arith, length-append, Some}
+use Rattle.std.proofs.Common.{◌≡◌, ◌-◌, ◌∷◌, ◌++◌, [], ◌∙◌, ℕ, length, List, get_or, sym, subst, ap, arith, length-append, Some}
 use Rattle.cnf.specs.declared.Dim.{Dim}
 use Rattle.cnf.specs.Clauses.{negate}
 use Rattle.refute_check.specs.Entry.{Entry}
 use Rattle.sat_core.specs.declared.trail.Assigned.{Assigned}
 use Rattle.sat_core.specs.declared.watch.Pair.{Pair}
-use Rattle.sat_core.specs.Trail.{falses}
 use Rattle.sat_core.specs.Learn.{no_assigned}
 use Rattle.sat_core.specs.Lesson.{IsReady, IsHalfway}
 use Rattle.sat_core.specs.declared.watch.Watch.{Watch}

@@ -1,4 +1,4 @@
-use Rattle.std.proofs.Common.{rules, ◌≡◌, ◌∙◌, length, ap, ◌++◌, ◌∷◌, []}
+use Rattle.std.proofs.Common.{rules, ◌∙◌, ap, ◌++◌, ◌∷◌, []}
 use Rattle.sat_core.proofs.Stores.{added}
 use Rattle.sat_core.proofs.store.Store.push.Goals as goal
 
