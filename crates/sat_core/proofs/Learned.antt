@@ -1,5 +1,5 @@
 -- The step that a conflict teaches is new.
-use Rattle.std.proofs.Common.{◌≡◌, ℕ, ◌<◌, ◌≤◌, ◌+◌, ◌-◌, inl, not, Bool, true, cond, List, [], ◌∷◌, ◌++◌, length, get_or, map, reverse, take, drop, Option, Some, None, sym, refl, ap, ◌∙◌, arith, subst, length-append, append_assoc, Vec, Global}
+use Rattle.std.proofs.Common.{◌≡◌, ℕ, ◌<◌, ◌≤◌, ◌+◌, ◌-◌, inl, not, Bool, true, cond, List, [], ◌∷◌, ◌++◌, length, get_or, map, reverse, take, drop, Option, Some, None, sym, refl, ap, ◌∙◌, arith, subst, length-append, append_assoc}
 use Rattle.std.specs.List.{All, Contains, filter}
 use Rattle.std.proofs.lemmas.List.{map-append, take_all, take-append-le}
 use Rattle.std.proofs.lemmas.List.Elements.{All-contains, All-filter, All-weaker, Contains-append_right}
@@ -8,7 +8,6 @@ use Rattle.cnf.specs.declared.Dim.{Dim}
 use Rattle.cnf.specs.Clauses.{negate, AreBelow, Valuation, valuation, denied, all_open, IsConflict, IsUnit}
 use Rattle.refute_check.specs.Entry.{Entry, entry_of}
 use Rattle.refute_check.specs.Accepted.{Derives, IsDerived, known_of, clause_at}
-use Rattle.refute_check.proofs.Derivations.{length_known}
 use Rattle.refute_check.proofs.Denials.{negate_twice}
 use Rattle.sat_core.specs.declared.trail.Assigned.{Assigned}
 use Rattle.sat_core.specs.Trail.{dims, falses, Tracks, Why, IsApart, IsExplained, IsSound}
@@ -22,7 +21,7 @@ use Rattle.sat_core.specs.Lists.{TrailLists}
 use Rattle.sat_core.specs.Lesson.{IsTaught, IsReady, IsHalfway}
 use Rattle.sat_core.specs.declared.watch.Pair.{Pair}
 use Rattle.sat_core.specs.declared.watch.Watch.{Watch}
-use Rattle.sat_core.specs.Watch.{IsHalf, AllHalf, ArePairs, AreLists, Listed, WasCalm, pair_at, first_pair, with_pair}
+use Rattle.sat_core.specs.Watch.{IsHalf, AllHalf, AreLists, Listed, WasCalm, pair_at, first_pair, with_pair}
 use Rattle.sat_core.specs.Walk.{before}
 use Rattle.sat_core.proofs.Steps.{apart_front, explained_front, place_is, front_is}
 use Rattle.sat_core.proofs.Watches.{half_grow}

@@ -3,7 +3,7 @@ use Rattle.std.proofs.Common.{◌≡◌, ◌≢◌, ℕ, suc, ◌<◌, ◌≤◌
 use Rattle.std.specs.List.{All, Contains}
 use Rattle.std.proofs.lemmas.Bool.{cases_eq, eq-eqb}
 use Rattle.std.proofs.lemmas.List.{take_all, take-append-le, drop_all, append-nil, length-map}
-use Rattle.std.proofs.lemmas.List.{get_or-map, map-set, map-append, take_more_set, drop-set-lt}
+use Rattle.std.proofs.lemmas.List.{get_or-map, map-set, set-get_or, map-append, take_more_set, drop-set-lt}
 use Rattle.std.proofs.lemmas.List.Elements.{All-set, All-push, All-append, All-take, All-drop, Contains-append_left, Contains-append_right, Contains-append_cases}
 use Rattle.cnf.specs.declared.Dim.{Dim}
 use Rattle.cnf.specs.Clauses.{negate, assume, denied, Valuation, valuation, IsFalsified}
@@ -26,6 +26,10 @@ rows_set lists i j v row e is = map-set (λ v. v.items) lists i v ∙ ap (λ n. 
 
 pub row_is : (lists : List (Vec Watch Global)) (i j : ℕ) (v : Vec Watch Global) → i < length lists → i ≡ j → v ≡ get_or lists i v → v.items ≡ get_or (rows lists) j []
 row_is lists i j v lt e is = ap (λ v. v.items) is ∙ sym (get_or-map (λ v. v.items) lists i v [] lt) ∙ ap (λ n. get_or (rows lists) n []) e
+
+-- a list with the same watches
+pub rows_kept : (lists : List (Vec Watch Global)) (i : ℕ) (v w : Vec Watch Global) → i < length lists → w ≡ get_or lists i w → v.items ≡ w.items → rows (set lists i v) ≡ rows lists
+rows_kept lists i v w lt e is = rows_set lists i i v w.items refl is ∙ ap (set (rows lists) i) (row_is lists i i w lt refl e) ∙ set-get_or (rows lists) i []
 
 -- the list of a literal is in range
 pub code_below : (d : Dim) (n : ℕ) → 2 * d.var + 1 < n → code d < n

@@ -121,6 +121,9 @@ grown rows d w = slice_set rows (code d) (row_at rows d ++ w ∷ [])
 abbrev pub with_pair : List (List Watch) → Pair → ℕ → List (List Watch)
 with_pair rows p k = grown (grown rows p.a (record { clause = k; blocker = p.b })) p.b (record { clause = k; blocker = p.a })
 
+abbrev pub pair_of : Dim → Dim → Pair
+pair_of a b = record { a = a; b = b }
+
 -- the first two literals, or twice the only one
 abbrev pub first_pair : List Dim → Pair
-first_pair clause = record { a = slice_index_or clause 0 no_pair.a; b = slice_index_or clause 1 (slice_index_or clause 0 no_pair.a) }
+first_pair clause = pair_of (slice_index_or clause 0 no_pair.a) (slice_index_or clause 1 (slice_index_or clause 0 no_pair.a))

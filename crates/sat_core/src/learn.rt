@@ -14,13 +14,36 @@ ghost use Rattle.sat_core.specs.Watch.{first_pair, rows, with_pair};
 ghost use Rattle.sat_core.specs.Learn.{seen_at, IsClear, IsAnchored, IsAlone, IsTraced, Explains, StopsBelow, Suffices};
 
 use crate::back::{go_back, is_clear};
-use crate::lists::add_to;
+use crate::lists::{Uses, add_to, make_room};
+use crate::lit::Lit;
 use crate::store::Store;
 use crate::trail::{Assigned, Trail};
 use crate::watch::{Pair, Watch};
 use cnf::Dim;
 use refute_check::Step;
 use std::alloc::{AllocError, Global};
+
+/// What is kept from one conflict to the next, for speed alone.
+#[derive(Drop)]
+pub struct Notes {
+    /// The variables that the newest conflict marked.
+    walked: Vec<usize>,
+    /// Its hints, which the log gets a copy of.
+    hints: Vec<usize>,
+    /// How many clauses contain each literal.
+    pub uses: Uses,
+}
+
+impl Notes {
+    /// Before the first conflict, with no clause, for so many literals.
+    pub fn new(alloc: Global, literals: usize) -> Result<Notes, AllocError> {
+        Ok(Notes {
+            walked: Vec::new(alloc),
+            hints: Vec::new(alloc),
+            uses: Uses::new(alloc, literals)?,
+        })
+    }
+}
 
 /// Marks a variable. Answers how many (one or none) were not marked and had their value at the newest level.
 fn mark_one(trail: &Trail, seen: &mut [bool], var: usize) -> usize
@@ -41,7 +64,7 @@ fn mark_one(trail: &Trail, seen: &mut [bool], var: usize) -> usize
 }
 
 /// Marks the variables of a clause. Answers how many were not marked and had their value at the newest level.
-fn mark(trail: &Trail, seen: &mut [bool], clause: &[Dim]) -> usize
+fn mark(trail: &Trail, seen: &mut [bool], clause: &[Lit]) -> usize
     requires range { AreBelow (length seen.old) clause.now }
     requires width { length seen.old ≡ length trail.now.values }
     ensures marked { All (λ d. seen_at seen.new d.var ≡ true) clause.now }
@@ -49,7 +72,7 @@ fn mark(trail: &Trail, seen: &mut [bool], clause: &[Dim]) -> usize
 {
     let mut count: usize = 0;
     for d in clause {
-        count = count.saturating_add(mark_one(trail, seen, d.var));
+        count = count.saturating_add(mark_one(trail, seen, d.dim().var));
     }
     count
 }
@@ -57,6 +80,14 @@ fn mark(trail: &Trail, seen: &mut [bool], clause: &[Dim]) -> usize
 // Writes down a variable that was marked.
 fn note(walked: &mut Vec<usize>, var: usize) -> Result<(), AllocError> {
     walked.push(var)?;
+    Ok(())
+}
+
+// Writes down a variable whose literal is dropped. Only where the busiest variables are preferred it counts.
+fn note_dropped(trail: &Trail, walked: &mut Vec<usize>, var: usize) -> Result<(), AllocError> {
+    if trail.is_busy_turn() {
+        walked.push(var)?;
+    }
     Ok(())
 }
 
@@ -132,20 +163,20 @@ fn is_covered(seen: &[bool], d: Dim, var: usize) -> bool
 }
 
 /// Whether each other variable of a clause is seen.
-fn is_implied(seen: &[bool], clause: &[Dim], var: usize) -> bool
+fn is_implied(seen: &[bool], clause: &[Lit], var: usize) -> bool
     requires { AreBelow (length seen.now) clause.now }
     ensures { IsTrue result → All (λ d. d.var ≢ var → seen_at seen.now d.var ≡ true) clause.now }
 {
     for d in clause {
-        if !is_covered(seen, *d, var) {
+        if !is_covered(seen, d.dim(), var) {
             return false;
         }
     }
     true
 }
 
-/// Notes the variable at a place of the trail, which is not the last of the first `left`, if it is seen, and drops its literal
-/// if the others imply it.
+/// Drops the literal at a place of the trail, which is not the last of the first `left`, if it is seen and the others imply
+/// it; else notes its variable.
 fn drop_implied(
     trail: &Trail,
     seen: &mut [bool],
@@ -169,13 +200,13 @@ fn drop_implied(
     if !seen[e.dim.var] {
         return Ok(());
     }
-    note(walked, e.dim.var)?;
     match e.reason {
-        None => Ok(()),
+        None => note(walked, e.dim.var),
         Some(r) => {
             if !is_implied(seen, store.clause(r), e.dim.var) {
-                return Ok(());
+                return note(walked, e.dim.var);
             }
+            note_dropped(trail, walked, e.dim.var)?;
             seen[e.dim.var] = false;
             hints.push(r)?;
             Ok(())
@@ -183,7 +214,7 @@ fn drop_implied(
     }
 }
 
-/// Notes the variables that are seen, and drops the literals that the others imply, but the last of the first `left`.
+/// Drops the literals that the others imply, but the last of the first `left`, and notes the variables of the rest.
 fn shorten(
     trail: &Trail,
     seen: &mut [bool],
@@ -209,12 +240,17 @@ fn shorten(
     Ok(())
 }
 
-/// The literals of the trail that are seen, the newest first.
-fn collect(alloc: Global, trail: &[Assigned], seen: &[bool]) -> Result<Vec<Dim>, AllocError>
+/// The literals of the trail that are seen, the newest first. There is room for so many from the beginning.
+fn collect(
+    alloc: Global,
+    trail: &[Assigned],
+    seen: &[bool],
+    room: usize,
+) -> Result<Vec<Dim>, AllocError>
     requires { All (λ e. e.dim.var < length seen.now) trail.now }
     ensures { IfOk result (λ clause. clause.items ≡ filter (λ d. seen_at seen.now d.var) (falses trail.now)) }
 {
-    let mut clause = Vec::new(alloc);
+    let mut clause = Vec::with_capacity(alloc, room)?;
     let mut i = trail.len();
     while i > 0 {
         i -= 1;
@@ -239,6 +275,7 @@ fn teach(
     trail: &Trail,
     seen: &mut [bool],
     walked: &mut Vec<usize>,
+    hints: &mut Vec<usize>,
     store: &Store,
     conflict: usize,
 ) -> Result<Taught, AllocError>
@@ -251,25 +288,32 @@ fn teach(
     ensures last { IfOk result (λ t. t.left ≡ 0 → IsLast (length trail.now.values) store.now t.step) }
     ensures taught { IfOk result (λ t. 0 < t.left → IsTaught (length trail.now.values) store.now trail.now.entries seen.new t.left t.step) }
 {
-    let mut hints = Vec::new(alloc);
-    let left = trace(trail, seen, walked, store, conflict, &mut hints)?;
-    shorten(trail, seen, walked, left, store, &mut hints)?;
-    let clause = collect(alloc, &trail.entries()[..left], seen)?;
+    walked.clear();
+    hints.clear();
+    let left = trace(trail, seen, walked, store, conflict, hints)?;
+    let traced = walked.len();
+    shorten(trail, seen, walked, left, store, hints)?;
+    let room = walked.len().saturating_sub(traced).saturating_add(1);
+    let clause = collect(alloc, &trail.entries()[..left], seen, room)?;
     hints.reverse();
+    let kept = Vec::from_slice(alloc, hints.as_slice())?;
     Ok(Taught {
         left,
-        step: Step { clause, hints },
+        step: Step {
+            clause,
+            hints: kept,
+        },
     })
 }
 
 /// The first two literals of a clause that is not empty, or twice the only one.
-fn first_two(clause: &[Dim]) -> Pair
+fn first_two(clause: &[Dim]) -> Result<Pair, AllocError>
     requires { 0 < length clause.now }
-    ensures { result ≡ first_pair clause.now }
+    ensures { IfOk result (λ pair. pair ≡ first_pair clause.now) }
 {
     let a = clause[0];
     let b = clause.get(1).copied().unwrap_or(a);
-    Pair { a, b }
+    Pair::of(a, b)
 }
 
 /// Watches the pair of the clause k.
@@ -284,17 +328,25 @@ pub fn watch_pair(
     ensures pairs { OnOk result (pairs.new.items ≡ pairs.old.items ++ pair ∷ []) }
     ensures lists { OnOk result (rows lists.new ≡ with_pair (rows lists.old) pair k) }
 {
-    pairs.push(pair)?;
-    let first = Watch {
-        clause: k,
-        blocker: pair.b,
-    };
-    add_to(lists, pair.a, first)?;
-    let second = Watch {
-        clause: k,
-        blocker: pair.a,
-    };
-    add_to(lists, pair.b, second)?;
+    let a = pair.a;
+    let b = pair.b;
+    pairs.push(Pair { a, b })?;
+    add_to(
+        lists,
+        a,
+        Watch {
+            clause: k,
+            blocker: b,
+        },
+    )?;
+    add_to(
+        lists,
+        b,
+        Watch {
+            clause: k,
+            blocker: a,
+        },
+    )?;
     Ok(())
 }
 
@@ -307,6 +359,7 @@ fn take_up(
     lists: &mut [Vec<Watch>],
     store: &mut Store,
     steps: &mut Vec<Step>,
+    uses: &mut Uses,
     left: usize,
     step: Step,
 ) -> Result<usize, AllocError>
@@ -323,9 +376,10 @@ fn take_up(
     let top = trail.entries()[left - 1].dim;
     go_back(trail, seen, left);
     let reason = store.len();
-    let pair = first_two(step.clause.as_slice());
-    watch_pair(pairs, lists, pair, reason)?;
+    let pair = first_two(step.clause.as_slice())?;
     store.push(step.clause.as_slice())?;
+    make_room(lists, uses, store.clause(reason))?;
+    watch_pair(pairs, lists, pair, reason)?;
     steps.push(step)?;
     let from = trail.entries().len();
     trail.assign(Assigned {
@@ -357,6 +411,7 @@ pub fn learn(
     lists: &mut [Vec<Watch>],
     store: &mut Store,
     steps: &mut Vec<Step>,
+    notes: &mut Notes,
     conflict: usize,
 ) -> Result<Option<usize>, AllocError>
     requires width { AllBelow (length trail.old.values) store.old }
@@ -373,15 +428,32 @@ pub fn learn(
     ensures ready { IfOk result (λ from. IfSome from (λ _. IsReady (length trail.old.values) store.new pairs.new.items (rows lists.new) trail.new)) }
     ensures half { IfOk result (λ from. IfSome from (λ n. IsHalfway store.new pairs.new.items trail.new n)) }
 {
-    let mut walked = Vec::new(alloc);
-    let Taught { left, step } = teach(alloc, trail, seen, &mut walked, store, conflict)?;
+    let Taught { left, step } = teach(
+        alloc,
+        trail,
+        seen,
+        &mut notes.walked,
+        &mut notes.hints,
+        store,
+        conflict,
+    )?;
     if left == 0 {
         steps.push(step)?;
         return Ok(None);
     }
-    trail.bump_all(&mut walked)?;
+    trail.bump_all(&mut notes.walked)?;
     trail.reserve_places(store.len().saturating_add(1))?;
-    let from = take_up(trail, seen, pairs, lists, store, steps, left, step)?;
-    clear_marks(seen, &walked);
+    let from = take_up(
+        trail,
+        seen,
+        pairs,
+        lists,
+        store,
+        steps,
+        &mut notes.uses,
+        left,
+        step,
+    )?;
+    clear_marks(seen, &notes.walked);
     Ok(Some(from))
 }

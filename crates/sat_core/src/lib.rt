@@ -4,6 +4,7 @@
 mod back;
 mod learn;
 mod lists;
+mod lit;
 mod luby;
 mod order;
 mod queue;

@@ -73,8 +73,8 @@ impl Order {
         })
     }
 
-    // Whether the busiest variable is preferred now.
-    fn is_busy_turn(&self) -> bool {
+    /// Whether the busiest variable is preferred now.
+    pub fn is_busy_turn(&self) -> bool {
         self.preference == Preference::Busiest || (self.conflicts / TURN) % 2 == 1
     }
 

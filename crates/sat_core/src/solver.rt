@@ -11,7 +11,8 @@ ghost use Rattle.sat_core.specs.Lesson.{IsHalfway, IsReady};
 ghost use Rattle.sat_core.specs.End.{IsRightEnd};
 
 use crate::back::restart;
-use crate::learn::learn;
+use crate::learn::{Notes, learn};
+use crate::lists::make_all_room;
 use crate::order::Preference;
 use crate::search::search;
 use crate::start::start;
@@ -84,6 +85,7 @@ fn run(
     trail: &mut Trail,
     seen: &mut [bool],
     lists: &mut [Vec<Watch>],
+    notes: &mut Notes,
 ) -> Result<SatEnd, AllocError>
     requires clauses { AllBelow (length trail.old.values) (map (λ v. v.items) clauses.now) }
     requires budget { IfSome budget (λ n. 0 < n) }
@@ -97,6 +99,7 @@ fn run(
     let mut pairs: Vec<Pair> = Vec::new(alloc);
     let mut steps: Vec<Step> = Vec::new(alloc);
     let mut store = Store::from_clauses(alloc, clauses)?;
+    make_all_room(lists, &mut notes.uses, &store)?;
     let mut found = start(trail, &mut pairs, lists, clauses)?;
     let mut from = 0;
     loop {
@@ -106,7 +109,7 @@ fn run(
             }
             Some(conflict) => {
                 match learn(
-                    alloc, trail, seen, &mut pairs, lists, &mut store, &mut steps, conflict,
+                    alloc, trail, seen, &mut pairs, lists, &mut store, &mut steps, notes, conflict,
                 )? {
                     None => return Ok(SatEnd::Unsat(Log { steps })),
                     Some(next) => {
@@ -158,6 +161,7 @@ fn solve_all(
     let mut trail = Trail::new(alloc, vars, preference(clauses))?;
     let mut seen = vec![in alloc; false; vars]?;
     let mut lists = empty_lists(alloc, count)?;
+    let mut notes = Notes::new(alloc, count)?;
     run(
         alloc,
         clauses,
@@ -165,6 +169,7 @@ fn solve_all(
         &mut trail,
         seen.as_mut_slice(),
         lists.as_mut_slice(),
+        &mut notes,
     )
 }
 

@@ -32,16 +32,16 @@ fn first_of(clause: &[Dim]) -> Dim
 }
 
 /// Two literals of a clause that are not the same, if there are two.
-fn two_of(clause: &[Dim]) -> Option<Pair>
-    ensures { IsTwoOf clause.now result }
+fn two_of(clause: &[Dim]) -> Result<Option<Pair>, AllocError>
+    ensures { IfOk result (IsTwoOf clause.now) }
 {
     let a = first_of(clause);
     for b in clause {
         if differ(*b, a) {
-            return Some(Pair { a, b: *b });
+            return Ok(Some(Pair::of(a, *b)?));
         }
     }
-    None
+    Ok(None)
 }
 
 /// A given clause.
@@ -53,14 +53,14 @@ fn given(clauses: &[Vec<Dim>], k: usize) -> &[Dim]
 }
 
 /// A pair of a clause of which no two literals are watched.
-fn no_two() -> Pair
-    ensures { result.a ≡ result.b }
+fn no_two() -> Result<Pair, AllocError>
+    ensures { IfOk result (λ pair. pair.a ≡ pair.b) }
 {
     let d = Dim {
         var: 0,
         negated: false,
     };
-    Pair { a: d, b: d }
+    Pair::of(d, d)
 }
 
 /// Makes the one literal of the clause k true, unless it is false.
@@ -106,13 +106,14 @@ fn start_one(
     ensures width { OnOk result (length trail.new.values ≡ length trail.old.values) }
     ensures started { IfOk result (IsStarted (length trail.old.values) (map (λ v. v.items) clauses.now) (k + 1) pairs.new.items (rows lists.new) trail.new) }
 {
-    match two_of(given(clauses, k)) {
+    match two_of(given(clauses, k))? {
         Some(pair) => {
             watch_pair(pairs, lists, pair, k)?;
             Ok(found)
         }
         None => {
-            pairs.push(no_two())?;
+            let same = no_two()?;
+            pairs.push(same)?;
             match found {
                 Some(j) => Ok(Some(j)),
                 None => {

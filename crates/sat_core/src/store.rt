@@ -1,8 +1,9 @@
 //! All clauses in one piece of memory.
 
-ghost use Rattle.std.specs.Prelude.{◌≡◌, ◌<◌, ◌++◌, ◌∷◌, [], length, map, OnOk, OnErr, IfOk};
+ghost use Rattle.std.specs.Prelude.{◌≡◌, ◌<◌, ◌≤◌, ◌++◌, ◌∷◌, [], length, map, take, OnOk, OnErr, IfOk};
 ghost use Rattle.refute_check.specs.Accepted.{clause_at};
 
+use crate::lit::Lit;
 use cnf::Dim;
 use std::alloc::{AllocError, Global};
 use std::marker::Model;
@@ -17,7 +18,7 @@ pub struct Span {
 /// Clauses by their numbers, whose literals stand one after another. Contracts see the list of the clauses.
 #[derive(Drop)]
 pub struct Store {
-    dims: Vec<Dim>,
+    lits: Vec<Lit>,
     spans: Vec<Span>,
 }
 
@@ -29,9 +30,22 @@ impl Model for Store {
 
     ghost Value = { List (List Dim) };
 
-    ghost view = { λ s. clauses_in s.dims.items s.spans.items };
+    ghost view = { λ s. clauses_in s.lits.items s.spans.items };
 
-    ghost invariant = { λ s. All (IsInside (length s.dims.items)) s.spans.items };
+    ghost invariant = { λ s. All (IsInside (length s.lits.items)) s.spans.items };
+}
+
+/// Appends these literals, or, where there is no memory for all, some.
+fn write(lits: &mut Vec<Lit>, clause: &[Dim]) -> Result<(), AllocError>
+    ensures all { OnOk result (lits.new.items ≡ lits.old.items ++ clause.now) }
+    ensures front { take (length lits.old.items) lits.new.items ≡ lits.old.items }
+    ensures longer { length lits.old.items ≤ length lits.new.items }
+{
+    for d in clause {
+        let lit = Lit::of(*d)?;
+        lits.push(lit)?;
+    }
+    Ok(())
 }
 
 impl Store {
@@ -40,7 +54,7 @@ impl Store {
         ensures { result ≡ [] }
     {
         Store {
-            dims: Vec::new(alloc),
+            lits: Vec::new(alloc),
             spans: Vec::new(alloc),
         }
     }
@@ -64,23 +78,23 @@ impl Store {
     }
 
     /// The literals of a clause.
-    pub fn clause(&self, k: usize) -> &[Dim]
+    pub fn clause(&self, k: usize) -> &[Lit]
         requires { k < length self.now }
         ensures { result.now ≡ clause_at self.now k }
     {
         let span = self.spans[k];
-        &self.dims[span.start..span.end]
+        &self.lits[span.start..span.end]
     }
 
     /// Puts a clause behind all others. Where there is no memory for it, the clauses stay as they are.
-    #[tactic(auto, using(crate::proofs::Stores::kept))]
+    #[tactic(auto, using(crate::proofs::Stores::kept, crate::proofs::Stores::inside_more))]
     pub fn push(&mut self, clause: &[Dim]) -> Result<(), AllocError>
         ensures added { OnOk result (self.new ≡ self.old ++ clause.now ∷ []) }
         ensures unchanged { OnErr result (self.new ≡ self.old) }
     {
-        let start = self.dims.len();
-        self.dims.extend_from_slice(clause)?;
-        let end = self.dims.len();
+        let start = self.lits.len();
+        write(&mut self.lits, clause)?;
+        let end = self.lits.len();
         self.spans.push(Span { start, end })?;
         Ok(())
     }

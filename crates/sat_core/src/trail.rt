@@ -91,7 +91,7 @@ impl Trail {
     {
         Ok(Trail {
             values: open_values(alloc, vars)?,
-            entries: Vec::new(alloc),
+            entries: Vec::with_capacity(alloc, vars)?,
             levels: vec![in alloc; 0; vars]?,
             phases: vec![in alloc; false; vars]?,
             level: 0,
@@ -170,6 +170,11 @@ impl Trail {
         self.order.arrange(walked)?;
         self.queue.bump_all(&self.values, walked);
         Ok(())
+    }
+
+    /// Whether the variables that stood in the most of the newest conflicts are preferred now.
+    pub fn is_busy_turn(&self) -> bool {
+        self.order.is_busy_turn()
     }
 
     /// Whether the search is to start anew.

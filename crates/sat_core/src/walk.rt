@@ -31,21 +31,21 @@ fn look_at(
     pairs: &[Pair],
     store: &Store,
     places: &[usize],
-    watch: Watch,
+    watch: &Watch,
     d: Dim,
 ) -> Visit
     requires width { AllBelow (length values.now) store.now }
     requires pairs { ArePairs store.now pairs.now }
-    requires good { IsGood store.now watch }
-    requires half { (low : Valuation) × IsHalf low (valuation values.now) (clause_at store.now watch.clause) (pair_at pairs.now watch.clause) }
-    ensures { IsVisited (valuation values.now) (clause_at store.now watch.clause) (pair_at pairs.now watch.clause) d result }
+    requires good { IsGood store.now watch.now }
+    requires half { (low : Valuation) × IsHalf low (valuation values.now) (clause_at store.now watch.now.clause) (pair_at pairs.now watch.now.clause) }
+    ensures { IsVisited (valuation values.now) (clause_at store.now watch.now.clause) (pair_at pairs.now watch.now.clause) d result }
 {
     if is_true(values, watch.blocker) {
         return Visit::Keep(watch.blocker);
     }
     let clause = store.clause(watch.clause);
     let from = places.get(watch.clause).copied().unwrap_or(0);
-    look_again(values, clause, pairs[watch.clause], watch.blocker, d, from)
+    look_again(values, clause, &pairs[watch.clause], watch.blocker, d, from)
 }
 
 /// Looks at each clause in the list of the literal `d` that became false at a place of the trail, up to one that is false.
@@ -87,22 +87,21 @@ pub fn work_off(
     let mut kept = 0;
     for i in 0..list.len() {
         let watch = list[i];
-        match look_at(trail.values(), pairs, store, trail.places(), watch, d) {
+        let clause = watch.clause;
+        match look_at(trail.values(), pairs, store, trail.places(), &watch, d) {
             Visit::Keep(blocker) => {
-                list[kept] = Watch {
-                    clause: watch.clause,
-                    blocker,
-                };
+                let kept_watch = Watch { clause, blocker };
+                list[kept] = kept_watch;
                 kept += 1;
             }
             Visit::Move(pair, place) => {
-                trail.set_place(watch.clause, place);
-                pairs[watch.clause] = pair;
-                let moved = Watch {
-                    clause: watch.clause,
-                    blocker: pair.a,
-                };
-                add_to(lists, pair.b, moved)?;
+                let a = pair.a;
+                let b = pair.b;
+                trail.set_place(clause, place);
+                let new_pair = Pair { a, b };
+                pairs[clause] = new_pair;
+                let moved = Watch { clause, blocker: a };
+                add_to(lists, b, moved)?;
             }
             Visit::Unit(open) => {
                 list[kept] = watch;
@@ -112,12 +111,12 @@ pub fn work_off(
                         var: open.var,
                         negated: !open.negated,
                     },
-                    reason: Some(watch.clause),
+                    reason: Some(clause),
                 })?;
             }
             Visit::Conflict => {
                 return Ok(Walk {
-                    conflict: Some(watch.clause),
+                    conflict: Some(clause),
                     kept,
                     read: i,
                 });

@@ -1,32 +1,46 @@
 //! Two literals of each clause are watched: while neither is false, the clause is neither false nor unit.
 
-ghost use Rattle.std.specs.Prelude.{◌≡◌, ◌≢◌, ℕ, ◌<◌, ◌≤◌, ◌⊎◌, ◌↔◌, Option, Some, None, not, length, MatchOption, IsTrue};
+ghost use Rattle.std.specs.Prelude.{◌≡◌, ◌≢◌, ℕ, ◌<◌, ◌≤◌, ◌⊎◌, ◌↔◌, Option, Some, None, not, length, MatchOption, IsTrue, IfOk};
 ghost use Rattle.std.specs.List.{All, Contains};
 ghost use Rattle.cnf.specs.Clauses.{AreBelow, IsFalsified, Valuation, valuation};
-ghost use Rattle.sat_core.specs.Watch.{HasTrue, IsHalf, IsBeside, Watches};
+ghost use Rattle.sat_core.specs.Watch.{HasTrue, IsHalf, IsBeside, Watches, pair_of};
 ghost use Rattle.sat_core.specs.Visited.{IsFreeAt, IsVisited};
 
+use crate::lit::Lit;
 use cnf::Dim;
+use std::alloc::AllocError;
 
 /// The two literals of a clause that are watched. A clause of which none is watched has twice the same.
 #[derive(Clone, Copy)]
 pub struct Pair {
-    pub a: Dim,
-    pub b: Dim,
+    pub a: Lit,
+    pub b: Lit,
+}
+
+impl Pair {
+    /// The pair of these literals. There is no memory for 2^32 variables.
+    pub fn of(a: Dim, b: Dim) -> Result<Pair, AllocError>
+        ensures { IfOk result (λ pair. pair ≡ pair_of a b) }
+    {
+        Ok(Pair {
+            a: Lit::of(a)?,
+            b: Lit::of(b)?,
+        })
+    }
 }
 
 /// The number of a clause, and one of its literals: while that one is true, the clause need not be looked at.
 #[derive(Clone, Copy)]
 pub struct Watch {
     pub clause: usize,
-    pub blocker: Dim,
+    pub blocker: Lit,
 }
 
 /// What is to be done with a clause of which a watched literal has become false.
 #[derive(Clone, Copy)]
 pub enum Visit {
     /// It stays in the list, with this literal to be looked at first.
-    Keep(Dim),
+    Keep(Lit),
     /// The second of this pair, which stands at this place of the clause, is watched in place of the false literal.
     Move(Pair, usize),
     /// This literal is open, and each other one is false.
@@ -36,10 +50,11 @@ pub enum Visit {
 }
 
 /// Whether the literal is false.
-fn is_false(values: &[Option<bool>], d: Dim) -> bool
-    requires { d.var < length values.now }
-    ensures { IsTrue result ↔ IsFalsified (valuation values.now) d }
+fn is_false(values: &[Option<bool>], lit: Lit) -> bool
+    requires { lit.var < length values.now }
+    ensures { IsTrue result ↔ IsFalsified (valuation values.now) lit }
 {
+    let d = lit.dim();
     match values[d.var] {
         None => false,
         Some(value) => value == d.negated,
@@ -47,10 +62,11 @@ fn is_false(values: &[Option<bool>], d: Dim) -> bool
 }
 
 /// Whether the literal is true.
-pub fn is_true(values: &[Option<bool>], d: Dim) -> bool
-    requires { d.var < length values.now }
-    ensures { IsTrue result ↔ (valuation values.now d.var ≡ Some (not d.negated)) }
+pub fn is_true(values: &[Option<bool>], lit: Lit) -> bool
+    requires { lit.var < length values.now }
+    ensures { IsTrue result ↔ (valuation values.now lit.var ≡ Some (not lit.negated)) }
 {
+    let d = lit.dim();
     match values[d.var] {
         None => false,
         Some(value) => value != d.negated,
@@ -58,12 +74,12 @@ pub fn is_true(values: &[Option<bool>], d: Dim) -> bool
 }
 
 /// The first place of a literal that is not false, and not `other`.
-fn first_free(values: &[Option<bool>], clause: &[Dim], other: Dim) -> Option<usize>
+fn first_free(values: &[Option<bool>], clause: &[Lit], other: Dim) -> Option<usize>
     requires { AreBelow (length values.now) clause.now }
     ensures { IsFreeAt (valuation values.now) clause.now other result }
 {
     for (i, d) in clause.iter().enumerate() {
-        if *d != other && !is_false(values, *d) {
+        if !is_false(values, *d) && d.dim() != other {
             return Some(i);
         }
     }
@@ -79,7 +95,7 @@ fn within(from: usize, length: usize) -> usize
 
 /// The place of a literal that is not false, and not `other`. It is looked for from a place on, and then before it.
 #[tactic(auto, using(crate::proofs::Places::free_later, crate::proofs::Places::free_rest))]
-pub fn other_free(values: &[Option<bool>], clause: &[Dim], other: Dim, from: usize) -> Option<usize>
+pub fn other_free(values: &[Option<bool>], clause: &[Lit], other: Dim, from: usize) -> Option<usize>
     requires { AreBelow (length values.now) clause.now }
     ensures { IsFreeAt (valuation values.now) clause.now other result }
 {
@@ -91,14 +107,16 @@ pub fn other_free(values: &[Option<bool>], clause: &[Dim], other: Dim, from: usi
 }
 
 /// The watched literal beside `d`, if two are watched and `d` is one of them.
-fn beside(pair: Pair, d: Dim) -> Option<Dim>
-    ensures { MatchOption result ((pair.a ≡ pair.b) ⊎ ((pair.a ≢ d) × (pair.b ≢ d))) (λ o. IsBeside pair d o × (d ≢ o)) }
+fn beside(pair: &Pair, d: Dim) -> Option<Lit>
+    ensures { MatchOption result ((pair.now.a ≡ pair.now.b) ⊎ ((pair.now.a ≢ d) × (pair.now.b ≢ d))) (λ o. IsBeside pair.now d o × (d ≢ o)) }
 {
-    if pair.a == pair.b {
+    let a = pair.a.dim();
+    let b = pair.b.dim();
+    if a == b {
         None
-    } else if pair.a == d {
+    } else if a == d {
         Some(pair.b)
-    } else if pair.b == d {
+    } else if b == d {
         Some(pair.a)
     } else {
         None
@@ -109,17 +127,17 @@ fn beside(pair: Pair, d: Dim) -> Option<Dim>
 /// place from which to look for another one to be watched.
 pub fn look_again(
     values: &[Option<bool>],
-    clause: &[Dim],
-    pair: Pair,
-    blocker: Dim,
+    clause: &[Lit],
+    pair: &Pair,
+    blocker: Lit,
     d: Dim,
     from: usize,
 ) -> Visit
     requires range { AreBelow (length values.now) clause.now }
     requires blocker { Contains clause.now blocker }
-    requires inside { (x : Dim) → Watches pair x → Contains clause.now x }
-    requires half { (low : Valuation) × IsHalf low (valuation values.now) clause.now pair }
-    ensures { IsVisited (valuation values.now) clause.now pair d result }
+    requires inside { (x : Dim) → Watches pair.now x → Contains clause.now x }
+    requires half { (low : Valuation) × IsHalf low (valuation values.now) clause.now pair.now }
+    ensures { IsVisited (valuation values.now) clause.now pair.now d result }
 {
     match beside(pair, d) {
         None => Visit::Keep(blocker),
@@ -130,22 +148,22 @@ pub fn look_again(
 #[tactic(auto, using(crate::proofs::Watches::visit_unit, crate::proofs::Watches::visit_conflict))]
 fn look_beside(
     values: &[Option<bool>],
-    clause: &[Dim],
-    pair: Pair,
+    clause: &[Lit],
+    pair: &Pair,
     d: Dim,
-    other: Dim,
+    other: Lit,
     from: usize,
 ) -> Visit
     requires range { AreBelow (length values.now) clause.now }
     requires two { d ≢ other }
-    requires beside { IsBeside pair d other }
+    requires beside { IsBeside pair.now d other }
     requires inside { Contains clause.now other }
-    ensures { IsVisited (valuation values.now) clause.now pair d result }
+    ensures { IsVisited (valuation values.now) clause.now pair.now d result }
 {
     if is_true(values, other) {
         return Visit::Keep(other);
     }
-    match other_free(values, clause, other, from) {
+    match other_free(values, clause, other.dim(), from) {
         Some(i) => Visit::Move(
             Pair {
                 a: other,
@@ -157,7 +175,7 @@ fn look_beside(
             if is_false(values, other) {
                 Visit::Conflict
             } else {
-                Visit::Unit(other)
+                Visit::Unit(other.dim())
             }
         }
     }

@@ -27,11 +27,11 @@ returns-clause-last c = λ none.
     let empty : c.in_ok-clause.clause.items ≡ [] = subst (λ (n : ℕ). c.in_ok-clause.clause.items ≡ filter (λ d. seen_at c.shorten.new.seen d.var) (falses (take n c.entries.result.now))) none c.in_ok-clause.ensures in
     let enough : Suffices db [] c.shorten.new.seen c.shorten.new.hints.items =
     subst (λ (n : ℕ). Suffices db (reverse (take n c.args.trail.now.entries)) c.shorten.new.seen c.shorten.new.hints.items) none c.in_ok-shorten.ensures.enough in
-    (empty, nothing_left db (length c.args.trail.now.values) c.shorten.new.seen c.shorten.new.hints.items c.reverse.new.self.items c.in_ok-clause.clause.items enough empty c.reverse.ensures.items)
+    (empty, nothing_left db (length c.args.trail.now.values) c.shorten.new.seen c.shorten.new.hints.items c.in_ok-kept.kept.items c.in_ok-clause.clause.items enough empty (c.in_ok-kept.ensures.items ∙ c.as_slice.ensures.value ∙ c.reverse.ensures.items))
 
 pub returns-clause-taught : goal.returns-clause-taught
 returns-clause-taught c = λ some.
-    taught c.args.store.now (length c.args.trail.now.values) c.args.trail.now.entries c.shorten.new.seen c.shorten.new.hints.items c.reverse.new.self.items c.in_ok-clause.clause.items c.in_ok-left.left
+    taught c.args.store.now (length c.args.trail.now.values) c.args.trail.now.entries c.shorten.new.seen c.shorten.new.hints.items c.in_ok-kept.kept.items c.in_ok-clause.clause.items c.in_ok-left.left
     c.requires.sound.tracks.apart c.requires.sound.explained some c.in_ok-left.ensures.range c.in_ok-shorten.ensures.traced c.in_ok-shorten.ensures.enough
     (subst (λ (t : List Assigned). c.in_ok-clause.clause.items ≡ filter (λ d. seen_at c.shorten.new.seen d.var) (falses (take c.in_ok-left.left t))) c.entries.ensures c.in_ok-clause.ensures)
-    c.reverse.ensures.items
+    (c.in_ok-kept.ensures.items ∙ c.as_slice.ensures.value ∙ c.reverse.ensures.items)

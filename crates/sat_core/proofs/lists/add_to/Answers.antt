@@ -5,7 +5,7 @@ use Rattle.sat_core.proofs.lists.add_to.Goals as goal
 
 pub returns : goal.returns
 returns c =
-    let lt = subst (λ (n : ℕ). n < length c.args.lists.now) (sym c.number_of.ensures) (code_below c.args.d (length c.args.lists.now) c.requires) in
-    rows_set c.args.lists.now _ _ c.push.new.self _ c.number_of.ensures
-    (c.in_ok-push.ensures.items ∙ ap (λ (v : Vec Watch Global). v.items ++ c.args.watch ∷ []) (sym c.index-lists-number_of.is)
-    ∙ ap (λ r. r ++ c.args.watch ∷ []) (row_is c.args.lists.now _ _ c.index-lists-number_of.result lt c.number_of.ensures c.index-lists-number_of.is))
+    let lt = subst (λ (n : ℕ). n < length c.args.lists.now) (sym c.number.ensures) (code_below c.args.d (length c.args.lists.now) c.requires) in
+    rows_set c.args.lists.now _ _ c.push.new.self _ c.number.ensures
+    (c.in_ok-push.ensures.items ∙ ap (λ (v : Vec Watch Global). v.items ++ c.args.watch ∷ []) (sym c.index-lists-number.is)
+    ∙ ap (λ r. r ++ c.args.watch ∷ []) (row_is c.args.lists.now _ _ c.index-lists-number.result lt c.number.ensures c.index-lists-number.is))

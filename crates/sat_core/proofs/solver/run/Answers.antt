@@ -7,6 +7,7 @@ use Rattle.refute_check.specs.Entry.{Entry}
 use Rattle.refute_check.specs.Accepted.{IsAccepted, IsDerived}
 use Rattle.refute_check.specs.Fresh.{IsFresh, IsNew}
 use Rattle.sat_core.specs.declared.watch.Pair.{Pair}
+use Rattle.sat_core.specs.declared.watch.Watch.{Watch}
 use Rattle.sat_core.specs.Trail.{IsQuiet, all_of}
 use Rattle.sat_core.specs.Watch.{rows}
 use Rattle.sat_core.specs.Found.{IsFound}
@@ -22,8 +23,9 @@ use Rattle.sat_core.proofs.solver.run.Goals as goal
 
 pub start-requires-clause-started : goal.start-requires-clause-started
 start-requires-clause-started c =
-    subst (λ (p : List Pair). IsStarted (length c.args.trail.now.values) (map (λ v. v.items) c.args.clauses.now) 0 p (rows c.args.lists.now) c.args.trail.now None) (sym c.new-pairs.ensures.items)
-    (started_none (map (λ v. v.items) c.args.clauses.now) (rows c.args.lists.now) c.args.trail.now c.requires.open c.requires.empty c.requires.count c.requires.lists)
+    subst (λ (r : List (List Watch)). IsStarted (length c.args.trail.now.values) (map (λ v. v.items) c.args.clauses.now) 0 c.new-pairs.result.items r c.args.trail.now None) (sym c.make_all_room.ensures)
+    (subst (λ (p : List Pair). IsStarted (length c.args.trail.now.values) (map (λ v. v.items) c.args.clauses.now) 0 p (rows c.args.lists.now) c.args.trail.now None) (sym c.new-pairs.ensures.items)
+    (started_none (map (λ v. v.items) c.args.clauses.now) (rows c.args.lists.now) c.args.trail.now c.requires.open c.requires.empty c.requires.count c.requires.lists))
 
 pub loop-store-init : goal.loop-store-init
 loop-store-init c =

@@ -15,11 +15,14 @@ use Rattle.sat_core.proofs.walk.work_off.Goals.{in-Keep, in-Move+in_ok-add_to-in
 
 pub look_at-requires-clause-half : goal.look_at-requires-clause-half
 look_at-requires-clause-half c =
-    let k0 = (get_or c.loop-i.list c.loop-i.i no_watch).clause in
+    let w0 : Watch = c.index-list-i.result in
+    let k0 : ℕ = w0.clause in
     let low = before c.args.trail.now.entries c.args.at in
     let next = before c.args.trail.now.entries (c.args.at + 1) in
     let li : c.loop-i.i < length c.loop-i.list = let e = c.loop-i.auto.list in omega (arith, c.loop-i-test.true) in
-    let lt = (c.loop-i.invariant.good c.loop-i.i no_watch li).0 in
+    let at : w0 ≡ get_or c.loop-i.list c.loop-i.i no_watch = c.index-list-i.is ∙ get_or_default c.loop-i.list c.loop-i.i w0 no_watch li in
+    let good : IsGood c.args.store.now w0 = subst (λ (w : Watch). IsGood c.args.store.now w) (sym at) (c.loop-i.invariant.good c.loop-i.i no_watch li) in
+    let lt = good.0 in
     subst (λ (a : Valuation). (x : Valuation) × (HasTrue a (clause_at c.args.store.now k0) ⊎ AreFree x (clause_at c.args.store.now k0) (pair_at c.loop-i.pairs k0)))
     (ap valuation (sym c.values.ensures))
     (⊎_elim (λ h. (next, h)) (λ p. (low, p.0)) (c.loop-i.invariant.rest k0 lt))
@@ -33,7 +36,7 @@ loop-i-preserved c =
     let kept = c.loop-i.kept in
     let i = c.loop-i.i in
     let d = c.args.d in
-    let w0 : Watch = get_or list i no_watch in
+    let w0 : Watch = c.index-list-i.result in
     let k0 : ℕ = w0.clause in
     let high = valuation c.loop-i.trail.values in
     let low = before c.args.trail.now.entries c.args.at in
@@ -42,9 +45,9 @@ loop-i-preserved c =
     let inv = c.loop-i.invariant in
     let li : i < length list = let e = c.loop-i.auto.list in omega (arith, c.loop-i-test.true) in
     let lk : kept ≤ i = inv.order in
-    let g0 : IsGood db w0 = inv.good i no_watch li in
+    let is0 : w0 ≡ get_or list i w0 = c.index-list-i.is in
+    let g0 : IsGood db w0 = subst (λ (w : Watch). IsGood db w) (sym (is0 ∙ get_or_default list i w0 no_watch li)) (inv.good i no_watch li) in
     let lt : k0 < length db = g0.0 in
-    let is0 : w0 ≡ get_or list i w0 = get_or_default list i no_watch w0 li in
     let rest : Rest db pairs low next high (k0 ∷ left) = subst (λ (l : List ℕ). Rest db pairs low next high l) (left_first list i w0 li is0) inv.rest in
     let below = below_high (c.args.at + 1) c.loop-i.trail.values c.loop-i.trail.entries c.args.trail.now.entries inv.sound.tracks inv.front in
     let lp : k0 < length pairs = (let e = inv.pairs.count in omega arith) in
