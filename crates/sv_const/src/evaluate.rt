@@ -10,11 +10,11 @@ ghost use Rattle.sv_const.specs.Picks.{rule_faults};
 ghost use Rattle.sv_const.specs.Roots.{JudgesChain};
 ghost use Rattle.sv_const.specs.Sizes.{JudgesConstant, JudgesSize};
 
+use crate::begin::start;
 use crate::chain::{Chain, IndexRule};
 use crate::cursor::{Cursor, Each};
 use crate::names::Names;
 use crate::refusals::refusal;
-use crate::start::start;
 use crate::typing::{chain_behind, typed};
 use crate::{Known, Layout, Size};
 use std::alloc::Global;

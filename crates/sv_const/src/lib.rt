@@ -1,6 +1,7 @@
 //! Expressions typed over the names of a scope, and the constants among them.
 #![tactic(auto)]
 
+mod begin;
 mod chain;
 mod constants;
 mod cursor;
@@ -17,9 +18,9 @@ mod roots;
 mod rules;
 mod scope;
 mod sides;
-mod start;
 mod typing;
 
+pub use begin::start;
 pub use chain::{Chain, IndexRule};
 pub use evaluate::{eval_const, select_chain, sized};
 pub use layout::{Field, Form, Known, Layout, Size, What};

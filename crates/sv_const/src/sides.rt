@@ -12,12 +12,12 @@ ghost use Rattle.sv_const.specs.Kinds.{what_is, layout_is, IsSound, WhatIsSound}
 ghost use Rattle.sv_const.specs.Ranges.{JudgesCopies};
 ghost use Rattle.sv_const.specs.Casts.{LayoutUnder, CountUnder};
 
+use crate::begin::start;
 use crate::fixed::Fixed;
 use crate::numbers::small;
 use crate::ranges::fits;
 use crate::refusals::refusal;
 use crate::roots::no_root;
-use crate::start::start;
 use crate::{Known, Layout, What};
 use items::Items;
 use std::alloc::Global;

@@ -9,6 +9,7 @@ ghost use Rattle.sv_const.specs.Names.{names_are};
 ghost use Rattle.sv_const.specs.Picks.{Leads, rule_faults};
 ghost use Rattle.sv_const.specs.Roots.{JudgesChain};
 
+use crate::begin::{is_signed, start};
 use crate::chain::{Chain, IndexRule, chain_of};
 use crate::constants::{fixed_index, fixed_of};
 use crate::cursor::Cursor;
@@ -20,7 +21,6 @@ use crate::rules::{
     chosen_typed, literal_typed, log_typed, one_typed, pair_typed, power_typed, sign_typed,
 };
 use crate::sides::{cast_typed, concat_of, name_cast_typed, repeat_of};
-use crate::start::{is_signed, start};
 use items::Items;
 use std::alloc::Global;
 use sv_outside::TextErr;

@@ -6,9 +6,9 @@ ghost use Rattle.sv_meaning.specs.Values.{mean, is_signed_word};
 use sv_outside::Place;
 use sv_tree::{Expr, Sign};
 
-// The place of the first token.
+/// The place of the first token of an expression.
 #[tactic(auto, using(crate::proofs::Starts::starts))]
-pub(crate) fn start(expr: &Expr) -> Place
+pub fn start(expr: &Expr) -> Place
     ensures { (at : Scope) → (mean at expr.now).start ≡ result }
 {
     match expr {
