@@ -6,6 +6,16 @@ use Rattle.sv_tree.specs.declared.design.ParamWord.{ParamWord}
 use Rattle.sv_tree.specs.declared.design.ParamWord.TheVariants as param_word
 use Rattle.sv_tree.specs.declared.design.ParPort.{ParPort}
 use Rattle.sv_tree.specs.declared.design.ParamItem.{ParamItem}
+use Rattle.sv_tree.specs.declared.forms.TypeTree.{TypeTree}
+use Rattle.sv_tree.specs.declared.forms.Typedef.{Typedef as TypedefTree}
+use Rattle.sv_tree.specs.declared.design.NetWord.{NetWord}
+use Rattle.sv_tree.specs.declared.design.AssignPair.{AssignPair}
+use Rattle.sv_tree.specs.declared.stmts.Block.{Block}
+use Rattle.sv_outside.specs.declared.refusal.Place.{Place}
+use Rattle.sv_tree.specs.declared.exprs.Expr.{Expr}
+use Rattle.sv_tree.specs.declared.stmts.Step.{Step}
+use Rattle.sv_tree.specs.declared.design.Inst.{Inst as InstTree}
+use Rattle.sv_tree.specs.declared.design.Gen.{Gen}
 use Rattle.sv_tree.specs.declared.design.Param.{Param}
 use Rattle.sv_tree.specs.declared.design.Module.{Module}
 use Rattle.sv_tree.specs.declared.design.Item.{Item}
@@ -80,3 +90,78 @@ no_list (p ∷ list) all h = cc
 pub some_list : (list : List ParPort) (all : List Item) → (list ≡ [] → ⊥) → params_from list all ≡ list_params param_word.Parameter list
 some_list [] all h = absurd (h refl)
 some_list (p ∷ list) all h = refl
+
+-- ---- items that give none
+
+pub given_net : (w : NetWord) (t : Option TypeTree) (names : List Word) → body_params (it.Net w t names) ≡ []
+unfolding body_params
+given_net w t names = refl
+
+pub given_variable : (t : TypeTree) (names : List Word) → body_params (it.Variable t names) ≡ []
+unfolding body_params
+given_variable t names = refl
+
+pub given_typedef : (d : TypedefTree) → body_params (it.Typedef d) ≡ []
+unfolding body_params
+given_typedef d = refl
+
+pub given_genvar : (names : List Word) → body_params (it.Genvar names) ≡ []
+unfolding body_params
+given_genvar names = refl
+
+pub given_assign : (all : List AssignPair) → body_params (it.Assign all) ≡ []
+unfolding body_params
+given_assign all = refl
+
+pub given_always : (b : Block) → body_params (it.Always b) ≡ []
+unfolding body_params
+given_always b = refl
+
+pub given_inst : (x : InstTree) → body_params (it.Inst x) ≡ []
+unfolding body_params
+given_inst x = refl
+
+pub given_for : (p : Place) (header : Bool) (v : Word) (start test : Expr) (next : Step) (x : Gen) → body_params (it.For p header v start test next x) ≡ []
+unfolding body_params shape-the_row-Item-0 hidden-the_row-Item-0 shape-the_row-Item-1 hidden-the_row-Item-1 shape-the_row-Gen-2 hidden-the_row-Gen-2 denote.Hole.Carrier.hidden
+given_for p header v start test next x = refl
+
+pub given_if_none : (p : Place) (c : Expr) (x : Gen) → body_params (it.If p c x None) ≡ []
+unfolding body_params shape-the_row-Item-0 hidden-the_row-Item-0 shape-the_row-Item-1 hidden-the_row-Item-1 shape-the_row-Gen-2 hidden-the_row-Gen-2 denote.Hole.Carrier.hidden
+given_if_none p c x = refl
+
+pub given_if_some : (p : Place) (c : Expr) (x y : Gen) → body_params (it.If p c x (Some y)) ≡ []
+unfolding body_params shape-the_row-Item-0 hidden-the_row-Item-0 shape-the_row-Item-1 hidden-the_row-Item-1 shape-the_row-Gen-2 hidden-the_row-Gen-2 denote.Hole.Carrier.hidden
+given_if_some p c x y = refl
+
+pub given_if : (p : Place) (c : Expr) (x : Gen) (y : Option Gen) → body_params (it.If p c x y) ≡ []
+given_if p c x None = given_if_none p c x
+given_if p c x (Some y) = given_if_some p c x y
+
+pub no_items : params_of_items [] ≡ []
+unfolding params_of_items
+no_items = refl
+
+pub no_names : item_names [] ≡ []
+unfolding item_names
+no_names = refl
+
+pub no_ports : (w : ParamWord) → list_params w [] ≡ []
+unfolding list_params
+no_ports w = refl
+
+pub nothing_more : (all more : List Name) → more ≡ [] → all ≡ all ++ more
+nothing_more all more e = sym (ap (λ (x : List Name). all ++ x) e ∙ append-nil all)
+
+pub texts_push : (old new : List (Bor Word)) (b : Bor Word) (n : Name) → new ≡ old ++ b ∷ [] → b.now.text ≡ n → texts_of new ≡ texts_of old ++ n ∷ []
+texts_push old new b n h e = ap texts_of h ∙ map-append (λ (x : Bor Word). x.now.text) old (b ∷ []) ∙ ap (λ (x : Name). texts_of old ++ x ∷ []) e
+
+pub list_then : (old : List Name) (all : List ParPort) (i : ℕ) (p : ParPort) (w v : ParamWord) → i < length all → p ≡ get_or all i p → v ≡ unwrap_or p.word w → is_parameter v ≡ true →
+    (old ++ p.name.text ∷ []) ++ list_params v (drop (i + 1) all) ≡ old ++ list_params w (drop i all)
+list_then old all i p w v h e g t =
+    append_assoc old (p.name.text ∷ []) (list_params v (drop (i + 1) all))
+    ∙ ap (λ (x : List Name). old ++ x) (sym (list_next all i p w v h e g ∙ ap (λ b. (if b then p.name.text ∷ [] else []) ++ list_params v (drop (i + 1) all)) t))
+
+pub list_else : (old : List Name) (all : List ParPort) (i : ℕ) (p : ParPort) (w v : ParamWord) → i < length all → p ≡ get_or all i p → v ≡ unwrap_or p.word w → is_parameter v ≡ false →
+    old ++ list_params v (drop (i + 1) all) ≡ old ++ list_params w (drop i all)
+list_else old all i p w v h e g t =
+    ap (λ (x : List Name). old ++ x) (sym (list_next all i p w v h e g ∙ ap (λ b. (if b then p.name.text ∷ [] else []) ++ list_params v (drop (i + 1) all)) t))

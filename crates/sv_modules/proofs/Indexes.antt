@@ -6,6 +6,7 @@ use Rattle.std.specs.Map.{lookup, IsKeyTest, AreApart, KeepsOthers}
 use Rattle.std.specs.Str.{bytes_eq}
 use Rattle.std.specs.Cmp.Lexicographic.{nat_list_eq_equiv, bytes_decides}
 use Rattle.std.proofs.lemmas.Bool.{cases_Bool}
+use Rattle.std.proofs.lemmas.List.{length-map}
 use Rattle.std.specs.Prelude.{IfSome, is_some, map}
 use Rattle.sv_meaning.specs.Names.{has_name}
 use Rattle.sv_modules.specs.Naming.{place_of, number_under, Indexes}
@@ -116,7 +117,6 @@ pub some_from : (o : Option ℕ) → is_some o ≡ true → (i : ℕ) × (o ≡ 
 some_from None h = cc
 some_from (Some i) h = (i, refl)
 
-
 -- a name has a place where it is one of the list
 is_placed_from : (name : List ℕ) (n : ℕ) (names : List (List ℕ)) → is_some (position_from (bytes_eq name) n names) ≡ has_name name names
 unfolding has_name
@@ -130,3 +130,7 @@ is_placed_from name n (m ∷ names) = here (bytes_eq name m) n (position_from (b
 pub is_noted : (index : NameIndex) (names : List (List ℕ)) (name : List ℕ) (o : Option ℕ) → Indexes index names → o ≡ number_under index name → is_some o ≡ has_name name names
 unfolding place_of
 is_noted index names name o h e = ap is_some (e ∙ h name) ∙ is_placed_from name 0 names
+
+pub number_within : {A : Type 0} (f : A → List ℕ) (index : NameIndex) (xs : List A) (name : List ℕ) (o : Option ℕ) → Indexes index (map f xs) → o ≡ number_under index name → IfSome o (λ i. i < length xs)
+number_within f index xs name o indexed e =
+    subst (λ n. IfSome o (λ i. i < n)) (length-map xs f) (subst (λ p. IfSome p (λ i. i < length (map f xs))) (sym (e ∙ indexed name)) (place_within (map f xs) name))

@@ -2,6 +2,6 @@ pub mod Turns
 pub mod Sets
 pub mod Indexes
 pub mod Libraries
-pub mod Used
+pub mod Instances
 pub mod Given
 pub mod Pinned

@@ -1,6 +1,7 @@
 -- Libraries, and the modules of which they are made.
-use Rattle.std.proofs.Common.{◌≡◌, ℕ, zero, suc, ◌+◌, ◌<◌, ◌≤◌, List, [], ◌∷◌, ◌++◌, length, map, Option, Some, None, Bool, true, false, cond, ◌||◌, refl, sym, ap, ◌∙◌, subst, arith, Ok, Err, Result, option_map, if◌then◌else◌, append_assoc}
-use Rattle.std.proofs.lemmas.List.{append-nil, length-map}
+use Rattle.std.proofs.Common.{◌≡◌, ℕ, zero, suc, ◌+◌, ◌<◌, ◌≤◌, List, [], ◌∷◌, ◌++◌, length, map, Option, Some, None, Bool, true, false, cond, ◌||◌, refl, sym, ap, ◌∙◌, subst, arith, Ok, Err, Result, option_map, if◌then◌else◌, append_assoc, take, drop, get_or, Bor}
+use Rattle.std.proofs.lemmas.List.{append-nil, length-map, map-append}
+use Rattle.std.proofs.Math.ListN.{take-append-drop, length-take}
 use Rattle.std.specs.List.{position_from, range_with_len, Contains}
 use Rattle.std.specs.Str.{bytes_eq}
 use Rattle.std.specs.Cmp.Lexicographic.{nat_list_eq_equiv}
@@ -8,6 +9,10 @@ use Rattle.sv_outside.specs.declared.refusal.Refusal.{Refusal}
 use Rattle.sv_outside.specs.declared.refusal.TextErr.{TextErr}
 use Rattle.sv_outside.specs.declared.refusal.TextErr.TheVariants.{No, Memory}
 use Rattle.sv_tree.specs.declared.design.Module.{Module}
+use Rattle.sv_tree.specs.declared.forms.Typedef.{Typedef}
+use Rattle.sv_tree.specs.declared.design.Param.{Param}
+use Rattle.sv_tree.specs.declared.design.SourcePart.{SourcePart}
+use Rattle.sv_tree.specs.declared.design.SourcePart.TheVariants as part
 use Rattle.sv_meaning.specs.Faults.{Faults, fault_if, or_then, twice, Judged, provided, fault, unknown_module}
 use Rattle.sv_meaning.specs.Layouts.{Name}
 use Rattle.sv_meaning.specs.Names.{has_name}
@@ -15,7 +20,8 @@ use Rattle.sv_meaning.specs.Scopes.{Known, Library, module_named, all_used, unus
 use Rattle.sv_const.proofs.Lists.{in_first, in_second, in_fault, no_fault, then_clear, first_clear, second_clear}
 use Rattle.sv_loops.specs.Answers.{Answers, Gives}
 use Rattle.sv_modules.specs.Naming.{place_of}
-use Rattle.sv_modules.specs.Libraries.{module_name, repeated, used_in, unused_from, only_one, IsLibraryOf}
+use Rattle.sv_modules.specs.Libraries.{modules_in, module_name, repeated, trees_of, used_in, unused_from, only_one, IsLibraryOf}
+use Rattle.sv_modules.proofs.Turns.{take_next, drop_next, map_next}
 
 -- ---- a module whose name stands before it
 
@@ -133,3 +139,78 @@ named_none all name h = go (module_named name all) h
     go : (o : Option Known) → option_map (λ (x : Known). x.number) o ≡ None → Answers (λ (x : Known) k. x.number ≡ k) (top_named o) (Err (No (record { number = unknown_module; place = design_start; count = 0 })))
     go None e = (0, omega arith, refl)
     go (Some m) e = cc
+
+-- ---- the modules among the parts of a text
+
+part_append : (a : List SourcePart) (x : SourcePart) → modules_in (a ++ x ∷ []) ≡ modules_in a ++ modules_in (x ∷ [])
+unfolding modules_in
+part_append [] x = refl
+part_append (part.Module m ∷ a) x = ap (λ more. m ∷ more) (part_append a x)
+part_append (part.Typedef d ∷ a) x = part_append a x
+part_append (part.Param p ∷ a) x = part_append a x
+
+one_module : (x : SourcePart) (m : Module) → x ≡ part.Module m → modules_in (x ∷ []) ≡ m ∷ []
+unfolding modules_in
+one_module x m e = ap (λ (y : SourcePart). modules_in (y ∷ [])) e
+
+one_typedef : (x : SourcePart) (d : Typedef) → x ≡ part.Typedef d → modules_in (x ∷ []) ≡ []
+unfolding modules_in
+one_typedef x d e = ap (λ (y : SourcePart). modules_in (y ∷ [])) e
+
+one_param : (x : SourcePart) (p : Param) → x ≡ part.Param p → modules_in (x ∷ []) ≡ []
+unfolding modules_in
+one_param x p e = ap (λ (y : SourcePart). modules_in (y ∷ [])) e
+
+pub no_parts : modules_in [] ≡ []
+unfolding modules_in
+no_parts = refl
+
+part_next : (all : List SourcePart) (i : ℕ) (x : SourcePart) → i < length all → x ≡ get_or all i x → modules_in (take (i + 1) all) ≡ modules_in (take i all) ++ modules_in (x ∷ [])
+part_next all i x h e = ap modules_in (take_next all i x h e) ∙ part_append (take i all) x
+
+pub module_next : (all : List SourcePart) (i : ℕ) (x : SourcePart) (m : Module) → i < length all → x ≡ get_or all i x → x ≡ part.Module m → modules_in (take (i + 1) all) ≡ modules_in (take i all) ++ m ∷ []
+module_next all i x m h e g = part_next all i x h e ∙ ap (λ more. modules_in (take i all) ++ more) (one_module x m g)
+
+pub typedef_next : (all : List SourcePart) (i : ℕ) (x : SourcePart) (d : Typedef) → i < length all → x ≡ get_or all i x → x ≡ part.Typedef d → modules_in (take (i + 1) all) ≡ modules_in (take i all)
+typedef_next all i x d h e g = part_next all i x h e ∙ ap (λ more. modules_in (take i all) ++ more) (one_typedef x d g) ∙ append-nil (modules_in (take i all))
+
+pub param_next : (all : List SourcePart) (i : ℕ) (x : SourcePart) (p : Param) → i < length all → x ≡ get_or all i x → x ≡ part.Param p → modules_in (take (i + 1) all) ≡ modules_in (take i all)
+param_next all i x p h e g = part_next all i x h e ∙ ap (λ more. modules_in (take i all) ++ more) (one_param x p g) ∙ append-nil (modules_in (take i all))
+
+-- ---- modules one by one
+
+pub trees_next : (all : List (Bor Module)) (i : ℕ) (m : Bor Module) → i < length all → m ≡ get_or all i m → trees_of (take (i + 1) all) ≡ trees_of (take i all) ++ m.now ∷ []
+trees_next all i m h e = map_next (λ (x : Bor Module). x.now) all i m h e
+
+pub trees_split : (all : List (Bor Module)) (i : ℕ) (m : Bor Module) → i < length all → m ≡ get_or all i m → trees_of all ≡ trees_of (take i all) ++ m.now ∷ trees_of (drop (i + 1) all)
+trees_split all i m h e =
+    ap trees_of (sym (take-append-drop i all) ∙ ap (λ (x : List (Bor Module)). take i all ++ x) (drop_next all i m h e)) ∙ map-append (λ (x : Bor Module). x.now) (take i all) (m ∷ drop (i + 1) all)
+
+pub no_repeated : repeated [] [] ≡ []
+unfolding repeated
+no_repeated = refl
+
+unused_append : (n : ℕ) (names : List Name) (a : List Module) (m : Module) → unused_from n names (a ++ m ∷ []) ≡ unused_from n names a ++ (if has_name m.name.text names then [] else (n + length a) ∷ [])
+unfolding unused_from
+unused_append n names [] m = append-nil (if has_name m.name.text names then [] else n ∷ []) ∙ (let e : n ≡ n + 0 = omega arith in ap (λ (k : ℕ). if has_name m.name.text names then [] else k ∷ []) e)
+unused_append n names (x ∷ a) m =
+    let e : suc n + length a ≡ n + suc (length a) = omega arith in
+    ap (λ more. (if has_name x.name.text names then [] else n ∷ []) ++ more) (unused_append (suc n) names a m)
+    ∙ ap (λ (k : ℕ). (if has_name x.name.text names then [] else n ∷ []) ++ (unused_from (suc n) names a ++ (if has_name m.name.text names then [] else k ∷ []))) e
+    ∙ sym (append_assoc (if has_name x.name.text names then [] else n ∷ []) (unused_from (suc n) names a) _)
+
+pub no_unused : (names : List Name) → unused_from 0 names [] ≡ []
+unfolding unused_from
+no_unused names = refl
+
+pub trees_len : (all : List (Bor Module)) (i : ℕ) → i < length all → length (trees_of (take i all)) ≡ i
+trees_len all i h = length-map (take i all) (λ (x : Bor Module). x.now) ∙ (let e = length-take i all in omega arith)
+
+pub unused_next : (names : List Name) (all : List (Bor Module)) (i : ℕ) (m : Bor Module) → i < length all → m ≡ get_or all i m →
+    unused_from 0 names (trees_of (take (i + 1) all)) ≡ unused_from 0 names (trees_of (take i all)) ++ (if has_name m.now.name.text names then [] else i ∷ [])
+unused_next names all i m h e =
+    ap (unused_from 0 names) (trees_next all i m h e) ∙ unused_append 0 names (trees_of (take i all)) m.now
+    ∙ (let g : 0 + length (trees_of (take i all)) ≡ i = omega (arith, trees_len all i h) in ap (λ (k : ℕ). unused_from 0 names (trees_of (take i all)) ++ (if has_name m.now.name.text names then [] else k ∷ [])) g)
+
+pub trees_push : (old new : List (Bor Module)) (b : Bor Module) (m : Module) → new ≡ old ++ b ∷ [] → b.now ≡ m → trees_of new ≡ trees_of old ++ m ∷ []
+trees_push old new b m h e = ap trees_of h ∙ map-append (λ (x : Bor Module). x.now) old (b ∷ []) ∙ ap (λ (x : Module). trees_of old ++ x ∷ []) e

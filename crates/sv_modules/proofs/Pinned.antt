@@ -1,5 +1,5 @@
 -- Connections, one by one.
-use Rattle.std.proofs.Common.{◌≡◌, ℕ, ◌+◌, ◌<◌, ◌≤◌, Bool, true, false, ◌||◌, List, [], ◌∷◌, ◌++◌, length, take, drop, get_or, map, Option, Some, None, refl, sym, ap, ◌∙◌, subst, append_assoc, Ok, Err, Result, arith, not}
+use Rattle.std.proofs.Common.{◌≡◌, ℕ, ◌+◌, ◌<◌, ◌≤◌, Bool, true, false, ◌||◌, List, [], ◌∷◌, ◌++◌, length, take, drop, get_or, map, Option, Some, None, refl, sym, ap, ◌∙◌, subst, append_assoc, Ok, Err, Result, arith, not, Vec, Global}
 use Rattle.std.proofs.lemmas.List.{append-nil, map-append}
 use Rattle.std.specs.List.{Contains}
 use Rattle.std.specs.Str.{bytes_eq}
@@ -16,7 +16,10 @@ use Rattle.sv_meaning.specs.Names.{has_name}
 use Rattle.sv_meaning.specs.Values.{mean}
 use Rattle.sv_meaning.specs.Params.{Connection, by_name, in_order, pinned, pin_faults, joined_pins}
 use Rattle.sv_loops.specs.Answers.{Answers, Gives}
-use Rattle.sv_loops.proofs.Chains.{then_err}
+use Rattle.sv_loops.proofs.Chains.{then_err, answers_err, answers_ok}
+use Rattle.sv_tree.specs.declared.design.Pin.{Pin}
+use Rattle.sv_modules.specs.declared.connect.Connection.{Connection as Coded}
+use Rattle.sv_modules.specs.Connections.{joined_is, connection_is}
 use Rattle.sv_modules.specs.Naming.{Holds, Adds, holds}
 use Rattle.sv_modules.specs.declared.name_set.NameSet.{NameSet}
 use Rattle.sv_modules.proofs.Turns.{take_next, drop_next, drop_none, map_next}
@@ -147,3 +150,23 @@ order_unknown at j names exprs i x p all h k f s g =
 pub order_end : (at : Scope) (j : Judged (List Connection)) (names : List Name) (exprs : List Expr) (i : ℕ) (all : List Connection) → length exprs ≤ i → j ≡ behind all (in_order at (drop i names) (drop i exprs)) → j ≡ Ok all
 unfolding in_order
 order_end at j names exprs i all h g = g ∙ ap (λ (xs : List Expr). behind all (in_order at (drop i names) xs)) (drop_none exprs i h) ∙ ap Ok (append-nil all)
+
+-- ---- connections as code lists them
+
+abbrev pub Listed : Judged (List Connection) → Result (Vec Coded Global) TextErr → Type 0
+Listed j r = Answers (λ all (list : Vec Coded Global). map connection_is list.items ≡ all) j r
+
+pub listed_err : (j : Judged (List Connection)) (e : TextErr) → Gives j (Err e) → Listed j (Err e)
+listed_err j e h = answers_err (λ all (list : Vec Coded Global). map connection_is list.items ≡ all) j e h
+
+pub listed_ok : (j : Judged (List Connection)) (list : Vec Coded Global) → j ≡ Ok (map connection_is list.items) → Listed j (Ok list)
+listed_ok j list h = answers_ok (λ all (l : Vec Coded Global). map connection_is l.items ≡ all) j (map connection_is list.items) list h refl
+
+pub listed_next : (old new : List Coded) (c : Coded) (w : Word) (p : Pin) → new ≡ old ++ c ∷ [] → c.name.now ≡ w → ((v : Word) → joined_is v c.joined ≡ pinned v p) →
+    map connection_is new ≡ map connection_is old ++ (w.text, pinned w p) ∷ []
+listed_next old new c w p h e g =
+    ap (map connection_is) h ∙ map-append connection_is old (c ∷ [])
+    ∙ ap (λ x. map connection_is old ++ (c.name.now.text, x) ∷ []) (g c.name.now) ∙ ap (λ (v : Word). map connection_is old ++ (v.text, pinned v p) ∷ []) e
+
+pub given_next : (old new : List Coded) (c : Coded) (n : Name) (x : Expr) → new ≡ old ++ c ∷ [] → connection_is c ≡ (n, Some x) → map connection_is new ≡ map connection_is old ++ (n, Some x) ∷ []
+given_next old new c n x h e = ap (map connection_is) h ∙ map-append connection_is old (c ∷ []) ∙ ap (λ y. map connection_is old ++ y ∷ []) e

@@ -1,5 +1,6 @@
 -- The modules of a text (IEEE 1800-2017, 3.13 and 23.2).
-use Rattle.std.specs.Prelude.{◌≡◌, ℕ, suc, List, [], ◌∷◌, ◌++◌, length, map, Bor, Ok, Err, if◌then◌else◌}
+use Rattle.std.specs.Prelude.{◌≡◌, ℕ, suc, List, [], ◌∷◌, ◌++◌, length, map, Ok, Err, if◌then◌else◌}
+use Rattle.std.specs.Borrow.{Bor}
 use Rattle.std.specs.List.{range_with_len}
 use Rattle.sv_tree.specs.declared.design.Module.{Module}
 use Rattle.sv_tree.specs.declared.design.SourcePart.{SourcePart}
@@ -8,7 +9,6 @@ use Rattle.sv_meaning.specs.Faults.{Faults, fault_if, or_then, Judged, provided,
 use Rattle.sv_meaning.specs.Layouts.{Name}
 use Rattle.sv_meaning.specs.Names.{has_name}
 use Rattle.sv_meaning.specs.Scopes.{Library, instantiated_by, unclear}
-use Rattle.sv_modules.specs.declared.library.Modules.{Modules}
 
 -- in the order of the text
 unfoldable pub modules_in : List SourcePart → List Module
@@ -31,9 +31,6 @@ modules_once parts = provided (repeated [] (modules_in parts)) (modules_in parts
 
 abbrev pub trees_of : List (Bor Module) → List Module
 trees_of all = map (λ (m : Bor Module). m.now) all
-
-abbrev pub modules_of : Modules → List Module
-modules_of m = trees_of m.list.items
 
 -- A library has these modules, numbered by their places in the text.
 pub record IsLibraryOf (modules : List Module) (all : Library) : Type 0 where

@@ -8,11 +8,12 @@ mod connect;
 mod library;
 mod name_index;
 mod name_set;
+mod numbered;
 mod parameters;
 mod roots;
 mod used;
 
 pub use connect::{Connection, Joined, connections};
-pub use library::Modules;
+pub use numbered::Modules;
 pub use parameters::open_params;
 pub use roots::top_of;

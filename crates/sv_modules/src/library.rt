@@ -4,9 +4,11 @@ ghost use Rattle.sv_meaning.specs.Scopes.{Library, module_named};
 ghost use Rattle.sv_const.specs.Judging.{IsCause};
 ghost use Rattle.sv_loops.specs.Answers.{Answers};
 ghost use Rattle.sv_modules.specs.Naming.{Indexes};
-ghost use Rattle.sv_modules.specs.Libraries.{modules_in, repeated, module_name, modules_once, trees_of, modules_of, IsLibraryOf};
+ghost use Rattle.sv_modules.specs.Libraries.{modules_in, repeated, module_name, modules_once, trees_of, IsLibraryOf};
+ghost use Rattle.sv_modules.specs.Listed.{modules_of};
 
 use crate::name_index::NameIndex;
+use crate::numbered::Modules;
 use std::alloc::{AllocError, Global};
 use sv_outside::{Refusal, TextErr};
 use sv_tree::{Module, Source, SourcePart};
@@ -43,14 +45,6 @@ fn index_of(alloc: Global, list: &[&Module]) -> Result<NameIndex, TextErr>
         index.note(module.name.text.bytes(), number)?;
     }
     Ok(index)
-}
-
-/// The modules of a text in its order, no two of one name.
-#[derive(Drop)]
-pub struct Modules<'a> {
-    list: Vec<&'a Module>,
-    index: NameIndex,
-    ghost indexed: { Indexes index (map module_name (trees_of list.items)) },
 }
 
 impl<'a> Modules<'a> {

@@ -77,14 +77,14 @@ fn add_of_list<'a>(list: &'a [ParPort], words: &mut Vec<&'a Word>) -> Result<(),
 
 /// The names of the parameters that an instance may give, in order: those of the module's list or, where it has none, of
 /// its own items (6.20.1, 23.10). No `localparam` is among them.
-pub fn open_params(alloc: Global, module: &Module) -> Result<Vec<&Word>, AllocError>
-    ensures { IfOk result (λ words. texts_of words.items ≡ open_params module.now) }
+pub fn open_params(alloc: Global, tree: &Module) -> Result<Vec<&Word>, AllocError>
+    ensures { IfOk result (λ words. texts_of words.items ≡ open_params tree.now) }
 {
     let mut words = Vec::new(alloc);
-    if module.params.is_empty() {
-        add_of_items(module.items.as_slice(), &mut words)?;
+    if tree.params.is_empty() {
+        add_of_items(tree.items.as_slice(), &mut words)?;
     } else {
-        add_of_list(module.params.as_slice(), &mut words)?;
+        add_of_list(tree.params.as_slice(), &mut words)?;
     }
     Ok(words)
 }

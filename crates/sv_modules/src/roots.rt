@@ -7,10 +7,11 @@ ghost use Rattle.sv_meaning.specs.Scopes.{Library, top_module, design_start};
 ghost use Rattle.sv_loops.specs.Answers.{Answers, Gives};
 ghost use Rattle.sv_meaning.specs.Layouts.{Name as Bytes};
 ghost use Rattle.sv_modules.specs.Naming.{Holds};
-ghost use Rattle.sv_modules.specs.Libraries.{trees_of, modules_of, unused_from, only_one, IsLibraryOf};
+ghost use Rattle.sv_modules.specs.Libraries.{trees_of, unused_from, only_one, IsLibraryOf};
+ghost use Rattle.sv_modules.specs.Listed.{modules_of};
 
-use crate::library::Modules;
 use crate::name_set::NameSet;
+use crate::numbered::Modules;
 use crate::used::used_by;
 use std::alloc::{AllocError, Global};
 use sv_outside::{Name, Place, Refusal, TextErr};

@@ -1,5 +1,5 @@
 // The names of the modules that items instantiate.
-ghost use Rattle.std.specs.Prelude.{◌≡◌, ◌++◌, [], OnOk, IfOk};
+ghost use Rattle.std.specs.Prelude.{◌≡◌, [], OnOk, IfOk};
 ghost use Rattle.sv_meaning.specs.Scopes.{instantiated, instantiated_by, instantiated_under};
 ghost use Rattle.sv_modules.specs.Libraries.{trees_of, used_in};
 ghost use Rattle.sv_modules.specs.Naming.{Adds, Holds};
@@ -18,7 +18,10 @@ fn add_item(item: &Item, used: &mut NameSet) -> Result<(), AllocError>
         Item::Generate(items) => add_items(items.as_slice(), used),
         Item::For(_, _, _, _, _, _, body) => add_body(body.get(), used),
         Item::If(_, _, body, other) => match other {
-            Some(other) => add_both(body.get(), other.get(), used),
+            Some(other) => {
+                add_body(body.get(), used)?;
+                add_body(other.get(), used)
+            }
             None => add_body(body.get(), used),
         },
         Item::Net(_, _, _) => Ok(()),
@@ -51,15 +54,6 @@ fn add_body(body: &Gen, used: &mut NameSet) -> Result<(), AllocError>
         Gen::Block(_, _, items, _) => add_items(items.as_slice(), used),
         Gen::Single(_, item) => add_item(item.get(), used),
     }
-}
-
-// Those of two branches.
-#[cycle(item)]
-fn add_both(body: &Gen, other: &Gen, used: &mut NameSet) -> Result<(), AllocError>
-    ensures { OnOk result (Adds used.old (instantiated_under body.now ++ instantiated_under other.now) used.new) }
-{
-    add_body(body, used)?;
-    add_body(other, used)
 }
 
 /// The names that modules instantiate.

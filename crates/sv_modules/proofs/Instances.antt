@@ -6,6 +6,12 @@ use Rattle.sv_tree.specs.declared.word.Word.{Word}
 use Rattle.sv_tree.specs.declared.exprs.Expr.{Expr}
 use Rattle.sv_tree.specs.declared.stmts.Step.{Step}
 use Rattle.sv_tree.specs.declared.design.Module.{Module}
+use Rattle.sv_tree.specs.declared.forms.TypeTree.{TypeTree}
+use Rattle.sv_tree.specs.declared.forms.Typedef.{Typedef as TypedefTree}
+use Rattle.sv_tree.specs.declared.design.NetWord.{NetWord}
+use Rattle.sv_tree.specs.declared.design.AssignPair.{AssignPair}
+use Rattle.sv_tree.specs.declared.stmts.Block.{Block}
+use Rattle.sv_tree.specs.declared.design.Param.{Param}
 use Rattle.sv_tree.specs.declared.design.Inst.{Inst}
 use Rattle.sv_tree.specs.declared.design.Item.{Item}
 use Rattle.sv_tree.specs.declared.design.Item.TheVariants as it
@@ -65,3 +71,41 @@ in_append (y ∷ a) m = ap (λ names. instantiated_by y.items ++ names) (in_appe
 
 pub in_next : (all : List (Bor Module)) (i : ℕ) (m : Bor Module) → i < length all → m ≡ get_or all i m → used_in (trees_of (take (i + 1) all)) ≡ used_in (trees_of (take i all)) ++ instantiated_by m.now.items
 in_next all i m h e = ap used_in (map_next (λ (x : Bor Module). x.now) all i m h e) ∙ in_append (trees_of (take i all)) m.now
+
+-- ---- items that instantiate none
+
+pub used_net : (w : NetWord) (t : Option TypeTree) (names : List Word) → instantiated (it.Net w t names) ≡ []
+unfolding instantiated
+used_net w t names = refl
+
+pub used_variable : (t : TypeTree) (names : List Word) → instantiated (it.Variable t names) ≡ []
+unfolding instantiated
+used_variable t names = refl
+
+pub used_typedef : (d : TypedefTree) → instantiated (it.Typedef d) ≡ []
+unfolding instantiated
+used_typedef d = refl
+
+pub used_genvar : (names : List Word) → instantiated (it.Genvar names) ≡ []
+unfolding instantiated
+used_genvar names = refl
+
+pub used_assign : (all : List AssignPair) → instantiated (it.Assign all) ≡ []
+unfolding instantiated
+used_assign all = refl
+
+pub used_always : (b : Block) → instantiated (it.Always b) ≡ []
+unfolding instantiated
+used_always b = refl
+
+pub used_param : (p : Param) → instantiated (it.Param p) ≡ []
+unfolding instantiated
+used_param p = refl
+
+pub by_none : instantiated_by [] ≡ []
+unfolding instantiated_by
+by_none = refl
+
+pub in_none : used_in [] ≡ []
+unfolding used_in
+in_none = refl
