@@ -1,5 +1,6 @@
 -- Sets of names.
-use Rattle.std.proofs.Common.{◌≡◌, ℕ, List, [], ◌∷◌, ◌++◌, Bool, true, false, ◌||◌, refl, sym, ◌∙◌, ap, subst, ⊎_elim}
+use Rattle.std.proofs.Common.{◌≡◌, ℕ, List, [], ◌∷◌, ◌++◌, Bool, true, false, ◌||◌, refl, sym, ◌∙◌, ap, subst, ⊎_elim, Result, Ok, Err}
+use Rattle.std.specs.Result.{OnOk}
 use Rattle.std.specs.HashSet as set
 use Rattle.std.specs.List.{list_any}
 use Rattle.std.specs.Map.{IsKeyTest, AreApart}
@@ -58,6 +59,11 @@ adds_none s = λ name. refl
 pub adds_more : (r s t : NameSet) (a b : List Name) → Adds r a s → Adds s b t → Adds r (a ++ b) t
 adds_more r s t a b f g = λ name.
     g name ∙ ap (λ x. has_name name b || x) (f name) ∙ or_turned (has_name name a) (has_name name b) (holds r name) ∙ ap (λ x. x || holds r name) (sym (has_append name a b))
+
+-- the same where the second call succeeds
+pub adds_then : {A E : Type 0} (r : Result A E) (q s t : NameSet) (a b : List Name) → Adds q a s → OnOk r (Adds s b t) → OnOk r (Adds q (a ++ b) t)
+adds_then (Ok x) q s t a b f g = adds_more q s t a b f g
+adds_then (Err e) q s t a b f g = tt
 
 or_swapped : (a b : Bool) → (a || b) ≡ (b || a)
 or_swapped true true = refl

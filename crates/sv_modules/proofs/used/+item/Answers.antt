@@ -5,7 +5,7 @@ use Rattle.sv_tree.specs.declared.design.Item.TheVariants as it
 use Rattle.sv_meaning.specs.Layouts.{Name}
 use Rattle.sv_meaning.specs.Scopes.{instantiated, instantiated_by, instantiated_under}
 use Rattle.sv_modules.specs.Naming.{Adds}
-use Rattle.sv_modules.proofs.Sets.{adds_none, adds_more}
+use Rattle.sv_modules.proofs.Sets.{adds_none, adds_more, adds_then}
 use Rattle.sv_modules.proofs.Instances.{used_inst, used_generate, used_for, used_if, used_if_else, used_block, used_single, used_net, used_variable, used_typedef, used_param, used_genvar, used_assign, used_always, by_none, by_next}
 use Rattle.sv_modules.proofs.used.+item.Goals as goal
 
@@ -33,6 +33,15 @@ pub add_item-returns-in-For : goal.add_item-returns-in-For
 add_item-returns-in-For t c =
     subst (λ (ns : List Name). OnOk c.add_body.result (Adds c.args.used.now ns c.add_body.new.used))
     (ap instantiated_under c.get.ensures ∙ sym (ap instantiated c.in-For.is ∙ used_for c.in-For.field-0 c.in-For.field-1 c.in-For.field-2 c.in-For.field-3 c.in-For.field-4 c.in-For.field-5 c.in-For.body)) c.add_body.ensures
+
+pub add_item-returns-in_ok-add_body-in-Some : goal.add_item-returns-in_ok-add_body-in-Some
+add_item-returns-in_ok-add_body-in-Some t c =
+    let item = c.in-If.is ∙ ap (λ (o : Option Gen). it.If c.in-If.field-0 c.in-If.field-1 c.in-If.body o) c.in-Some.is in
+    subst (λ (ns : List Name). OnOk c.add_body-in-Some-2.result (Adds c.args.used.now ns c.add_body-in-Some-2.new.used))
+    (ap (λ (x : Gen). instantiated_under x ++ instantiated_under c.get-in-Some-2.result.now) c.get-in-Some.ensures ∙ ap (λ (x : Gen). instantiated_under c.in-If.body ++ instantiated_under x) c.get-in-Some-2.ensures
+    ∙ sym (ap instantiated item ∙ used_if_else c.in-If.field-0 c.in-If.field-1 c.in-If.body c.in-Some.other))
+    (adds_then c.add_body-in-Some-2.result c.args.used.now c.add_body-in-Some.new.used c.add_body-in-Some-2.new.used
+    (instantiated_under c.get-in-Some.result.now) (instantiated_under c.get-in-Some-2.result.now) c.in_ok-add_body-in-Some.ensures c.add_body-in-Some-2.ensures)
 
 pub add_item-returns-in-None : goal.add_item-returns-in-None
 add_item-returns-in-None t c =
