@@ -1,5 +1,5 @@
 -- The parameters that an instance may give, by the forms of items.
-use Rattle.std.proofs.Common.{◌≡◌, ℕ, ◌+◌, ◌<◌, ◌≤◌, Bool, true, false, List, [], ◌∷◌, ◌++◌, length, take, drop, get_or, map, Option, Some, None, refl, sym, ap, ◌∙◌, append_assoc, if◌then◌else◌, Bor, unwrap_or}
+use Rattle.std.proofs.Common.{◌≡◌, ℕ, ◌+◌, ◌<◌, Bool, true, false, List, [], ◌∷◌, ◌++◌, length, take, drop, get_or, Option, Some, None, refl, sym, ap, ◌∙◌, append_assoc, if◌then◌else◌, Bor, unwrap_or}
 use Rattle.std.proofs.lemmas.List.{append-nil, map-append}
 use Rattle.sv_tree.specs.declared.word.Word.{Word}
 use Rattle.sv_tree.specs.declared.design.ParamWord.{ParamWord}
@@ -17,7 +17,6 @@ use Rattle.sv_tree.specs.declared.stmts.Step.{Step}
 use Rattle.sv_tree.specs.declared.design.Inst.{Inst as InstTree}
 use Rattle.sv_tree.specs.declared.design.Gen.{Gen}
 use Rattle.sv_tree.specs.declared.design.Param.{Param}
-use Rattle.sv_tree.specs.declared.design.Module.{Module}
 use Rattle.sv_tree.specs.declared.design.Item.{Item}
 use Rattle.sv_tree.specs.declared.design.Item.TheVariants as it
 use Rattle.sv_tree.specs.declared.design.Gen.TheBlock.{shape-the_row-Item-0, hidden-the_row-Item-0, shape-the_row-Item-1, hidden-the_row-Item-1, shape-the_row-Gen-2, hidden-the_row-Gen-2}

@@ -1,11 +1,10 @@
 -- Libraries, and the modules of which they are made.
-use Rattle.std.proofs.Common.{◌≡◌, ℕ, zero, suc, ◌+◌, ◌<◌, ◌≤◌, List, [], ◌∷◌, ◌++◌, length, map, Option, Some, None, Bool, true, false, cond, ◌||◌, refl, sym, ap, ◌∙◌, subst, arith, Ok, Err, Result, option_map, if◌then◌else◌, append_assoc, take, drop, get_or, Bor}
+use Rattle.std.proofs.Common.{◌≡◌, ℕ, suc, ◌+◌, ◌<◌, List, [], ◌∷◌, ◌++◌, length, map, Option, Some, None, Bool, true, false, cond, refl, sym, ap, ◌∙◌, subst, arith, Ok, Err, Result, option_map, if◌then◌else◌, append_assoc, take, drop, get_or, Bor}
 use Rattle.std.proofs.lemmas.List.{append-nil, length-map, map-append}
 use Rattle.std.proofs.Math.ListN.{take-append-drop, length-take}
 use Rattle.std.specs.List.{position_from, range_with_len, Contains}
 use Rattle.std.specs.Str.{bytes_eq}
 use Rattle.std.specs.Cmp.Lexicographic.{nat_list_eq_equiv}
-use Rattle.sv_outside.specs.declared.refusal.Refusal.{Refusal}
 use Rattle.sv_outside.specs.declared.refusal.TextErr.{TextErr}
 use Rattle.sv_outside.specs.declared.refusal.TextErr.TheVariants.{No, Memory}
 use Rattle.sv_tree.specs.declared.design.Module.{Module}
@@ -13,7 +12,7 @@ use Rattle.sv_tree.specs.declared.forms.Typedef.{Typedef}
 use Rattle.sv_tree.specs.declared.design.Param.{Param}
 use Rattle.sv_tree.specs.declared.design.SourcePart.{SourcePart}
 use Rattle.sv_tree.specs.declared.design.SourcePart.TheVariants as part
-use Rattle.sv_meaning.specs.Faults.{Faults, fault_if, or_then, twice, Judged, provided, fault, unknown_module}
+use Rattle.sv_meaning.specs.Faults.{Faults, fault_if, twice, Judged, unknown_module}
 use Rattle.sv_meaning.specs.Layouts.{Name}
 use Rattle.sv_meaning.specs.Names.{has_name}
 use Rattle.sv_meaning.specs.Scopes.{Known, Library, module_named, all_used, unused, the_one, top_named, top_module, instantiated_by, design_start, unclear}

@@ -1,16 +1,16 @@
 -- Connections, one by one.
-use Rattle.std.proofs.Common.{◌≡◌, ℕ, ◌+◌, ◌<◌, ◌≤◌, Bool, true, false, ◌||◌, List, [], ◌∷◌, ◌++◌, length, take, drop, get_or, map, Option, Some, None, refl, sym, ap, ◌∙◌, subst, append_assoc, Ok, Err, Result, arith, not, Vec, Global}
+use Rattle.std.proofs.Common.{◌≡◌, ℕ, ◌+◌, ◌<◌, ◌≤◌, Bool, true, false, ◌||◌, List, [], ◌∷◌, ◌++◌, length, take, drop, get_or, map, Some, refl, sym, ap, ◌∙◌, subst, append_assoc, Ok, Err, Result, arith, not, Vec, Global}
 use Rattle.std.proofs.lemmas.List.{append-nil, map-append}
 use Rattle.std.specs.List.{Contains}
 use Rattle.std.specs.Str.{bytes_eq}
 use Rattle.sv_outside.specs.declared.refusal.Refusal.{Refusal}
 use Rattle.sv_outside.specs.declared.refusal.Place.{Place}
 use Rattle.sv_outside.specs.declared.refusal.TextErr.{TextErr}
-use Rattle.sv_outside.specs.declared.refusal.TextErr.TheVariants.{No, Memory}
+use Rattle.sv_outside.specs.declared.refusal.TextErr.TheVariants.{No}
 use Rattle.sv_tree.specs.declared.word.Word.{Word}
 use Rattle.sv_tree.specs.declared.exprs.Expr.{Expr}
 use Rattle.sv_tree.specs.declared.design.NamedPin.{NamedPin}
-use Rattle.sv_meaning.specs.Faults.{Faults, fault, fault_if, or_then, Judged, provided, both, ◌>>=◌, port_unknown, port_twice}
+use Rattle.sv_meaning.specs.Faults.{Faults, fault_if, or_then, Judged, provided, both, ◌>>=◌, port_unknown, port_twice}
 use Rattle.sv_meaning.specs.Layouts.{Name, Scope}
 use Rattle.sv_meaning.specs.Names.{has_name}
 use Rattle.sv_meaning.specs.Values.{mean}
@@ -20,9 +20,9 @@ use Rattle.sv_loops.proofs.Chains.{then_err, answers_err, answers_ok}
 use Rattle.sv_tree.specs.declared.design.Pin.{Pin}
 use Rattle.sv_modules.specs.declared.connect.Connection.{Connection as Coded}
 use Rattle.sv_modules.specs.Connections.{joined_is, connection_is}
-use Rattle.sv_modules.specs.Naming.{Holds, Adds, holds}
+use Rattle.sv_modules.specs.Naming.{Holds, Adds}
 use Rattle.sv_modules.specs.declared.name_set.NameSet.{NameSet}
-use Rattle.sv_modules.proofs.Turns.{take_next, drop_next, drop_none, map_next}
+use Rattle.sv_modules.proofs.Turns.{drop_next, drop_none, map_next}
 use Rattle.sv_modules.proofs.Sets.{has_append, holds_more}
 use Rattle.sv_const.proofs.Lists.{in_left, in_first, in_second, in_fault, no_fault, then_clear}
 

@@ -1,5 +1,5 @@
 -- Sets of names, and names with numbers.
-use Rattle.std.specs.Prelude.{◌≡◌, ℕ, Bool, ◌||◌, List, [], ◌∷◌, map, Option}
+use Rattle.std.specs.Prelude.{◌≡◌, ℕ, Bool, ◌||◌, List, map, Option}
 use Rattle.std.specs.Borrow.{Bor}
 use Rattle.std.specs.HashMap as numbers
 use Rattle.std.specs.HashSet as set

@@ -1,4 +1,4 @@
-use Rattle.std.proofs.Common.{◌≡◌, ◌∙◌, ◌+◌, ◌∷◌, [], List, map, take, drop, true, false, sym, ap, subst, refl, Err, arith}
+use Rattle.std.proofs.Common.{◌≡◌, ◌∙◌, ◌+◌, ◌∷◌, [], map, take, drop, true, false, sym, ap, subst, refl, Err, arith}
 use Rattle.std.proofs.lemmas.Grind.{common_steps}
 use Rattle.sv_meaning.specs.Layouts.{Name}
 use Rattle.sv_meaning.specs.Params.{by_name}

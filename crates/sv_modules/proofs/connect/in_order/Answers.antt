@@ -1,4 +1,4 @@
-use Rattle.std.proofs.Common.{◌≡◌, ◌≤◌, ◌<◌, ◌∙◌, ◌+◌, length, map, drop, sym, ap, subst, refl, Err, arith, Bor}
+use Rattle.std.proofs.Common.{◌∙◌, ◌+◌, map, drop, sym, ap, subst, refl, Err, arith, Bor}
 use Rattle.std.proofs.lemmas.List.{length-map}
 use Rattle.sv_tree.specs.declared.word.Word.{Word}
 use Rattle.sv_meaning.specs.Params.{in_order}
