@@ -1,0 +1,131 @@
+// The turns of a loop.
+ghost use Rattle.std.specs.Prelude.{◌≡◌, ◌∷◌, [], ◌++◌, List, length, IfOk, IfErr, OnOk, OnErr};
+ghost use Rattle.sv_outside.specs.declared.refusal.TextErr.TheVariants.{Memory};
+ghost use Rattle.sv_meaning.specs.Deeds.{turns, turns_from, holds_at, next_value, with_index, most_turns};
+ghost use Rattle.sv_const.specs.Kinds.{Entry};
+ghost use Rattle.sv_const.specs.Names.{names_are, entries_of, frames_of, loops_of};
+ghost use Rattle.sv_loops.specs.Answers.{Gives};
+ghost use Rattle.sv_loops.specs.Steps.{index_is};
+
+use crate::constants::{condition, index_value, refused};
+use crate::steps::next_value;
+use fourvec::Four;
+use items::Items;
+use std::alloc::Global;
+use sv_const::{Known, Names};
+use sv_outside::{Place, TextErr};
+use sv_tree::{Expr, Step, Word};
+
+/// How many turns a loop has at most.
+const MOST_TURNS: usize = 4096;
+
+// Enters the loop, whose variable has these bits. Where memory is out, nothing changes.
+fn enter(names: &mut Names<'_>, variable: &Word, bits: Four) -> Result<(), TextErr>
+    ensures frames { OnOk result (frames_of names.new ≡ frames_of names.old) }
+    ensures loops { OnOk result (loops_of names.new ≡ loops_of names.old ++ index_is variable.now.text bits ∷ []) }
+    ensures err { OnErr result (entries_of names.new ≡ entries_of names.old) }
+    ensures memory { IfErr result (λ why. why ≡ Memory) }
+{
+    let name = variable.text.copy()?;
+    names.push_loop(
+        name,
+        Known {
+            value: bits,
+            signed: true,
+        },
+    )?;
+    Ok(())
+}
+
+// Leaves the loop.
+#[tactic(auto, using(crate::proofs::Frames::last_off, crate::proofs::Frames::none_off))]
+fn leave(names: &mut Names<'_>)
+    ensures frames { frames_of names.new ≡ frames_of names.old }
+    ensures loops { (all : List Entry) (last : Entry) → loops_of names.old ≡ all ++ last ∷ [] → loops_of names.new ≡ all }
+{
+    names.pop_loop();
+}
+
+// Whether the condition holds where the variable has these bits.
+fn holds_at(
+    alloc: Global,
+    names: &mut Names<'_>,
+    variable: &Word,
+    bits: Four,
+    test: &Expr,
+) -> Result<bool, TextErr>
+    ensures is { Gives (holds_at (names_are names.old) variable.now.text test.now bits) result }
+    ensures names { entries_of names.new ≡ entries_of names.old }
+{
+    enter(names, variable, bits)?;
+    let taken = condition(alloc, test, names);
+    leave(names);
+    taken
+}
+
+// The next value where the variable has these bits.
+fn following(
+    alloc: Global,
+    names: &mut Names<'_>,
+    variable: &Word,
+    bits: Four,
+    next: &Step,
+) -> Result<Four, TextErr>
+    requires { length bits ≡ 32 }
+    ensures is { Gives (next_value (with_index (names_are names.old) variable.now.text bits) bits next.now) result }
+    ensures names { entries_of names.new ≡ entries_of names.old }
+    ensures width { IfOk result (λ value. length value ≡ 32) }
+{
+    enter(names, variable, bits)?;
+    let value = next_value(alloc, next, &bits, names);
+    leave(names);
+    value
+}
+
+// The values of the variable in all turns, from its first value on.
+fn turns_from(
+    alloc: Global,
+    place: Place,
+    names: &mut Names<'_>,
+    variable: &Word,
+    first: Four,
+    test: &Expr,
+    next: &Step,
+) -> Result<Items<Four>, TextErr>
+    requires { length first ≡ 32 }
+    ensures is { Gives (turns_from most_turns place (names_are names.old) variable.now.text test.now next.now first) result }
+    ensures names { entries_of names.new ≡ entries_of names.old }
+{
+    let mut values = Items::new(alloc);
+    let mut bits = first;
+    let mut taken = holds_at(alloc, names, variable, bits, test)?;
+    'turns: while taken {
+        if values.len() == MOST_TURNS {
+            return Err(refused(20, place));
+        }
+        values.push(bits)?;
+        let value = following(alloc, names, variable, bits, next)?;
+        taken = holds_at(alloc, names, variable, value, test)?;
+        bits = value;
+    }
+    Ok(values)
+}
+
+/// The values of the variable in all turns of the loop at a place, 32 bits each, in order; or why the loop is refused: E20
+/// at its place where it has more than 4,096 turns, or E2, E12, E14, E15, E16, E23 or E25 (12.7.1, 27.4). The names are
+/// afterwards what they were before.
+pub fn turns(
+    alloc: Global,
+    place: Place,
+    names: &mut Names<'_>,
+    variable: &Word,
+    start: &Expr,
+    test: &Expr,
+    next: &Step,
+) -> Result<Items<Four>, TextErr>
+    ensures is { Gives (turns place (names_are names.old) variable.now.text start.now test.now next.now) result }
+    ensures names { entries_of names.new ≡ entries_of names.old }
+{
+    let first = index_value(alloc, start, names)?;
+    turns_from(alloc, place, names, variable, first, test, next)
+}

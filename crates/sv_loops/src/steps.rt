@@ -1,0 +1,96 @@
+// Steps from one value of a loop's variable to the next.
+ghost use Rattle.std.specs.Prelude.{◌≡◌, [], Some, true, length, IfOk};
+ghost use Rattle.sv_tree.specs.declared.word.Word.{Word};
+ghost use Rattle.sv_meaning.specs.Layouts.{number_is};
+ghost use Rattle.sv_meaning.specs.Meanings.{Meaning, named};
+ghost use Rattle.sv_meaning.specs.Values.{mean};
+ghost use Rattle.sv_meaning.specs.Deeds.{index_value, counted, next_value};
+ghost use Rattle.sv_const.specs.Judging.{Judges, IsTyped};
+ghost use Rattle.sv_const.specs.Names.{names_are};
+ghost use Rattle.sv_loops.specs.Answers.{Gives};
+ghost use Rattle.sv_loops.specs.Steps.{moved_by};
+
+use crate::constants::{index_value, low_bits};
+use fourvec::Four;
+use items::Items;
+use std::alloc::Global;
+use sv_const::{Names, start, typed};
+use sv_outside::TextErr;
+use sv_tree::{Expr, Step, StepMark, StepSign, Word};
+use sv_typed::{Arithmetic, Root, Typed};
+
+// One more or one less, modulo 2 ^ 32.
+fn counted(mark: StepMark, bits: &Four) -> Four
+    requires { length bits.now ≡ 32 }
+    ensures is { result ≡ counted mark bits.now }
+    ensures width { length result ≡ 32 }
+{
+    let one = Four::new(32, 1, 1);
+    match mark {
+        StepMark::Inc => bits.add(&one),
+        StepMark::Dec => bits.sub(&one),
+    }
+}
+
+// The variable, as a constant of these bits. Takes no memory.
+fn variable(alloc: Global, bits: &Four) -> Typed
+    requires { length bits.now ≡ 32 }
+    ensures { (word : Word) → let m = named word (Some (number_is bits.now true)) [] in IsTyped m (m.faults true) result }
+{
+    Typed::named(Root::Number(*bits), Items::new(alloc), true)
+}
+
+// The variable and an expression, put together.
+fn moved(
+    alloc: Global,
+    op: Arithmetic,
+    bits: &Four,
+    x: Result<Typed, TextErr>,
+) -> Result<Typed, TextErr>
+    requires { length bits.now ≡ 32 }
+    ensures { (m : Meaning) (word : Word) → Judges m true x → Judges (moved_by op word bits.now m) true result }
+{
+    let x = x?;
+    Ok(Typed::computed(alloc, op, variable(alloc, bits), x)?)
+}
+
+// The next value by `+=` or `-=`.
+fn moved_value(
+    alloc: Global,
+    op: Arithmetic,
+    bits: &Four,
+    expr: &Expr,
+    names: &Names<'_>,
+) -> Result<Four, TextErr>
+    requires { length bits.now ≡ 32 }
+    ensures is { (word : Word) → Gives (index_value (moved_by op word bits.now (mean (names_are names.now) expr.now))) result }
+    ensures width { IfOk result (λ next. length next ≡ 32) }
+{
+    low_bits(
+        start(expr),
+        moved(alloc, op, bits, typed(alloc, expr, names, true)),
+    )
+}
+
+/// The value that a loop's variable of these 32 bits has after a step, wholly 0 and 1; or why the step is refused: E2,
+/// E12, E14, E15, E16, E23 or E25 (12.7.1, 27.4).
+pub fn next_value(
+    alloc: Global,
+    step: &Step,
+    bits: &Four,
+    names: &Names<'_>,
+) -> Result<Four, TextErr>
+    requires { length bits.now ≡ 32 }
+    ensures is { Gives (next_value (names_are names.now) bits.now step.now) result }
+    ensures width { IfOk result (λ next. length next ≡ 32) }
+{
+    match step {
+        Step::After(_, mark) => Ok(counted(*mark, bits)),
+        Step::Before(mark, _) => Ok(counted(*mark, bits)),
+        Step::Assign(_, sign, expr) => match *sign {
+            StepSign::Set => index_value(alloc, expr, names),
+            StepSign::Add => moved_value(alloc, Arithmetic::Add, bits, expr, names),
+            StepSign::Sub => moved_value(alloc, Arithmetic::Sub, bits, expr, names),
+        },
+    }
+}

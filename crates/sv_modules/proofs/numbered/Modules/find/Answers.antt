@@ -1,0 +1,12 @@
+use Rattle.std.proofs.Common.{◌∙◌}
+use Rattle.sv_modules.specs.Libraries.{module_name}
+use Rattle.sv_modules.specs.Listed.{modules_of}
+use Rattle.sv_modules.proofs.Indexes.{number_within}
+use Rattle.sv_modules.proofs.Libraries.{number_is}
+use Rattle.sv_modules.proofs.numbered.Modules.find.Goals as goal
+
+pub returns-clause-is : goal.returns-clause-is
+returns-clause-is c = λ all h. number_is all (modules_of c.args.self.now) c.args.name.now c.number.result (c.number.ensures ∙ c.args.self.now.indexed c.args.name.now) h
+
+pub returns-clause-within : goal.returns-clause-within
+returns-clause-within c = number_within module_name c.args.self.now.index (modules_of c.args.self.now) c.args.name.now c.number.result c.args.self.now.indexed c.number.ensures

@@ -1,0 +1,26 @@
+use Rattle.std.proofs.Common.{◌≡◌, ◌∙◌, ◌∷◌, ◌++◌, [], ℕ, List, take, true, false, sym, ap, arith, Vec, Global, if◌then◌else◌}
+use Rattle.std.proofs.lemmas.Grind.{common_steps}
+use Rattle.std.proofs.lemmas.List.{append-nil}
+use Rattle.sv_meaning.specs.Layouts.{Name}
+use Rattle.sv_modules.specs.Naming.{holds}
+use Rattle.sv_modules.specs.Libraries.{trees_of, unused_from}
+use Rattle.sv_modules.proofs.Libraries.{no_unused, unused_next}
+use Rattle.sv_modules.proofs.roots.unused_of.Goals as goal
+use Rattle.sv_modules.proofs.roots.unused_of.Goals.{then-not-has+in_ok-push, else-not-has}
+
+pub modules-init : goal.modules-init
+modules-init c = λ names h. c.new-numbers.ensures.items ∙ sym (no_unused names)
+
+pub modules-preserved : goal.modules-preserved
+modules-preserved c = λ names h. elim c.if-not-has.branch [
+  | then-not-has+in_ok-push w ↦
+      let f : c.has.result ≡ false = grind (arith, common_steps) in
+      ap (λ (v : Vec ℕ Global). v.items) w.numbers-is ∙ w.in_ok-push.ensures.items ∙ ap (λ (l : List ℕ). l ++ c.modules.number ∷ []) (c.modules.invariant names h)
+      ∙ sym (unused_next names c.args.modules.now c.modules.number c.index-modules-number.result c.modules-test.true c.index-modules-number.is
+      ∙ ap (λ b. (unused_from 0 names (trees_of (take c.modules.number c.args.modules.now))) ++ (if b then [] else c.modules.number ∷ [])) (sym (h c.index-modules-number.result.now.name.text) ∙ ap (λ (n : Name). holds c.args.used.now n) (sym c.bytes.ensures) ∙ sym c.has.ensures ∙ f))
+  | else-not-has w ↦
+      let f : c.has.result ≡ true = grind (arith, common_steps) in
+      ap (λ (v : Vec ℕ Global). v.items) w.numbers-is ∙ c.modules.invariant names h
+      ∙ sym (unused_next names c.args.modules.now c.modules.number c.index-modules-number.result c.modules-test.true c.index-modules-number.is
+      ∙ ap (λ b. (unused_from 0 names (trees_of (take c.modules.number c.args.modules.now))) ++ (if b then [] else c.modules.number ∷ [])) (sym (h c.index-modules-number.result.now.name.text) ∙ ap (λ (n : Name). holds c.args.used.now n) (sym c.bytes.ensures) ∙ sym c.has.ensures ∙ f) ∙ append-nil (unused_from 0 names (trees_of (take c.modules.number c.args.modules.now))))
+]

@@ -1,0 +1,4 @@
+pub mod Naming
+pub mod Libraries
+pub mod Listed
+pub mod Connections

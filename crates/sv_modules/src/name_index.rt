@@ -1,0 +1,47 @@
+// Numbers by name.
+ghost use Rattle.std.specs.Prelude.{◌≡◌, ◌∷◌, [], ◌++◌, List, length, OnOk};
+ghost use Rattle.sv_meaning.specs.Layouts.{Name as Bytes};
+ghost use Rattle.sv_modules.specs.Naming.{number_under, Indexes};
+
+use std::alloc::{AllocError, Global};
+use std::collections::HashMap;
+
+/// The places of names in a list, of which the first counts.
+#[derive(Drop)]
+pub(crate) struct NameIndex {
+    alloc: Global,
+    numbers: HashMap<Vec<u8>, usize>,
+}
+
+impl NameIndex {
+    /// Of no names.
+    #[tactic(auto, using(crate::proofs::Indexes::indexes_none))]
+    pub(crate) fn new(alloc: Global) -> NameIndex
+        ensures { Indexes result [] }
+    {
+        NameIndex {
+            alloc,
+            numbers: HashMap::new(alloc),
+        }
+    }
+
+    /// The number under a name.
+    #[tactic(auto, unfolding(crate::specs::Naming::number_under))]
+    pub(crate) fn number(&self, name: &[u8]) -> Option<usize>
+        ensures { result ≡ number_under self.now name.now }
+    {
+        self.numbers.get(name).copied()
+    }
+
+    /// Goes on with one more name, at the end of the list.
+    pub(crate) fn note(&mut self, name: &[u8], number: usize) -> Result<(), AllocError>
+        ensures { OnOk result ((names : List Bytes) → Indexes self.old names → number ≡ length names → Indexes self.new (names ++ name.now ∷ [])) }
+    {
+        if self.number(name).is_some() {
+            return Ok(());
+        }
+        let key = name.to_vec(self.alloc)?;
+        let _ = self.numbers.insert(key, number)?;
+        Ok(())
+    }
+}
