@@ -1,5 +1,5 @@
 -- Names with the variable of a loop above them.
-use Rattle.std.proofs.Common.{◌≡◌, true, List, [], ◌∷◌, ◌++◌, Option, Some, None, refl, sym, ap, ◌∙◌, append_assoc}
+use Rattle.std.proofs.Common.{◌≡◌, List, [], ◌∷◌, ◌++◌, refl, sym, ap, ◌∙◌, append_assoc}
 use Rattle.std.proofs.lemmas.List.{map-append}
 use Rattle.sv_const.specs.declared.names.Names.{Names}
 use Rattle.sv_const.specs.Kinds.{Entry, entry_is, scope_is}

@@ -1,19 +1,19 @@
 -- The variable of a loop as a constant, and with an expression beside it.
-use Rattle.std.proofs.Common.{◌≡◌, ℕ, ◌≤◌, ◌-◌, ◌*◌, true, ◌&&◌, nat_lt, List, [], ◌∷◌, ◌++◌, length, Some, refl, sym, ap, ◌∙◌, subst, arith, pos}
-use Rattle.std.specs.List.{Contains, All}
+use Rattle.std.proofs.Common.{◌≡◌, ◌-◌, ◌*◌, true, nat_lt, List, [], length, Some, refl, sym, ap, ◌∙◌, subst, arith, pos}
+use Rattle.std.specs.List.{All}
 use Rattle.std.proofs.lemmas.List.Elements.{All-from_recursion}
 use Rattle.std.proofs.lemmas.Int.{ints}
 use Rattle.fourvec.specs.declared.Bit.{Bit}
 use Rattle.sv_outside.specs.declared.refusal.TextErr.{TextErr}
 use Rattle.sv_tree.specs.declared.word.Word.{Word}
-use Rattle.sv_meaning.specs.Layouts.{plain, count_between, number_is, Read, Origin}
-use Rattle.sv_meaning.specs.Meanings.{Meaning, named, constant_named, chain_layout, chain_bits, chain_faults, all_indices, extend}
+use Rattle.sv_meaning.specs.Layouts.{count_between, number_is}
+use Rattle.sv_meaning.specs.Meanings.{Meaning, named, constant_named, chain_layout, chain_bits, chain_faults, all_indices}
 use Rattle.sv_typed.specs.declared.tree.Pick.{Pick}
 use Rattle.sv_typed.specs.declared.tree.Root.TheVariants.{Number}
 use Rattle.sv_typed.specs.declared.tree.Typed.{Typed}
 use Rattle.sv_typed.specs.declared.ops.Arithmetic.{Arithmetic}
 use Rattle.sv_typed.specs.declared.ops.Pair.TheVariants.{Computed}
-use Rattle.sv_typed.specs.Ops.{computed, pair_meaning}
+use Rattle.sv_typed.specs.Ops.{pair_meaning}
 use Rattle.sv_typed.specs.Typed.{Stands, IsSound, IsNamed, RootIsSound, PickIsSound, picked, picked_width, are_constant_picks, names_picked}
 use Rattle.sv_const.specs.Judging.{IsTyped, IsCause}
 use Rattle.sv_const.proofs.Lists.{both_clear}

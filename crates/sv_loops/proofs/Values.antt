@@ -1,20 +1,19 @@
 -- Constants as the program finds them.
-use Rattle.std.proofs.Common.{◌≡◌, ℕ, max, true, false, not, List, [], ◌∷◌, take, slice_get, Option, Some, Ok, Err, sym, ap, ◌∙◌, subst, Bool, arith}
+use Rattle.std.proofs.Common.{◌≡◌, max, true, false, not, List, [], ◌∷◌, take, slice_get, Some, Ok, Err, sym, ap, ◌∙◌, subst, Bool, arith}
 use Rattle.std.specs.List.{Contains}
 use Rattle.fourvec.specs.declared.Bit.{Bit}
 use Rattle.fourvec.specs.Bits.{first, is_known, truth_of}
-use Rattle.sv_outside.specs.declared.refusal.Refusal.{Refusal}
 use Rattle.sv_outside.specs.declared.refusal.Place.{Place}
 use Rattle.sv_outside.specs.declared.refusal.TextErr.{TextErr}
 use Rattle.sv_outside.specs.declared.refusal.TextErr.TheVariants.{No, Memory}
-use Rattle.sv_meaning.specs.Faults.{Faults, provided, not_constant, fault_if, or_then}
-use Rattle.sv_meaning.specs.Meanings.{Meaning, nowhere, assigned, truth, constant_of, fixed_faults}
+use Rattle.sv_meaning.specs.Faults.{Faults, provided, not_constant}
+use Rattle.sv_meaning.specs.Meanings.{Meaning, nowhere, assigned, truth, fixed_faults}
 use Rattle.sv_meaning.specs.Params.{converted_faults}
 use Rattle.sv_meaning.specs.Deeds.{index_value, fixed_truth, is_taken}
 use Rattle.sv_typed.specs.declared.tree.Typed.{Typed}
 use Rattle.sv_typed.specs.Typed.{Stands, worth, own}
 use Rattle.sv_const.specs.Judging.{IsTyped, IsCause}
-use Rattle.sv_const.proofs.Lists.{in_first, in_second, in_fault, no_fault, then_clear}
+use Rattle.sv_const.proofs.Lists.{in_second, in_fault, no_fault, then_clear}
 use Rattle.sv_const.proofs.OfRules.{cause_first}
 use Rattle.sv_const.proofs.Fixing.{own_is}
 use Rattle.sv_loops.specs.Answers.{Gives}
