@@ -9,3 +9,4 @@ pub mod Valuing
 pub mod Copying
 pub mod Wholes
 pub mod Shapes
+pub mod Alone

@@ -1,4 +1,14 @@
+use Rattle.std.proofs.Common.{◌≡◌, ◌+◌, ◌++◌, map, refl, sym, subst, ap, arith, All}
 use Rattle.std.specs.Option.{option_copied}
+use Rattle.sv_tree.specs.declared.forms.Member.TheVariants as member
+use Rattle.sv_meaning.specs.Forms.{form, entries_of}
+use Rattle.sv_meaning.specs.Layouts.{Scope, width_all}
+use Rattle.sv_const.specs.Kinds.{members_of, FieldIsSound}
+use Rattle.sv_const.specs.Names.{names_are}
+use Rattle.sv_types.specs.Types.{IsAbove, Forms, JudgesJoined, pushed, all_declared}
+use Rattle.sv_types.proofs.Above.{above_none, above_names}
+use Rattle.sv_types.proofs.Alone.{member_is}
+use Rattle.sv_types.proofs.Gathering.{gathers_begin, gathers_go, gathers_refused, gathers_end}
 use Rattle.sv_types.proofs.Shapes.{arm_vector, arm_integer, arm_named, arm_enum, arm_struct}
 use Rattle.sv_types.proofs.forms.+form.Goals as goal
 
@@ -26,13 +36,51 @@ form-returns-in-Named t c =
     c.in-Named.is c.as_slice-in-Named.ensures c.named_layout-layout.ensures c.alone-in-Named.ensures
 
 pub forms-members-init : goal.forms-members-init
-forms-members-init t c = ?
+forms-members-init t c = record {
+  names = subst (IsAbove c.args.names.now c.args.names.now) (sym (ap (map pushed) c.new-2.ensures)) (above_none c.args.names.now);
+  listed = record {
+    bits = sym (ap (λ z. width_all (members_of z)) c.new.ensures);
+    most = omega arith;
+    sound = subst (All FieldIsSound) (sym c.new.ensures) (λ k d lt. absurd (omega arith));
+  };
+  gathers = gathers_begin (names_are c.args.names.now) c.args.members.now (record { fields = c.new.result; bits = 0; declared = c.new-2.result }) c.new.ensures refl c.new-2.ensures;
+}
 
 pub forms-returns-in-Err : goal.forms-returns-in-Err
-forms-returns-in-Err t c = ?
+forms-returns-in-Err t c =
+    let at = names_are c.args.names.now in
+    let g = c.member-item.result in
+    let l = c.members.listed in
+    let here = above_names c.args.names.now c.members.names l.declared c.members.invariant.names in
+    let is : g ≡ member.Of c.get.result.now c.as_slice.result.now = member_is g _ _ c.get.result.now c.as_slice.result.now c.get.ensures c.as_slice.ensures in
+    let h = subst (λ (z : Scope). Forms (form z c.get.result.now) c.members.names c.form-formed.new.names c.form-formed.result) here c.form-formed.ensures in
+    let j = form (at ++ entries_of (all_declared l.declared)) c.get.result.now in
+    let left = subst (JudgesJoined j c.args.names.now c.form-formed.new.names l c.as_slice.result.now) c.in-Err.is (c.joined.ensures j c.args.names.now c.members.names c.form-formed.new.names c.members.invariant.names h) in
+    record {
+      cause = gathers_refused at c.args.members.now c.members.member-index l g c.get.result.now c.as_slice.result.now c.in-Err.why c.members-test.true c.member-item.is is left.cause c.members.invariant.gathers;
+      left = left.left;
+    }
 
 pub forms-members-preserved : goal.forms-members-preserved
-forms-members-preserved t c = ?
+forms-members-preserved t c =
+    let at = names_are c.args.names.now in
+    let g = c.member-item.result in
+    let l = c.members.listed in
+    let i = c.members.member-index in
+    let here = above_names c.args.names.now c.members.names l.declared c.members.invariant.names in
+    let is : g ≡ member.Of c.get.result.now c.as_slice.result.now = member_is g _ _ c.get.result.now c.as_slice.result.now c.get.ensures c.as_slice.ensures in
+    let h = subst (λ (z : Scope). Forms (form z c.get.result.now) c.members.names c.form-formed.new.names c.form-formed.result) here c.form-formed.ensures in
+    let j = form (at ++ entries_of (all_declared l.declared)) c.get.result.now in
+    let next = subst (JudgesJoined j c.args.names.now c.form-formed.new.names l c.as_slice.result.now) c.in-Ok.is (c.joined.ensures j c.args.names.now c.members.names c.form-formed.new.names c.members.invariant.names h) in
+    record {
+      names = next.names;
+      listed = next.listed;
+      gathers = gathers_go at c.args.members.now i (i + 1) l c.in-Ok.next g c.get.result.now c.as_slice.result.now c.args.names.now c.form-formed.new.names c.members-test.true (omega arith) c.member-item.is is c.members.invariant.listed next c.members.invariant.gathers;
+    }
 
 pub forms-returns : goal.forms-returns
-forms-returns t c = ?
+forms-returns t c = record {
+  is = gathers_end (names_are c.args.names.now) c.args.members.now c.members.member-index c.members.listed c.members-test.false c.members.invariant.gathers;
+  names = c.members.invariant.names;
+  listed = c.members.invariant.listed;
+}
