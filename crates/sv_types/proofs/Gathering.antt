@@ -174,4 +174,3 @@ gathers_end at all i x lt k =
     k ∙ ap (λ (z : List Member). behind (members_of x.fields) (all_declared x.declared) (forms_of here (field_names x.fields) x.bits z)) (drop_none all i lt)
     ∙ ap (behind (members_of x.fields) (all_declared x.declared)) (forms_none here (field_names x.fields) x.bits)
     ∙ ap Ok (λ i. (chained_none (members_of x.fields) i, append-nil (all_declared x.declared) i))
-

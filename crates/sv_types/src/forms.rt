@@ -151,7 +151,13 @@ fn struct_form(
     ensures { (j : Judged (m.Members × List m_forms.Declared)) (at : Names) → JudgesMembers j at names.now listed → Forms (struct_form (names_are at) signed ranges.now j) at names.now result }
 {
     match listed {
-        Ok(Listed { fields, bits, declared }) => {
+        Ok(
+            Listed {
+                fields,
+                bits,
+                declared,
+            },
+        ) => {
             match struct_layout(alloc, signed, ranges, names, fields, bits) {
                 Ok(layout) => Ok(Formed { layout, declared }),
                 Err(why) => Err(why),
@@ -177,7 +183,13 @@ fn form(alloc: Global, tree: &TypeTree, names: &mut Names<'_>) -> Result<Formed,
             struct_form(alloc, has_sign(*sign), ranges.as_slice(), names, listed)
         }
         TypeTree::Enum(_, sign, range, all) => {
-            enum_form(alloc, has_sign(*sign), range.as_ref(), all.as_slice(), names)
+            enum_form(
+                alloc,
+                has_sign(*sign),
+                range.as_ref(),
+                all.as_slice(),
+                names,
+            )
         }
         TypeTree::Named(word, ranges) => {
             let layout = named_layout(alloc, word, ranges.as_slice(), names);
@@ -221,20 +233,27 @@ fn joined(
     requires formed { IfOk formed (λ x. IsSound x.layout) }
     ensures { (j : Judged m_forms.Formed) (a b c : Names) → IsAbove a b (map pushed listed.declared) → Forms j b c formed → JudgesJoined j a c listed words.now result }
 {
-    let Formed { layout, declared: more } = formed?;
-    let Listed { mut fields, bits, mut declared } = listed;
+    let Formed {
+        layout,
+        declared: more,
+    } = formed?;
+    let Listed {
+        mut fields,
+        bits,
+        mut declared,
+    } = listed;
     let bits = add_fields(alloc, &layout, words, &mut fields, bits)?;
     declared.append(more)?;
-    Ok(Listed { fields, bits, declared })
+    Ok(Listed {
+        fields,
+        bits,
+        declared,
+    })
 }
 
 /// The layout of a type, and the constants that it declares, in order; or why it is refused: E12, E13, E14, or what an
 /// expression is refused for. The names are afterwards as before.
-pub fn form_of(
-    alloc: Global,
-    tree: &TypeTree,
-    names: &mut Names<'_>,
-) -> Result<Formed, TextErr>
+pub fn form_of(alloc: Global, tree: &TypeTree, names: &mut Names<'_>) -> Result<Formed, TextErr>
     ensures is { JudgesForm (form (names_are names.old) tree.now) result }
     ensures frames { frames_of names.new ≡ frames_of names.old }
     ensures loops { loops_of names.new ≡ loops_of names.old }
@@ -246,11 +265,7 @@ pub fn form_of(
 }
 
 /// The layout of a type; or why it is refused, as for `form_of`. The names are afterwards as before.
-pub fn layout_of(
-    alloc: Global,
-    tree: &TypeTree,
-    names: &mut Names<'_>,
-) -> Result<Layout, TextErr>
+pub fn layout_of(alloc: Global, tree: &TypeTree, names: &mut Names<'_>) -> Result<Layout, TextErr>
     ensures is { JudgesType (form (names_are names.old) tree.now) result }
     ensures frames { frames_of names.new ≡ frames_of names.old }
     ensures loops { loops_of names.new ≡ loops_of names.old }

@@ -84,7 +84,12 @@ fn converted_expr(
     requires most { width ≤ 128 }
     ensures { JudgesValue (params.typed width signed (mean (names_are names.now) value.now)) result }
 {
-    converted(start(value), width, signed, typed(alloc, value, names, true))
+    converted(
+        start(value),
+        width,
+        signed,
+        typed(alloc, value, names, true),
+    )
 }
 
 // The width of a range [n:0], or E14.
@@ -155,7 +160,15 @@ fn typed_value(
             converted_expr(alloc, 32, is_signed_whole(*sign), value, value_names)
         }
         ParamType::Bits(word, sign, range) => {
-            bits_value(alloc, *word, *sign, range.as_ref(), names, value, value_names)
+            bits_value(
+                alloc,
+                *word,
+                *sign,
+                range.as_ref(),
+                names,
+                value,
+                value_names,
+            )
         }
     }
 }

@@ -48,11 +48,7 @@ fn bound(alloc: Global, place: Place, expr: &Expr, names: &Names<'_>) -> Result<
 }
 
 /// The bounds of a range; or E14, or what an expression is refused for.
-pub(crate) fn bounds(
-    alloc: Global,
-    range: &Range,
-    names: &Names<'_>,
-) -> Result<Bounds, TextErr>
+pub(crate) fn bounds(alloc: Global, range: &Range, names: &Names<'_>) -> Result<Bounds, TextErr>
     ensures { JudgesBounds (bounds (names_are names.now) range.now) result }
 {
     let left = bound(alloc, range.place, &range.left, names)?;

@@ -28,6 +28,6 @@ returns-else-known c =
     let v = c.args.known.now.value in
     let n = ap pos (c.low-number.ensures ∙ number_is v c.requires) in
     elim c.else-known.branch [
-      else-known-via-then-known+else-is_negative w ↦ n ∙ sym (whole_positive c.args.known.now.signed v (sym w.is_negative.ensures ∙ w.if-is_negative.false))
-    | else-known-via-else-known w ↦ n ∙ sym (whole_unsigned c.args.known.now.signed v w.if-known.false)
+      | else-known-via-then-known+else-is_negative w ↦ n ∙ sym (whole_positive c.args.known.now.signed v (sym w.is_negative.ensures ∙ w.if-is_negative.false))
+      | else-known-via-else-known w ↦ n ∙ sym (whole_unsigned c.args.known.now.signed v w.if-known.false)
     ]
