@@ -1,0 +1,12 @@
+pub mod Judging
+pub mod Ranging
+pub mod Above
+pub mod Labels
+pub mod Trees
+pub mod Membership
+pub mod Gathering
+pub mod Valuing
+pub mod Copying
+pub mod Wholes
+pub mod Shapes
+pub mod Alone

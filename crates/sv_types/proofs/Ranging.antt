@@ -1,0 +1,184 @@
+-- Layouts of ranges.
+use Rattle.std.proofs.Common.{◌≡◌, ℕ, zero, suc, ◌*◌, ◌≤◌, ◌<◌, Bool, true, false, ◌&&◌, ◌==◌, not, nat_le, List, [], ◌∷◌, length, drop, get_or, Option, Some, None, ℤ, pos, IsTrue, Result, Ok, Err, IfOk, refl, sym, ap, ◌∙◌, subst, arith}
+use Rattle.std.proofs.lemmas.Bool.Decides.{nat_tests}
+use Rattle.std.proofs.Math.Seq.{drop-cons, drop-nil}
+use Rattle.sv_outside.specs.declared.refusal.Place.{Place}
+use Rattle.sv_outside.specs.declared.refusal.TextErr.{TextErr}
+use Rattle.sv_outside.specs.declared.refusal.TextErr.TheVariants.{No, Memory}
+use Rattle.sv_tree.specs.declared.forms.Range.{Range}
+use Rattle.sv_meaning.specs.Faults.{Faults, Judged, provided, both, ◌>>=◌, fault_if, bad_width}
+use Rattle.sv_meaning.specs.Layouts as m
+use Rattle.sv_meaning.specs.Meanings.{Meaning, number_of, is_bound, is_width, whole, fixed_faults, constant_of}
+use Rattle.sv_meaning.specs.Forms.{bound_faults, bounds, ranged_layout, over_ranges, vector_layout, option_to_list}
+use Rattle.sv_const.specs.declared.layout.Layout.{Layout}
+use Rattle.sv_const.specs.declared.layout.Form.TheVariants as form
+use Rattle.sv_const.specs.declared.layout.Form.TheBlock.{shape-the_row-Layout-0, hidden-the_row-Layout-0}
+use Rattle.sv_const.specs.declared.fixed.Fixed.{Fixed}
+use Rattle.sv_const.specs.Judging.{IsCause, IsFixed, Fixes}
+use Rattle.sv_const.specs.Kinds.{layout_is, form_is, IsSound, FormIsSound}
+use Rattle.sv_const.proofs.Sound.{sound_is, sound_some, sound_most, same_bound}
+use mir.Syntax.{w64}
+use mir.Val.{to_z, of_z}
+use Rattle.sv_const.proofs.Lists.{in_second, in_fault, no_fault, then_clear}
+use Rattle.sv_const.proofs.OfRules.{cause_first}
+use Rattle.sv_types.specs.declared.bounds.Bounds.{Bounds}
+use Rattle.sv_types.specs.Types.{Refused, IsBound, JudgesBound, JudgesBounds, IsLayout, JudgesLayout, ranged_form}
+use Rattle.sv_types.proofs.Judging.{both_ok, both_left, both_right, then_ok, then_err, then_in, provided_ok, provided_err, wide_enough, too_wide, above}
+
+-- ---- bounds
+
+number_is : (x : Meaning) (f : Fixed) → IsFixed x f → number_of x ≡ whole f.known.signed f.known.value
+number_is x f h = ap (λ s. whole s (constant_of x)) h.signed ∙ ap (λ v. whole f.known.signed v) h.value
+
+pub bound_ok : (p : Place) (x : Meaning) (f : Fixed) (n : ℤ) → IsFixed x f → n ≡ whole f.known.signed f.known.value → IsTrue (is_bound n) → IsBound (provided (bound_faults p x) (number_of x)) n
+bound_ok p x f n h e b =
+    let i : number_of x ≡ n = number_is x f h ∙ sym e in
+    record {
+      is = provided_ok (bound_faults p x) (number_of x) (then_clear (fixed_faults x) _ h.clear (no_fault _ bad_width p (ap not (ap is_bound i ∙ b)))) ∙ ap Ok i;
+      bound = b;
+    }
+
+pub bound_far : (p : Place) (x : Meaning) (f : Fixed) → IsFixed x f → is_bound (whole f.known.signed f.known.value) ≡ false → Refused (provided (bound_faults p x) (number_of x)) (No (record { number = bad_width; place = p; count = 0 }))
+bound_far p x f h b =
+    provided_err (bound_faults p x) (number_of x) (No (record { number = bad_width; place = p; count = 0 })) (in_second (fixed_faults x) _ _ h.clear (in_fault _ bad_width p (ap not (ap is_bound (number_is x f h) ∙ b))))
+
+pub bound_cause : (p : Place) (x : Meaning) (e : TextErr) → IsCause (fixed_faults x) e → Refused (provided (bound_faults p x) (number_of x)) e
+bound_cause p x e h = provided_err (bound_faults p x) (number_of x) e (cause_first (fixed_faults x) _ e h)
+
+-- ---- what a result says where it is known
+
+pub bounds_ok : (k : Judged (ℤ × ℤ)) (r : Result Bounds TextErr) (b : Bounds) → r ≡ Ok b → JudgesBounds k r → k ≡ Ok (b.left, b.right)
+bounds_ok k r b e h = subst (JudgesBounds k) e h
+
+pub bounds_err : (k : Judged (ℤ × ℤ)) (r : Result Bounds TextErr) (x : TextErr) → r ≡ Err x → JudgesBounds k r → Refused k x
+bounds_err k r x e h = subst (JudgesBounds k) e h
+
+pub layout_ok : (j : Judged m.Layout) (r : Result Layout TextErr) (x : Layout) → r ≡ Ok x → JudgesLayout j r → IsLayout j x
+layout_ok j r x e h = subst (JudgesLayout j) e h
+
+pub layout_err : (j : Judged m.Layout) (r : Result Layout TextErr) (x : TextErr) → r ≡ Err x → JudgesLayout j r → Refused j x
+layout_err j r x e h = subst (JudgesLayout j) e h
+
+pub bound_of_result : (j : Judged ℤ) (r : Result ℤ TextErr) (x : ℤ) → r ≡ Ok x → JudgesBound j r → IsBound j x
+bound_of_result j r x e h = subst (JudgesBound j) e h
+
+pub bound_refused : (j : Judged ℤ) (r : Result ℤ TextErr) (x : TextErr) → r ≡ Err x → JudgesBound j r → Refused j x
+bound_refused j r x e h = subst (JudgesBound j) e h
+
+pub sound_of_layout : (j : Judged m.Layout) (r : Result Layout TextErr) → JudgesLayout j r → IfOk r (λ x. IsSound x)
+sound_of_layout j (Ok x) h = h.sound
+sound_of_layout j (Err e) h = tt
+
+-- ---- ranges
+
+pub dim_is : (x each : Layout) (l r : ℤ) → x.form ≡ form.Dim l r each → layout_is x ≡ m.dim x.signed l r (layout_is each)
+unfolding shape-the_row-Layout-0 hidden-the_row-Layout-0 denote.Hole.Carrier.hidden
+dim_is x each l r h = rw h refl
+
+pub dim_sound : (x each : Layout) (l r : ℤ) → x.form ≡ form.Dim l r each → IsTrue (is_bound l) → IsTrue (is_bound r) → IsSound each → x.width ≡ m.count_between l r * each.width → 1 ≤ x.width → x.width ≤ 128 → IsSound x
+unfolding shape-the_row-Layout-0 hidden-the_row-Layout-0 denote.Hole.Carrier.hidden
+dim_sound x each l r h bl br s w some most =
+    let v : x.width ≡ m.count_between l r * m.width (layout_is each) = w ∙ ap (λ n. m.count_between l r * n) (sound_is each s) in
+    subst (FormIsSound x.width x.signed) (sym h) ((v, some, most), bl, br, s)
+
+width_of : (x : Layout) (y : m.Layout) → IsSound x → layout_is x ≡ y → is_width (m.width y) ≡ true
+width_of x y s e =
+    let w = sound_is x s ∙ ap m.width e in
+    subst (λ n. is_width n ≡ true) w (wide_enough x.width (sound_some x s) (sound_most x s))
+
+pub ranged_ok : (j : Judged m.Layout) (k : Judged (ℤ × ℤ)) (p : Place) (s : Bool) (each x : Layout) (b : Bounds) → IsLayout j each → k ≡ Ok (b.left, b.right) → layout_is x ≡ m.dim s b.left b.right (layout_is each) → IsSound x →
+    IsLayout (both j k >>= ranged_layout p s) x
+ranged_ok j k p s each x b h i e y =
+    let f : fault_if (not (is_width (m.width (m.dim s b.left b.right (layout_is each))))) bad_width p ≡ [] = no_fault _ bad_width p (ap not (width_of x _ y e)) in
+    record {
+      is = then_ok (both j k) (ranged_layout p s) (layout_is each, (b.left, b.right)) (layout_is x) (both_ok j k (layout_is each) (b.left, b.right) h.is i)
+          (provided_ok _ (m.dim s b.left b.right (layout_is each)) f ∙ ap Ok (sym e));
+      sound = y;
+    }
+
+pub ranged_wide : (j : Judged m.Layout) (k : Judged (ℤ × ℤ)) (p : Place) (s : Bool) (each : Layout) (b : Bounds) → IsLayout j each → k ≡ Ok (b.left, b.right) → nat_le (m.count_between b.left b.right * each.width) 128 ≡ false →
+    Refused (both j k >>= ranged_layout p s) (No (record { number = bad_width; place = p; count = 0 }))
+ranged_wide j k p s each b h i n =
+    let w : is_width (m.count_between b.left b.right * m.width (layout_is each)) ≡ false = ap (λ v. is_width (m.count_between b.left b.right * v)) (sym (sound_is each h.sound)) ∙ too_wide _ (above _ n) in
+    then_in (both j k) (ranged_layout p s) (layout_is each, (b.left, b.right)) (No (record { number = bad_width; place = p; count = 0 })) (both_ok j k (layout_is each) (b.left, b.right) h.is i)
+    (provided_err (fault_if (not (is_width (m.width (m.dim s b.left b.right (layout_is each))))) bad_width p) (m.dim s b.left b.right (layout_is each)) (No (record { number = bad_width; place = p; count = 0 })) (in_fault _ bad_width p (ap not w)))
+
+pub ranged_left : (j : Judged m.Layout) (k : Judged (ℤ × ℤ)) (p : Place) (s : Bool) (e : TextErr) → Refused j e → Refused (both j k >>= ranged_layout p s) e
+ranged_left j k p s e h = then_err (both j k) (ranged_layout p s) e (both_left j k e h)
+
+pub ranged_right : (j : Judged m.Layout) (k : Judged (ℤ × ℤ)) (p : Place) (s : Bool) (e : TextErr) → Refused k e → Refused (both j k >>= ranged_layout p s) e
+ranged_right j k p s e h = then_err (both j k) (ranged_layout p s) e (both_right j k e h)
+
+-- ---- many ranges
+
+over_none : (at : m.Scope) (s : Bool) (x : m.Layout) → over_ranges at s [] x ≡ Ok x
+unfolding over_ranges
+over_none at s x = refl
+
+over_more : (at : m.Scope) (s : Bool) (r : Range) (more : List Range) (x : m.Layout) → over_ranges at s (r ∷ more) x ≡ (both (over_ranges at false more x) (bounds at r) >>= ranged_layout r.place s)
+unfolding over_ranges
+over_more at s r more x = refl
+
+layout_as : (j k : Judged m.Layout) (r : Result Layout TextErr) → j ≡ k → JudgesLayout k r → JudgesLayout j r
+layout_as j k r h x = subst (λ z. JudgesLayout z r) (sym h) x
+
+drop_none : (all : List Range) (i : ℕ) → length all ≤ i → drop i all ≡ []
+drop_none [] i h = drop-nil i
+drop_none (r ∷ all) zero h = absurd (omega arith)
+drop_none (r ∷ all) (suc i) h = drop_none all i (omega arith)
+
+pub ranges_begin : (at : m.Scope) (s : Bool) (all : List Range) (i : ℕ) (x : Layout) → length all ≤ i → IsSound x → JudgesLayout (over_ranges at s (drop i all) (layout_is x)) (Ok x)
+ranges_begin at s all i x h y = record { is = ap (λ z. over_ranges at s z (layout_is x)) (drop_none all i h) ∙ over_none at s (layout_is x); sound = y }
+
+and_false : (a b : Bool) → b ≡ false → (a && b) ≡ false
+and_false true b h = h
+and_false false b h = refl
+
+is_not_zero : (i : ℕ) → 0 < i → (i == 0) ≡ false
+is_not_zero i h = grind (arith, nat_tests)
+
+pub ranges_go : (at : m.Scope) (s sign : Bool) (all : List Range) (i k : ℕ) (r : Range) (x : m.Layout) (found next : Result Layout TextErr) (b : Result Bounds TextErr) → k < length all → i ≡ suc k → r ≡ get_or all k r → sign ≡ (s && (k == 0)) →
+    JudgesLayout (over_ranges at (s && (i == 0)) (drop i all) x) found → JudgesBounds (bounds at r) b →
+    ((j : Judged m.Layout) (k : Judged (ℤ × ℤ)) → JudgesLayout j found → JudgesBounds k b → JudgesLayout (ranged_form r.place sign j k) next) →
+    JudgesLayout (over_ranges at (s && (k == 0)) (drop k all) x) next
+ranges_go at s sign all i k r x found next b lt e g si h bs rule =
+    let t : drop k all ≡ r ∷ drop i all = drop-cons all k r lt ∙ ap (λ (z : Range). z ∷ drop (suc k) all) (sym g) ∙ ap (λ (z : ℕ). r ∷ drop z all) (sym e) in
+    let d : (s && (i == 0)) ≡ false = and_false s _ (is_not_zero i (omega arith)) in
+    layout_as _ _ next (ap (λ z. over_ranges at (s && (k == 0)) z x) t ∙ ap (λ z. over_ranges at z (r ∷ drop i all) x) (sym si) ∙ over_more at sign r (drop i all) x)
+    (rule (over_ranges at false (drop i all) x) (bounds at r) (subst (λ z. JudgesLayout (over_ranges at z (drop i all) x) found) d h) bs)
+
+pub ranges_end : (at : m.Scope) (s : Bool) (all : List Range) (i : ℕ) (x : m.Layout) (found : Result Layout TextErr) → i ≡ 0 → JudgesLayout (over_ranges at (s && (i == 0)) (drop i all) x) found → JudgesLayout (over_ranges at s all x) found
+ranges_end at s all i x found e h =
+    let a : (s && (0 == 0)) ≡ s = and_true s in
+    subst (λ b. JudgesLayout (over_ranges at b all x) found) a (subst (λ (z : ℕ). JudgesLayout (over_ranges at (s && (z == 0)) (drop z all) x) found) e h)
+  where
+    and_true : (b : Bool) → (b && true) ≡ b
+    and_true true = refl
+    and_true false = refl
+
+-- ---- ranges as code makes them
+
+pub sound_ok : (r : Result Layout TextErr) (x : Layout) → r ≡ Ok x → IfOk r (λ y. IsSound y) → IsSound x
+sound_ok r x e h = subst (λ (z : Result Layout TextErr). IfOk z (λ y. IsSound y)) e h
+
+pub count_some : (l r : ℤ) → 1 ≤ m.count_between l r
+count_some l r = omega arith
+
+pub dim_made : (s : Bool) (l r : ℤ) (e each : Layout) → e ≡ each → IsTrue (is_bound l) → IsTrue (is_bound r) → form_is s (form.Dim (to_z w64 (of_z w64 l)) (to_z w64 (of_z w64 r)) e) ≡ m.dim s l r (layout_is each)
+unfolding shape-the_row-Layout-0 hidden-the_row-Layout-0 denote.Hole.Carrier.hidden
+dim_made s l r e each h bl br = (λ i. m.dim s (same_bound l bl i) (same_bound r br i) (layout_is (h i)))
+
+pub dim_made_sound : (w : ℕ) (s : Bool) (l r : ℤ) (e each : Layout) → e ≡ each → IsSound each → IsTrue (is_bound l) → IsTrue (is_bound r) → w ≡ m.count_between l r * each.width → 1 ≤ w → w ≤ 128 → FormIsSound w s (form.Dim (to_z w64 (of_z w64 l)) (to_z w64 (of_z w64 r)) e)
+unfolding shape-the_row-Layout-0 hidden-the_row-Layout-0 denote.Hole.Carrier.hidden
+dim_made_sound w s l r e each h k bl br v some most =
+    let i : w ≡ m.count_between l r * m.width (layout_is each) = v ∙ ap (λ n. m.count_between l r * n) (sound_is each k) in
+    let made : FormIsSound w s (form.Dim l r each) = ((i, some, most), bl, br, k) in
+    subst (λ (z : Layout). FormIsSound w s (form.Dim (to_z w64 (of_z w64 l)) (to_z w64 (of_z w64 r)) z)) (sym h)
+    (subst (λ (z : ℤ). FormIsSound w s (form.Dim (to_z w64 (of_z w64 l)) z each)) (sym (same_bound r br)) (subst (λ (z : ℤ). FormIsSound w s (form.Dim z r each)) (sym (same_bound l bl)) made))
+
+pub scalar_layout : (s : Bool) (x : Layout) → layout_is x ≡ m.scalar s → IsSound x → IsLayout (Ok (m.scalar s)) x
+scalar_layout s x e h = record { is = ap Ok (sym e); sound = h }
+
+pub base_some : (at : m.Scope) (s : Bool) (r : Range) (o : Option Range) (found : Result Layout TextErr) → o ≡ Some r → JudgesLayout (both (Ok (m.scalar false)) (bounds at r) >>= ranged_layout r.place s) found → JudgesLayout (vector_layout at s (option_to_list o)) found
+unfolding over_ranges
+base_some at s r o found e h = subst (λ (z : Option Range). JudgesLayout (vector_layout at s (option_to_list z)) found) (sym e) h

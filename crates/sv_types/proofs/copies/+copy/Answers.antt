@@ -1,0 +1,23 @@
+use Rattle.std.proofs.Common.{◌≡◌, sym, subst, ap, ◌∙◌, All}
+use Rattle.sv_const.specs.Kinds.{IsSound, FieldIsSound}
+use Rattle.sv_const.proofs.Sound.{row_each, fields_all}
+use Rattle.sv_types.proofs.Copying.{each_less, fields_less, field_less, sound_at}
+use Rattle.sv_types.proofs.copies.+copy.Goals as goal
+
+pub copies-copy-requires : goal.copies-copy-requires
+copies-copy-requires t c = (
+  field_less c.args.fields.now c.fields.field-index c.field-item.result t c.fields-test.true c.field-item.is c.decreases,
+  sound_at c.args.fields.now c.fields.field-index c.field-item.result c.fields-test.true c.field-item.is c.requires,
+)
+
+pub copy-copy-requires : goal.copy-copy-requires
+copy-copy-requires t c = (
+  each_less c.args.layout.now c.get.result.now c.in-Dim.each c.in-Dim.left c.in-Dim.right t c.in-Dim.is c.get.ensures c.decreases,
+  subst IsSound (sym c.get.ensures) (row_each c.args.layout.now c.in-Dim.each c.in-Dim.left c.in-Dim.right c.requires c.in-Dim.is),
+)
+
+pub copy-copies-requires : goal.copy-copies-requires
+copy-copies-requires t c = (
+  fields_less c.args.layout.now c.in-Members.fields c.as_slice.result.now t c.in-Members.is c.as_slice.ensures c.decreases,
+  subst (All FieldIsSound) (sym c.as_slice.ensures) (fields_all c.args.layout.now c.in-Members.fields c.requires c.in-Members.is),
+)

@@ -1,0 +1,38 @@
+use Rattle.std.proofs.Common.{◌≡◌, ℕ, ◌++◌, [], ◌∷◌, ◌<◌, ◌+◌, ◌∙◌, Bool, true, false, sym, subst, ap, arith}
+use Rattle.std.specs.List.{Contains}
+use Rattle.sv_meaning.specs.Forms.{member_faults}
+use Rattle.sv_meaning.specs.Layouts.{width_all}
+use Rattle.sv_meaning.specs.Names.{has_name}
+use Rattle.sv_const.specs.Kinds.{members_of}
+use Rattle.sv_const.proofs.Sound.{sound_most}
+use Rattle.sv_types.specs.Types.{field_names}
+use Rattle.sv_types.proofs.Membership.{name_twice, bits_above, field_ok}
+use Rattle.sv_types.proofs.members.add_field.Goals as goal
+
+pub returns-then-has_field : goal.returns-then-has_field
+returns-then-has_field c =
+    let x = c.args.layout.now in
+    let w = c.args.word.now in
+    let old = c.args.fields.now in
+    let h : has_name w.text (field_names old) ≡ true = (λ i. has_name (sym c.bytes.ensures i) (field_names (sym c.as_slice.ensures i))) ∙ sym c.has_field.ensures ∙ c.if-has_field.true in
+    subst (Contains (member_faults (field_names old) (width_all (members_of old)) x.width (w ∷ []))) (sym c.refusal.ensures) (name_twice x w old h)
+
+pub returns-then-width-bits : goal.returns-then-width-bits
+returns-then-width-bits c =
+    let x = c.args.layout.now in
+    let w = c.args.word.now in
+    let old = c.args.fields.now in
+    let b = c.requires.bits in
+    let k = c.if-width-bits.true in
+    subst (Contains (member_faults (field_names old) (width_all (members_of old)) x.width (w ∷ []))) (sym c.refusal-then-width-bits.ensures) (bits_above x w old (omega arith))
+
+pub returns : goal.returns
+returns c =
+    let x = c.args.layout.now in
+    let w = c.args.word.now in
+    let old = c.args.fields.now in
+    let b = c.requires.bits in
+    let k = c.if-width-bits.false in
+    let h : has_name w.text (field_names old) ≡ false = (λ i. has_name (sym c.bytes.ensures i) (field_names (sym c.as_slice.ensures i))) ∙ sym c.has_field.ensures ∙ c.if-has_field.false in
+    field_ok x w old _ (c.args.bits + x.width) c.requires.sound h (omega arith) (omega arith)
+    (c.in_ok-push.ensures.ok ∙ (λ i. old ++ record { name = c.in_ok-name.ensures i; layout = c.in_ok-layout.ensures i } ∷ []))

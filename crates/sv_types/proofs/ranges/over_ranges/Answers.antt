@@ -1,0 +1,20 @@
+use Rattle.std.proofs.Common.{◌-◌, ◌&&◌, ◌==◌, length, arith}
+use Rattle.sv_const.specs.Kinds.{layout_is}
+use Rattle.sv_const.specs.Names.{names_are}
+use Rattle.sv_types.proofs.Ranging.{ranges_begin, ranges_go, ranges_end}
+use Rattle.sv_types.proofs.ranges.over_ranges.Goals as goal
+
+pub outward-init : goal.outward-init
+outward-init c =
+    let all = c.args.ranges.now in
+    record { within = omega arith; found = ranges_begin (names_are c.args.names.now) (c.args.signed && (length all == 0)) all (length all) c.args.each (omega arith) c.requires }
+
+pub outward-preserved : goal.outward-preserved
+outward-preserved c =
+    let i = c.outward.invariant.within in
+    let t = c.outward-test.true in
+    record {
+      within = omega arith;
+      found = ranges_go (names_are c.args.names.now) c.args.signed c.sign_at.result c.args.ranges.now c.outward.at (c.outward.at - 1) c.index-ranges-at.result (layout_is c.args.each) c.outward.found c.ranged-found.result c.bounds.result
+          (omega arith) (omega arith) c.index-ranges-at.is c.sign_at.ensures c.outward.invariant.found c.bounds.ensures c.ranged-found.ensures;
+    }

@@ -1,0 +1,16 @@
+//! Types, parameters and targets: layouts of bits, the constants that come with them, and the bits that targets name.
+#![tactic(auto)]
+
+mod bounds;
+mod copies;
+mod enumerators;
+mod forms;
+mod members;
+mod params;
+mod ranges;
+mod whole;
+
+pub use bounds::Bounds;
+pub use enumerators::Enumerator;
+pub use forms::{Formed, form_of, layout_of};
+pub use params::param_value;

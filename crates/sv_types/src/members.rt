@@ -1,0 +1,72 @@
+// The members of structures (IEEE 1800-2017, 7.2).
+ghost use Rattle.std.specs.Prelude.{◌≡◌, ◌≤◌, IfOk, All, map};
+ghost use Rattle.sv_const.specs.Kinds.{IsSound, FieldIsSound, members_of};
+ghost use Rattle.sv_meaning.specs.Forms.{member_faults};
+ghost use Rattle.sv_meaning.specs.Layouts.{width_all};
+ghost use Rattle.sv_meaning.specs.Names.{has_name};
+ghost use Rattle.sv_types.specs.Types.{field_names, JudgesField, JudgesFields};
+
+use crate::copies::copy;
+use items::Items;
+use std::alloc::Global;
+use sv_const::{Field, Layout, refusal};
+use sv_outside::TextErr;
+use sv_tree::Word;
+
+// Whether a member has the name.
+fn has_field(fields: &[Field], name: &[u8]) -> bool
+    ensures { result ≡ has_name name.now (field_names fields.now) }
+{
+    'fields: for field in fields {
+        if field.name.bytes() == name {
+            return true;
+        }
+    }
+    false
+}
+
+// One member more, behind members of so many bits; or E13 or E14.
+fn add_field(
+    alloc: Global,
+    layout: &Layout,
+    word: &Word,
+    fields: &mut Items<Field>,
+    bits: u8,
+) -> Result<u8, TextErr>
+    requires sound { IsSound layout.now }
+    requires bits { bits ≡ width_all (members_of fields.old) }
+    requires most { bits ≤ 128 }
+    ensures { JudgesField layout.now word.now fields.old fields.new result }
+{
+    if has_field(fields.as_slice(), word.text.bytes()) {
+        return Err(TextErr::No(refusal(13, word.place)));
+    }
+    let width = layout.width;
+    if width > 128 - bits {
+        return Err(TextErr::No(refusal(14, word.place)));
+    }
+    let layout = copy(alloc, layout)?;
+    let name = word.text.copy()?;
+    fields.push(Field { name, layout })?;
+    Ok(bits + width)
+}
+
+/// A member of each of the names, behind members of so many bits: the bits of all; or E13 or E14.
+pub(crate) fn add_fields(
+    alloc: Global,
+    layout: &Layout,
+    words: &[Word],
+    fields: &mut Items<Field>,
+    bits: u8,
+) -> Result<u8, TextErr>
+    requires sound { IsSound layout.now }
+    requires bits { bits ≡ width_all (members_of fields.old) }
+    requires most { bits ≤ 128 }
+    ensures { JudgesFields layout.now words.now fields.old fields.new result }
+{
+    let mut total = bits;
+    'words: for word in words {
+        total = add_field(alloc, layout, word, fields, total)?;
+    }
+    Ok(total)
+}
