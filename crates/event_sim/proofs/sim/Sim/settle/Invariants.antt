@@ -1,0 +1,16 @@
+use Rattle.std.proofs.Common.{◌≡◌, ℕ}
+use Rattle.event_sim.specs.Sims.{store_of, prev_values, stim_values, now_of, Fits}
+use Rattle.event_sim.proofs.Falling.{unknowns}
+use Rattle.event_sim.proofs.Settled.{Reached}
+use Rattle.event_sim.proofs.sim.Sim.settle.Given as goal
+
+abbrev pub invariant-sweeps : goal.invariant-sweeps
+invariant-sweeps l = record {
+  fits : Fits l.flat l.self;
+  previous : prev_values l.self ≡ l.prev.values;
+  stim : stim_values l.self ≡ l.stim.values;
+  reached : Reached l.flat (store_of l.stim.values) (store_of l.prev.values) (now_of l.self);
+}
+
+abbrev pub decreases-sweeps : goal.decreases-sweeps
+decreases-sweeps l = unknowns l.self.env.present

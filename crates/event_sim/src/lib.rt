@@ -1,0 +1,13 @@
+//! Settles the wires of a flat design by events: one net after another takes the resolution of what is given to it, from X at every
+//! bit, until nothing changes. That is the least settling, in whatever order the nets are taken.
+#![tactic(auto)]
+
+mod gift;
+mod lay;
+mod make;
+mod nets;
+mod pass;
+mod sim;
+mod values;
+
+pub use sim::Sim;

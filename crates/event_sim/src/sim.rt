@@ -1,0 +1,141 @@
+//! A simulation.
+
+ghost use Rattle.std.specs.Prelude.{◌≡◌, ◌≢◌, ℕ, ◌<◌, ◌≤◌, true, false, [], length, map, slice_index_or, None, IfOk};
+ghost use Rattle.fourvec.specs.declared.Bit.TheVariants.{Unknown};
+ghost use Rattle.svex_arena.specs.Arenas.{IsArena};
+ghost use Rattle.settling.specs.Events.{event};
+ghost use Rattle.driver_resolve.specs.Drivers.{widths_of};
+ghost use Rattle.flat_net.specs.Flats.{IsFlat, links_of, given_in, IsLeastSettling};
+ghost use Rattle.event_sim.specs.Sims.{store_of, IsValuation, now_values, prev_values, stim_values, now_of, prev_of, stim_of, Fits, picked};
+ghost use Rattle.event_sim.specs.Nets.{nets_of, net_bits};
+ghost use Rattle.flat_net.specs.declared.flat.Flat.{Flat};
+ghost use Rattle.lhs_alias.specs.Segs.{bit};
+
+use crate::lay::{join_all, lay, wire_widths};
+use crate::make::{env_of, tables_of};
+use crate::nets::low_of;
+use crate::pass::{Tables, Work};
+use crate::values::{copy_all, hold};
+use flat_net::{Flat, Valuation};
+use fourvec::Four;
+use std::alloc::{AllocError, Global};
+use svex_arena::Env;
+
+/// The valuation of the wires of a flat design in one phase, and all the memory that it takes to settle it.
+#[derive(Drop)]
+pub struct Sim {
+    tables: Tables,
+    // the values of the wires: present, previous and stimulus
+    env: Env,
+    work: Work,
+}
+
+impl Sim {
+    /// Takes all the memory that it takes to settle this flat design. The other calls take none.
+    pub fn new(alloc: Global, flat: &Flat) -> Result<Sim, AllocError>
+        requires { IsFlat flat.now }
+        ensures { IfOk result (λ sim. Fits flat.now sim) }
+    {
+        let widths = wire_widths(alloc, flat.wires.as_slice())?;
+        let joins = join_all(alloc, &widths, flat.joins.as_slice())?;
+        let mut starts = Vec::new(alloc);
+        let mut told = Vec::new(alloc);
+        lay(&mut starts, &mut told, &widths)?;
+        let tables = tables_of(alloc, flat, &widths, &joins, starts)?;
+        let env = env_of(alloc, &widths)?;
+        let values = vec![in alloc; Four::new(1, 1, 0); flat.arena.len()]?;
+        Ok(Sim {
+            tables,
+            env,
+            work: Work { values, told },
+        })
+    }
+
+    /// How many nets there are: the maximal runs of driven first bits, by wire and lowest bit.
+    pub fn nets(&self) -> usize
+        ensures { (flat : Flat) → Fits flat self.now → result ≡ length (nets_of flat) }
+    {
+        self.tables.nets.len()
+    }
+
+    /// Sets every bit to X, and holds a previous valuation and a stimulus.
+    pub fn start(&mut self, flat: &Flat, prev: &Valuation, stim: &Valuation)
+        requires fits { Fits flat.now self.old }
+        requires prev { IsValuation (widths_of flat.now.wires) prev.now.values }
+        requires stim { IsValuation (widths_of flat.now.wires) stim.now.values }
+        ensures fits { Fits flat.now self.new }
+        ensures previous { prev_values self.new ≡ prev.now.values }
+        ensures stim { stim_values self.new ≡ stim.now.values }
+        ensures unknown { (n k : ℕ) → now_of self.new n k ≡ Unknown }
+    {
+        let _ = flat;
+        hold(&mut self.env, &prev.values, &stim.values);
+    }
+
+    // Evaluates all nodes once, and gives the bits of a net their resolution, or all bits where no net is named. Says whether that
+    // changed anything.
+    fn pass(&mut self, flat: &Flat, net: Option<usize>) -> bool
+        requires flat { IsFlat flat.now }
+        requires fits { Fits flat.now self.old }
+        ensures fits { Fits flat.now self.new }
+        ensures previous { prev_values self.new ≡ prev_values self.old }
+        ensures stim { stim_values self.new ≡ stim_values self.old }
+        ensures now { (n k : ℕ) → now_of self.new n k
+            ≡ event (links_of flat.now.joins) (given_in flat.now (stim_of self.old) (prev_of self.old))
+            (picked (links_of flat.now.joins) (widths_of flat.now.wires) self.old.tables.lows.items net) (now_of self.old) n k }
+        ensures same { result ≡ false → now_values self.new ≡ now_values self.old }
+        ensures arena { IsArena flat.now.arena }
+        ensures changed { result ≡ true → now_values self.new ≢ now_values self.old }
+    {
+        self.work.evaluate(&flat.arena, &self.env);
+        self.work.tell(&self.tables, &self.env);
+        self.work.take(&self.tables, net, &mut self.env)
+    }
+
+    /// One event: gives a net, and the bits that are joined to it, the resolution of what is given to them.
+    pub fn step(&mut self, flat: &Flat, net: usize)
+        requires flat { IsFlat flat.now }
+        requires fits { Fits flat.now self.old }
+        requires net { net < length (nets_of flat.now) }
+        ensures fits { Fits flat.now self.new }
+        ensures previous { prev_values self.new ≡ prev_values self.old }
+        ensures stim { stim_values self.new ≡ stim_values self.old }
+        ensures now { (n k : ℕ) → now_of self.new n k
+            ≡ event (links_of flat.now.joins) (given_in flat.now (stim_of self.old) (prev_of self.old))
+            (net_bits flat.now (slice_index_or (nets_of flat.now) net (bit 0 0))) (now_of self.old) n k }
+    {
+        let low = low_of(&self.tables.nets, net);
+        let _ = self.pass(flat, Some(low));
+    }
+
+    /// Settles a phase: starts, and sweeps over all nets until a sweep changes nothing.
+    pub fn settle(&mut self, flat: &Flat, prev: &Valuation, stim: &Valuation)
+        requires flat { IsFlat flat.now }
+        requires fits { Fits flat.now self.old }
+        requires prev { IsValuation (widths_of flat.now.wires) prev.now.values }
+        requires stim { IsValuation (widths_of flat.now.wires) stim.now.values }
+        ensures fits { Fits flat.now self.new }
+        ensures previous { prev_values self.new ≡ prev.now.values }
+        ensures stim { stim_values self.new ≡ stim.now.values }
+        ensures least { IsLeastSettling flat.now (store_of stim.now.values) (store_of prev.now.values) (now_of self.new) }
+    {
+        self.start(flat, prev, stim);
+        'sweeps: while self.pass(flat, None) {}
+    }
+
+    /// The value that a wire has now.
+    pub fn now(&self, wire: usize) -> Four
+        requires { wire < length (now_values self.now) }
+        ensures { result ≡ slice_index_or (now_values self.now) wire [] }
+    {
+        self.env.present[wire]
+    }
+
+    /// Copies the value of every wire.
+    pub fn save(&self, into: &mut Valuation)
+        requires { length into.old.values ≡ length (now_values self.now) }
+        ensures { into.new.values ≡ now_values self.now }
+    {
+        copy_all(&self.env.present, &mut into.values);
+    }
+}
