@@ -1,0 +1,3 @@
+pub mod Readers
+pub mod Sorted
+pub mod Tested

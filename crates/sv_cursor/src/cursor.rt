@@ -1,0 +1,229 @@
+// A cursor over tokens, each of which is sorted once.
+ghost use Rattle.std.specs.Prelude.{◌≡◌, length, IfOk};
+ghost use Rattle.sv_cursor.specs.Parsers as spec;
+ghost use Rattle.sv_cursor.specs.Parsers.{Reads};
+ghost use Rattle.sv_cursor.specs.Tests as test;
+ghost use Rattle.sv_cursor.specs.Sorts.{sort};
+
+use crate::error::ParseErr;
+use crate::sort::{Keyword, Mark, Sort};
+use crate::sorts::sort_of;
+use std::alloc::Global;
+use std::marker::Model;
+use sv_outside::{Name, Place, Token};
+use sv_tree::{SystemName, Word};
+
+/// The tokens that are left, and the sort of the first.
+#[derive(Drop)]
+pub struct Cursor<'a> {
+    rest: &'a [Token],
+    sort: Sort,
+}
+
+impl<'a> Model for Cursor<'a> {
+    ghost use Rattle.std.specs.Prelude.{List, ◌≡◌};
+    ghost use Rattle.std.specs.Coded.{coded_list};
+    ghost use Rattle.sv_outside.specs.declared.text.Token.{Token};
+    ghost use Rattle.sv_cursor.specs.Codes.{token_code};
+    ghost use Rattle.sv_cursor.specs.Tests.{first_sort};
+
+    ghost Value = { List Token };
+
+    ghost coded = { coded_list token_code };
+
+    ghost view = { λ a. a.rest.now };
+
+    ghost invariant = { λ a. a.sort ≡ first_sort a.rest.now };
+}
+
+fn first_sort(rest: &[Token]) -> Sort
+    ensures { result ≡ test.first_sort rest.now }
+{
+    match rest {
+        [] => Sort::Other,
+        [first, ..] => sort_of(first),
+    }
+}
+
+pub fn same_mark(a: Mark, b: Mark) -> bool
+    ensures { result ≡ test.same_mark a b }
+{
+    a == b
+}
+
+pub fn same_keyword(a: Keyword, b: Keyword) -> bool
+    ensures { result ≡ test.same_keyword a b }
+{
+    a == b
+}
+
+fn is_mark(name: Mark, sort: Sort) -> bool
+    ensures { result ≡ test.is_mark name sort }
+{
+    match sort {
+        Sort::Mark(other) => same_mark(other, name),
+        _ => false,
+    }
+}
+
+fn is_keyword(word: Keyword, sort: Sort) -> bool
+    ensures { result ≡ test.is_keyword word sort }
+{
+    match sort {
+        Sort::Keyword(other) => same_keyword(other, word),
+        _ => false,
+    }
+}
+
+impl<'a> Cursor<'a> {
+    pub fn new(rest: &'a [Token]) -> Cursor<'a>
+        ensures { result ≡ rest.now }
+    {
+        Cursor {
+            rest,
+            sort: first_sort(rest),
+        }
+    }
+
+    /// Another cursor at the same place.
+    pub fn copy(&self) -> Cursor<'a>
+        ensures { result ≡ self.now }
+    {
+        Cursor {
+            rest: self.rest,
+            sort: self.sort,
+        }
+    }
+
+    /// How many tokens are left.
+    pub fn left(&self) -> usize
+        ensures { result ≡ length self.now }
+    {
+        self.rest.len()
+    }
+
+    /// The sort of the first token, and `Other` at the end.
+    pub fn sort(&self) -> Sort
+        ensures { result ≡ test.first_sort self.now }
+    {
+        self.sort
+    }
+
+    pub fn skip(&mut self)
+        ensures { self.new ≡ spec.next self.old }
+    {
+        if let [_, rest @ ..] = self.rest {
+            self.rest = rest;
+            self.sort = first_sort(rest);
+        }
+    }
+
+    /// Nothing reads what stands here.
+    pub fn refuse(&self) -> ParseErr
+        ensures { result ≡ ParseErr.Syntax (length self.now) }
+    {
+        ParseErr::Syntax(self.left())
+    }
+
+    /// Nothing reads what stands here, or it lies too deep.
+    pub fn too_deep(&self) -> ParseErr
+        ensures { result ≡ spec.deep_err self.now }
+    {
+        match self.rest {
+            [] => ParseErr::Syntax(0),
+            [_, ..] => ParseErr::TooDeep(self.left(), self.left()),
+        }
+    }
+
+    /// The place of the mark, where it comes next.
+    #[tactic(auto, unfolding(crate::specs::Tests::mark_test))]
+    pub fn peek_mark(&self, name: Mark) -> Option<Place>
+        ensures { result ≡ spec.told (test.mark_test name) self.now }
+    {
+        match self.rest {
+            [first, ..] if is_mark(name, self.sort) => Some(first.place),
+            _ => None,
+        }
+    }
+
+    /// The place of the mark that comes next.
+    #[tactic(auto, unfolding(crate::specs::Parsers::token, crate::specs::Tests::mark_test))]
+    pub fn mark(&mut self, name: Mark) -> Result<Place, ParseErr>
+        ensures { Reads (test.mark name self.old) result self.new }
+    {
+        match self.rest {
+            [first, ..] if is_mark(name, self.sort) => {
+                let place = first.place;
+                self.skip();
+                Ok(place)
+            }
+            _ => Err(self.refuse()),
+        }
+    }
+
+    /// The place of the keyword that comes next.
+    #[tactic(auto, unfolding(crate::specs::Parsers::token, crate::specs::Tests::keyword_test))]
+    pub fn keyword(&mut self, word: Keyword) -> Result<Place, ParseErr>
+        ensures { Reads (test.keyword word self.old) result self.new }
+    {
+        match self.rest {
+            [first, ..] if is_keyword(word, self.sort) => {
+                let place = first.place;
+                self.skip();
+                Ok(place)
+            }
+            _ => Err(self.refuse()),
+        }
+    }
+
+    /// The identifier that comes next.
+    #[tactic(auto, unfolding(crate::specs::Parsers::token, crate::specs::Tests::id_test))]
+    pub fn id(&mut self, alloc: Global) -> Result<Word, ParseErr>
+        ensures { Reads (spec.token test.id_test self.old) result self.new }
+    {
+        match self.rest {
+            [first, ..] if matches!(self.sort, Sort::Id) => {
+                let word = Word {
+                    text: Name::new(alloc, first.text.bytes())?,
+                    place: first.place,
+                };
+                self.skip();
+                Ok(word)
+            }
+            _ => Err(self.refuse()),
+        }
+    }
+
+    /// The literal that comes next.
+    #[tactic(auto, unfolding(crate::specs::Parsers::token, crate::specs::Tests::literal_test))]
+    pub fn literal(&mut self, alloc: Global) -> Result<Word, ParseErr>
+        ensures { Reads (spec.token test.literal_test self.old) result self.new }
+    {
+        match self.rest {
+            [first, ..] if matches!(self.sort, Sort::Literal) => {
+                let word = Word {
+                    text: Name::new(alloc, first.text.bytes())?,
+                    place: first.place,
+                };
+                self.skip();
+                Ok(word)
+            }
+            _ => Err(self.refuse()),
+        }
+    }
+
+    /// The system function whose name comes next, and its place.
+    #[tactic(auto, unfolding(crate::specs::Parsers::token, crate::specs::Tests::system_test))]
+    pub fn system(&mut self) -> Result<(SystemName, Place), ParseErr>
+        ensures { Reads (spec.token test.system_test self.old) result self.new }
+    {
+        match (self.rest, self.sort) {
+            ([first, ..], Sort::System(name)) => {
+                let place = first.place;
+                self.skip();
+                Ok((name, place))
+            }
+            _ => Err(self.refuse()),
+        }
+    }
+}

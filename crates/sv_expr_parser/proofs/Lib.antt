@@ -1,0 +1,9 @@
+pub mod Bounded
+pub mod Climbing
+pub mod Heights
+pub mod Laws
+pub mod Level
+pub mod Parts
+pub mod Primaries
+pub mod Selects
+pub mod Tokens

@@ -1,0 +1,4 @@
+pub mod Answers
+pub mod Nests
+pub mod Reading
+pub mod Signs
