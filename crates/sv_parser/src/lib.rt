@@ -1,0 +1,6 @@
+//! Whole source texts are read: types, parameters, statements, items and modules.
+#![tactic(auto)]
+
+mod openers;
+
+pub use openers::{ItemOpener, PortOpener, StmtOpener, TypeOpener};
