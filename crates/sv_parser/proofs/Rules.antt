@@ -459,18 +459,18 @@ module _ {A : Type 0} (of : Keyword → Option A) (named : A → Keyword) (S : A
   word_spelled x (a ∷ i) o h =
       subst (λ P. P (a ∷ i) o) (sym (texts x)) (some_key (keyword_text (named x)) a.place (a ∷ i) o (key_at_of (named x) a.place (a ∷ i) o (keyword_of_sort (named x) a (sort_so (sort a) x h.0), h.1)))
 
-  pub word_first : (x : A) (i o : List Token) → S x i o → IsFirst (s.Keyword (named x)) i
-  word_first x i o h = first_of_key (named x) i o (subst (λ P. P i o) (texts x) h)
+  pub keyword_first : (x : A) (i o : List Token) → S x i o → IsFirst (s.Keyword (named x)) i
+  keyword_first x i o h = first_of_key (named x) i o (subst (λ P. P i o) (texts x) h)
 
   pub word_told : (x : A) (i o : List Token) → S x i o → told (word_test of) i ≡ Some x
-  word_told x i o h = told_word of i ∙ (ap (word_of of) (word_first x i o h) ∙ is x)
+  word_told x i o h = told_word of i ∙ (ap (word_of of) (keyword_first x i o h) ∙ is x)
 
   word_tells : (x : A) (i o : List Token) → S x i o → Told (word_test of) x i o
   word_tells x [] o h = absurd (subst (λ P. P [] o) (texts x) h)
   word_tells x (a ∷ i) o h = (word_told x (a ∷ i) o h, (subst (λ P. P (a ∷ i) o) (texts x) h).1)
 
-  pub word_begins : (x : A) (i o : List Token) → S x i o → (x : A) × (told (word_test of) i ≡ Some x)
-  word_begins x i o h = (x, word_told x i o h)
+  pub keyword_begins : (x : A) (i o : List Token) → S x i o → (x : A) × (told (word_test of) i ≡ Some x)
+  keyword_begins x i o h = (x, word_told x i o h)
 
   pub word_reads : (Bad : Nesting → Type 0) (depth : ℕ) → IsReader Bad depth S S (one_nest outside) Any (token (word_test of))
   word_reads Bad depth = less_reader Bad depth depth (Told (word_test of)) (Told (word_test of)) S S (one_nest outside) Any Any (token (word_test of))
@@ -480,8 +480,8 @@ module _ {A : Type 0} (of : Keyword → Option A) (named : A → Keyword) (S : A
   word_moved = moved_less (Told (word_test of)) S (one_nest outside) (moved_told outside (word_test of)) word_tells
 
   -- one of several keywords
-  abbrev pub word_rule : (Bad : Nesting → Type 0) (depth : ℕ) → Rule Bad depth A
-  word_rule Bad depth = record { spelled = S; nests = one_nest outside; stops = Any; parser = token (word_test of); reads = word_reads Bad depth; moved = word_moved }
+  abbrev pub keyword_rule : (Bad : Nesting → Type 0) (depth : ℕ) → Rule Bad depth A
+  keyword_rule Bad depth = record { spelled = S; nests = one_nest outside; stops = Any; parser = token (word_test of); reads = word_reads Bad depth; moved = word_moved }
 
 module _ {A : Type 0} (of : MarkName → Option A) (named : A → MarkName) (S : A → Spelled) (is : (x : A) → of (named x) ≡ Some x) (so : (k : MarkName) (x : A) → of k ≡ Some x → k ≡ named x)
     (texts : (x : A) → ◌≡◌ {A = Spelled} (S x) (mark_spelled (mark_text (named x)))) where
@@ -494,18 +494,18 @@ module _ {A : Type 0} (of : MarkName → Option A) (named : A → MarkName) (S :
   sign_spelled x [] o h = absurd h
   sign_spelled x (a ∷ i) o h = subst (λ P. P (a ∷ i) o) (sym (texts x)) (sort_mark a.kind a.text (named x) (sign_so (sort a) x h.0), h.1)
 
-  pub sign_first : (x : A) (i o : List Token) → S x i o → IsFirst (s.Mark (named x)) i
-  sign_first x i o h = first_of_mark (named x) i o (subst (λ P. P i o) (texts x) h)
+  pub marks_first : (x : A) (i o : List Token) → S x i o → IsFirst (s.Mark (named x)) i
+  marks_first x i o h = first_of_mark (named x) i o (subst (λ P. P i o) (texts x) h)
 
   pub sign_told : (x : A) (i o : List Token) → S x i o → told (sign_test of) i ≡ Some x
-  sign_told x i o h = told_sign of i ∙ (ap (sign_of of) (sign_first x i o h) ∙ is x)
+  sign_told x i o h = told_sign of i ∙ (ap (sign_of of) (marks_first x i o h) ∙ is x)
 
   sign_tells : (x : A) (i o : List Token) → S x i o → Told (sign_test of) x i o
   sign_tells x [] o h = absurd (subst (λ P. P [] o) (texts x) h)
   sign_tells x (a ∷ i) o h = (sign_told x (a ∷ i) o h, (subst (λ P. P (a ∷ i) o) (texts x) h).1)
 
-  pub sign_begins : (x : A) (i o : List Token) → S x i o → (x : A) × (told (sign_test of) i ≡ Some x)
-  sign_begins x i o h = (x, sign_told x i o h)
+  pub marks_begins : (x : A) (i o : List Token) → S x i o → (x : A) × (told (sign_test of) i ≡ Some x)
+  marks_begins x i o h = (x, sign_told x i o h)
 
   pub sign_reads : (Bad : Nesting → Type 0) (depth : ℕ) → IsReader Bad depth S S (one_nest outside) Any (token (sign_test of))
   sign_reads Bad depth = less_reader Bad depth depth (Told (sign_test of)) (Told (sign_test of)) S S (one_nest outside) Any Any (token (sign_test of))
@@ -515,8 +515,8 @@ module _ {A : Type 0} (of : MarkName → Option A) (named : A → MarkName) (S :
   sign_moved = moved_less (Told (sign_test of)) S (one_nest outside) (moved_told outside (sign_test of)) sign_tells
 
   -- one of several marks
-  abbrev pub sign_rule : (Bad : Nesting → Type 0) (depth : ℕ) → Rule Bad depth A
-  sign_rule Bad depth = record { spelled = S; nests = one_nest outside; stops = Any; parser = token (sign_test of); reads = sign_reads Bad depth; moved = sign_moved }
+  abbrev pub marks_rule : (Bad : Nesting → Type 0) (depth : ℕ) → Rule Bad depth A
+  marks_rule Bad depth = record { spelled = S; nests = one_nest outside; stops = Any; parser = token (sign_test of); reads = sign_reads Bad depth; moved = sign_moved }
 
 pub name_reads : (Bad : Nesting → Type 0) (depth : ℕ) → IsReader Bad depth name name (one_nest outside) Any (token id_test)
 name_reads Bad depth = less_reader Bad depth depth (Told id_test) (Told id_test) name name (one_nest outside) Any Any (token id_test)

@@ -1,1 +1,3 @@
 pub mod Combined
+pub mod Forms
+pub mod Words

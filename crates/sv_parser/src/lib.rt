@@ -3,4 +3,4 @@
 
 mod openers;
 
-pub use openers::{ItemOpener, PortOpener, StmtOpener, TypeOpener};
+pub use openers::{ItemOpener, ParamOpener, StmtOpener, TypeOpener};

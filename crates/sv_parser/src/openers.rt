@@ -3,18 +3,29 @@
 /// What a token begins of a type.
 #[derive(Clone, Copy, Debug, PartialEq, Eq)]
 pub enum TypeOpener {
-    Vector,
+    /// The word of a vector of bits.
+    Word,
+    /// The sign of a vector of bits with no word.
+    Sign,
+    /// The range of a vector of bits with no word and no sign.
+    Range,
     Integer,
     Struct,
     Enum,
     Name,
 }
 
-/// What a token begins of a port, behind its direction and its net word.
+/// What a token begins of the type of a parameter.
 #[derive(Clone, Copy, Debug, PartialEq, Eq)]
-pub enum PortOpener {
-    Type,
-    Name,
+pub enum ParamOpener {
+    /// The word of a whole number.
+    Whole,
+    /// The word of a vector of bits.
+    Word,
+    /// The sign of a vector of bits with no word.
+    Sign,
+    /// The range of a vector of bits with no word and no sign.
+    Range,
 }
 
 /// What a token begins of a statement.
