@@ -8,6 +8,7 @@ use Rattle.sv_tree.specs.declared.word.Word.{Word}
 use Rattle.sv_tree.specs.Spelling.{Text, Spelled, nothing, never, ◌⨟◌, mark as mark_spelled, mark_at, key, key_at, name, maybe, each, after_commas, commas}
 use Rattle.sv_tree.specs.Nesting.{Nesting, Depths, one, if_given, each_depths, after_commas_depths, commas_depths}
 use Rattle.sv_tree.proofs.Counted.{Counted}
+use Rattle.sv_tree.proofs.MadeStmts.{some}
 use Rattle.sv_cursor.specs.contracts.sort.Keyword as keyword_row
 use Rattle.sv_cursor.specs.declared.sort.Keyword.{Keyword}
 use Rattle.sv_cursor.specs.declared.sort.Mark.{Mark as MarkName}
@@ -20,7 +21,7 @@ use Rattle.sv_cursor.specs.Parsers.{Parser, Outcome, ◌<$>◌, ◌▷◌, ◌�
 use Rattle.sv_cursor.proofs.Readers.{IsReader, IsMoved, BadAt, Meets, Placed, Agrees, Told, one_nest, token_reader, pair_reader, equal_reader, map_reader, nests_reader, less_reader, choose_reader, refuse_reader, pure_reader, maybe_reader, moved_maybe, many_reader, moved_each, moved_told, moved_pair, moved_map, moved_less, then_meets, meets_weaker}
 use Rattle.sv_cursor.proofs.Tested.{mark_here, sort_mark, mark_told, mark_tells, mark_at_of, told_of_mark_at, name_of, told_of_name, keyword_here, key_at_of, told_of_key_at, id_here}
 use Rattle.sv_expr_parser.proofs.Tokens.{outside, Any, placed_mark, some_mark, told_to_mark}
-use Rattle.sv_parser.specs.Combined.{◌▸◌, ◌◂◌, word_of, word_test, sign_of, sign_test, sort_test, listed}
+use Rattle.sv_parser.specs.Combined.{◌▸◌, ◌◂◌, word_of, word_test, sign_of, sign_test, sort_test, listed, some_of}
 
 pub record Rule (Bad : Nesting → Type 0) (depth : ℕ) (A : Type 0) : Type 1 where
   pub spelled : A → Spelled
@@ -580,3 +581,66 @@ module _ {Bad : Nesting → Type 0} {depth : ℕ} {A : Type 0} (r : Rule Bad dep
     reads = listed_reads;
     moved = listed_moved;
   }
+
+pub moved_counted : {A : Type 0} {S : A → Spelled} {nests : A → Depths} → ((x : A) → Counted (S x) (length (nests x))) → IsMoved S nests
+moved_counted c = record { count = λ a i o h. (c a).count i o h; rest = λ a i o h. (c a).rest i o h }
+
+-- a rule by what is proved of it
+abbrev pub rule_of : {A : Type 0} {Bad : Nesting → Type 0} {depth : ℕ} {S : A → Spelled} {nests : A → Depths} {stops : List Token → Type 0} {p : Parser A}
+    → IsReader Bad depth S S nests stops p → ((x : A) → Counted (S x) (length (nests x))) → Rule Bad depth A
+rule_of {S = S} {nests = nests} {stops = stops} {p = p} reads counted = record { spelled = S; nests = nests; stops = stops; parser = p; reads = reads; moved = moved_counted counted }
+
+-- What is read, changed.
+pub tree_reads : {A B : Type 0} {Bad : Nesting → Type 0} {depth : ℕ} (r : Rule Bad depth A) (made : A → B) (S : B → Spelled) (nests : B → Depths) → ((a : A) → r.nests a ≡ nests (made a))
+    → ((a : A) (i o : List Token) → r.spelled a i o → S (made a) i o) → ((b : B) (i o : List Token) → S b i o → (a : A) × (made a ≡ b) × r.spelled a i o) → IsReader Bad depth S S nests r.stops (made <$> r.parser)
+tree_reads {Bad = Bad} {depth = depth} r made S nests nested to from = equal_reader Bad r.nests nests made nested depth r.spelled r.spelled S S r.stops r.parser r.reads to from
+
+-- the same rule before less
+abbrev pub until : {A : Type 0} {Bad : Nesting → Type 0} {depth : ℕ} (Stops : List Token → Type 0) (r : Rule Bad depth A) → ((o : List Token) → Stops o → r.stops o) → Rule Bad depth A
+until {Bad = Bad} {depth = depth} Stops r ends = record {
+  spelled = r.spelled;
+  nests = r.nests;
+  stops = Stops;
+  parser = r.parser;
+  reads = less_reader Bad depth depth r.spelled r.spelled r.spelled r.spelled r.nests r.stops Stops r.parser r.reads (omega arith) (λ a i o h. h) (λ a i o h. h) ends;
+  moved = r.moved;
+}
+
+-- the same rule, whose tokens lie deeper
+abbrev pub deeper : {A : Type 0} {Low Bad : Nesting → Type 0} {depth : ℕ} (inside : Depths → Depths) → ((d : Depths) → length (inside d) ≡ length d)
+    → ((d : Depths) (k : ℕ) → BadAt Low d k → BadAt Bad (inside d) k) → Rule Low depth A → Rule Bad depth A
+deeper {Low = Low} {Bad = Bad} {depth = depth} inside same lifts r = record {
+  spelled = r.spelled;
+  nests = λ a. inside (r.nests a);
+  stops = r.stops;
+  parser = r.parser;
+  reads = nests_reader Low Bad r.nests (λ a. inside (r.nests a)) (λ a. same (r.nests a)) (λ a k h. lifts (r.nests a) k h) depth r.spelled r.spelled r.stops r.parser r.reads;
+  moved = record {
+    count = λ a i o h. r.moved.count a i o h ∙ ap (λ n. n + length o) (sym (same (r.nests a)));
+    rest = λ a i o h. r.moved.rest a i o h ∙ ap (λ n. drop n i) (sym (same (r.nests a)));
+  };
+}
+
+-- ---- parts, one at least
+
+module _ {Bad : Nesting → Type 0} {depth : ℕ} {A C : Type 0} (test : Token → Option C) (r : Rule Bad depth A) (begins : (a : A) (i o : List Token) → r.spelled a i o → (c : C) × (told test i ≡ Some c))
+    (grows : (a : A) (i o : List Token) → r.spelled a i o → 0 < length (r.nests a)) (goes : (c : C) (i : List Token) → told test i ≡ Some c → r.stops i) where
+  next_stops : (all : List A) (t o : List Token) → each r.spelled all t o → r.stops o → r.stops t
+  next_stops [] t o h stops = subst r.stops (sym h) stops
+  next_stops (x ∷ all) t o h stops = let g = begins x t h.0 h.1 in goes g.0 t g.1
+
+  some_from : (b : List A) (i o : List Token) → some r.spelled b i o → (a : A × List A) × (cons a ≡ b) × (r.spelled a.0 ⨟ each r.spelled a.1) i o
+  some_from [] i o h = absurd h
+  some_from (x ∷ all) i o h = ((x, all), refl, h)
+
+  abbrev pair_of_some : Rule Bad depth (A × List A)
+  pair_of_some = seq r (several test r begins grows goes) (λ x all t o h stops. next_stops all t o h stops.1)
+
+  pub some_reads : IsReader Bad depth (some r.spelled) (some r.spelled) (each_depths r.nests) (λ o. (told test o ≡ None) × r.stops o) (some_of test r.parser)
+  some_reads = tree_reads pair_of_some cons (some r.spelled) (each_depths r.nests) (λ a. refl) (λ a i o h. h) some_from
+
+  pub some_moved : IsMoved (some r.spelled) (each_depths r.nests)
+  some_moved = tree_moved pair_of_some cons (some r.spelled) (each_depths r.nests) (λ a. refl) some_from
+
+  abbrev pub some_rule : Rule Bad depth (List A)
+  some_rule = record { spelled = some r.spelled; nests = each_depths r.nests; stops = λ o. (told test o ≡ None) × r.stops o; parser = some_of test r.parser; reads = some_reads; moved = some_moved }

@@ -42,3 +42,7 @@ sort_test of a = of (sort a)
 -- one at least, with commas between them
 abbrev pub listed : {A : Type 0} → Parser A → Parser (List A)
 listed p = cons <$> (p ⊗ many (mark_test m.Comma) (mark m.Comma ▸ p))
+
+-- one at least, as long as something is told of the first token
+abbrev pub some_of : {A C : Type 0} → (Token → Option C) → Parser A → Parser (List A)
+some_of test p = cons <$> (p ⊗ many test p)

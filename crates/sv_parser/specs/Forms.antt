@@ -21,7 +21,7 @@ use Rattle.sv_cursor.specs.Tests.{mark_test, id_test, mark, keyword}
 use Rattle.sv_expr_parser.specs.Reading.{expr}
 use Rattle.sv_parser.specs.declared.openers.TypeOpener.{TypeOpener}
 use Rattle.sv_parser.specs.declared.openers.TypeOpener.TheVariants as type_by
-use Rattle.sv_parser.specs.Combined.{◌▸◌, ◌◂◌, word_test, sort_test, listed}
+use Rattle.sv_parser.specs.Combined.{◌▸◌, ◌◂◌, word_test, sort_test, listed, some_of}
 use Rattle.sv_parser.specs.Words.{sign_by_word, bits_by_word, type_by_sort}
 
 -- an expression
@@ -54,10 +54,6 @@ unfoldable pub enum_label : Parser EnumLabel
 enum_label = made_label <$> (token id_test ⊗ maybe_read (mark_test m.Assign) given)
 
 -- ---- types
-
--- one at least
-abbrev pub some_of : {A C : Type 0} → (Token → Option C) → Parser A → Parser (List A)
-some_of test p = cons <$> (p ⊗ many test p)
 
 abbrev pub made_word_vector : BitsWord × (Option Sign × List Range) → TypeTree
 made_word_vector c = ty.Vector (Some c.0) c.1.0 c.1.1
