@@ -88,16 +88,16 @@ made_named c = ty.Named c.0 c.1
 unfoldable pub named : Parser TypeTree
 named = made_named <$> (token id_test ⊗ ranges)
 
+abbrev pub made_member : TypeTree × List Word → Member
+made_member c = mem.Of c.0 c.1
+
+abbrev pub made_struct : Option Sign × (List Member × List Range) → TypeTree
+made_struct c = ty.Struct c.0 c.1.0 c.1.1
+
 -- A function value reads the types of members.
 module _ (form : Parser TypeTree) where
-  abbrev pub made_member : TypeTree × List Word → Member
-  made_member c = mem.Of c.0 c.1
-
   unfoldable pub member : Parser Member
   member = made_member <$> (form ⊗ (names ◂ mark m.Semicolon))
-
-  abbrev pub made_struct : Option Sign × (List Member × List Range) → TypeTree
-  made_struct c = ty.Struct c.0 c.1.0 c.1.1
 
   unfoldable pub members : Parser (List Member)
   members = some_of (sort_test type_by_sort) member
