@@ -1,3 +1,4 @@
 pub mod Combined
 pub mod Forms
+pub mod Params
 pub mod Words
