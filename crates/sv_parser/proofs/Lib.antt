@@ -1,5 +1,6 @@
 pub mod Limits
 pub mod Params
+pub mod Ports
 pub mod Rules
 pub mod Types
 pub mod Words

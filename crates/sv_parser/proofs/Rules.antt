@@ -18,7 +18,7 @@ use Rattle.sv_cursor.specs.declared.sort.Sort.TheVariants as s
 use Rattle.sv_cursor.specs.Sorts.{sort, mark_text, keyword_text}
 use Rattle.sv_cursor.specs.Tests.{first_sort, same_keyword, is_mark, is_keyword, if_so, mark_test, keyword_test, id_test, mark, keyword}
 use Rattle.sv_cursor.specs.Parsers.{Parser, Outcome, ◌<$>◌, ◌▷◌, ◌⊗◌, pure, refuse, told, token, branch, by_told, maybe_read, cons, many}
-use Rattle.sv_cursor.proofs.Readers.{IsReader, IsMoved, BadAt, Meets, Placed, Agrees, Told, one_nest, token_reader, pair_reader, equal_reader, lift_reader, map_reader, nests_reader, less_reader, choose_reader, refuse_reader, pure_reader, maybe_reader, moved_maybe, many_reader, moved_each, moved_told, moved_pair, moved_map, moved_less, then_meets, meets_weaker}
+use Rattle.sv_cursor.proofs.Readers.{IsReader, IsMoved, BadAt, Meets, Placed, Agrees, Told, one_nest, token_reader, pair_reader, equal_reader, map_reader, nests_reader, less_reader, choose_reader, refuse_reader, pure_reader, maybe_reader, moved_maybe, many_reader, moved_each, moved_told, moved_pair, moved_map, moved_less, then_meets, meets_weaker}
 use Rattle.sv_cursor.proofs.Tested.{mark_here, sort_mark, mark_told, mark_tells, mark_at_of, told_of_mark_at, name_of, told_of_name, keyword_here, key_at_of, told_of_key_at, id_here}
 use Rattle.sv_expr_parser.proofs.Tokens.{outside, Any, placed_mark, some_mark, told_to_mark}
 use Rattle.sv_parser.specs.Combined.{◌▸◌, ◌◂◌, word_of, word_test, sign_of, sign_test, sort_test, listed, some_of}
@@ -645,8 +645,17 @@ module _ {Bad : Nesting → Type 0} {depth : ℕ} {A C : Type 0} (test : Token �
   abbrev pub some_rule : Rule Bad depth (List A)
   some_rule = record { spelled = some r.spelled; nests = each_depths r.nests; stops = λ o. (told test o ≡ None) × r.stops o; parser = some_of test r.parser; reads = some_reads; moved = some_moved }
 
--- What is read, changed, where a token that lies too deep in the parts does so in what is made of them.
-pub lift_reads : {A B : Type 0} {Bad : Nesting → Type 0} {depth : ℕ} (r : Rule Bad depth A) (made : A → B) (S : B → Spelled) (nests : B → Depths) → ((a : A) → length (nests (made a)) ≡ length (r.nests a))
-    → ((a : A) (k : ℕ) → BadAt Bad (r.nests a) k → BadAt Bad (nests (made a)) k)
-    → ((a : A) (i o : List Token) → r.spelled a i o → S (made a) i o) → ((b : B) (i o : List Token) → S b i o → (a : A) × (made a ≡ b) × r.spelled a i o) → IsReader Bad depth S S nests r.stops (made <$> r.parser)
-lift_reads {Bad = Bad} {depth = depth} r made S nests same lifts to from = lift_reader Bad Bad r.nests nests made same lifts depth r.spelled r.spelled S S r.stops r.parser r.reads to from
+-- the same rule, where a token that lies too deep does so by another count
+abbrev pub renested : {A : Type 0} {Low Bad : Nesting → Type 0} {depth : ℕ} (r : Rule Low depth A) (others : A → Depths) → ((a : A) → length (others a) ≡ length (r.nests a))
+    → ((a : A) (k : ℕ) → BadAt Low (r.nests a) k → BadAt Bad (others a) k) → Rule Bad depth A
+renested {Low = Low} {Bad = Bad} {depth = depth} r others same lifts = record {
+  spelled = r.spelled;
+  nests = others;
+  stops = r.stops;
+  parser = r.parser;
+  reads = nests_reader Low Bad r.nests others same lifts depth r.spelled r.spelled r.stops r.parser r.reads;
+  moved = record {
+    count = λ a i o h. r.moved.count a i o h ∙ ap (λ n. n + length o) (sym (same a));
+    rest = λ a i o h. r.moved.rest a i o h ∙ ap (λ n. drop n i) (sym (same a));
+  };
+}

@@ -1,5 +1,5 @@
 -- Ranges, names and types are read as they are spelled.
-use Rattle.std.proofs.Common.{◌≡◌, ℕ, zero, suc, ◌+◌, ◌<◌, ◌≤◌, true, false, ◌⊎◌, inl, inr, List, [], ◌∷◌, ◌++◌, length, Option, Some, None, refl, sym, ◌∙◌, ap, subst, append_assoc, append-nil, length-append, arith}
+use Rattle.std.proofs.Common.{◌≡◌, ℕ, zero, suc, ◌+◌, ◌<◌, ◌≤◌, Bool, true, false, ◌⊎◌, inl, inr, List, [], ◌∷◌, ◌++◌, length, Option, Some, None, refl, sym, ◌∙◌, ap, subst, append_assoc, append-nil, length-append, arith}
 use Rattle.sv_outside.specs.declared.refusal.Place.{Place}
 use Rattle.sv_outside.specs.declared.text.Token.{Token}
 use Rattle.sv_tree.specs.declared.word.Word.{Word}
@@ -38,7 +38,7 @@ use Rattle.sv_expr_parser.proofs.Tokens.{Any, Stops, outside, told_of_mark}
 use Rattle.sv_parser.specs.declared.openers.TypeOpener.{TypeOpener}
 use Rattle.sv_parser.specs.declared.openers.TypeOpener.TheVariants as type_by
 use Rattle.sv_parser.specs.Combined.{word_of, word_test, sort_test}
-use Rattle.sv_parser.specs.Words.{sign_by_word, bits_by_word, type_by_word, type_by_sort}
+use Rattle.sv_parser.specs.Words.{sign_by_word, bits_by_word, type_by_word, type_by_sort, word_type_by_sort}
 use Rattle.sv_parser.specs.Forms.{expression, made_range, range, ranges, given, names, maybe_sign, made_label, enum_label, made_word_vector, word_vector, made_sign_vector, sign_vector, made_range_vector, range_vector, whole, made_enum, enumeration, made_named, named, made_member, member, made_struct, members, structure, type_for, type_level, form, made_typedef, typedef}
 use Rattle.sv_parser.proofs.Rules.{Rule, Fixed, the_mark, the_key, placed, less, before, opening, seq, closing, optional, several, tree_reads, rule_of, until, some_rule, list_rule, name_rule, Way, choose, choose_reads, ReadBy, reader_of, IsFirst, first_of_mark, first_of_mark_at, first_of_key, first_of_name, placed_key, some_key, told_sort, told_word, no_mark, mark_begins, moved_counted}
 use Rattle.sv_parser.proofs.Words.{sign_rule, sign_first, sign_begins, bits_rule, bits_first, sign_word_name, bits_word_name}
@@ -220,6 +220,10 @@ TypeClass type_by.Enum x i o = (c : BitsWord × (Option Sign × (Option Range ×
     × (key (keyword_text k.Enum) ⨟ (bits_key c.0 ⨟ (maybe sign_key c.1.0 ⨟ (maybe SpellsRange c.1.1.0 ⨟ (mark_spelled (mark_text m.LeftBrace) ⨟ (commas SpellsLabel c.1.1.1 ⨟ mark_spelled (mark_text m.RightBrace))))))) i o
 TypeClass type_by.Name x i o = (c : Word × List Range) × (made_named c ≡ x) × (name c.0 ⨟ each SpellsRange c.1) i o
 
+abbrev is_name_type : TypeOpener → Bool
+is_name_type type_by.Name = true
+is_name_type _ = false
+
 abbrev TypeView : TypeTree → Type 0
 TypeView x = (i o : List Token) → SpellsType x i o → (c : TypeOpener) × (told (sort_test type_by_sort) i ≡ Some c) × TypeClass c x i o
 
@@ -261,6 +265,32 @@ named_view w ranges i o h = let g = made.of_named w ranges i o h in (type_by.Nam
 
 type_view : (x : TypeTree) → TypeView x
 type_view = made.by_cases_type TypeView vector_view integer_view struct_view enum_view named_view
+
+-- A type begins with a word or a bracket, or is a name with its ranges.
+pub type_split : (x : TypeTree) (i o : List Token) → SpellsType x i o
+    → ((c : TypeOpener) × (told (sort_test word_type_by_sort) i ≡ Some c)) ⊎ ((c : Word × List Range) × (made_named c ≡ x) × (name c.0 ⨟ each SpellsRange c.1) i o)
+type_split x i o h = let v = type_view x i o h in by_class v.0 v.1 v.2
+  where
+    no_name : (y : Sort) (c : TypeOpener) → is_name_type c ≡ false → type_by_sort y ≡ Some c → word_type_by_sort y ≡ Some c
+    no_name (so.Keyword w) c e h = h
+    no_name (so.Mark w) c e h = h
+    no_name so.Id c e h = let f : type_by.Name ≡ c = cc in let g : true ≡ false = ap is_name_type f ∙ e in absurd (cc)
+    no_name so.Literal c e h = absurd (cc)
+    no_name so.Other c e h = absurd (cc)
+    no_name (so.System f) c e h = absurd (cc)
+
+    other : (c : TypeOpener) → is_name_type c ≡ false → told (sort_test type_by_sort) i ≡ Some c → told (sort_test word_type_by_sort) i ≡ Some c
+    other c e h = told_sort word_type_by_sort i refl ∙ no_name (first_sort i) c e (sym (told_sort type_by_sort i refl) ∙ h)
+
+    by_class : (c : TypeOpener) → told (sort_test type_by_sort) i ≡ Some c → TypeClass c x i o
+        → ((c : TypeOpener) × (told (sort_test word_type_by_sort) i ≡ Some c)) ⊎ ((c : Word × List Range) × (made_named c ≡ x) × (name c.0 ⨟ each SpellsRange c.1) i o)
+    by_class type_by.Word e h = inl (type_by.Word, other type_by.Word refl e)
+    by_class type_by.Sign e h = inl (type_by.Sign, other type_by.Sign refl e)
+    by_class type_by.Range e h = inl (type_by.Range, other type_by.Range refl e)
+    by_class type_by.Integer e h = inl (type_by.Integer, other type_by.Integer refl e)
+    by_class type_by.Struct e h = inl (type_by.Struct, other type_by.Struct refl e)
+    by_class type_by.Enum e h = inl (type_by.Enum, other type_by.Enum refl e)
+    by_class type_by.Name e h = inr h
 
 -- the first token of a type
 pub type_begins : (x : TypeTree) (i o : List Token) → SpellsType x i o → (c : TypeOpener) × (told (sort_test type_by_sort) i ≡ Some c)

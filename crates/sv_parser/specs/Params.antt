@@ -18,12 +18,12 @@ use Rattle.sv_tree.specs.declared.design.Way.{Way}
 use Rattle.sv_tree.specs.declared.design.NetWord.{NetWord}
 use Rattle.sv_tree.specs.declared.design.Port.{Port}
 use Rattle.sv_cursor.specs.declared.sort.Mark.TheVariants as m
-use Rattle.sv_cursor.specs.Parsers.{Parser, ◌<$>◌, ◌▷◌, ◌⊗◌, refuse, token, by_told, maybe_read}
+use Rattle.sv_cursor.specs.Parsers.{Parser, ◌<$>◌, ◌⊗◌, refuse, token, by_told, maybe_read}
 use Rattle.sv_cursor.specs.Tests.{mark_test, id_test, mark}
 use Rattle.sv_parser.specs.declared.openers.ParamOpener.{ParamOpener}
 use Rattle.sv_parser.specs.declared.openers.ParamOpener.TheVariants as param_by
 use Rattle.sv_parser.specs.Combined.{◌▸◌, ◌◂◌, word_test, sort_test, listed}
-use Rattle.sv_parser.specs.Words.{sign_by_word, whole_by_word, param_bits_by_word, param_by_word, way_by_word, net_by_word, param_type_by_sort, word_type_by_sort}
+use Rattle.sv_parser.specs.Words.{sign_by_word, whole_by_word, param_bits_by_word, param_by_word, way_by_word, net_by_word, param_type_by_sort, word_type_by_sort, behind_by_sort}
 use Rattle.sv_parser.specs.Forms.{range, ranges, given, maybe_sign, form}
 
 -- ---- types of parameters
@@ -96,18 +96,22 @@ TypedName = Option TypeTree × Word
 abbrev pub made_typed : TypeTree × Word → TypedName
 made_typed c = (Some c.0, c.1)
 
--- A name, ranges, and a name: the first is the type's, where there are two.
-abbrev pub made_untyped : Word × (List Range × Option Word) → TypedName
-made_untyped (w, (all, None)) = (None, w)
-made_untyped (w, (all, Some n)) = (Some (ty.Named w all), n)
+-- A name, and where ranges or a name follow, these: then the first name is the type's.
+abbrev pub made_untyped : Word × Option (List Range × Word) → TypedName
+made_untyped (w, None) = (None, w)
+made_untyped (w, Some c) = (Some (ty.Named w c.0), c.1)
 
--- behind ranges a name follows
-abbrev pub name_behind : List Range → Parser (Option Word)
-name_behind [] = maybe_read id_test (token id_test)
-name_behind (r ∷ all) = Some <$> token id_test
+unfoldable pub behind_type : Parser (List Range × Word)
+behind_type = ranges ⊗ token id_test
+
+unfoldable pub untyped : Parser TypedName
+untyped = made_untyped <$> (token id_test ⊗ maybe_read (sort_test behind_by_sort) behind_type)
+
+unfoldable pub typed : Parser TypedName
+typed = made_typed <$> (form 201 ⊗ token id_test)
 
 unfoldable pub typed_name : Parser TypedName
-typed_name = by_told (sort_test word_type_by_sort) (λ _. made_typed <$> (form 201 ⊗ token id_test)) (made_untyped <$> (token id_test ⊗ (ranges ▷ name_behind)))
+typed_name = by_told (sort_test word_type_by_sort) (λ _. typed) untyped
 
 -- ---- ports
 

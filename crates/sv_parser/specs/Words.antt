@@ -131,6 +131,12 @@ word_type_by_sort (s.Keyword word) = type_by_word word
 word_type_by_sort (s.Mark name) = type_by_mark name
 word_type_by_sort _ = None
 
+-- what goes on behind a name that is a type's
+abbrev pub behind_by_sort : Sort → Option TypeOpener
+behind_by_sort (s.Mark name) = type_by_mark name
+behind_by_sort s.Id = Some type_by.Name
+behind_by_sort _ = None
+
 abbrev pub param_type_by_word : Keyword → Option ParamOpener
 param_type_by_word key.Int = Some param_by.Whole
 param_type_by_word key.Integer = Some param_by.Whole
