@@ -2,5 +2,7 @@ pub mod Limits
 pub mod Params
 pub mod Ports
 pub mod Rules
+pub mod Same
+pub mod Targets
 pub mod Types
 pub mod Words

@@ -34,6 +34,10 @@ use Rattle.sv_parser.specs.declared.openers.TypeOpener.{TypeOpener}
 use Rattle.sv_parser.specs.declared.openers.TypeOpener.TheVariants as type_by
 use Rattle.sv_parser.specs.declared.openers.ParamOpener.{ParamOpener}
 use Rattle.sv_parser.specs.declared.openers.ParamOpener.TheVariants as param_by
+use Rattle.sv_parser.specs.declared.openers.TargetOpener.{TargetOpener}
+use Rattle.sv_parser.specs.declared.openers.TargetOpener.TheVariants as target_by
+use Rattle.sv_parser.specs.declared.openers.StepOpener.{StepOpener}
+use Rattle.sv_parser.specs.declared.openers.StepOpener.TheVariants as step_by
 use Rattle.sv_parser.specs.declared.openers.StmtOpener.{StmtOpener}
 use Rattle.sv_parser.specs.declared.openers.StmtOpener.TheVariants as stmt_by
 use Rattle.sv_parser.specs.declared.openers.ItemOpener.{ItemOpener}
@@ -155,6 +159,25 @@ abbrev pub param_type_by_sort : Sort → Option ParamOpener
 param_type_by_sort (s.Keyword word) = param_type_by_word word
 param_type_by_sort (s.Mark name) = param_type_by_mark name
 param_type_by_sort _ = None
+
+abbrev pub target_by_mark : MarkName → Option TargetOpener
+target_by_mark m.LeftBrace = Some target_by.Brace
+target_by_mark _ = None
+
+abbrev pub target_by_sort : Sort → Option TargetOpener
+target_by_sort (s.Mark name) = target_by_mark name
+target_by_sort s.Id = Some target_by.Name
+target_by_sort _ = None
+
+abbrev pub step_opener_by_mark : MarkName → Option StepOpener
+step_opener_by_mark m.Increment = Some step_by.Mark
+step_opener_by_mark m.Decrement = Some step_by.Mark
+step_opener_by_mark _ = None
+
+abbrev pub step_opener_by_sort : Sort → Option StepOpener
+step_opener_by_sort (s.Mark name) = step_opener_by_mark name
+step_opener_by_sort s.Id = Some step_by.Name
+step_opener_by_sort _ = None
 
 abbrev pub stmt_by_word : Keyword → Option StmtOpener
 stmt_by_word key.Begin = Some stmt_by.Block

@@ -2,5 +2,9 @@
 #![tactic(auto)]
 
 mod openers;
+mod tails;
 
-pub use openers::{ItemOpener, ParamOpener, StmtOpener, TypeOpener};
+pub use openers::{
+    ItemOpener, ParamOpener, StepOpener, StmtOpener, TargetOpener, TypeOpener,
+};
+pub use tails::StepTail;

@@ -28,6 +28,21 @@ pub enum ParamOpener {
     Range,
 }
 
+/// What a token begins of a target.
+#[derive(Clone, Copy, Debug, PartialEq, Eq)]
+pub enum TargetOpener {
+    Name,
+    Brace,
+}
+
+/// What a token begins of the step of a loop.
+#[derive(Clone, Copy, Debug, PartialEq, Eq)]
+pub enum StepOpener {
+    /// `++` or `--`
+    Mark,
+    Name,
+}
+
 /// What a token begins of a statement.
 #[derive(Clone, Copy, Debug, PartialEq, Eq)]
 pub enum StmtOpener {
