@@ -3,6 +3,7 @@ pub mod Params
 pub mod Ports
 pub mod Rules
 pub mod Same
+pub mod Steps
 pub mod Targets
 pub mod Types
 pub mod Words
