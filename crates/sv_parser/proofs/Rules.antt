@@ -659,3 +659,16 @@ renested {Low = Low} {Bad = Bad} {depth = depth} r others same lifts = record {
     rest = λ a i o h. r.moved.rest a i o h ∙ ap (λ n. drop n i) (sym (same a));
   };
 }
+
+-- One after the other, where the first holds a token: so one token more is said than of the second.
+abbrev pub seq_up : {A B : Type 0} {Bad : Nesting → Type 0} {depth : ℕ} (a : Rule Bad (suc depth) A) (b : Rule Bad depth B) → ((x : A) (y : B) (t o : List Token) → b.spelled y t o → b.stops o → a.stops t)
+    → ((x : A) (i o : List Token) → a.spelled x i o → 0 < length (a.nests x)) → Rule Bad (suc depth) (A × B)
+seq_up {Bad = Bad} {depth = depth} a b ends grows = record {
+  spelled = λ c. a.spelled c.0 ⨟ b.spelled c.1;
+  nests = λ c. a.nests c.0 ++ b.nests c.1;
+  stops = b.stops;
+  parser = a.parser ⊗ b.parser;
+  reads = pair_reader Bad (suc depth) depth (suc depth) a.spelled a.nests a.stops a.parser (λ _. b.spelled) b.nests b.stops (λ _. b.parser) a.moved a.reads (λ _. b.reads) ends (omega arith)
+      (λ x i o h. omega (arith, grows x i o h));
+  moved = moved_pair a.spelled a.nests (λ _. b.spelled) b.nests a.moved (λ _. b.moved);
+}

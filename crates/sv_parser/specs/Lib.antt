@@ -1,5 +1,6 @@
 pub mod Combined
 pub mod Forms
 pub mod Params
+pub mod Stmts
 pub mod Targets
 pub mod Words

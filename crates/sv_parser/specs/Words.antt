@@ -24,6 +24,8 @@ use Rattle.sv_tree.specs.declared.stmts.StepMark.{StepMark}
 use Rattle.sv_tree.specs.declared.stmts.StepMark.TheVariants as step_mark
 use Rattle.sv_tree.specs.declared.stmts.StepSign.{StepSign}
 use Rattle.sv_tree.specs.declared.stmts.StepSign.TheVariants as step_sign
+use Rattle.sv_tree.specs.declared.stmts.AssignMark.{AssignMark}
+use Rattle.sv_tree.specs.declared.stmts.AssignMark.TheVariants as assign_mark
 use Rattle.sv_tree.specs.declared.stmts.Uniq.{Uniq}
 use Rattle.sv_tree.specs.declared.stmts.Uniq.TheVariants as uniq
 use Rattle.sv_tree.specs.declared.stmts.CaseWord.{CaseWord}
@@ -106,6 +108,11 @@ step_sign_by_mark m.Assign = Some step_sign.Set
 step_sign_by_mark m.PlusAssign = Some step_sign.Add
 step_sign_by_mark m.MinusAssign = Some step_sign.Sub
 step_sign_by_mark _ = None
+
+abbrev pub assign_by_mark : MarkName → Option AssignMark
+assign_by_mark m.Assign = Some assign_mark.Blocking
+assign_by_mark m.LessEqual = Some assign_mark.Nonblocking
+assign_by_mark _ = None
 
 -- ---- what begins a part
 

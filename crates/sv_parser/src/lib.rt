@@ -7,4 +7,4 @@ mod tails;
 pub use openers::{
     ItemOpener, ParamOpener, StepOpener, StmtOpener, TargetOpener, TypeOpener,
 };
-pub use tails::StepTail;
+pub use tails::{BranchTail, StepTail};
