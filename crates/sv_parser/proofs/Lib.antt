@@ -1,3 +1,4 @@
+pub mod Begins
 pub mod Limits
 pub mod Params
 pub mod Ports
