@@ -1,3 +1,4 @@
+pub mod Arms
 pub mod Begins
 pub mod Limits
 pub mod Params
