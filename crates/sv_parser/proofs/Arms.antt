@@ -275,3 +275,90 @@ module _ (s g t d : ℕ) (le : d ≤ 201) (f : Parser Stmt) (reads : IsReader (O
 
   abbrev arms_tuple : Rule (Over s g t) d (List Arm × Option (Arm × List Arm))
   arms_tuple = seq_by (all_labelled_rule s g t d le f reads) Behind behind_nests ArmsEnd (behind_labelled f) behind_reads behind_moved behind_stops
+
+-- ---- arms with one default at most
+
+-- whole arms, one at least, of which one is a default at most
+abbrev pub DoneArms : List Arm → Spelled
+DoneArms all = when (default_count all ≤ 1) (some DoneArm all)
+
+each_nests : (a b : List Arm) → each_depths arm_depths (a ++ b) ≡ each_depths arm_depths a ++ each_depths arm_depths b
+each_nests [] b = refl
+each_nests (x ∷ a) b = ap (λ l. arm_depths x ++ l) (each_nests a b) ∙ sym (append_assoc (arm_depths x) (each_depths arm_depths a) (each_depths arm_depths b))
+
+arms_nested : (c : List Arm × Option (Arm × List Arm)) → each_depths arm_depths c.0 ++ behind_nests c.1 ≡ each_depths arm_depths (made_arms c)
+arms_nested (a, None) = append-nil (each_depths arm_depths a)
+arms_nested (a, Some c) = sym (each_nests a (c.0 ∷ c.1))
+
+-- labelled arms, and what stands behind them
+labelled_front : (a b : List Arm) (i t o : List Token) → each (ArmOf false) a i t → each DoneArm b t o → each DoneArm (a ++ b) i o
+labelled_front [] b i t o h g = subst (λ i. each DoneArm b i o) (sym h) g
+labelled_front (x ∷ a) b i t o h g = (h.0, h.1.1, labelled_front a b h.0 t o h.2 g)
+
+labelled_count : (a b : List Arm) (i t : List Token) → each (ArmOf false) a i t → default_count (a ++ b) ≡ default_count b
+labelled_count [] b i t h = refl
+labelled_count (x ∷ a) b i t h = ap (λ kind. count_default kind (default_count (a ++ b))) h.1.0 ∙ labelled_count a b h.0 t h.2
+
+labelled_all : (a : List Arm) (i o : List Token) → each (ArmOf false) a i o → each DoneArm a i o × (default_count a ≡ 0)
+labelled_all [] i o h = (h, refl)
+labelled_all (x ∷ a) i o h = let g = labelled_all a h.0 o h.2 in ((h.0, h.1.1, g.0), ap (λ kind. count_default kind (default_count a)) h.1.0 ∙ g.1)
+
+some_each : (a : List Arm) (x : Arm) (b : List Arm) (i o : List Token) → each DoneArm (a ++ (x ∷ b)) i o → some DoneArm (a ++ (x ∷ b)) i o
+some_each [] x b i o h = h
+some_each (y ∷ a) x b i o h = h
+
+arms_to : (c : List Arm × Option (Arm × List Arm)) (i o : List Token) → (each (ArmOf false) c.0 ⨟ Behind c.0 c.1) i o → DoneArms (made_arms c) i o
+arms_to ([], None) i o h = absurd h.2
+arms_to (x ∷ a, None) i o h =
+    let g = labelled_all (x ∷ a) i h.0 h.1 in (omega (arith, g.1), subst (λ t. some DoneArm (x ∷ a) i t) h.2 g.0)
+arms_to (a, Some c) i o h =
+    let g = labelled_all c.1 h.2.0 o h.2.2 in
+    let e : default_count (a ++ (c.0 ∷ c.1)) ≡ 1 = labelled_count a (c.0 ∷ c.1) i h.0 h.1 ∙ (ap (λ kind. count_default kind (default_count c.1)) h.2.1.0 ∙ ap (λ n. n + 1) g.1) in
+    (omega (arith, e), some_each a c.0 c.1 i o (labelled_front a (c.0 ∷ c.1) i h.0 o h.1 (h.2.0, h.2.1.1, g.0)))
+
+abbrev Parted : List Arm → Spelled
+Parted all i o = (c : List Arm × Option (Arm × List Arm)) × (made_arms c ≡ all) × (each (ArmOf false) c.0 ⨟ maybe (λ c. ArmOf true c.0 ⨟ each (ArmOf false) c.1) c.1) i o
+
+none_left : (all : List Arm) (i o : List Token) → default_count all ≤ 0 → each DoneArm all i o → each (ArmOf false) all i o
+none_left [] i o le h = h
+none_left (x ∷ all) i o le h = by_kind (is_default x) refl (λ le. none_left all h.0 o le h.2)
+  where
+    by_kind : (kind : Bool) → is_default x ≡ kind → (default_count all ≤ 0 → each (ArmOf false) all h.0 o) → each (ArmOf false) (x ∷ all) i o
+    by_kind true e later = let g : default_count (x ∷ all) ≡ default_count all + 1 = ap (λ kind. count_default kind (default_count all)) e in absurd (omega arith)
+    by_kind false e later = let g : default_count (x ∷ all) ≡ default_count all = ap (λ kind. count_default kind (default_count all)) e in (h.0, (e, h.1), later (omega arith))
+
+more_made : (x : Arm) (c : List Arm × Option (Arm × List Arm)) → made_arms (x ∷ c.0, c.1) ≡ x ∷ made_arms c
+more_made x (a, None) = refl
+more_made x (a, Some c) = refl
+
+parted : (all : List Arm) (i o : List Token) → default_count all ≤ 1 → each DoneArm all i o → Parted all i o
+parted [] i o le h = (([], None), refl, (i, refl, h))
+parted (x ∷ all) i o le h = by_kind (is_default x) refl (λ le. parted all h.0 o le h.2)
+  where
+    by_kind : (kind : Bool) → is_default x ≡ kind → (default_count all ≤ 1 → Parted all h.0 o) → Parted (x ∷ all) i o
+    by_kind true e later =
+        let g : default_count (x ∷ all) ≡ default_count all + 1 = ap (λ kind. count_default kind (default_count all)) e in
+        (([], Some (x, all)), refl, (i, refl, (h.0, (e, h.1), none_left all h.0 o (omega arith) h.2)))
+    by_kind false e later =
+        let g : default_count (x ∷ all) ≡ default_count all = ap (λ kind. count_default kind (default_count all)) e in
+        let c = later (omega arith) in ((x ∷ c.0.0, c.0.1), more_made x c.0 ∙ ap (λ l. x ∷ l) c.1, (c.2.0, (h.0, (e, h.1), c.2.1), c.2.2))
+
+behind_of : (x : Arm) (all a : List Arm) (q : Option (Arm × List Arm)) (i o : List Token) → made_arms (a, q) ≡ x ∷ all → maybe (λ c. ArmOf true c.0 ⨟ each (ArmOf false) c.1) q i o → Behind a q i o
+behind_of x all a (Some c) i o e h = h
+behind_of x all [] None i o e h = absurd (cc)
+behind_of x all (y ∷ a) None i o e h = h
+
+arms_from : (all : List Arm) (i o : List Token) → DoneArms all i o → (c : List Arm × Option (Arm × List Arm)) × (made_arms c ≡ all) × (each (ArmOf false) c.0 ⨟ Behind c.0 c.1) i o
+arms_from [] i o h = absurd h.1
+arms_from (x ∷ all) i o h = let c = parted (x ∷ all) i o h.0 h.1 in (c.0, c.1, (c.2.0, c.2.1, behind_of x all c.0.0 c.0.1 c.2.0 o c.1 c.2.2))
+
+module _ (s g t d : ℕ) (le : d ≤ 201) (f : Parser Stmt) (reads : IsReader (Over s g t) d DoneStmt DoneStmt stmt_depths NoColon f) where
+  pub arms_reads : IsReader (Over s g t) d DoneArms DoneArms (each_depths arm_depths) ArmsEnd (arms f)
+  unfolding arms
+  arms_reads = tree_reads (arms_tuple s g t d le f reads) made_arms DoneArms (each_depths arm_depths) arms_nested arms_to arms_from
+
+  pub arms_moved : IsMoved DoneArms (each_depths arm_depths)
+  arms_moved = tree_moved (arms_tuple s g t d le f reads) made_arms DoneArms (each_depths arm_depths) arms_nested arms_from
+
+  abbrev pub arms_rule : Rule (Over s g t) d (List Arm)
+  arms_rule = record { spelled = DoneArms; nests = each_depths arm_depths; stops = ArmsEnd; parser = arms f; reads = arms_reads; moved = arms_moved }
