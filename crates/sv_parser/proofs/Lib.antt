@@ -6,6 +6,7 @@ pub mod Ports
 pub mod Rules
 pub mod Same
 pub mod Steps
+pub mod StmtLevel
 pub mod Stmts
 pub mod Targets
 pub mod Types

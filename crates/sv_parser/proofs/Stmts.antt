@@ -77,7 +77,7 @@ assign_sort : (y : Sort) (x : AssignMark) → sign_of assign_by_mark y ≡ Some 
 assign_sort (so.Mark k) x h = ap so.Mark (assign_so k x h)
 assign_sort _ x h = absurd (cc)
 
-abbrev AssignSpelled : AssignMark × Place → Spelled
+abbrev pub AssignSpelled : AssignMark × Place → Spelled
 AssignSpelled c = mark_at (assign_text c.0) c.1
 
 with_some : {A : Type 0} (q : Option A) (p : Place) (c : A × Place) → with_place q p ≡ Some c → (q ≡ Some c.0) × (p ≡ c.1)
@@ -97,14 +97,14 @@ told_of_assign c [] o h = absurd h
 told_of_assign c (a ∷ i) o h =
     (ap (λ y. with_place (sign_of assign_by_mark y) a.place) (mark_here a (assign_name c.0) h.0.0 (h.0.1 ∙ assign_texts c.0)) ∙ (ap (λ q. with_place q a.place) (assign_is c.0) ∙ ap (λ p. Some (c.0, p)) h.0.2), h.1)
 
-assign_mark_reads : (Bad : Nesting → Type 0) (depth : ℕ) → IsReader Bad depth AssignSpelled AssignSpelled (one_nest outside) Any (token assign_test)
+pub assign_mark_reads : (Bad : Nesting → Type 0) (depth : ℕ) → IsReader Bad depth AssignSpelled AssignSpelled (one_nest outside) Any (token assign_test)
 assign_mark_reads Bad depth = less_reader Bad depth depth (Told assign_test) (Told assign_test) AssignSpelled AssignSpelled (one_nest outside) Any Any (token assign_test)
     (token_reader Bad depth outside assign_test Any) (omega arith) assign_of told_of_assign (λ o h. h)
 
-abbrev assign_mark_rule : (Bad : Nesting → Type 0) (depth : ℕ) → Rule Bad depth (AssignMark × Place)
+abbrev pub assign_mark_rule : (Bad : Nesting → Type 0) (depth : ℕ) → Rule Bad depth (AssignMark × Place)
 assign_mark_rule Bad depth = rule_of (assign_mark_reads Bad depth) (λ c. counted_token _)
 
-assign_no_select : (c : AssignMark × Place) (i o : List Token) → AssignSpelled c i o → NoSelect i
+pub assign_no_select : (c : AssignMark × Place) (i o : List Token) → AssignSpelled c i o → NoSelect i
 assign_no_select (x, p) [] o h = absurd h
 assign_no_select (x, p) (a ∷ i) o h = no_select (so.Mark (assign_name x)) (a ∷ i) (mark_here a (assign_name x) h.0.0 (h.0.1 ∙ assign_texts x)) (by_mark x)
   where
@@ -114,14 +114,14 @@ assign_no_select (x, p) (a ∷ i) o h = no_select (so.Mark (assign_name x)) (a �
 
 -- ---- what stands where a statement ends
 
-key_no_colon : (w : Keyword) (i o : List Token) → key (keyword_text w) i o → NoColon i
+pub key_no_colon : (w : Keyword) (i o : List Token) → key (keyword_text w) i o → NoColon i
 key_no_colon w i o h = no_mark m.Colon (so.Keyword w) i refl (first_of_key w i o h)
 
-end_no_else : (i o : List Token) → key (keyword_text k.End) i o → NoElse i
+pub end_no_else : (i o : List Token) → key (keyword_text k.End) i o → NoElse i
 unfolding same_keyword
 end_no_else i o h = no_key k.Else (so.Keyword k.End) i refl (first_of_key k.End i o h)
 
-endcase_no_else : (i o : List Token) → key (keyword_text k.Endcase) i o → NoElse i
+pub endcase_no_else : (i o : List Token) → key (keyword_text k.Endcase) i o → NoElse i
 unfolding same_keyword
 endcase_no_else i o h = no_key k.Else (so.Keyword k.Endcase) i refl (first_of_key k.Endcase i o h)
 
@@ -146,7 +146,7 @@ each_arm_done [] i o h none = h
 each_arm_done (x ∷ []) i o h none = (h.0, (h.1, inr (subst NoElse (sym h.2) none)), h.2)
 each_arm_done (x ∷ y ∷ all) i o h none = (h.0, (h.1, inr (arm_no_else y h.0 h.2.0 h.2.1)), each_arm_done (y ∷ all) h.0 o h.2 none)
 
-some_arm_done : (all : List Arm) (i o : List Token) → some SpellsArm all i o → NoElse o → some DoneArm all i o
+pub some_arm_done : (all : List Arm) (i o : List Token) → some SpellsArm all i o → NoElse o → some DoneArm all i o
 some_arm_done [] i o h none = h
 some_arm_done (x ∷ all) i o h none = each_arm_done (x ∷ all) i o h none
 
@@ -154,11 +154,11 @@ each_arm : (all : List Arm) (i o : List Token) → each DoneArm all i o → each
 each_arm [] i o h = h
 each_arm (x ∷ all) i o h = (h.0, h.1.0, each_arm all h.0 o h.2)
 
-some_arm : (all : List Arm) (i o : List Token) → some DoneArm all i o → some SpellsArm all i o
+pub some_arm : (all : List Arm) (i o : List Token) → some DoneArm all i o → some SpellsArm all i o
 some_arm [] i o h = h
 some_arm (x ∷ all) i o h = each_arm (x ∷ all) i o h
 
-stmt_grows : (x : Stmt) → 0 < length (stmt_depths x)
+pub stmt_grows : (x : Stmt) → 0 < length (stmt_depths x)
 stmt_grows = made.by_cases_stmt (λ x. 0 < length (stmt_depths x))
     (subst (λ l. 0 < length l) (sym made.nests_empty) (simp length_in_stmt (omega arith)))
     (λ p b all e. subst (λ l. 0 < length l) (sym (made.nests_block p b all e)) (simp (length_in_stmt, length-append) (omega arith)))
