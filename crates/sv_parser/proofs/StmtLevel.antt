@@ -36,7 +36,7 @@ use Rattle.sv_cursor.specs.Parsers.{Parser, told, token}
 use Rattle.sv_cursor.proofs.Readers.{IsReader, IsMoved, BadAt, Told, one_nest, token_reader, less_reader, deep_reader}
 use Rattle.sv_cursor.proofs.Tested.{mark_here, sort_mark}
 use Rattle.sv_expr_parser.specs.Signs.{opener, opener_test}
-use Rattle.sv_expr_parser.proofs.Tokens.{Any, Stops, outside}
+use Rattle.sv_expr_parser.proofs.Tokens.{Any, Stops, outside, placed_mark, some_mark}
 use Rattle.sv_parser.specs.declared.tails.BranchTail.{BranchTail}
 use Rattle.sv_parser.specs.declared.tails.BranchTail.TheVariants as branch_tail
 use Rattle.sv_parser.specs.declared.openers.StmtOpener.{StmtOpener}
@@ -45,7 +45,7 @@ use Rattle.sv_parser.specs.Combined.{word_of, word_test, sign_of, sort_test}
 use Rattle.sv_parser.specs.Words.{uniq_by_word, assign_by_mark, stmt_by_sort}
 use Rattle.sv_parser.specs.Targets.{end_label, step}
 use Rattle.sv_parser.specs.Stmts.{with_place, assign_test, made_assign, assign, empty, made_block, made_if, made_case, made_branch, Turns, made_for, turns, stmts, block_rest, block, maybe_else, conditional, choice, branched, branch, loop, stmt_for, stmt_level, stmt}
-use Rattle.sv_parser.proofs.Rules.{Rule, the_mark, the_key, placed, before, opening, seq, seq_by, seq_up, closing, optional, several, Shut, shut, tree_reads, rule_of, Way, choose_reads, fork_reads, fork_moved, ReadBy, reader_of, name_rule, moved_counted, key_begins, IsFirst, first_of_mark, first_of_key, first_of_key_at, told_sort, told_word, no_mark, no_key}
+use Rattle.sv_parser.proofs.Rules.{Rule, Fixed, the_mark, the_key, placed, before, opening, seq, seq_by, seq_up, closing, optional, several, Shut, shut, tree_reads, rule_of, Way, choose_reads, fork_reads, fork_moved, ReadBy, reader_of, name_rule, moved_counted, key_begins, IsFirst, first_of_mark, first_of_key, first_of_key_at, told_sort, told_word, no_mark, no_key}
 use Rattle.sv_parser.proofs.Words.{whole_rule, uniq_rule, uniq_begins, case_rule, case_first, case_word_name}
 use Rattle.sv_parser.proofs.Limits.{Over, expression_rule, end_mark, stated}
 use Rattle.sv_parser.proofs.Targets.{NoSelect, no_select, lvalue_rule}
@@ -199,3 +199,203 @@ loop_from p form v start test next body i o h =
     let a = b.2.2.2.2.2.2 in
     (g.0, g.1, (g.2.0, g.2.1, (g.2.2.0, g.2.2.1, (g.2.2.2.0, g.2.2.2.1, (b.0, b.1, (b.2.0, b.2.1, (b.2.2.0, b.2.2.1, (b.2.2.2.0, b.2.2.2.1, (b.2.2.2.2.0, b.2.2.2.2.1, (b.2.2.2.2.2.0, b.2.2.2.2.2.1,
     (a.0, a.1, (a.2, subst (λ q. Closed q o) (made.closed_for p form v start test next body) h.1))))))))))))
+
+assign_to : (c : Lvalue × ((AssignMark × Place) × Expr)) (i o : List Token) → (SpellsLvalue c.0 ⨟ (AssignSpelled c.1.0 ⨟ (Spells 0 c.1.1 ⨟ mark_spelled (mark_text m.Semicolon)))) i o → DoneStmt (made_assign c) i o
+unfolding mark_text
+assign_to c i o h = (made.to_assign c.0 c.1.0.0 c.1.0.1 c.1.1 i o h, inl refl)
+
+assign_from : (to : Lvalue) (mk : AssignMark) (p : Place) (x : Expr) (i o : List Token) → DoneStmt (st.Assign to mk p x) i o
+    → (SpellsLvalue to ⨟ (AssignSpelled (mk, p) ⨟ (Spells 0 x ⨟ mark_spelled (mark_text m.Semicolon)))) i o
+unfolding mark_text
+assign_from to mk p x i o h = made.of_assign to mk p x i o h.0
+
+empty_to : (p : Place) (i o : List Token) → mark_at (mark_text m.Semicolon) p i o → DoneStmt st.Empty i o
+unfolding mark_text
+empty_to p i o h = (made.to_empty i o (some_mark (mark_text m.Semicolon) p i o h), inl refl)
+
+empty_from : (i o : List Token) → DoneStmt st.Empty i o → (p : Place) × mark_at (mark_text m.Semicolon) p i o
+unfolding mark_text
+empty_from i o h = placed_mark (mark_text m.Semicolon) i o (made.of_empty i o h.0)
+
+first_no_colon : (all : List Stmt) (i t o : List Token) → each DoneStmt all i t → key (keyword_text k.End) t o → NoColon i
+first_no_colon [] i t o h e = subst NoColon (sym h) (key_no_colon k.End t o e)
+first_no_colon (x ∷ all) i t o h e = stmt_no_colon x i h.0 h.1.0
+
+end_no_stmt : (i o : List Token) → key (keyword_text k.End) i o → (told (sort_test stmt_by_sort) i ≡ None) × NoColon i
+end_no_stmt i o h = (told_sort stmt_by_sort i refl ∙ ap stmt_by_sort (first_of_key k.End i o h), key_no_colon k.End i o h)
+
+abbrev pub IsStmts : (s g t : ℕ) → Parser Stmt → Type 0
+IsStmts s g t f = IsReader (Over s g t) s DoneStmt DoneStmt stmt_depths NoColon f
+
+-- The statements in a statement are read by f.
+module _ (s g t : ℕ) (le : suc s ≤ 201) (f : Parser Stmt) (reads : IsStmts s g t f) where
+  abbrev mk : MarkName → Fixed (Over s g t)
+  mk x = the_mark (Over s g t) x
+
+  abbrev ky : Keyword → Fixed (Over s g t)
+  ky x = the_key (Over s g t) x
+
+  abbrev inner_rule : Rule (Over s g t) s Stmt
+  inner_rule = rule_of reads counted_done
+
+  abbrev part_rule : Rule (Over s g t) s Expr
+  part_rule = expression_rule s g t s (omega arith)
+
+  -- ---- blocks
+
+  abbrev several_stmts : Rule (Over s g t) s (List Stmt)
+  several_stmts = several (sort_test stmt_by_sort) inner_rule (λ x i o h. stmt_begins x i o h.0) (λ x i o h. stmt_grows x) stmt_told_no_colon
+
+  abbrev StmtsStop : List Token → Type 0
+  StmtsStop o = (told (sort_test stmt_by_sort) o ≡ None) × NoColon o
+
+  stmts_reads : IsReader (Over s g t) s (each DoneStmt) (each DoneStmt) (each_depths stmt_depths) StmtsStop (stmts f)
+  unfolding stmts
+  stmts_reads = several_stmts.reads
+
+  abbrev stmts_rule : Rule (Over s g t) s (List Stmt)
+  stmts_rule = record { spelled = each DoneStmt; nests = each_depths stmt_depths; stops = StmtsStop; parser = stmts f; reads = stmts_reads; moved = several_stmts.moved }
+
+  abbrev end_rule : Option Word → Rule (Over s g t) s (Option Word)
+  end_rule b = record { spelled = label_of b; nests = if_given label_depths; stops = NoColon; parser = end_label b; reads = end_label_reads (Over s g t) s b; moved = end_label_moved b }
+
+  abbrev rest_rule : Option Word → Rule (Over s g t) s (List Stmt × Option Word)
+  rest_rule b = seq stmts_rule (before (ky k.End) (end_rule b)) (λ x y i o h stops. end_no_stmt i h.0 h.1)
+
+  abbrev block_rule : Rule (Over s g t) (suc s) (Place × (Option Word × (List Stmt × Option Word)))
+  block_rule =
+      seq_up (placed (ky k.Begin))
+      (seq_by (block_label_rule (Over s g t) s) (λ b c. (rest_rule b).spelled c) (λ c. each_depths stmt_depths c.0 ++ (one ++ if_given label_depths c.1)) NoColon (block_rest f)
+      (λ b. (rest_rule b).reads) (λ b. (rest_rule b).moved) (λ b c i o h stops. first_no_colon c.0 i h.0 h.2.0 h.1 h.2.1))
+      (λ x y i o h stops. tt) (λ x i o h. omega arith)
+
+  -- ---- branches
+
+  abbrev else_rule : Rule (Over s g t) s Stmt
+  else_rule = before (ky k.Else) inner_rule
+
+  else_reads : IsReader (Over s g t) s (Shut (keyword_test k.Else) OtherSpelled) (Shut (keyword_test k.Else) OtherSpelled) other_nests NoColon (maybe_else f)
+  unfolding maybe_else
+  else_reads = (shut (keyword_test k.Else) else_rule (λ x i o h. key_begins k.Else i h.0 h.1)).reads
+
+  abbrev maybe_else_rule : Rule (Over s g t) s (Option Stmt)
+  maybe_else_rule = record { spelled = Shut (keyword_test k.Else) OtherSpelled; nests = other_nests; stops = NoColon; parser = maybe_else f; reads = else_reads;
+      moved = (shut (keyword_test k.Else) else_rule (λ x i o h. key_begins k.Else i h.0 h.1)).moved }
+
+  abbrev if_rule : Rule (Over s g t) (suc s) (Expr × (Stmt × Option Stmt))
+  if_rule =
+      opening (ky k.If)
+      (before (mk m.LeftParen)
+      (seq part_rule (before (mk m.RightParen) (seq inner_rule maybe_else_rule (λ x y i o h stops. other_no_colon y i o h stops))) (λ x y i o h stops. end_mark m.RightParen refl i h.0 h.1)))
+
+  abbrev choice_rule : Rule (Over s g t) (suc s) (CaseWord × (Expr × List Arm))
+  choice_rule =
+      seq_up (case_rule (Over s g t) (suc s))
+      (before (mk m.LeftParen)
+      (seq part_rule (before (mk m.RightParen) (closing (arms_rule s g t s (omega arith) f reads) (ky k.Endcase) endcase_stops)) (λ x y i o h stops. end_mark m.RightParen refl i h.0 h.1)))
+      (λ x y i o h stops. tt) (λ x i o h. omega arith)
+
+  abbrev BranchWay : Type 1
+  BranchWay = Way (Over s g t) (suc s) BranchTail BranchSpelled branch_nests NoColon
+
+  abbrev if_way : BranchWay
+  if_way = record { A = Expr × (Stmt × Option Stmt); rule = if_rule; made = made_if; nested = λ c. refl; to = λ c i o h. h; ends = λ o h. h }
+
+  abbrev case_way : BranchWay
+  case_way = record { A = CaseWord × (Expr × List Arm); rule = choice_rule; made = made_case; nested = λ c. refl; to = λ c i o h. h; ends = λ o h. tt }
+
+  branch_view : (x : BranchTail) (i o : List Token) → BranchSpelled x i o → ((c : Place) × (told (keyword_test k.If) i ≡ Some c) × ReadBy if_way x i o) ⊎ ((told (keyword_test k.If) i ≡ None) × ReadBy case_way x i o)
+  branch_view (branch_tail.If c x y) i o h = let p = key_begins k.If i h.0 h.1 in inl (p.0, p.1, ((c, (x, y)), refl, h))
+  branch_view (branch_tail.Case w x all) i o h = inr (case_no_if w i h.0 h.1, ((w, (x, all)), refl, h))
+
+  branched_reads : IsReader (Over s g t) (suc s) BranchSpelled BranchSpelled branch_nests NoColon (branched f)
+  unfolding branched conditional choice
+  branched_reads = fork_reads (keyword_test k.If) if_way case_way branch_view
+
+  abbrev branched_rule : Rule (Over s g t) (suc s) BranchTail
+  branched_rule = record { spelled = BranchSpelled; nests = branch_nests; stops = NoColon; parser = branched f; reads = branched_reads; moved = fork_moved (keyword_test k.If) if_way case_way branch_view }
+
+  abbrev branch_rule : Rule (Over s g t) (suc s) (Option Uniq × BranchTail)
+  branch_rule = seq (optional (word_test uniq_by_word) (uniq_rule (Over s g t) (suc s)) uniq_begins) branched_rule (λ u x i o h stops. (branch_no_uniq x i o h, tt))
+
+  -- ---- loops and assignments
+
+  abbrev loop_rule : Rule (Over s g t) (suc s) (Place × (WholeWord × (Word × Turns Stmt)))
+  loop_rule =
+      seq_up (placed (ky k.For)) (before (mk m.LeftParen) (seq (whole_rule (Over s g t) s) (variable_rule s g t s (omega arith) inner_rule) (λ x y i o h stops. tt))) (λ x y i o h stops. tt) (λ x i o h. omega arith)
+
+  abbrev assign_rule : Rule (Over s g t) (suc s) (Lvalue × ((AssignMark × Place) × Expr))
+  assign_rule =
+      seq (lvalue_rule s g t (suc s) le)
+      (seq (assign_mark_rule (Over s g t) (suc s)) (closing (expression_rule s g t (suc s) le) (mk m.Semicolon) (end_mark m.Semicolon refl)) (λ x y i o h stops. tt))
+      (λ x y i o h stops. assign_no_select y.0 i h.0 h.1)
+
+  -- ---- a statement
+
+  abbrev StmtWay : Type 1
+  StmtWay = Way (Over (suc s) g t) (suc s) Stmt DoneStmt stmt_depths NoColon
+
+  abbrev ways : StmtOpener → StmtWay
+  ways stmt_by.Empty = record { A = Place; rule = stated s g t (placed (mk m.Semicolon)); made = λ c. st.Empty; nested = λ c. sym made.nests_empty; to = empty_to; ends = λ o h. tt }
+  ways stmt_by.Block = record {
+    A = Place × (Option Word × (List Stmt × Option Word));
+    rule = stated s g t block_rule;
+    made = made_block;
+    nested = λ c. sym (made.nests_block c.0 c.1.0 c.1.1.0 c.1.1.1 ∙ ap in_stmt (simp append_assoc));
+    to = block_to;
+    ends = λ o h. h;
+  }
+  ways stmt_by.Branch = record { A = Option Uniq × BranchTail; rule = stated s g t branch_rule; made = made_branch; nested = branch_nested; to = branch_to; ends = λ o h. h }
+  ways stmt_by.For = record {
+    A = Place × (WholeWord × (Word × Turns Stmt));
+    rule = stated s g t loop_rule;
+    made = made_for;
+    nested = λ c. sym (made.nests_for c.0 c.1.0 c.1.1.0 c.1.1.1.0 c.1.1.1.1.0 c.1.1.1.1.1.0 c.1.1.1.1.1.1 ∙ ap in_stmt (simp append_assoc));
+    to = loop_to;
+    ends = λ o h. h;
+  }
+  ways stmt_by.Target = record {
+    A = Lvalue × ((AssignMark × Place) × Expr);
+    rule = stated s g t assign_rule;
+    made = made_assign;
+    nested = λ c. sym (made.nests_assign c.0 c.1.0.0 c.1.0.1 c.1.1 ∙ ap in_stmt (simp append_assoc));
+    to = assign_to;
+    ends = λ o h. tt;
+  }
+
+  same : (c : StmtOpener) → ◌≡◌ {A = Parser Stmt} (reader_of (ways c)) (stmt_for f c)
+  unfolding empty block branch loop assign
+  same stmt_by.Empty = refl
+  same stmt_by.Block = refl
+  same stmt_by.Branch = refl
+  same stmt_by.For = refl
+  same stmt_by.Target = refl
+
+  abbrev StmtView : Stmt → Type 0
+  StmtView x = (i o : List Token) → DoneStmt x i o → (c : StmtOpener) × (told (sort_test stmt_by_sort) i ≡ Some c) × ReadBy (ways c) x i o
+
+  view : (x : Stmt) → StmtView x
+  view = made.by_cases_stmt StmtView
+      (λ i o h. let p = empty_from i o h in (stmt_by.Empty, empty_told i o h.0, (p.0, refl, p.1)))
+      (λ p b all e i o h. (stmt_by.Block, block_told p b all e i o h.0, ((p, (b, (all, e))), refl, block_from p b all e i o h)))
+      (λ u c x y i o h. (stmt_by.Branch, stmt_if_told u c x y i o h.0, ((u, branch_tail.If c x y), refl, if_from u c x y i o h)))
+      (λ u w x all i o h. (stmt_by.Branch, stmt_case_told u w x all i o h.0, ((u, branch_tail.Case w x all), refl, case_from u w x all i o h)))
+      (λ p form v start test next body i o h. (stmt_by.For, for_told p form v start test next body i o h.0, ((p, (form, (v, (start, (test, (next, body)))))), refl, loop_from p form v start test next body i o h)))
+      (λ to mk p x i o h. (stmt_by.Target, assign_told to mk p x i o h.0, ((to, ((mk, p), x)), refl, assign_from to mk p x i o h)))
+
+  pub stmt_level_reads : IsReader (Over (suc s) g t) (suc s) DoneStmt DoneStmt stmt_depths NoColon (stmt_level f)
+  unfolding stmt_level
+  stmt_level_reads = choose_reads (sort_test stmt_by_sort) ways (stmt_for f) same view
+
+none_stated : (g t : ℕ) (x : Stmt) (i o : List Token) → DoneStmt x i o → BadAt (Over 0 g t) (stmt_depths x) 0
+none_stated g t x i o h = first_over (stmt_depths x) (stmt_grows x)
+  where
+    first_over : (ns : Depths) → 0 < length ns → BadAt (Over 0 g t) ns 0
+    first_over [] some = absurd (omega arith)
+    first_over (n ∷ ns) some = inr (inl (omega arith))
+
+-- Statements, in which fewer than so many statements hold a token.
+pub stmt_reads : (s g t : ℕ) → s ≤ 201 → IsStmts s g t (stmt s)
+unfolding stmt
+stmt_reads zero g t le = deep_reader (Over 0 g t) DoneStmt stmt_depths (moved_counted counted_done) (none_stated g t) DoneStmt NoColon
+stmt_reads (suc s) g t le = stmt_level_reads s g t le (stmt s) (stmt_reads s g t (omega arith))
