@@ -20,7 +20,7 @@ use Rattle.sv_tree.specs.declared.design.Gen.TheVariants as ge
 use Rattle.sv_tree.specs.Spelling.{Spelled, nothing, never, ◌⨟◌, first_at, when, mark, key, key_at, name, maybe, each, commas, label_of}
 use Rattle.sv_tree.specs.GrammarExprs.{Spells}
 use Rattle.sv_tree.specs.GrammarForms.{SpellsType, SpellsTypedef, SpellsParam, net_key}
-use Rattle.sv_tree.specs.GrammarStmts.{SpellsStep, SpellsBlock, block_name}
+use Rattle.sv_tree.specs.GrammarStmts.{is_closed as is_closed_stmt, SpellsStep, SpellsBlock, block_name}
 use Rattle.sv_tree.specs.GrammarDesign.{SpellsPair, SpellsInst, genvar_if, is_closed, is_closed_gen, is_closed_else, SpellsItem, SpellsGen, SpellsElse, SpellsItems}
 use Rattle.sv_tree.specs.Nesting.{Depths, one, two, in_generate, if_given, each_depths, commas_depths, word_depths, label_depths, expr_depths}
 use Rattle.sv_tree.specs.NestingDesign.{type_depths, typedef_depths, param_depths, pair_depths, block_depths, inst_depths, if_true, turns_depths, item_depths, gen_depths, other_depths, items_depths}
@@ -176,6 +176,9 @@ closed_if p c x (Some y) = refl
 pub closed_for : (p : Place) (header : Bool) (v : Word) (start test : Expr) (next : Step) (x : Gen) → is_closed (it.For p header v start test next x) ≡ is_closed_gen x
 unfolding shape-the_row-Item-0 hidden-the_row-Item-0 shape-the_row-Item-1 hidden-the_row-Item-1 shape-the_row-Gen-2 hidden-the_row-Gen-2 denote.Hole.Carrier.hidden
 closed_for p header v start test next x = refl
+
+pub closed_always : (b : Block) → is_closed (it.Always b) ≡ is_closed_stmt b.body
+closed_always b = refl
 
 pub closed_generate : (all : List Item) → is_closed (it.Generate all) ≡ true
 unfolding shape-the_row-Item-0 hidden-the_row-Item-0 shape-the_row-Item-1 hidden-the_row-Item-1 shape-the_row-Gen-2 hidden-the_row-Gen-2 denote.Hole.Carrier.hidden

@@ -20,7 +20,7 @@ use Rattle.sv_tree.specs.declared.design.Source.{Source}
 use Rattle.sv_tree.specs.Spelling.{Spelled, nothing, ◌⨟◌, first_at, when, mark, key, key_at, name, maybe, each, commas, label, label_of}
 use Rattle.sv_tree.specs.GrammarExprs.{Spells}
 use Rattle.sv_tree.specs.GrammarForms.{SpellsType, SpellsTypedef, SpellsParPort, SpellsParam, SpellsPort, net_key, given}
-use Rattle.sv_tree.specs.GrammarStmts.{SpellsLvalue, SpellsStep, SpellsBlock, block_name}
+use Rattle.sv_tree.specs.GrammarStmts.{is_closed as is_closed_stmt, SpellsLvalue, SpellsStep, SpellsBlock, block_name}
 
 abbrev pub SpellsPair : AssignPair → Spelled
 SpellsPair p = SpellsLvalue p.target ⨟ given p.value
@@ -54,11 +54,12 @@ abbrev pub genvar_if : Bool → Spelled
 genvar_if true = key (codes "genvar")
 genvar_if false = nothing
 
--- An `if` with no `else` at its end would take one that follows.
+-- An `if` with no `else` at its end would take one that follows, also one in a block.
 abbrev mutual
   pub is_closed : Item → Bool
   is_closed (For' p header v start test next r (more_of-Gen x end_of-Gen)) = is_closed_gen x
   is_closed (If' p c r (more_of-Gen x end_of-Gen) other) = is_closed_else other
+  is_closed (Always b) = is_closed_stmt b.body
   is_closed x = true
 
   pub is_closed_gen : Gen → Bool
