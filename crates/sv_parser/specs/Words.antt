@@ -32,6 +32,15 @@ use Rattle.sv_tree.specs.declared.stmts.CaseWord.{CaseWord}
 use Rattle.sv_tree.specs.declared.stmts.CaseWord.TheVariants as case_word
 use Rattle.sv_tree.specs.declared.stmts.Edge.{Edge}
 use Rattle.sv_tree.specs.declared.stmts.Edge.TheVariants as edge
+use Rattle.sv_expr_parser.specs.Signs.{opener}
+use Rattle.sv_parser.specs.declared.openers.AlwaysWord.{AlwaysWord}
+use Rattle.sv_parser.specs.declared.openers.AlwaysWord.TheVariants as always_word
+use Rattle.sv_parser.specs.declared.openers.PinsOpener.{PinsOpener}
+use Rattle.sv_parser.specs.declared.openers.PinsOpener.TheVariants as pins_by
+use Rattle.sv_parser.specs.declared.openers.TailOpener.{TailOpener}
+use Rattle.sv_parser.specs.declared.openers.TailOpener.TheVariants as tail_by
+use Rattle.sv_parser.specs.declared.openers.PartOpener.{PartOpener}
+use Rattle.sv_parser.specs.declared.openers.PartOpener.TheVariants as part_by
 use Rattle.sv_parser.specs.declared.openers.TypeOpener.{TypeOpener}
 use Rattle.sv_parser.specs.declared.openers.TypeOpener.TheVariants as type_by
 use Rattle.sv_parser.specs.declared.openers.ParamOpener.{ParamOpener}
@@ -240,3 +249,40 @@ item_by_sort (s.Keyword word) = item_by_word word
 item_by_sort (s.Mark name) = item_by_mark name
 item_by_sort s.Id = Some item_by.Name
 item_by_sort _ = None
+
+-- ---- what begins a part of an item or a text
+
+abbrev pub always_by_word : Keyword → Option AlwaysWord
+always_by_word key.AlwaysComb = Some always_word.Comb
+always_by_word key.AlwaysFf = Some always_word.Ff
+always_by_word key.Always = Some always_word.Always
+always_by_word _ = None
+
+abbrev pub ordered_if : {A : Type 0} → Option A → Option PinsOpener
+ordered_if None = None
+ordered_if (Some x) = Some pins_by.Ordered
+
+abbrev pub pins_by_mark : MarkName → Option PinsOpener
+pins_by_mark m.Dot = Some pins_by.Named
+pins_by_mark name = ordered_if (opener (s.Mark name))
+
+abbrev pub pins_by_sort : Sort → Option PinsOpener
+pins_by_sort (s.Mark name) = pins_by_mark name
+pins_by_sort x = ordered_if (opener x)
+
+abbrev pub tail_by_mark : MarkName → Option TailOpener
+tail_by_mark m.Hash = Some tail_by.Hash
+tail_by_mark m.LeftBracket = Some tail_by.Bracket
+tail_by_mark _ = None
+
+abbrev pub tail_by_sort : Sort → Option TailOpener
+tail_by_sort (s.Mark name) = tail_by_mark name
+tail_by_sort s.Id = Some tail_by.Name
+tail_by_sort _ = None
+
+abbrev pub part_by_word : Keyword → Option PartOpener
+part_by_word key.Module = Some part_by.Module
+part_by_word key.Typedef = Some part_by.Typedef
+part_by_word key.Parameter = Some part_by.Param
+part_by_word key.Localparam = Some part_by.Param
+part_by_word _ = None

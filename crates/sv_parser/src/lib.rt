@@ -5,6 +5,7 @@ mod openers;
 mod tails;
 
 pub use openers::{
-    ItemOpener, ParamOpener, StepOpener, StmtOpener, TargetOpener, TypeOpener,
+    AlwaysWord, ItemOpener, ParamOpener, PartOpener, PinsOpener, StepOpener, StmtOpener,
+    TailOpener, TargetOpener, TypeOpener,
 };
-pub use tails::{BranchTail, StepTail};
+pub use tails::{BranchTail, NameTail, PlainTail, StepTail};

@@ -69,3 +69,36 @@ pub enum ItemOpener {
     If,
     Generate,
 }
+
+/// What a token begins of connections.
+#[derive(Clone, Copy, Debug, PartialEq, Eq)]
+pub enum PinsOpener {
+    Named,
+    Ordered,
+}
+
+/// What a token begins behind the name that begins an item.
+#[derive(Clone, Copy, Debug, PartialEq, Eq)]
+pub enum TailOpener {
+    /// `#`
+    Hash,
+    /// `[`
+    Bracket,
+    Name,
+}
+
+/// The word of a block.
+#[derive(Clone, Copy, Debug, PartialEq, Eq)]
+pub enum AlwaysWord {
+    Comb,
+    Ff,
+    Always,
+}
+
+/// What a token begins of a text.
+#[derive(Clone, Copy, Debug, PartialEq, Eq)]
+pub enum PartOpener {
+    Module,
+    Typedef,
+    Param,
+}
