@@ -532,17 +532,17 @@ name_rule Bad depth = record { spelled = name; nests = one_nest outside; stops =
 
 -- ---- one at least, with commas between them
 
-after_of : {A : Type 0} (S : A → Spelled) (all : List A) (i o : List Token) → each (λ a. mark_spelled (mark_text m.Comma) ⨟ S a) all i o → after_commas S all i o
+pub after_of : {A : Type 0} (S : A → Spelled) (all : List A) (i o : List Token) → each (λ a. mark_spelled (mark_text m.Comma) ⨟ S a) all i o → after_commas S all i o
 unfolding mark_text
 after_of S [] i o h = h
 after_of S (x ∷ all) i o h = (h.1.0, h.1.1, (h.0, h.1.2, after_of S all h.0 o h.2))
 
-of_after : {A : Type 0} (S : A → Spelled) (all : List A) (i o : List Token) → after_commas S all i o → each (λ a. mark_spelled (mark_text m.Comma) ⨟ S a) all i o
+pub of_after : {A : Type 0} (S : A → Spelled) (all : List A) (i o : List Token) → after_commas S all i o → each (λ a. mark_spelled (mark_text m.Comma) ⨟ S a) all i o
 unfolding mark_text
 of_after S [] i o h = h
 of_after S (x ∷ all) i o h = (h.2.0, (h.0, h.1, h.2.1), of_after S all h.2.0 o h.2.2)
 
-after_nested : {A : Type 0} (nests : A → Depths) (all : List A) → each_depths (λ a. one ++ nests a) all ≡ after_commas_depths nests all
+pub after_nested : {A : Type 0} (nests : A → Depths) (all : List A) → each_depths (λ a. one ++ nests a) all ≡ after_commas_depths nests all
 after_nested nests [] = refl
 after_nested nests (x ∷ all) = ap (λ l. one ++ (nests x ++ l)) (after_nested nests all)
 
@@ -556,6 +556,30 @@ module _ {Bad : Nesting → Type 0} {depth : ℕ} {A : Type 0} (r : Rule Bad dep
   stops_before : (all : List A) (t o : List Token) → more_rule.spelled all t o → r.stops o → r.stops t
   stops_before [] t o h stops = subst r.stops (sym h) stops
   stops_before (x ∷ all) t o h stops = goes t (first_of_mark m.Comma t h.1.0 h.1.1)
+
+  pub after_reads : IsReader Bad depth (after_commas r.spelled) (after_commas r.spelled) (after_commas_depths r.nests) (λ o. (told (mark_test m.Comma) o ≡ None) × r.stops o) (many (mark_test m.Comma) (mark m.Comma ▸ r.parser))
+  after_reads =
+      nests_reader Bad Bad more_rule.nests (after_commas_depths r.nests) (λ all. ap length (sym (after_nested r.nests all))) (λ all k h. subst (λ l. BadAt Bad l k) (after_nested r.nests all) h) depth
+      (after_commas r.spelled) (after_commas r.spelled) more_rule.stops more_rule.parser
+      (less_reader Bad depth depth more_rule.spelled more_rule.spelled (after_commas r.spelled) (after_commas r.spelled) more_rule.nests more_rule.stops more_rule.stops more_rule.parser more_rule.reads (omega arith)
+      (after_of r.spelled) (of_after r.spelled) (λ o h. h))
+
+  pub after_moved : IsMoved (after_commas r.spelled) (after_commas_depths r.nests)
+  after_moved = record {
+    count = λ all i o h. more_rule.moved.count all i o (of_after r.spelled all i o h) ∙ ap (λ l. length l + length o) (after_nested r.nests all);
+    rest = λ all i o h. more_rule.moved.rest all i o (of_after r.spelled all i o h) ∙ ap (λ l. drop (length l) i) (after_nested r.nests all);
+  }
+
+  -- each after a comma
+  abbrev pub after_rule : Rule Bad depth (List A)
+  after_rule = record {
+    spelled = after_commas r.spelled;
+    nests = after_commas_depths r.nests;
+    stops = λ o. (told (mark_test m.Comma) o ≡ None) × r.stops o;
+    parser = many (mark_test m.Comma) (mark m.Comma ▸ r.parser);
+    reads = after_reads;
+    moved = after_moved;
+  }
 
   abbrev pair_rule : Rule Bad depth (A × List A)
   pair_rule = seq r more_rule (λ x all t o h stops. stops_before all t o h stops.1)

@@ -140,8 +140,8 @@ module _ (item : Parser Item) where
   unfoldable pub maybe_gen : Parser (Option Gen)
   maybe_gen = maybe_read (keyword_test key.Else) (keyword key.Else ▸ gen)
 
-  unfoldable pub cond : Parser Item
-  cond = made_cond <$> (keyword key.If ⊗ (mark m.LeftParen ▸ (expression ⊗ (mark m.RightParen ▸ (gen ⊗ maybe_gen)))))
+  unfoldable pub gen_if : Parser Item
+  gen_if = made_cond <$> (keyword key.If ⊗ (mark m.LeftParen ▸ (expression ⊗ (mark m.RightParen ▸ (gen ⊗ maybe_gen)))))
 
   unfoldable pub gen_loop : Parser Item
   gen_loop = made_loop <$> (keyword key.For ⊗ (mark m.LeftParen ▸ (maybe_read (keyword_test key.Genvar) (keyword key.Genvar) ⊗ (token id_test ▷ turns gen))))
@@ -175,7 +175,7 @@ whole_item p = λ i. p (length i) i
 -- items, in which at most so many generate loops and conditions hold a token
 unfoldable pub item_from : ℕ → ℕ → Parser Item
 item_from zero = regions too_deep too_deep
-item_from (suc g) = regions (gen_loop (whole_item (item_from g))) (cond (whole_item (item_from g)))
+item_from (suc g) = regions (gen_loop (whole_item (item_from g))) (gen_if (whole_item (item_from g)))
 
 abbrev pub item : ℕ → Parser Item
 item g = whole_item (item_from g)
