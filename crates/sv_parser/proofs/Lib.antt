@@ -1,5 +1,6 @@
 pub mod Arms
 pub mod Begins
+pub mod Blocks
 pub mod Instances
 pub mod Limits
 pub mod Params

@@ -46,3 +46,7 @@ listed p = cons <$> (p ⊗ many (mark_test m.Comma) (mark m.Comma ▸ p))
 -- one at least, as long as something is told of the first token
 abbrev pub some_of : {A C : Type 0} → (Token → Option C) → Parser A → Parser (List A)
 some_of test p = cons <$> (p ⊗ many test p)
+
+-- what is read, as it is
+abbrev pub kept : {A : Type 0} → A → A
+kept a = a

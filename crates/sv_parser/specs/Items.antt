@@ -26,7 +26,9 @@ use Rattle.sv_parser.specs.declared.openers.AlwaysWord.{AlwaysWord}
 use Rattle.sv_parser.specs.declared.openers.AlwaysWord.TheVariants as always_word
 use Rattle.sv_parser.specs.declared.openers.ItemOpener.{ItemOpener}
 use Rattle.sv_parser.specs.declared.openers.ItemOpener.TheVariants as item_by
-use Rattle.sv_parser.specs.Combined.{◌▸◌, ◌◂◌, word_test, sort_test, listed}
+use Rattle.sv_parser.specs.declared.tails.AlwaysTail.{AlwaysTail}
+use Rattle.sv_parser.specs.declared.tails.AlwaysTail.TheVariants as always_tail_of
+use Rattle.sv_parser.specs.Combined.{◌▸◌, ◌◂◌, word_test, sort_test, listed, kept}
 use Rattle.sv_parser.specs.Words.{net_by_word, edge_by_word, always_by_word, item_by_sort}
 use Rattle.sv_parser.specs.Forms.{expression, given, names, form, typedef}
 use Rattle.sv_parser.specs.Params.{TypedName, typed_name, param}
@@ -46,24 +48,29 @@ event_inside = made_event <$> (token (word_test edge_by_word) ⊗ (token id_test
 unfoldable pub event : Parser Event
 event = mark m.At ▸ (mark m.LeftParen ▸ event_inside)
 
-unfoldable pub star_inside : Parser BlockKind
-star_inside = (λ _. kind_of.StarParen) <$> (mark m.Star ◂ mark m.RightParen)
+unfoldable pub star_inside : Parser AlwaysTail
+star_inside = (λ _. always_tail_of.StarParen) <$> (mark m.Star ◂ mark m.RightParen)
 
 -- behind the `(` of an `always`
-unfoldable pub always_inside : Parser BlockKind
-always_inside = by_told (mark_test m.Star) (λ _. star_inside) (kind_of.Always <$> event_inside)
+unfoldable pub always_inside : Parser AlwaysTail
+always_inside = by_told (mark_test m.Star) (λ _. star_inside) (always_tail_of.Event <$> event_inside)
 
-unfoldable pub star : Parser BlockKind
-star = (λ _. kind_of.Star) <$> mark m.Star
+unfoldable pub star : Parser AlwaysTail
+star = (λ _. always_tail_of.Star) <$> mark m.Star
 
 -- behind the `@` of an `always`
-unfoldable pub always_tail : Parser BlockKind
-always_tail = by_told (mark_test m.Star) (λ _. star) (mark m.LeftParen ▸ always_inside)
+unfoldable pub always_tail : Parser AlwaysTail
+always_tail = by_told (mark_test m.Star) (λ _. star) (kept <$> (mark m.LeftParen ▸ always_inside))
+
+abbrev pub made_always_kind : AlwaysTail → BlockKind
+made_always_kind always_tail_of.Star = kind_of.Star
+made_always_kind always_tail_of.StarParen = kind_of.StarParen
+made_always_kind (always_tail_of.Event e) = kind_of.Always e
 
 abbrev pub kind_for : AlwaysWord → Parser BlockKind
 kind_for always_word.Comb = (λ _. kind_of.Comb) <$> keyword key.AlwaysComb
 kind_for always_word.Ff = kind_of.Ff <$> (keyword key.AlwaysFf ▸ event)
-kind_for always_word.Always = keyword key.Always ▸ (mark m.At ▸ always_tail)
+kind_for always_word.Always = made_always_kind <$> (keyword key.Always ▸ (mark m.At ▸ always_tail))
 
 unfoldable pub kind : Parser BlockKind
 kind = by_told (word_test always_by_word) kind_for refuse

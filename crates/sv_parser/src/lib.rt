@@ -8,4 +8,4 @@ pub use openers::{
     AlwaysWord, ItemOpener, ParamOpener, PartOpener, PinsOpener, StepOpener, StmtOpener,
     TailOpener, TargetOpener, TypeOpener,
 };
-pub use tails::{BranchTail, NameTail, PlainTail, StepTail};
+pub use tails::{AlwaysTail, BranchTail, NameTail, PlainTail, StepTail};

@@ -1,6 +1,6 @@
 // What stands behind the first part of a tree.
 use items::{Boxed, Items};
-use sv_tree::{Arm, CaseWord, Expr, One, Pins, Range, StepMark, StepSign, Stmt, Word};
+use sv_tree::{Arm, CaseWord, Event, Expr, One, Pins, Range, StepMark, StepSign, Stmt, Word};
 
 /// What stands behind the variable in a step.
 #[derive(Drop)]
@@ -38,4 +38,15 @@ pub enum PlainTail {
     Instances(Option<Pins>, Items<One>),
     /// More names of variables.
     Variables(Items<Word>),
+}
+
+/// What stands behind the `@` of an `always`.
+#[derive(Drop)]
+pub enum AlwaysTail {
+    /// `*`
+    Star,
+    /// `(*)`
+    StarParen,
+    /// The rest of an event.
+    Event(Event),
 }
