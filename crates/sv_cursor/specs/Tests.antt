@@ -53,6 +53,13 @@ abbrev pub literal_by : Sort → Word → Option Word
 literal_by s.Literal w = Some w
 literal_by _ w = None
 
+-- the place of any token
+abbrev pub place_of : Token → Option Place
+place_of a = Some a.place
+
+unfoldable pub place_test : Token → Option Place
+place_test a = place_of a
+
 unfoldable pub id_test : Token → Option Word
 id_test a = id_by (sort a) (record { text = a.text; place = a.place })
 

@@ -148,6 +148,28 @@ impl<'a> Cursor<'a> {
         }
     }
 
+    /// The place of the keyword, where it comes next.
+    #[tactic(auto, unfolding(crate::specs::Tests::keyword_test))]
+    pub fn peek_keyword(&self, word: Keyword) -> Option<Place>
+        ensures { result ≡ spec.told (test.keyword_test word) self.now }
+    {
+        match self.rest {
+            [first, ..] if is_keyword(word, self.sort) => Some(first.place),
+            _ => None,
+        }
+    }
+
+    /// The place of the first token, where there is one.
+    #[tactic(auto, unfolding(crate::specs::Tests::place_test))]
+    pub fn place(&self) -> Option<Place>
+        ensures { result ≡ spec.told test.place_test self.now }
+    {
+        match self.rest {
+            [first, ..] => Some(first.place),
+            [] => None,
+        }
+    }
+
     /// The place of the mark, which has to come next (`Syntax` where it does not).
     #[tactic(auto, unfolding(crate::specs::Parsers::token, crate::specs::Tests::mark_test))]
     pub fn mark(&mut self, name: Mark) -> Result<Place, ParseErr>

@@ -1,6 +1,7 @@
 pub mod Arms
 pub mod Begins
 pub mod Blocks
+pub mod Firsts
 pub mod Instances
 pub mod Limits
 pub mod Params

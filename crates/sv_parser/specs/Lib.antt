@@ -2,6 +2,7 @@ pub mod Combined
 pub mod Forms
 pub mod Instances
 pub mod Items
+pub mod Lists
 pub mod Params
 pub mod Stmts
 pub mod Targets

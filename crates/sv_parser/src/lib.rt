@@ -1,11 +1,19 @@
 //! Whole source texts are read: types, parameters, statements, items and modules.
 #![tactic(auto)]
 
+mod forms;
+mod labels;
+mod lists;
 mod openers;
+mod parameters;
 mod tails;
+mod told;
 
+pub use forms::{form, typedef};
+pub use labels::step;
 pub use openers::{
     AlwaysWord, ItemOpener, ParamOpener, PartOpener, PinsOpener, StepOpener, StmtOpener,
     TailOpener, TargetOpener, TypeOpener,
 };
+pub use parameters::{par_port, param, port};
 pub use tails::{AlwaysTail, BranchTail, NameTail, PlainTail, StepTail};
