@@ -2,6 +2,7 @@ pub mod Arms
 pub mod Begins
 pub mod Blocks
 pub mod Instances
+pub mod Items
 pub mod Limits
 pub mod Params
 pub mod Ports
