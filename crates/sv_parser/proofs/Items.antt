@@ -124,7 +124,7 @@ ItemClass item_by.Generate x i o = (c : List Item) × (it.Generate c ≡ x) × R
 
 -- ---- first tokens
 
-told_item : (x : Sort) (i : List Token) → IsFirst x i → told (sort_test item_by_sort) i ≡ item_by_sort x
+pub told_item : (x : Sort) (i : List Token) → IsFirst x i → told (sort_test item_by_sort) i ≡ item_by_sort x
 told_item x i h = told_sort item_by_sort i refl ∙ ap item_by_sort h
 
 net_begin : (w : NetWord) → item_by_word (net_word_name w) ≡ Some item_by.Net
@@ -154,7 +154,7 @@ type_sort so.Literal c h = absurd (cc)
 type_sort so.Other c h = absurd (cc)
 type_sort (so.System f) c h = absurd (cc)
 
-always_word : (w : Keyword) (c : AlwaysWord) → always_by_word w ≡ Some c → item_by_word w ≡ Some item_by.Always
+pub always_word : (w : Keyword) (c : AlwaysWord) → always_by_word w ≡ Some c → item_by_word w ≡ Some item_by.Always
 always_word k.AlwaysComb c h = refl
 always_word k.AlwaysFf c h = refl
 always_word k.Always c h = refl
@@ -206,7 +206,7 @@ named_first x i o h = told_item so.Id i (first_of_name h.0.0 i h.2.0 h.2.1)
 abbrev pub ItemView : Item → Type 0
 ItemView x = (i o : List Token) → DoneItem x i o → (c : ItemOpener) × (told (sort_test item_by_sort) i ≡ Some c) × ItemClass c x i o
 
-net_view : (w : NetWord) (t : Option TypeTree) (names : List Word) → ItemView (it.Net w t names)
+pub net_view : (w : NetWord) (t : Option TypeTree) (names : List Word) → ItemView (it.Net w t names)
 unfolding mark_text
 net_view w t [] i o h = let g = made.of_net w t [] i o h.0 in absurd g.2.2.1
 net_view w t (n ∷ all) i o h =
@@ -214,7 +214,7 @@ net_view w t (n ∷ all) i o h =
     let c = g.2.2.1 in
     (item_by.Net, told_item (so.Keyword (net_word_name w)) i (net_first w i g.0 g.1) ∙ net_begin w, ((w, ((t, n), all)), refl, (g.0, g.1, (c.0, (g.2.0, g.2.1, c.1), (g.2.2.0, c.2, g.2.2.2)))))
 
-variable_view : (t : TypeTree) (names : List Word) → ItemView (it.Variable t names)
+pub variable_view : (t : TypeTree) (names : List Word) → ItemView (it.Variable t names)
 unfolding mark_text
 variable_view t names i o h = by_split (made.of_variable t names i o h.0)
   where
@@ -228,25 +228,25 @@ variable_view t names i o h = by_split (made.of_variable t names i o h.0)
     by_split : (SpellsType t ⨟ (commas name names ⨟ Semicolon)) i o → (c : ItemOpener) × (told (sort_test item_by_sort) i ≡ Some c) × ItemClass c (it.Variable t names) i o
     by_split g = by_type g.0 g.1 g.2 (type_split t i g.0 g.1)
 
-typedef_view : (d : Typedef) → ItemView (it.Typedef d)
+pub typedef_view : (d : Typedef) → ItemView (it.Typedef d)
 unfolding keyword_text
 typedef_view d i o h = let g = made.of_typedef d i o h.0 in (item_by.Typedef, told_item (so.Keyword k.Typedef) i (first_of_key k.Typedef i g.0 g.1), (d, refl, g))
 
-param_view : (p : Param) → ItemView (it.Param p)
+pub param_view : (p : Param) → ItemView (it.Param p)
 param_view p i o h = let g = made.of_param p i o h.0 in (item_by.Param, told_item (so.Keyword (param_word_name p.word)) i (param_first p.word i g.0 g.1) ∙ param_begin p.word, (p, refl, g))
 
-genvar_view : (names : List Word) → ItemView (it.Genvar names)
+pub genvar_view : (names : List Word) → ItemView (it.Genvar names)
 unfolding keyword_text mark_text
 genvar_view names i o h = let g = made.of_genvar names i o h.0 in (item_by.Genvar, told_item (so.Keyword k.Genvar) i (first_of_key k.Genvar i g.0 g.1), (names, refl, g))
 
-assign_view : (all : List AssignPair) → ItemView (it.Assign all)
+pub assign_view : (all : List AssignPair) → ItemView (it.Assign all)
 unfolding keyword_text mark_text
 assign_view all i o h = let g = made.of_assign all i o h.0 in (item_by.Assign, told_item (so.Keyword k.Assign) i (first_of_key k.Assign i g.0 g.1), (all, refl, g))
 
-always_view : (b : Block) → ItemView (it.Always b)
+pub always_view : (b : Block) → ItemView (it.Always b)
 always_view b i o h =
     let g = made.of_always b i o h.0 in
     let w = block_begins b.kind i g.0 g.1 in (item_by.Always, told_item (so.Keyword w.0) i w.2 ∙ always_word w.0 w.1.0 w.1.1, (b, refl, (g, h.1)))
 
-inst_view : (x : Inst) → ItemView (it.Inst x)
+pub inst_view : (x : Inst) → ItemView (it.Inst x)
 inst_view x i o h = let n = inst_from x.of_module x.params x.list i o (made.of_inst x i o h.0) in (item_by.Name, named_first (it.Inst x) i o n, n)
