@@ -1,6 +1,7 @@
 pub mod Arms
 pub mod Begins
 pub mod Blocks
+pub mod GenLevel
 pub mod Gens
 pub mod Instances
 pub mod Items
