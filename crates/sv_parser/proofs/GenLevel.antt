@@ -141,10 +141,10 @@ item_grows = made.by_cases_item (λ x. 0 < length (item_depths x))
     (λ p c x y. subst (λ l. 0 < length l) (sym (made.nests_if p c x y)) (simp (length_in_generate, length-append) (omega arith)))
     (λ all. subst (λ l. 0 < length l) (sym (made.nests_generate all)) (simp length-append (omega arith)))
 
-key_no_colon : (w : Keyword) (i o : List Token) → key (keyword_text w) i o → NoColon i
+pub key_no_colon : (w : Keyword) (i o : List Token) → key (keyword_text w) i o → NoColon i
 key_no_colon w i o h = no_mark m.Colon (so.Keyword w) i refl (first_of_key w i o h)
 
-no_item : (w : Keyword) → item_by_word w ≡ None → (i o : List Token) → key (keyword_text w) i o → (told (sort_test item_by_sort) i ≡ None) × NoColon i
+pub no_item : (w : Keyword) → item_by_word w ≡ None → (i o : List Token) → key (keyword_text w) i o → (told (sort_test item_by_sort) i ≡ None) × NoColon i
 no_item w e i o h = (told_sort item_by_sort i refl ∙ (ap item_by_sort (first_of_key w i o h) ∙ e), key_no_colon w i o h)
 
 first_no_colon : (all : List Item) (i t o : List Token) → each DoneItem all i t → key (keyword_text k.End) t o → NoColon i

@@ -4,6 +4,7 @@ pub mod Blocks
 pub mod GenLevel
 pub mod Gens
 pub mod Instances
+pub mod ItemLevel
 pub mod Items
 pub mod Limits
 pub mod Params
