@@ -7,6 +7,7 @@ pub mod Instances
 pub mod ItemLevel
 pub mod Items
 pub mod Limits
+pub mod Modules
 pub mod Params
 pub mod Ports
 pub mod Rules

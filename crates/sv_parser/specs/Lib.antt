@@ -1,8 +1,10 @@
+pub mod Answers
 pub mod Combined
 pub mod Forms
 pub mod Instances
 pub mod Items
 pub mod Params
+pub mod Source
 pub mod Stmts
 pub mod Targets
 pub mod Words
