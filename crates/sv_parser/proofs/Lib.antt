@@ -6,6 +6,7 @@ pub mod Gens
 pub mod Instances
 pub mod ItemLevel
 pub mod Items
+pub mod Laws
 pub mod Limits
 pub mod Modules
 pub mod Params

@@ -1,5 +1,5 @@
 -- Modules are read as they are spelled.
-use Rattle.std.proofs.Common.{◌≡◌, ℕ, zero, suc, ◌+◌, ◌<◌, ◌≤◌, ◌⊎◌, inl, inr, Bool, true, false, List, [], ◌∷◌, ◌++◌, length, Option, Some, None, refl, sym, ◌∙◌, ap, subst, append_assoc, append-nil, length-append, arith}
+use Rattle.std.proofs.Common.{◌≡◌, ℕ, zero, suc, ◌+◌, ◌<◌, ◌≤◌, ◌⊎◌, inl, inr, Bool, true, false, List, [], ◌∷◌, ◌++◌, length, drop, Option, Some, None, refl, sym, ◌∙◌, ap, subst, append_assoc, append-nil, length-append, arith}
 use Rattle.sv_outside.specs.declared.refusal.Place.{Place}
 use Rattle.sv_outside.specs.declared.text.Token.{Token}
 use Rattle.sv_tree.specs.declared.word.Word.{Word}
@@ -23,14 +23,14 @@ use Rattle.sv_cursor.specs.declared.sort.Sort.TheVariants as so
 use Rattle.sv_cursor.specs.Sorts.{mark_text, keyword_text}
 use Rattle.sv_cursor.specs.Tests.{same_mark, same_keyword, mark_test}
 use Rattle.sv_cursor.specs.Parsers.{Parser, told, token, cons}
-use Rattle.sv_cursor.proofs.Readers.{IsReader, IsMoved}
+use Rattle.sv_cursor.proofs.Readers.{IsReader, IsMoved, BadAt, less_reader, nests_reader}
 use Rattle.sv_expr_parser.proofs.Tokens.{Any, Stops}
 use Rattle.sv_parser.specs.Combined.{word_of, word_test}
 use Rattle.sv_parser.specs.Words.{way_by_word, net_by_word, item_by_sort}
 use Rattle.sv_parser.specs.Params.{TypedName, made_port, port}
 use Rattle.sv_parser.specs.Targets.{label_behind}
 use Rattle.sv_parser.specs.Items.{items, item}
-use Rattle.sv_parser.specs.Source.{list_of, made_first, first_port, more_ports, some_ports, ports_inside, ports, maybe_ports, params_inside, params, ModuleRest, made_module, module_rest, modul}
+use Rattle.sv_parser.specs.Source.{list_of, made_first, first_port, more_ports, some_ports, ports_inside, ports, maybe_ports, more_par_ports, params_inside, made_params, params, ModuleRest, made_module, module_rest, modul}
 use Rattle.sv_parser.proofs.Rules.{Rule, Fixed, the_mark, the_key, before, seq, seq_by, closing, optional, tree_reads, tree_moved, list_rule, after_rule, rule_of, name_rule, moved_counted, mark_begins, IsFirst, first_of_mark, first_of_key, told_word, no_mark}
 use Rattle.sv_parser.proofs.Words.{way_rule, way_begins, net_rule, net_begins}
 use Rattle.sv_parser.proofs.Limits.{Over, first_end, end_mark}
@@ -92,6 +92,9 @@ ports_to (Some (p ∷ all)) i o h = (h.1.0, (h.0, h.1.1, h.2))
 ports_from : (all : List Port) (i o : List Token) → PortsInside all i o → (q : Option (List Port)) × (list_of q ≡ all) × maybe SomePorts q i o
 ports_from [] i o h = (None, refl, h.1)
 ports_from (p ∷ all) i o h = (Some (p ∷ all), refl, (h.1.0, (h.0, h.1.1), h.1.2))
+
+ports_same : (all : List Port) → ports_depths all ≡ one ++ (commas_depths port_depths all ++ one)
+ports_same all = simp append_assoc
 
 module _ (s g d : ℕ) (le : d ≤ 201) where
   abbrev B : Nesting → Type 0
@@ -158,3 +161,149 @@ module _ (s g d : ℕ) (le : d ≤ 201) where
 
   abbrev ports_tuple : Rule B d (List Port)
   ports_tuple = before (the_mark B m.LeftParen) (closing inside_rule (the_mark B m.RightParen) paren_ends_ports)
+
+  ports_reads : IsReader B d SpellsPorts SpellsPorts ports_depths Any ports
+  unfolding ports mark_text
+  ports_reads =
+      nests_reader B B ports_tuple.nests ports_depths (λ all. ap length (ports_same all)) (λ all k h. subst (λ l. BadAt B l k) (sym (ports_same all)) h) d SpellsPorts SpellsPorts Any ports_tuple.parser
+      (less_reader B d d ports_tuple.spelled ports_tuple.spelled SpellsPorts SpellsPorts ports_tuple.nests Any Any ports_tuple.parser ports_tuple.reads (omega arith)
+      (λ all i o h. (h.2.1.0, (h.0, h.1, (h.2.0, h.2.1.1, h.2.2)))) (λ all i o h. (h.1.0, h.1.1, (h.1.2.0, (h.0, h.1.2.1), h.1.2.2))) (λ o h. h))
+
+  ports_moved : IsMoved SpellsPorts ports_depths
+  unfolding mark_text
+  ports_moved = record {
+    count = λ all i o h. ports_tuple.moved.count all i o (h.1.0, h.1.1, (h.1.2.0, (h.0, h.1.2.1), h.1.2.2)) ∙ ap (λ l. length l + length o) (sym (ports_same all));
+    rest = λ all i o h. ports_tuple.moved.rest all i o (h.1.0, h.1.1, (h.1.2.0, (h.0, h.1.2.1), h.1.2.2)) ∙ ap (λ l. drop (length l) i) (sym (ports_same all));
+  }
+
+  abbrev ports_rule : Rule B d (List Port)
+  ports_rule = record { spelled = SpellsPorts; nests = ports_depths; stops = Any; parser = ports; reads = ports_reads; moved = ports_moved }
+
+  ports_begin : (all : List Port) (i o : List Token) → SpellsPorts all i o → (p : Place) × (told (mark_test m.LeftParen) i ≡ Some p)
+  unfolding mark_text
+  ports_begin all i o h = mark_begins m.LeftParen i h.1.0 h.1.1
+
+  abbrev ports_optional : Rule B d (Option (List Port))
+  ports_optional = optional (mark_test m.LeftParen) ports_rule ports_begin
+
+  abbrev PortsEnd : List Token → Type 0
+  PortsEnd o = (told (mark_test m.LeftParen) o ≡ None) × Any o
+
+  maybe_ports_reads : IsReader B d (maybe SpellsPorts) (maybe SpellsPorts) (if_given ports_depths) PortsEnd maybe_ports
+  unfolding maybe_ports
+  maybe_ports_reads = ports_optional.reads
+
+  abbrev maybe_ports_rule : Rule B d (Option (List Port))
+  maybe_ports_rule = record { spelled = maybe SpellsPorts; nests = if_given ports_depths; stops = PortsEnd; parser = maybe_ports; reads = maybe_ports_reads; moved = ports_optional.moved }
+
+  -- ---- parameters
+
+  paren_ends_params : (i o : List Token) → mark_spelled (mark_text m.RightParen) i o → (told (mark_test m.Comma) i ≡ None) × Stops 0 i
+  unfolding same_mark
+  paren_ends_params i o h = (no_mark m.Comma (so.Mark m.RightParen) i refl (first_of_mark m.RightParen i o h), end_mark m.RightParen refl i o h)
+
+  stops_param : (all : List ParPort) (i o : List Token) → after_commas SpellsParPort all i o → Stops 0 o → Stops 0 i
+  unfolding mark_text
+  stops_param [] i o h stops = subst (Stops 0) (sym h) stops
+  stops_param (x ∷ all) i o h stops = first_end m.Comma refl i (first_of_mark m.Comma i h.0 h.1)
+
+  abbrev some_params : Rule B d (ParPort × List ParPort)
+  some_params = seq (par_port_rule s g 201 d le) (after_rule (par_port_rule s g 201 d le) (first_end m.Comma refl)) (λ x all i o h stops. stops_param all i o h stops.1)
+
+  abbrev params_tuple : Rule B d (ParPort × List ParPort)
+  params_tuple = before (the_mark B m.Hash) (before (the_mark B m.LeftParen) (closing some_params (the_mark B m.RightParen) paren_ends_params))
+
+  abbrev maybe_params : Rule B d (Option (ParPort × List ParPort))
+  maybe_params = optional (mark_test m.Hash) params_tuple (λ c i o h. mark_begins m.Hash i h.0 h.1)
+
+  params_nested : (q : Option (ParPort × List ParPort)) → maybe_params.nests q ≡ params_depths (made_params q)
+  params_nested None = refl
+  params_nested (Some c) = simp append_assoc
+
+  params_to : (q : Option (ParPort × List ParPort)) (i o : List Token) → maybe_params.spelled q i o → SpellsParams (made_params q) i o
+  unfolding mark_text
+  params_to None i o h = h
+  params_to (Some c) i o h = h
+
+  params_from : (all : List ParPort) (i o : List Token) → SpellsParams all i o → (q : Option (ParPort × List ParPort)) × (made_params q ≡ all) × maybe_params.spelled q i o
+  unfolding mark_text
+  params_from [] i o h = (None, refl, h)
+  params_from (p ∷ all) i o h = (Some (p, all), refl, h)
+
+  abbrev ParamsEnd : List Token → Type 0
+  ParamsEnd o = (told (mark_test m.Hash) o ≡ None) × Any o
+
+  params_reads : IsReader B d SpellsParams SpellsParams params_depths ParamsEnd params
+  unfolding params params_inside more_par_ports
+  params_reads = tree_reads maybe_params made_params SpellsParams params_depths params_nested params_to params_from
+
+  abbrev params_rule : Rule B d (List ParPort)
+  params_rule = record { spelled = SpellsParams; nests = params_depths; stops = ParamsEnd; parser = params; reads = params_reads; moved = tree_moved maybe_params made_params SpellsParams params_depths params_nested params_from }
+
+-- ---- modules
+
+semicolon_ends_ports : (i o : List Token) → mark_spelled (mark_text m.Semicolon) i o → (told (mark_test m.LeftParen) i ≡ None) × Any i
+unfolding same_mark
+semicolon_ends_ports i o h = (no_mark m.LeftParen (so.Mark m.Semicolon) i refl (first_of_mark m.Semicolon i o h), tt)
+
+no_hash : (q : Option (List Port)) (i t o : List Token) → maybe SpellsPorts q i t → mark_spelled (mark_text m.Semicolon) t o → told (mark_test m.Hash) i ≡ None
+unfolding same_mark mark_text
+no_hash None i t o h e = no_mark m.Hash (so.Mark m.Semicolon) i refl (subst (IsFirst (so.Mark m.Semicolon)) (sym h) (first_of_mark m.Semicolon t o e))
+no_hash (Some all) i t o h e = no_mark m.Hash (so.Mark m.LeftParen) i refl (first_of_mark m.LeftParen i h.1.0 h.1.1)
+
+endmodule_no_else : (i o : List Token) → key (keyword_text k.Endmodule) i o → Rattle.sv_parser.proofs.Begins.NoElse i
+unfolding same_keyword
+endmodule_no_else i o h = gen_key_no_else k.Endmodule refl i o h
+
+abbrev Top : Nesting → Type 0
+Top = Over 201 201 201
+
+abbrev label_rule : Word → Rule Top 200 (Option Word)
+label_rule n = record { spelled = label n; nests = if_given label_depths; stops = NoColon; parser = label_behind n; reads = label_behind_reads Top 200 n; moved = moved_counted (counted_end_label n) }
+
+abbrev all_items : Rule Top 200 (List Item)
+all_items = items_rule 201 200 (omega arith) (item 200) (item_reads 200 (omega arith))
+
+abbrev rest_rule : Word → Rule Top 200 ModuleRest
+rest_rule n =
+    seq (params_rule 201 201 200 (omega arith))
+    (seq (maybe_ports_rule 201 201 200 (omega arith))
+    (before (the_mark Top m.Semicolon) (seq all_items (before (the_key Top k.Endmodule) (label_rule n)) (λ x y i o h stops. no_item k.Endmodule refl i h.0 h.1)))
+    (λ x y i o h stops. semicolon_ends_ports i h.0 h.1))
+    (λ x c i o h stops. (no_hash c.0 i h.0 h.2.0 h.1 h.2.1, tt))
+
+abbrev module_tuple : Rule Top 200 (Word × ModuleRest)
+module_tuple =
+    before (the_key Top k.Module)
+    (seq_by (name_rule Top 200) (λ n c. (rest_rule n).spelled c) (λ c. params_depths c.0 ++ (if_given ports_depths c.1.0 ++ (one ++ (each_depths item_depths c.1.1.0 ++ (one ++ if_given label_depths c.1.1.1))))) NoColon module_rest
+    (λ n. (rest_rule n).reads) (λ n. (rest_rule n).moved) (λ n c i o h stops. tt))
+
+module_to : (c : Word × ModuleRest) (i o : List Token) → module_tuple.spelled c i o → SpellsModule (made_module c) i o
+unfolding mark_text keyword_text
+module_to c i o h =
+    let a = h.2.2 in
+    let b = a.2.2 in
+    let d = b.2 in
+    (h.0, h.1, (h.2.0, h.2.1, (a.0, a.1, (a.2.0, a.2.1, (b.0, b.1, (d.0, each_item c.1.1.1.0 b.0 d.0 d.1, d.2))))))
+
+module_from : (x : Module) (i o : List Token) → SpellsModule x i o → (c : Word × ModuleRest) × (made_module c ≡ x) × module_tuple.spelled c i o
+unfolding mark_text keyword_text
+module_from x i o h =
+    let a = h.2.2 in
+    let b = a.2.2 in
+    let d = b.2 in
+    ((x.name, (x.params, (x.ports, (x.items, x.label)))), refl,
+    (h.0, h.1, (h.2.0, h.2.1, (a.0, a.1, (a.2.0, a.2.1, (b.0, b.1, (d.0, each_item_done x.items b.0 d.0 d.1 (endmodule_no_else d.0 d.2.0 d.2.1), d.2)))))))
+
+module_nested : (c : Word × ModuleRest) → module_tuple.nests c ≡ module_depths (made_module c)
+module_nested c = simp append_assoc
+
+pub module_reads : IsReader Top 200 SpellsModule SpellsModule module_depths NoColon modul
+unfolding modul
+module_reads = tree_reads module_tuple made_module SpellsModule module_depths module_nested module_to module_from
+
+pub module_moved : IsMoved SpellsModule module_depths
+module_moved = tree_moved module_tuple made_module SpellsModule module_depths module_nested module_from
+
+abbrev pub module_rule : Rule Top 200 Module
+module_rule = record { spelled = SpellsModule; nests = module_depths; stops = NoColon; parser = modul; reads = module_reads; moved = module_moved }

@@ -18,7 +18,7 @@ use Rattle.sv_cursor.specs.Parsers.{Outcome, Parser, and_then, ◌<$>◌, ◌▷
 use Rattle.sv_cursor.specs.Tests.{mark_test, id_test, mark, keyword}
 use Rattle.sv_parser.specs.declared.openers.PartOpener.{PartOpener}
 use Rattle.sv_parser.specs.declared.openers.PartOpener.TheVariants as part_by
-use Rattle.sv_parser.specs.Combined.{◌▸◌, ◌◂◌, word_test, listed}
+use Rattle.sv_parser.specs.Combined.{◌▸◌, ◌◂◌, word_test}
 use Rattle.sv_parser.specs.Words.{way_by_word, net_by_word, part_by_word}
 use Rattle.sv_parser.specs.Forms.{typedef}
 use Rattle.sv_parser.specs.Params.{TypedName, typed_name, made_port, port, par_port, param}
@@ -54,11 +54,18 @@ ports = mark m.LeftParen ▸ (ports_inside ◂ mark m.RightParen)
 unfoldable pub maybe_ports : Parser (Option (List Port))
 maybe_ports = maybe_read (mark_test m.LeftParen) ports
 
-unfoldable pub params_inside : Parser (List ParPort)
-params_inside = mark m.Hash ▸ (mark m.LeftParen ▸ (listed par_port ◂ mark m.RightParen))
+unfoldable pub more_par_ports : Parser (List ParPort)
+more_par_ports = many (mark_test m.Comma) (mark m.Comma ▸ par_port)
+
+unfoldable pub params_inside : Parser (ParPort × List ParPort)
+params_inside = mark m.Hash ▸ (mark m.LeftParen ▸ ((par_port ⊗ more_par_ports) ◂ mark m.RightParen))
+
+abbrev pub made_params : Option (ParPort × List ParPort) → List ParPort
+made_params None = []
+made_params (Some c) = c.0 ∷ c.1
 
 unfoldable pub params : Parser (List ParPort)
-params = list_of <$> maybe_read (mark_test m.Hash) params_inside
+params = made_params <$> maybe_read (mark_test m.Hash) params_inside
 
 -- ---- modules
 
