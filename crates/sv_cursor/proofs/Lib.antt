@@ -1,3 +1,4 @@
 pub mod Readers
 pub mod Sorted
 pub mod Tested
+pub mod Turns

@@ -45,13 +45,13 @@ fn first_sort(rest: &[Token]) -> Sort
     }
 }
 
-pub fn same_mark(a: Mark, b: Mark) -> bool
+fn same_mark(a: Mark, b: Mark) -> bool
     ensures { result ≡ test.same_mark a b }
 {
     a == b
 }
 
-pub fn same_keyword(a: Keyword, b: Keyword) -> bool
+fn same_keyword(a: Keyword, b: Keyword) -> bool
     ensures { result ≡ test.same_keyword a b }
 {
     a == b
@@ -76,6 +76,7 @@ fn is_keyword(word: Keyword, sort: Sort) -> bool
 }
 
 impl<'a> Cursor<'a> {
+    /// The cursor before the first of these tokens.
     pub fn new(rest: &'a [Token]) -> Cursor<'a>
         ensures { result ≡ rest.now }
     {
@@ -109,6 +110,7 @@ impl<'a> Cursor<'a> {
         self.sort
     }
 
+    /// Goes behind the first token, where there is one.
     pub fn skip(&mut self)
         ensures { self.new ≡ spec.next self.old }
     {
@@ -118,14 +120,14 @@ impl<'a> Cursor<'a> {
         }
     }
 
-    /// Nothing reads what stands here.
+    /// The refusal of what stands here: no rule reads it.
     pub fn refuse(&self) -> ParseErr
         ensures { result ≡ ParseErr.Syntax (length self.now) }
     {
         ParseErr::Syntax(self.left())
     }
 
-    /// Nothing reads what stands here, or it lies too deep.
+    /// The refusal of the token that stands here, since it lies too deep; at the end, that no rule reads what stands here.
     pub fn too_deep(&self) -> ParseErr
         ensures { result ≡ spec.deep_err self.now }
     {
@@ -146,7 +148,7 @@ impl<'a> Cursor<'a> {
         }
     }
 
-    /// The place of the mark that comes next.
+    /// The place of the mark, which has to come next (`Syntax` where it does not).
     #[tactic(auto, unfolding(crate::specs::Parsers::token, crate::specs::Tests::mark_test))]
     pub fn mark(&mut self, name: Mark) -> Result<Place, ParseErr>
         ensures { Reads (test.mark name self.old) result self.new }
@@ -161,7 +163,7 @@ impl<'a> Cursor<'a> {
         }
     }
 
-    /// The place of the keyword that comes next.
+    /// The place of the keyword, which has to come next (`Syntax` where it does not).
     #[tactic(auto, unfolding(crate::specs::Parsers::token, crate::specs::Tests::keyword_test))]
     pub fn keyword(&mut self, word: Keyword) -> Result<Place, ParseErr>
         ensures { Reads (test.keyword word self.old) result self.new }
@@ -176,7 +178,7 @@ impl<'a> Cursor<'a> {
         }
     }
 
-    /// The identifier that comes next.
+    /// The identifier (A.9.3) that has to come next: `Syntax` where none does, `Memory` where there is no room for it.
     #[tactic(auto, unfolding(crate::specs::Parsers::token, crate::specs::Tests::id_test))]
     pub fn id(&mut self, alloc: Global) -> Result<Word, ParseErr>
         ensures { Reads (spec.token test.id_test self.old) result self.new }
@@ -194,7 +196,7 @@ impl<'a> Cursor<'a> {
         }
     }
 
-    /// The literal that comes next.
+    /// The literal that has to come next: `Syntax` where none does, `Memory` where there is no room for it.
     #[tactic(auto, unfolding(crate::specs::Parsers::token, crate::specs::Tests::literal_test))]
     pub fn literal(&mut self, alloc: Global) -> Result<Word, ParseErr>
         ensures { Reads (spec.token test.literal_test self.old) result self.new }
@@ -212,7 +214,7 @@ impl<'a> Cursor<'a> {
         }
     }
 
-    /// The system function whose name comes next, and its place.
+    /// The system function whose name has to come next (`Syntax` where none does), and its place.
     #[tactic(auto, unfolding(crate::specs::Parsers::token, crate::specs::Tests::system_test))]
     pub fn system(&mut self) -> Result<(SystemName, Place), ParseErr>
         ensures { Reads (spec.token test.system_test self.old) result self.new }

@@ -21,8 +21,12 @@ use Rattle.sv_expr_parser.specs.declared.openers.Opener.{Opener}
 use Rattle.sv_expr_parser.specs.declared.openers.Opener.TheVariants as open_by
 use Rattle.sv_expr_parser.specs.declared.openers.SelectOpener.{SelectOpener}
 use Rattle.sv_expr_parser.specs.declared.openers.SelectOpener.TheVariants as select_by
+use Rattle.sv_expr_parser.specs.declared.tails.NameTail.{NameTail}
+use Rattle.sv_expr_parser.specs.declared.tails.NameTail.TheVariants as tail
+use Rattle.sv_expr_parser.specs.declared.tails.BraceTail.{BraceTail}
+use Rattle.sv_expr_parser.specs.declared.tails.BraceTail.TheVariants as braces
 use Rattle.sv_expr_parser.specs.Signs.{opener_test, select_test, range_test, unary_name, sign_name}
-use Rattle.sv_expr_parser.specs.Reading.{peak, height, made_literal, NameTail, cast_to, selected, made_name, made_paren, BraceTail, copied, followed, made_brace, made_bracket, parens, cast, literal, member, bracket, select_for, select, selects, name_tail, named, parenthesized, after_comma, more, copies, brace_tail, braced, cast_sign, called, prefixed, prefix_for, prefix}
+use Rattle.sv_expr_parser.specs.Reading.{peak, height, made_literal, made_name, made_paren, made_brace, made_bracket, parens, cast, literal, member, bracket, select_for, select, selects, name_tail, named, parenthesized, after_comma, more, copies, brace_tail, braced, cast_sign, called, prefixed, prefix_for, prefix}
 use Rattle.sv_expr_parser.proofs.Climbing.{peak_append, peak_in}
 
 -- all that is read is so
@@ -178,22 +182,22 @@ module _ (d : ℕ) (expr : ℕ → Parser Expr) (bounded : (n : ℕ) (i : List T
   each_low x (y ∷ all) h g = omega (arith, peak_append (select_depths x) (each_depths select_depths (y ∷ all)), each_low y all g.0 g.1)
 
   abbrev TailLow : NameTail → Type 0
-  TailLow (cast_to x) = Low x
-  TailLow (selected all) = Each SelectLow all
+  TailLow (tail.CastTo x) = Low x
+  TailLow (tail.Selected all) = Each SelectLow all
 
   tail_low : Always TailLow (name_tail d expr)
   unfolding name_tail
-  tail_low = told_so TailLow (mark_test m.Tick) (λ _. cast_to <$> cast d expr) (selected <$> selects d expr)
-      (λ _. mapped Low TailLow cast_to (cast d expr) cast_low (λ x h. h)) (mapped (Each SelectLow) TailLow selected (selects d expr) selects_low (λ all h. h))
+  tail_low = told_so TailLow (mark_test m.Tick) (λ _. tail.CastTo <$> cast d expr) (tail.Selected <$> selects d expr)
+      (λ _. mapped Low TailLow tail.CastTo (cast d expr) cast_low (λ x h. h)) (mapped (Each SelectLow) TailLow tail.Selected (selects d expr) selects_low (λ all h. h))
 
   named_fits : Always Fits (named d expr)
   unfolding named
   named_fits = mapped (λ c. TailLow c.1) Fits made_name (token id_test ⊗ name_tail d expr) (skip_first TailLow (token id_test) (name_tail d expr) tail_low) up
     where
       up : (c : Word × NameTail) → TailLow c.1 → Fits (made_name c)
-      up (w, cast_to x) h = omega (arith, ap peak (made.nests_cast_name w x), in_three x h)
-      up (w, selected []) h = omega (arith, ap peak (made.nests_name w []), one_peak)
-      up (w, selected (x ∷ all)) h =
+      up (w, tail.CastTo x) h = omega (arith, ap peak (made.nests_cast_name w x), in_three x h)
+      up (w, tail.Selected []) h = omega (arith, ap peak (made.nests_name w []), one_peak)
+      up (w, tail.Selected (x ∷ all)) h =
           omega (arith, ap peak (made.nests_name w (x ∷ all)), peak_in (one ++ each_depths select_depths (x ∷ all)), peak_append one (each_depths select_depths (x ∷ all)), one_peak, each_low x all h.0 h.1)
 
   paren_fits : Always Fits (parenthesized d expr)
@@ -235,8 +239,8 @@ module _ (d : ℕ) (expr : ℕ → Parser Expr) (bounded : (n : ℕ) (i : List T
   commas_peak x all h g = omega (arith, peak_append (expr_depths x) (after_commas_depths expr_depths all), after_peak all (omega arith) g)
 
   abbrev BraceLow : BraceTail → Type 0
-  BraceLow (copied all) = (peak (commas_depths expr_depths all) < d)
-  BraceLow (followed all) = Each Low all
+  BraceLow (braces.Copied all) = (peak (commas_depths expr_depths all) < d)
+  BraceLow (braces.Followed all) = Each Low all
 
   copies_low : Always (λ all. peak (commas_depths expr_depths all) < d) (copies d expr)
   unfolding copies
@@ -248,9 +252,9 @@ module _ (d : ℕ) (expr : ℕ → Parser Expr) (bounded : (n : ℕ) (i : List T
 
   brace_tail_low : Always BraceLow (brace_tail d expr)
   unfolding brace_tail
-  brace_tail_low = told_so BraceLow (mark_test m.LeftBrace) (λ _. copied <$> copies d expr) ((λ c. followed c.0) <$> (more d expr ⊗ mark m.RightBrace))
-      (λ _. mapped (λ all. peak (commas_depths expr_depths all) < d) BraceLow copied (copies d expr) copies_low (λ all h. h))
-      (mapped (λ c. Each Low c.0) BraceLow (λ c. followed c.0) (more d expr ⊗ mark m.RightBrace) (keep_first (Each Low) (more d expr) (mark m.RightBrace) more_low) (λ c h. h))
+  brace_tail_low = told_so BraceLow (mark_test m.LeftBrace) (λ _. braces.Copied <$> copies d expr) ((λ c. braces.Followed c.0) <$> (more d expr ⊗ mark m.RightBrace))
+      (λ _. mapped (λ all. peak (commas_depths expr_depths all) < d) BraceLow braces.Copied (copies d expr) copies_low (λ all h. h))
+      (mapped (λ c. Each Low c.0) BraceLow (λ c. braces.Followed c.0) (more d expr ⊗ mark m.RightBrace) (keep_first (Each Low) (more d expr) (mark m.RightBrace) more_low) (λ c h. h))
 
   braced_fits : Always Fits (braced d expr)
   unfolding braced
@@ -258,7 +262,7 @@ module _ (d : ℕ) (expr : ℕ → Parser Expr) (bounded : (n : ℕ) (i : List T
       (skip_first (λ c. Low c.0 × BraceLow c.1) (mark m.LeftBrace) (expr 0 ⊗ brace_tail d expr) (keep_both Low BraceLow (expr 0) (brace_tail d expr) (part_low 0 (omega arith)) brace_tail_low)) up
     where
       up : (c : Place × (Expr × BraceTail)) → Low c.1.0 × BraceLow c.1.1 → Fits (made_brace c)
-      up (p, (x, copied all)) h =
+      up (p, (x, braces.Copied all)) h =
           omega (
             arith,
             ap peak (made.nests_repeat p x all),
@@ -272,7 +276,7 @@ module _ (d : ℕ) (expr : ℕ → Parser Expr) (bounded : (n : ℕ) (i : List T
             h.0,
             h.1,
           )
-      up (p, (x, followed all)) h =
+      up (p, (x, braces.Followed all)) h =
           omega (arith, ap peak (made.nests_concat p (x ∷ all)), peak_in (one ++ commas_depths expr_depths (x ∷ all) ++ one), peak_append (one ++ commas_depths expr_depths (x ∷ all)) one, peak_append one (commas_depths expr_depths (x ∷ all)), one_peak, commas_peak x all h.0 h.1)
 
   sign_fits : (g : Sign) → Always Fits (cast_sign d expr g)

@@ -87,7 +87,7 @@ take_all : (u j : List Token) → take (length u) (u ++ j) ≡ u
 take_all [] j = refl
 take_all (a ∷ u) j = ap (λ l. a ∷ l) (take_all u j)
 
-stops_at_end : Stops 0 []
+pub stops_at_end : Stops 0 []
 stops_at_end = (refl, refl, omega arith)
 
 module _ (i : List Token) where

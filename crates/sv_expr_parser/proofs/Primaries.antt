@@ -27,11 +27,15 @@ use Rattle.sv_cursor.proofs.Readers.{IsReader, IsMoved, BadAt, one_nest, pair_re
 use Rattle.sv_cursor.proofs.Tested.{mark_here, literal_here, id_here, keyword_here, system_here}
 use Rattle.sv_expr_parser.specs.declared.openers.Opener.{Opener}
 use Rattle.sv_expr_parser.specs.declared.openers.Opener.TheVariants as open_by
+use Rattle.sv_expr_parser.specs.declared.tails.NameTail.{NameTail}
+use Rattle.sv_expr_parser.specs.declared.tails.NameTail.TheVariants as tail
+use Rattle.sv_expr_parser.specs.declared.tails.BraceTail.{BraceTail}
+use Rattle.sv_expr_parser.specs.declared.tails.BraceTail.TheVariants as braces
 use Rattle.sv_expr_parser.specs.Signs.{opener_test, select_test, opener, unary_name, sign_name, opener_of_mark, opener_of_keyword}
-use Rattle.sv_expr_parser.specs.Reading.{made_literal, NameTail, cast_to, selected, made_name, made_paren, BraceTail, copied, followed, made_brace, parens, cast, literal, selects, name_tail, named, parenthesized, after_comma, more, copies, brace_tail, braced, cast_sign, called, prefixed, prefix_for, prefix}
+use Rattle.sv_expr_parser.specs.Reading.{made_literal, made_name, made_paren, made_brace, parens, cast, literal, selects, name_tail, named, parenthesized, after_comma, more, copies, brace_tail, braced, cast_sign, called, prefixed, prefix_for, prefix}
 use Rattle.sv_expr_parser.proofs.Tokens.{Bad, outside, deeper, inner, part, Stops, Any, stops_at_mark, placed_mark, some_mark, mark_reader, moved_mark, moved_part, in_append, literal_reader, moved_literal, name_reader, moved_name, key_reader, moved_key, SystemSpelled, system_reader, moved_system, mark_begins, other_mark, lift_head, told_to_mark, tick_no_select}
 use Rattle.sv_expr_parser.proofs.Parts.{IsParts, part_reader, own, ParensSpelled, parens_nests, parens_reader, moved_parens, CastSpelled, cast_nests, cast_reader}
-use Rattle.sv_expr_parser.proofs.Selects.{select_part, select_begins, selects_reader, chain_of, of_chain}
+use Rattle.sv_expr_parser.proofs.SelectParts.{select_part, select_begins, selects_reader, chain_of, of_chain}
 
 abbrev pub CastStops : List Token → Type 0
 CastStops o = (told (mark_test m.Tick) o ≡ None) × Any o
@@ -67,12 +71,12 @@ literal_to (w, Some x) i o h = made.to_cast_literal 13 w x i o h
 -- ---- names
 
 abbrev TailSpelled : NameTail → Spelled
-TailSpelled (cast_to x) = CastSpelled x
-TailSpelled (selected all) = Chain is_range SpellsSelect all
+TailSpelled (tail.CastTo x) = CastSpelled x
+TailSpelled (tail.Selected all) = Chain is_range SpellsSelect all
 
 abbrev tail_nests : NameTail → Depths
-tail_nests (cast_to x) = cast_nests x
-tail_nests (selected all) = each_depths select_part all
+tail_nests (tail.CastTo x) = cast_nests x
+tail_nests (tail.Selected all) = each_depths select_part all
 
 abbrev TailStops : List Token → Type 0
 TailStops o = (told (mark_test m.Tick) o ≡ None) × (told select_test o ≡ None)
@@ -97,18 +101,18 @@ unfolding in_expr
 selected_nested w x all = made.nests_name w (x ∷ all) ∙ ap (λ l. deeper outside ∷ l) (each_in (x ∷ all))
 
 name_length : (c : Word × NameTail) → length (expr_depths (made_name c)) ≡ length (named_nests c)
-name_length (w, cast_to x) = ap length (cast_name_nested w x)
-name_length (w, selected []) = ap length (made.nests_name w [])
-name_length (w, selected (x ∷ all)) = ap length (selected_nested w x all)
+name_length (w, tail.CastTo x) = ap length (cast_name_nested w x)
+name_length (w, tail.Selected []) = ap length (made.nests_name w [])
+name_length (w, tail.Selected (x ∷ all)) = ap length (selected_nested w x all)
 
 name_lifts : (d : ℕ) (c : Word × NameTail) (k : ℕ) → BadAt (Bad (suc d)) (named_nests c) k → BadAt (Bad (suc d)) (expr_depths (made_name c)) k
-name_lifts d (w, cast_to x) k h = subst (λ ns. BadAt (Bad (suc d)) ns k) (sym (cast_name_nested w x)) (lift_head d (cast_nests x) k h)
-name_lifts d (w, selected []) k h = subst (λ ns. BadAt (Bad (suc d)) ns k) (sym (made.nests_name w [])) h
-name_lifts d (w, selected (x ∷ all)) k h = subst (λ ns. BadAt (Bad (suc d)) ns k) (sym (selected_nested w x all)) (lift_head d (each_depths select_part (x ∷ all)) k h)
+name_lifts d (w, tail.CastTo x) k h = subst (λ ns. BadAt (Bad (suc d)) ns k) (sym (cast_name_nested w x)) (lift_head d (cast_nests x) k h)
+name_lifts d (w, tail.Selected []) k h = subst (λ ns. BadAt (Bad (suc d)) ns k) (sym (made.nests_name w [])) h
+name_lifts d (w, tail.Selected (x ∷ all)) k h = subst (λ ns. BadAt (Bad (suc d)) ns k) (sym (selected_nested w x all)) (lift_head d (each_depths select_part (x ∷ all)) k h)
 
 name_to : (c : Word × NameTail) (i o : List Token) → NameSpelled c i o → Spells 13 (made_name c) i o
-name_to (w, cast_to x) i o h = made.to_cast_name 13 w x i o h
-name_to (w, selected all) i o h = made.to_name 13 w all i o (h.0, h.1, of_chain all h.0 o h.2)
+name_to (w, tail.CastTo x) i o h = made.to_cast_name 13 w x i o h
+name_to (w, tail.Selected all) i o h = made.to_name 13 w all i o (h.0, h.1, of_chain all h.0 o h.2)
 
 -- ---- parentheses
 
@@ -158,12 +162,12 @@ after_nested [] = refl
 after_nested (x ∷ all) = ap (λ l. deeper outside ∷ l) (ap (λ l. part x ++ l) (after_nested all) ∙ sym (in_append (expr_depths x) (after_commas_depths expr_depths all)))
 
 abbrev BraceTailSpelled : BraceTail → Spelled
-BraceTailSpelled (copied all) = mark_spelled (codes "{") ⨟ commas (Spells 0) all ⨟ mark_spelled (codes "}") ⨟ mark_spelled (codes "}")
-BraceTailSpelled (followed all) = after_commas (Spells 0) all ⨟ mark_spelled (codes "}")
+BraceTailSpelled (braces.Copied all) = mark_spelled (codes "{") ⨟ commas (Spells 0) all ⨟ mark_spelled (codes "}") ⨟ mark_spelled (codes "}")
+BraceTailSpelled (braces.Followed all) = after_commas (Spells 0) all ⨟ mark_spelled (codes "}")
 
 abbrev brace_tail_nests : BraceTail → Depths
-brace_tail_nests (copied all) = own ++ (in_expr (commas_depths expr_depths all) ++ (own ++ own))
-brace_tail_nests (followed all) = in_expr (after_commas_depths expr_depths all) ++ own
+brace_tail_nests (braces.Copied all) = own ++ (in_expr (commas_depths expr_depths all) ++ (own ++ own))
+brace_tail_nests (braces.Followed all) = in_expr (after_commas_depths expr_depths all) ++ own
 
 abbrev BraceSpelled : Place × (Expr × BraceTail) → Spelled
 BraceSpelled c = mark_at (codes "{") c.0 ⨟ (Spells 0 c.1.0 ⨟ BraceTailSpelled c.1.1)
@@ -173,17 +177,17 @@ brace_nests c = inner c.0 ++ (part c.1.0 ++ brace_tail_nests c.1.1)
 
 brace_nested : (c : Place × (Expr × BraceTail)) → brace_nests c ≡ expr_depths (made_brace c)
 unfolding in_expr
-brace_nested (p, (x, copied all)) = sym (made.nests_repeat p x all
+brace_nested (p, (x, braces.Copied all)) = sym (made.nests_repeat p x all
     ∙ ap (λ l. deeper outside ∷ l) (in_append (expr_depths x ++ one ++ commas_depths expr_depths all) two
     ∙ (ap (λ l. l ++ (own ++ own)) (in_append (expr_depths x ++ one) (commas_depths expr_depths all) ∙ ap (λ l. l ++ in_expr (commas_depths expr_depths all)) (in_append (expr_depths x) one))
     ∙ (append_assoc (part x ++ own) (in_expr (commas_depths expr_depths all)) (own ++ own) ∙ append_assoc (part x) own (in_expr (commas_depths expr_depths all) ++ (own ++ own))))))
-brace_nested (p, (x, followed all)) = sym (made.nests_concat p (x ∷ all)
+brace_nested (p, (x, braces.Followed all)) = sym (made.nests_concat p (x ∷ all)
     ∙ ap (λ l. deeper outside ∷ l) (in_append (expr_depths x ++ after_commas_depths expr_depths all) one
     ∙ (ap (λ l. l ++ own) (in_append (expr_depths x) (after_commas_depths expr_depths all)) ∙ append_assoc (part x) (in_expr (after_commas_depths expr_depths all)) own)))
 
 brace_to : (c : Place × (Expr × BraceTail)) (i o : List Token) → BraceSpelled c i o → Spells 13 (made_brace c) i o
-brace_to (p, (x, copied all)) i o h = made.to_repeat 13 p x all i o h
-brace_to (p, (x, followed all)) i o h = made.to_concat 13 p (x ∷ all) i o (h.0, h.1, (h.2.2.0, (h.2.0, h.2.1, h.2.2.1), h.2.2.2))
+brace_to (p, (x, braces.Copied all)) i o h = made.to_repeat 13 p x all i o h
+brace_to (p, (x, braces.Followed all)) i o h = made.to_concat 13 p (x ∷ all) i o (h.0, h.1, (h.2.2.0, (h.2.0, h.2.1, h.2.2.1), h.2.2.2))
 
 -- ---- what a token begins
 
@@ -308,7 +312,7 @@ binds_small op2.Equivalent = omega arith
 brace_of_concat : (p : Place) (all : List Expr) (i o : List Token) → (mark_at (codes "{") p ⨟ commas (Spells 0) all ⨟ mark_spelled (codes "}")) i o
     → (c : Place × (Expr × BraceTail)) × (made_brace c ≡ e.Concat p all) × BraceSpelled c i o
 brace_of_concat p [] i o h = absurd h.2.1
-brace_of_concat p (x ∷ all) i o h = ((p, (x, followed all)), refl, (h.0, h.1, (h.2.1.0, h.2.1.1, (h.2.0, h.2.1.2, h.2.2))))
+brace_of_concat p (x ∷ all) i o h = ((p, (x, braces.Followed all)), refl, (h.0, h.1, (h.2.1.0, h.2.1.1, (h.2.0, h.2.1.2, h.2.2))))
 
 cast_paren_from : (p : Place) (y x : Expr) (i o : List Token) → Spells 13 (e.CastParen p y x) i o → (c : (Place × (Expr × Place)) × Option Expr) × (made_paren c ≡ e.CastParen p y x) × ParenSpelled c i o
 cast_paren_from p y x i o h =
@@ -336,12 +340,12 @@ View x = (i o : List Token) → Spells 13 x i o → (c : Opener) × (told opener
 view : (x : Expr) → View x
 view = made.by_spine View
     (λ w i o h. let g = made.of_literal 13 w i o h in (open_by.Literal, literal_told w i o g, ((w, None), refl, (o, g, refl))))
-    (λ w all i o h. let g = made.of_name 13 w all i o h in (open_by.Name, name_told w i g.0 g.1, ((w, selected all), refl, (g.0, g.1, chain_of all g.0 o g.2))))
+    (λ w all i o h. let g = made.of_name 13 w all i o h in (open_by.Name, name_told w i g.0 g.1, ((w, tail.Selected all), refl, (g.0, g.1, chain_of all g.0 o g.2))))
     (λ p x i o h. let g = paren_from p x i o h in (open_by.Paren, paren_told g.0.0.0 i g.2.1.0 g.2.1.1, g))
     (λ p all i o h. let g = brace_of_concat p all i o (made.of_concat 13 p all i o h) in (open_by.Brace, brace_told g.0.0 i g.2.0 g.2.1, g))
-    (λ p x all i o h. let g = made.of_repeat 13 p x all i o h in (open_by.Brace, brace_told p i g.0 g.1, ((p, (x, copied all)), refl, g)))
+    (λ p x all i o h. let g = made.of_repeat 13 p x all i o h in (open_by.Brace, brace_told p i g.0 g.1, ((p, (x, braces.Copied all)), refl, g)))
     (λ w x i o h. let g = made.of_cast_literal 13 w x i o h in (open_by.Literal, literal_told w i g.0 g.1, ((w, Some x), refl, g)))
-    (λ w x i o h. let g = made.of_cast_name 13 w x i o h in (open_by.Name, name_told w i g.0 g.1, ((w, cast_to x), refl, g)))
+    (λ w x i o h. let g = made.of_cast_name 13 w x i o h in (open_by.Name, name_told w i g.0 g.1, ((w, tail.CastTo x), refl, g)))
     (λ p y x i o h. let g = cast_paren_from p y x i o h in (open_by.Paren, paren_told g.0.0.0 i g.2.1.0 g.2.1.1, g))
     (λ g p x i o h. let f = made.of_cast_sign 13 g p x i o h in (open_by.Sign g, sign_told g p i f.0 f.1, ((p, x), refl, f)))
     (λ f p x i o h. let g = call_from f p x i o h in (open_by.System f, system_told (f, p) i (made.of_system 13 f p x i o h).0 (made.of_system 13 f p x i o h).1, g))
@@ -461,27 +465,27 @@ module _ (d : ℕ) (expr : ℕ → Parser Expr) (parts : IsParts d expr) where
   abbrev TailTakes : NameTail → Spelled
   TailTakes t i o = TailStops o × TailSpelled t i o
 
-  cast_tail_from : (p : Place) (t : NameTail) (i o : List Token) → (told (mark_test m.Tick) i ≡ Some p) × TailTakes t i o → (x : Expr) × (cast_to x ≡ t) × CastSpelled x i o
-  cast_tail_from p (cast_to x) i o h = (x, refl, h.1.1)
-  cast_tail_from p (selected []) i o h = let f : told (mark_test m.Tick) i ≡ None = ap (told (mark_test m.Tick)) h.1.1 ∙ h.1.0.0 in let g = h.0 in absurd (cc)
-  cast_tail_from p (selected (x ∷ [])) i o h = let g = select_begins x i o h.1.1 in let f = g.1 in let k = tick_no_select p i h.0 in absurd (cc)
-  cast_tail_from p (selected (x ∷ y ∷ all)) i o h = let g = select_begins x i h.1.1.1.0 h.1.1.1.1 in let f = g.1 in let k = tick_no_select p i h.0 in absurd (cc)
+  cast_tail_from : (p : Place) (t : NameTail) (i o : List Token) → (told (mark_test m.Tick) i ≡ Some p) × TailTakes t i o → (x : Expr) × (tail.CastTo x ≡ t) × CastSpelled x i o
+  cast_tail_from p (tail.CastTo x) i o h = (x, refl, h.1.1)
+  cast_tail_from p (tail.Selected []) i o h = let f : told (mark_test m.Tick) i ≡ None = ap (told (mark_test m.Tick)) h.1.1 ∙ h.1.0.0 in let g = h.0 in absurd (cc)
+  cast_tail_from p (tail.Selected (x ∷ [])) i o h = let g = select_begins x i o h.1.1 in let f = g.1 in let k = tick_no_select p i h.0 in absurd (cc)
+  cast_tail_from p (tail.Selected (x ∷ y ∷ all)) i o h = let g = select_begins x i h.1.1.1.0 h.1.1.1.1 in let f = g.1 in let k = tick_no_select p i h.0 in absurd (cc)
 
   selected_from : (t : NameTail) (i o : List Token) → (told (mark_test m.Tick) i ≡ None) × TailTakes t i o
-      → (all : List Select) × (selected all ≡ t) × (((told select_test o ≡ None) × Any o) × Chain is_range SpellsSelect all i o)
-  selected_from (cast_to x) i o h = let g = cast_begins x i o h.1.1 in let f = g.1 in let k = h.0 in absurd (cc)
-  selected_from (selected all) i o h = (all, refl, ((h.1.0.1, tt), h.1.1))
+      → (all : List Select) × (tail.Selected all ≡ t) × (((told select_test o ≡ None) × Any o) × Chain is_range SpellsSelect all i o)
+  selected_from (tail.CastTo x) i o h = let g = cast_begins x i o h.1.1 in let f = g.1 in let k = h.0 in absurd (cc)
+  selected_from (tail.Selected all) i o h = (all, refl, ((h.1.0.1, tt), h.1.1))
 
   tail_reader : IsReader (Bad (suc d)) d TailSpelled TailSpelled tail_nests TailStops (name_tail d expr)
   unfolding name_tail
   tail_reader =
       stops_reader (Bad (suc d)) d TailSpelled TailSpelled tail_nests TailStops (name_tail d expr)
-      (choose_reader (Bad (suc d)) d (mark_test m.Tick) TailSpelled TailTakes tail_nests Any (λ _. cast_to <$> cast d expr) (selected <$> selects d expr)
-      (λ p. less_reader (Bad (suc d)) (suc d) d TailSpelled (λ t i o. (told (mark_test m.Tick) i ≡ Some p) × TailTakes t i o) TailSpelled (λ t i o. (told (mark_test m.Tick) i ≡ Some p) × TailTakes t i o) tail_nests Any Any (cast_to <$> cast d expr)
-      (equal_reader (Bad (suc d)) cast_nests tail_nests cast_to (λ x. refl) (suc d) CastSpelled CastSpelled TailSpelled (λ t i o. (told (mark_test m.Tick) i ≡ Some p) × TailTakes t i o) Any (cast d expr)
+      (choose_reader (Bad (suc d)) d (mark_test m.Tick) TailSpelled TailTakes tail_nests Any (λ _. tail.CastTo <$> cast d expr) (tail.Selected <$> selects d expr)
+      (λ p. less_reader (Bad (suc d)) (suc d) d TailSpelled (λ t i o. (told (mark_test m.Tick) i ≡ Some p) × TailTakes t i o) TailSpelled (λ t i o. (told (mark_test m.Tick) i ≡ Some p) × TailTakes t i o) tail_nests Any Any (tail.CastTo <$> cast d expr)
+      (equal_reader (Bad (suc d)) cast_nests tail_nests tail.CastTo (λ x. refl) (suc d) CastSpelled CastSpelled TailSpelled (λ t i o. (told (mark_test m.Tick) i ≡ Some p) × TailTakes t i o) Any (cast d expr)
       (cast_reader d expr parts) (λ x i o h. h) (cast_tail_from p))
       (omega arith) (λ t i o h. h) (λ t i o h. h) (λ o h. h))
-      (equal_reader (Bad (suc d)) (each_depths select_part) tail_nests selected (λ all. refl) d (Chain is_range SpellsSelect) (λ all i o. ((told select_test o ≡ None) × Any o) × Chain is_range SpellsSelect all i o)
+      (equal_reader (Bad (suc d)) (each_depths select_part) tail_nests tail.Selected (λ all. refl) d (Chain is_range SpellsSelect) (λ all i o. ((told select_test o ≡ None) × Any o) × Chain is_range SpellsSelect all i o)
       TailSpelled (λ t i o. (told (mark_test m.Tick) i ≡ None) × TailTakes t i o) Any (selects d expr)
       (unstop_reader (Bad (suc d)) d (Chain is_range SpellsSelect) (Chain is_range SpellsSelect) (each_depths select_part) (λ o. (told select_test o ≡ None) × Any o) (selects d expr) (selects_reader d expr parts))
       (λ all i o h. h) selected_from))
@@ -571,10 +575,10 @@ module _ (d : ℕ) (expr : ℕ → Parser Expr) (parts : IsParts d expr) where
       (λ c q t o h stops. (no_comma q.0 t h.0 h.1, stops_at_brace q.0 t h.0 h.1)) (omega arith) (λ c i o h. omega arith))
       (λ p c t o h stops. tt) (omega arith) (λ p i o h. omega arith)
 
-  copies_nested : (c : Place × ((Expr × List Expr) × (Place × Place))) → copies_nests c ≡ brace_tail_nests (copied (c.1.0.0 ∷ c.1.0.1))
+  copies_nested : (c : Place × ((Expr × List Expr) × (Place × Place))) → copies_nests c ≡ brace_tail_nests (braces.Copied (c.1.0.0 ∷ c.1.0.1))
   copies_nested c = ap (λ l. own ++ (l ++ (own ++ own))) (ap (λ l. part c.1.0.0 ++ l) (after_nested c.1.0.1) ∙ sym (in_append (expr_depths c.1.0.0) (after_commas_depths expr_depths c.1.0.1)))
 
-  copies_to : (c : Place × ((Expr × List Expr) × (Place × Place))) (i o : List Token) → Copies c i o → BraceTailSpelled (copied (c.1.0.0 ∷ c.1.0.1)) i o
+  copies_to : (c : Place × ((Expr × List Expr) × (Place × Place))) (i o : List Token) → Copies c i o → BraceTailSpelled (braces.Copied (c.1.0.0 ∷ c.1.0.1)) i o
   copies_to c i o h = (
     h.0,
     some_mark (codes "{") c.0 i h.0 h.1,
@@ -588,24 +592,24 @@ module _ (d : ℕ) (expr : ℕ → Parser Expr) (parts : IsParts d expr) where
   abbrev Followed : List Expr × Place → Spelled
   Followed c = each After c.0 ⨟ mark_at (codes "}") c.1
 
-  followed_nests : (c : List Expr × Place) → each_depths after_nests c.0 ++ inner c.1 ≡ brace_tail_nests (followed c.0)
+  followed_nests : (c : List Expr × Place) → each_depths after_nests c.0 ++ inner c.1 ≡ brace_tail_nests (braces.Followed c.0)
   followed_nests c = ap (λ l. l ++ own) (after_nested c.0)
 
-  followed_to : (c : List Expr × Place) (i o : List Token) → Followed c i o → BraceTailSpelled (followed c.0) i o
+  followed_to : (c : List Expr × Place) (i o : List Token) → Followed c i o → BraceTailSpelled (braces.Followed c.0) i o
   followed_to c i o h = (h.0, after_of c.0 i h.0 h.1, some_mark (codes "}") c.1 h.0 o h.2)
 
   -- the tail with a second `{`
   copied_from : (p : Place) (t : BraceTail) (i o : List Token) → (told (mark_test m.LeftBrace) i ≡ Some p) × BraceTailSpelled t i o
-      → (all : List Expr) × (copied all ≡ t) × BraceTailSpelled (copied all) i o
-  copied_from p (copied all) i o h = (all, refl, h.1)
-  copied_from p (followed []) i o h =
+      → (all : List Expr) × (braces.Copied all ≡ t) × BraceTailSpelled (braces.Copied all) i o
+  copied_from p (braces.Copied all) i o h = (all, refl, h.1)
+  copied_from p (braces.Followed []) i o h =
       let q = placed_mark (codes "}") i o (subst (λ t. mark_spelled (codes "}") t o) (sym h.1.1) h.1.2) in
       let f = no_open_at_close q.0 i o q.1 in let g = h.0 in absurd (cc)
-  copied_from p (followed (x ∷ all)) i o h =
+  copied_from p (braces.Followed (x ∷ all)) i o h =
       let q = placed_mark (codes ",") i h.1.1.0 h.1.1.1 in
       let f = no_open_at_comma q.0 i h.1.1.0 q.1 in let g = h.0 in absurd (cc)
 
-  copies_from : (all : List Expr) (i o : List Token) → BraceTailSpelled (copied all) i o
+  copies_from : (all : List Expr) (i o : List Token) → BraceTailSpelled (braces.Copied all) i o
       → (c : Place × ((Expr × List Expr) × (Place × Place))) × (c.1.0.0 ∷ c.1.0.1 ≡ all) × Copies c i o
   copies_from [] i o h = absurd h.2.1
   copies_from (x ∷ all) i o h =
@@ -615,34 +619,34 @@ module _ (d : ℕ) (expr : ℕ → Parser Expr) (parts : IsParts d expr) where
       ((p.0, ((x, all), (q.0, r.0))), refl, (h.0, p.1, (h.2.0, (h.2.1.0, h.2.1.1, of_after all h.2.1.0 h.2.0 h.2.1.2), (h.2.2.0, q.1, r.1))))
 
   followed_from : (t : BraceTail) (i o : List Token) → (told (mark_test m.LeftBrace) i ≡ None) × BraceTailSpelled t i o
-      → (c : List Expr × Place) × (followed c.0 ≡ t) × Followed c i o
-  followed_from (copied all) i o h = let p = open_begins i h.1.0 h.1.1 in let f = p.1 in let g = h.0 in absurd (cc)
-  followed_from (followed all) i o h = let q = placed_mark (codes "}") h.1.0 o h.1.2 in ((all, q.0), refl, (h.1.0, of_after all i h.1.0 h.1.1, q.1))
+      → (c : List Expr × Place) × (braces.Followed c.0 ≡ t) × Followed c i o
+  followed_from (braces.Copied all) i o h = let p = open_begins i h.1.0 h.1.1 in let f = p.1 in let g = h.0 in absurd (cc)
+  followed_from (braces.Followed all) i o h = let q = placed_mark (codes "}") h.1.0 o h.1.2 in ((all, q.0), refl, (h.1.0, of_after all i h.1.0 h.1.1, q.1))
 
-  copies_reader : IsReader (Bad (suc d)) (suc d) (λ all. BraceTailSpelled (copied all)) (λ all. BraceTailSpelled (copied all)) (λ all. brace_tail_nests (copied all)) Any (copies d expr)
+  copies_reader : IsReader (Bad (suc d)) (suc d) (λ all. BraceTailSpelled (braces.Copied all)) (λ all. BraceTailSpelled (braces.Copied all)) (λ all. brace_tail_nests (braces.Copied all)) Any (copies d expr)
   unfolding copies
   copies_reader =
-      equal_reader (Bad (suc d)) copies_nests (λ all. brace_tail_nests (copied all)) (λ c. c.1.0.0 ∷ c.1.0.1) copies_nested (suc d) Copies Copies (λ all. BraceTailSpelled (copied all)) (λ all. BraceTailSpelled (copied all)) Any
+      equal_reader (Bad (suc d)) copies_nests (λ all. brace_tail_nests (braces.Copied all)) (λ c. c.1.0.0 ∷ c.1.0.1) copies_nested (suc d) Copies Copies (λ all. BraceTailSpelled (braces.Copied all)) (λ all. BraceTailSpelled (braces.Copied all)) Any
       (mark m.LeftBrace ⊗ (expr 0 ⊗ more d expr) ⊗ mark m.RightBrace ⊗ mark m.RightBrace) copies_inside copies_to copies_from
 
   brace_tail_reader : IsReader (Bad (suc d)) d BraceTailSpelled BraceTailSpelled brace_tail_nests Any (brace_tail d expr)
   unfolding brace_tail mark_text
   brace_tail_reader =
-      choose_reader (Bad (suc d)) d (mark_test m.LeftBrace) BraceTailSpelled BraceTailSpelled brace_tail_nests Any (λ _. copied <$> copies d expr) ((λ c. followed c.0) <$> (more d expr ⊗ mark m.RightBrace))
-      (λ p. less_reader (Bad (suc d)) (suc d) d BraceTailSpelled (λ t i o. (told (mark_test m.LeftBrace) i ≡ Some p) × BraceTailSpelled t i o) BraceTailSpelled (λ t i o. (told (mark_test m.LeftBrace) i ≡ Some p) × BraceTailSpelled t i o) brace_tail_nests Any Any (copied <$> copies d expr)
-      (equal_reader (Bad (suc d)) (λ all. brace_tail_nests (copied all)) brace_tail_nests copied (λ all. refl) (suc d) (λ all. BraceTailSpelled (copied all)) (λ all. BraceTailSpelled (copied all)) BraceTailSpelled (λ t i o. (told (mark_test m.LeftBrace) i ≡ Some p) × BraceTailSpelled t i o) Any (copies d expr)
+      choose_reader (Bad (suc d)) d (mark_test m.LeftBrace) BraceTailSpelled BraceTailSpelled brace_tail_nests Any (λ _. braces.Copied <$> copies d expr) ((λ c. braces.Followed c.0) <$> (more d expr ⊗ mark m.RightBrace))
+      (λ p. less_reader (Bad (suc d)) (suc d) d BraceTailSpelled (λ t i o. (told (mark_test m.LeftBrace) i ≡ Some p) × BraceTailSpelled t i o) BraceTailSpelled (λ t i o. (told (mark_test m.LeftBrace) i ≡ Some p) × BraceTailSpelled t i o) brace_tail_nests Any Any (braces.Copied <$> copies d expr)
+      (equal_reader (Bad (suc d)) (λ all. brace_tail_nests (braces.Copied all)) brace_tail_nests braces.Copied (λ all. refl) (suc d) (λ all. BraceTailSpelled (braces.Copied all)) (λ all. BraceTailSpelled (braces.Copied all)) BraceTailSpelled (λ t i o. (told (mark_test m.LeftBrace) i ≡ Some p) × BraceTailSpelled t i o) Any (copies d expr)
       copies_reader (λ all i o h. h) (copied_from p))
       (omega arith) (λ t i o h. h) (λ t i o h. h) (λ o h. h))
-      (equal_reader (Bad (suc d)) (λ c. each_depths after_nests c.0 ++ inner c.1) brace_tail_nests (λ c. followed c.0) followed_nests d Followed Followed BraceTailSpelled (λ t i o. (told (mark_test m.LeftBrace) i ≡ None) × BraceTailSpelled t i o) Any (more d expr ⊗ mark m.RightBrace)
+      (equal_reader (Bad (suc d)) (λ c. each_depths after_nests c.0 ++ inner c.1) brace_tail_nests (λ c. braces.Followed c.0) followed_nests d Followed Followed BraceTailSpelled (λ t i o. (told (mark_test m.LeftBrace) i ≡ None) × BraceTailSpelled t i o) Any (more d expr ⊗ mark m.RightBrace)
       (pair_reader (Bad (suc d)) d d d (each After) (each_depths after_nests) MoreStops (more d expr) (λ _. mark_at (codes "}")) inner Any (λ _. mark m.RightBrace)
       more_moved more_reader (λ _. mark_reader (suc d) d m.RightBrace) (λ all q t o h stops. (no_comma q t o h, stops_at_brace q t o h)) (omega arith) (λ all i o h. omega arith))
       followed_to followed_from)
 
   stops_at_tail : (t : BraceTail) (i o : List Token) → BraceTailSpelled t i o → Stops 0 i
-  stops_at_tail (copied all) i o h = let p = placed_mark (codes "{") i h.0 h.1 in stops_at_open p.0 i h.0 p.1
-  stops_at_tail (followed []) i o h =
+  stops_at_tail (braces.Copied all) i o h = let p = placed_mark (codes "{") i h.0 h.1 in stops_at_open p.0 i h.0 p.1
+  stops_at_tail (braces.Followed []) i o h =
       let q = placed_mark (codes "}") i o (subst (λ t. mark_spelled (codes "}") t o) (sym h.1) h.2) in stops_at_brace q.0 i o q.1
-  stops_at_tail (followed (x ∷ all)) i o h = let q = placed_mark (codes ",") i h.1.0 h.1.1 in stops_at_comma q.0 i h.1.0 q.1
+  stops_at_tail (braces.Followed (x ∷ all)) i o h = let q = placed_mark (codes ",") i h.1.0 h.1.1 in stops_at_comma q.0 i h.1.0 q.1
 
   braced_reader : IsReader (Bad (suc d)) (suc d) (Spells 13) (Begun open_by.Brace) expr_depths Any (braced d expr)
   unfolding braced mark_text

@@ -22,6 +22,10 @@ use Rattle.sv_expr_parser.specs.declared.openers.SelectOpener.{SelectOpener}
 use Rattle.sv_expr_parser.specs.declared.openers.SelectOpener.TheVariants as select_by
 use Rattle.sv_expr_parser.specs.declared.openers.Joiner.{Joiner}
 use Rattle.sv_expr_parser.specs.declared.openers.Joiner.TheVariants as join_by
+use Rattle.sv_expr_parser.specs.declared.tails.NameTail.{NameTail}
+use Rattle.sv_expr_parser.specs.declared.tails.NameTail.TheVariants as tail
+use Rattle.sv_expr_parser.specs.declared.tails.BraceTail.{BraceTail}
+use Rattle.sv_expr_parser.specs.declared.tails.BraceTail.TheVariants as braces
 use Rattle.sv_expr_parser.specs.Signs.{opener_test, select_test, range_test, joiner_test, strength_of, unary_name, binary_name, sign_name}
 
 -- how many expressions hold the token of the expression that most hold
@@ -38,27 +42,17 @@ abbrev pub made_literal : Word × Option Expr → Expr
 made_literal (w, None) = e.Literal w
 made_literal (w, Some x) = e.CastLiteral w x
 
--- what stands behind a name
-pub data NameTail : Type 0 where
-  cast_to : Expr → NameTail
-  selected : List Select → NameTail
-
 abbrev pub made_name : Word × NameTail → Expr
-made_name (w, cast_to x) = e.CastName w x
-made_name (w, selected all) = e.Name w all
+made_name (w, tail.CastTo x) = e.CastName w x
+made_name (w, tail.Selected all) = e.Name w all
 
 abbrev pub made_paren : (Place × (Expr × Place)) × Option Expr → Expr
 made_paren (p, None) = e.Paren p.0 p.1.0
 made_paren (p, Some x) = e.CastParen p.0 p.1.0 x
 
--- what stands behind the first part in braces
-pub data BraceTail : Type 0 where
-  copied : List Expr → BraceTail
-  followed : List Expr → BraceTail
-
 abbrev pub made_brace : Place × (Expr × BraceTail) → Expr
-made_brace (p, (x, copied all)) = e.Repeat p x all
-made_brace (p, (x, followed all)) = e.Concat p (x ∷ all)
+made_brace (p, (x, braces.Copied all)) = e.Repeat p x all
+made_brace (p, (x, braces.Followed all)) = e.Concat p (x ∷ all)
 
 abbrev pub made_bracket : Place × (Expr × (Option (RangeMark × Expr) × Place)) → Select
 made_bracket (p, (x, (None, q))) = sel.Index p x
@@ -92,8 +86,14 @@ module _ (d : ℕ) (expr : ℕ → Parser Expr) where
   unfoldable pub member : Parser Select
   member = guarded d ((λ c. sel.Member c.0 c.1) <$> (mark m.Dot ⊗ token id_test))
 
+  abbrev pub range : Parser (RangeMark × Expr)
+  range = token range_test ⊗ expr 0
+
+  abbrev pub maybe_range : Parser (Option (RangeMark × Expr))
+  maybe_range = maybe_read range_test range
+
   unfoldable pub bracket : Parser Select
-  bracket = made_bracket <$> (mark m.LeftBracket ⊗ expr 0 ⊗ maybe_read range_test (token range_test ⊗ expr 0) ⊗ mark m.RightBracket)
+  bracket = made_bracket <$> (mark m.LeftBracket ⊗ expr 0 ⊗ maybe_range ⊗ mark m.RightBracket)
 
   abbrev pub select_for : SelectOpener → Parser Select
   select_for select_by.Dot = member
@@ -107,7 +107,7 @@ module _ (d : ℕ) (expr : ℕ → Parser Expr) where
   selects = chain select_test is_range select
 
   unfoldable pub name_tail : Parser NameTail
-  name_tail = by_told (mark_test m.Tick) (λ _. cast_to <$> cast) (selected <$> selects)
+  name_tail = by_told (mark_test m.Tick) (λ _. tail.CastTo <$> cast) (tail.Selected <$> selects)
 
   unfoldable pub named : Parser Expr
   named = made_name <$> (token id_test ⊗ name_tail)
@@ -126,8 +126,12 @@ module _ (d : ℕ) (expr : ℕ → Parser Expr) where
   unfoldable pub copies : Parser (List Expr)
   copies = (λ c. c.1.0.0 ∷ c.1.0.1) <$> (mark m.LeftBrace ⊗ (expr 0 ⊗ more) ⊗ mark m.RightBrace ⊗ mark m.RightBrace)
 
+  -- the other parts, up to the closing brace
+  abbrev pub closed_more : Parser (List Expr × Place)
+  closed_more = more ⊗ mark m.RightBrace
+
   unfoldable pub brace_tail : Parser BraceTail
-  brace_tail = by_told (mark_test m.LeftBrace) (λ _. copied <$> copies) ((λ c. followed c.0) <$> (more ⊗ mark m.RightBrace))
+  brace_tail = by_told (mark_test m.LeftBrace) (λ _. braces.Copied <$> copies) ((λ c. braces.Followed c.0) <$> closed_more)
 
   unfoldable pub braced : Parser Expr
   braced = made_brace <$> (mark m.LeftBrace ⊗ expr 0 ⊗ brace_tail)
