@@ -1,4 +1,5 @@
 pub mod Codes
 pub mod Parsers
+pub mod Refusals
 pub mod Sorts
 pub mod Tests

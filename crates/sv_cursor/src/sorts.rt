@@ -105,7 +105,8 @@ pub const MARKS: [(&[u8], Mark); 50] = [
     (b"-:", Mark::MinusColon),
 ];
 
-fn same(a: &[u8], b: &[u8]) -> bool
+/// Whether two texts are equal.
+pub fn same(a: &[u8], b: &[u8]) -> bool
     ensures { result ≡ bytes_eq a.now b.now }
 {
     a == b

@@ -5,7 +5,8 @@ use Rattle.sv_outside.specs.declared.text.Token.{Token}
 use Rattle.sv_tree.specs.declared.exprs.Expr.{Expr}
 use Rattle.sv_cursor.specs.declared.error.ParseErr.TheVariants.{Syntax, TooDeep}
 use Rattle.sv_expr_parser.specs.Answers.{IsSpelled}
-use Rattle.sv_expr_parser.specs.Parsed.{IsLongest, IsParsed, refused, syntax_number_of, place_at}
+use Rattle.sv_cursor.specs.Refusals.{refused, syntax_number_of, place_at}
+use Rattle.sv_expr_parser.specs.Parsed.{IsLongest, IsParsed}
 
 module _ (tokens : List Token) (end : Place) (at : ℕ) (le : at ≤ length tokens) where
   len : length (drop at tokens) ≡ length tokens - at

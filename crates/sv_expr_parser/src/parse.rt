@@ -1,16 +1,14 @@
 // The longest expression from a token on.
-ghost use Rattle.std.specs.Prelude.{◌≡◌, ◌≤◌, length, slice_get};
-ghost use Rattle.std.specs.Str.{bytes_eq};
+ghost use Rattle.std.specs.Prelude.{◌≤◌, length};
 ghost use Rattle.sv_cursor.specs.Parsers.{Reads};
-ghost use Rattle.sv_expr_parser.specs.Parsed as spec;
 ghost use Rattle.sv_expr_parser.specs.Parsed.{IsFront, IsLongest, IsParsed, NoneBeyond, Refuses, RefusesFront};
 ghost use Rattle.sv_expr_parser.specs.Reading.{expr as expr_read};
 
 use crate::ends::last_end;
 use crate::operators::expr;
 use std::alloc::Global;
-use sv_cursor::{Cursor, ParseErr, Sort, sort_of};
-use sv_outside::{Kind, Place, Refusal, TextErr, Token};
+use sv_cursor::{Cursor, ParseErr, place_at, refusal, syntax_number};
+use sv_outside::{Place, TextErr, Token};
 use sv_tree::Expr;
 
 /// How many expressions may hold a token (this project's rule).
@@ -113,73 +111,6 @@ fn longest(alloc: Global, tokens: &[Token]) -> Result<(Expr, usize), ParseErr>
         }
         Err(refusal) => or_shorter(alloc, tokens, refusal),
     }
-}
-
-fn same(a: &[u8], b: &[u8]) -> bool
-    ensures { result ≡ bytes_eq a.now b.now }
-{
-    a == b
-}
-
-#[tactic(auto, unfolding(crate::specs::Parsed::is_listed_mark))]
-fn is_listed_mark(text: &[u8]) -> bool
-    ensures { result ≡ spec.is_listed_mark text.now }
-{
-    if same(text, b"===") {
-        return true;
-    }
-    if same(text, b"!==") {
-        return true;
-    }
-    if same(text, b"==?") {
-        return true;
-    }
-    same(text, b"!=?")
-}
-
-fn is_other(sort: Sort) -> bool
-    ensures { result ≡ spec.is_other sort }
-{
-    matches!(sort, Sort::Other)
-}
-
-fn is_listed(token: &Token) -> bool
-    ensures { result ≡ spec.is_listed token.now }
-{
-    match token.kind {
-        Kind::Word => is_other(sort_of(token)),
-        Kind::System => is_other(sort_of(token)),
-        Kind::Mark => is_listed_mark(token.text.bytes()),
-        _ => false,
-    }
-}
-
-fn place_at(tokens: &[Token], end: Place, at: usize) -> Place
-    ensures { result ≡ spec.place_at tokens.now end at }
-{
-    match tokens.get(at) {
-        Some(token) => token.place,
-        None => end,
-    }
-}
-
-fn syntax_number(tokens: &[Token], at: usize) -> u8
-    ensures { result ≡ spec.syntax_number_of (slice_get tokens.now at) }
-{
-    match tokens.get(at) {
-        Some(token) => { if is_listed(token) { 25 } else { 8 } }
-        None => 8,
-    }
-}
-
-fn refusal(number: u8, place: Place) -> TextErr
-    ensures { result ≡ spec.refused number place }
-{
-    TextErr::No(Refusal {
-        number,
-        place,
-        count: 0,
-    })
 }
 
 /// The longest expression (A.8.3) that the tokens spell from the one with the number `at` on, and the number of the

@@ -1,9 +1,16 @@
 pub mod Arms
 pub mod Begins
 pub mod Blocks
+pub mod Bracing
 pub mod Firsts
+pub mod GenLevel
+pub mod Gens
 pub mod Instances
+pub mod ItemLevel
+pub mod Items
+pub mod Laws
 pub mod Limits
+pub mod Modules
 pub mod Params
 pub mod Ports
 pub mod Rules

@@ -309,7 +309,7 @@ module _ {Bad : Nesting → Type 0} {depth : ℕ} {B : Type 0} {S : B → Spelle
   abbrev pub ReadBy : Way Bad depth B S nests stops → B → Spelled
   ReadBy w b i o = (a : w.A) × (w.made a ≡ b) × w.rule.spelled a i o
 
-  way_reader : (w : Way Bad depth B S nests stops) (C : List Token → Type 0) → ((b : B) (i o : List Token) → C i → S b i o → ReadBy w b i o)
+  pub way_reader : (w : Way Bad depth B S nests stops) (C : List Token → Type 0) → ((b : B) (i o : List Token) → C i → S b i o → ReadBy w b i o)
       → IsReader Bad depth S (λ b i o. C i × S b i o) nests stops (reader_of w)
   way_reader w C from =
       less_reader Bad depth depth S (λ b i o. C i × S b i o) S (λ b i o. C i × S b i o) nests w.rule.stops stops (reader_of w)

@@ -26,7 +26,7 @@ use Rattle.sv_cursor.proofs.Readers.{IsReader, IsMoved, BadAt, Meets, Agrees, Ch
 use Rattle.sv_expr_parser.specs.Signs.{select_test, select_opener}
 use Rattle.sv_expr_parser.specs.Reading.{expr, selects}
 use Rattle.sv_expr_parser.proofs.Tokens.{Bad, Any}
-use Rattle.sv_expr_parser.proofs.Selects.{select_part, selects_reader, chain_of, of_chain}
+use Rattle.sv_expr_parser.proofs.SelectParts.{select_part, selects_reader, chain_of, of_chain}
 use Rattle.sv_expr_parser.proofs.Laws.{expr_reader}
 use Rattle.sv_parser.specs.declared.openers.TargetOpener.{TargetOpener}
 use Rattle.sv_parser.specs.declared.openers.TargetOpener.TheVariants as target_by

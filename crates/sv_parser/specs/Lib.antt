@@ -1,9 +1,12 @@
+pub mod Answers
+pub mod Braces
 pub mod Combined
 pub mod Forms
 pub mod Instances
 pub mod Items
 pub mod Lists
 pub mod Params
+pub mod Source
 pub mod Stmts
 pub mod Targets
 pub mod Words

@@ -4,9 +4,10 @@ use Rattle.std.specs.declared.alloc.Global.{Global}
 use denote.Ref.{MutBor}
 use Rattle.sv_outside.specs.declared.text.Token.{Token}
 use Rattle.sv_cursor.specs.declared.error.ParseErr.{ParseErr}
+use Rattle.sv_cursor.specs.declared.sort.Keyword.TheVariants as key
 use Rattle.sv_cursor.specs.declared.sort.Mark.TheVariants as m
 use Rattle.sv_cursor.specs.Parsers.{Parser, Reads, many}
-use Rattle.sv_cursor.specs.Tests.{mark_test, mark}
+use Rattle.sv_cursor.specs.Tests.{mark_test, mark, keyword}
 use Rattle.sv_parser.specs.Combined.{◌▸◌, ◌◂◌}
 
 -- a comma and a part
@@ -16,6 +17,10 @@ behind_comma p = mark m.Comma ▸ p
 -- a colon and a part
 unfoldable pub behind_colon : {A : Type 0} → Parser A → Parser A
 behind_colon p = mark m.Colon ▸ p
+
+-- `else` and a part
+unfoldable pub behind_else : {A : Type 0} → Parser A → Parser A
+behind_else p = keyword key.Else ▸ p
 
 -- the parts behind the first
 unfoldable pub more : {A : Type 0} → Parser A → Parser (List A)

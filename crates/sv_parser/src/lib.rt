@@ -2,10 +2,14 @@
 #![tactic(auto)]
 
 mod forms;
+mod instantiations;
 mod labels;
 mod lists;
+mod lvalues;
+mod module_items;
 mod openers;
 mod parameters;
+mod statements;
 mod tails;
 mod told;
 

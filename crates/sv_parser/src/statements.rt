@@ -16,7 +16,7 @@ use crate::lists::{expression, expressions, with_first};
 use crate::lvalues::lvalue;
 use crate::openers::StmtOpener;
 use crate::tails::BranchTail;
-use crate::told::{maybe_uniq, take_case, take_whole, taken};
+use crate::told::{is_given, maybe_uniq, take_case, take_whole, taken};
 use items::{Boxed, Items};
 use std::alloc::{AllocError, Global};
 use sv_cursor::{Cursor, Keyword, Mark, ParseErr, Sort};
@@ -151,15 +151,6 @@ fn sees_expression(tokens: &Cursor<'_>) -> bool
 }
 
 // ---- arms
-
-fn is_given(place: Option<Place>) -> bool
-    ensures { result ≡ spec.is_given place }
-{
-    match place {
-        Some(_) => true,
-        None => false,
-    }
-}
 
 fn maybe_colon(tokens: &mut Cursor<'_>) -> Result<Option<Place>, ParseErr>
     ensures { Reads (parser.maybe_read (test.mark_test Mark.Colon) (test.mark Mark.Colon) tokens.old) result tokens.new }

@@ -4,10 +4,12 @@ ghost use Rattle.sv_cursor.specs.Parsers as parser;
 ghost use Rattle.sv_cursor.specs.Parsers.{Reads, told};
 ghost use Rattle.sv_cursor.specs.Tests as test;
 ghost use Rattle.sv_parser.specs.Combined as spec;
+ghost use Rattle.sv_parser.specs.Stmts as stmts;
 ghost use Rattle.sv_parser.specs.Words as words;
 
 use crate::openers::AlwaysWord;
 use sv_cursor::{Cursor, Keyword, Mark, ParseErr, Sort};
+use sv_outside::Place;
 use sv_tree::{
     BitsWord, CaseWord, Edge, NetWord, ParamBits, ParamWord, Sign, StepMark, StepSign, Uniq, Way,
     WholeWord,
@@ -20,8 +22,18 @@ pub fn sees(tokens: &Cursor<'_>, mark: Mark) -> bool
     tokens.peek_mark(mark).is_some()
 }
 
-// Goes behind the token that tells something (`Syntax` where none does).
-fn taken<A>(tokens: &mut Cursor<'_>, word: Option<A>) -> Result<A, ParseErr>
+/// Whether something is there.
+pub fn is_given(place: Option<Place>) -> bool
+    ensures { result ≡ stmts.is_given place }
+{
+    match place {
+        Some(_) => true,
+        None => false,
+    }
+}
+
+/// Goes behind the token that tells something (`Syntax` where none does).
+pub fn taken<A>(tokens: &mut Cursor<'_>, word: Option<A>) -> Result<A, ParseErr>
     ensures { Reads (parser.take_told word tokens.old) result tokens.new }
 {
     match word {

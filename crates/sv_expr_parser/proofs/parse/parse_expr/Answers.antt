@@ -1,7 +1,8 @@
 use Rattle.std.proofs.Common.{◌≡◌, ◌-◌, length, drop, Err, sym, ◌∙◌, ap, subst, length-drop, arith}
 use Rattle.std.proofs.lemmas.List.{take_all}
 use Rattle.sv_cursor.specs.declared.error.ParseErr.TheVariants.{TooDeep}
-use Rattle.sv_expr_parser.specs.Parsed.{IsLongest, IsParsed, place_at, refused}
+use Rattle.sv_cursor.specs.Refusals.{place_at, refused}
+use Rattle.sv_expr_parser.specs.Parsed.{IsLongest, IsParsed}
 use Rattle.sv_expr_parser.proofs.Shifted.{deep_shifted}
 use Rattle.sv_expr_parser.proofs.parse.parse_expr.Goals as goal
 
