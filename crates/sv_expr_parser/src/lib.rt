@@ -11,6 +11,6 @@ mod signs;
 mod tails;
 
 pub use openers::{Joiner, Opener, SelectOpener};
-pub use operators::{expr, selects};
+pub use operators::{begins, expr, selects};
 pub use parse::parse_expr;
 pub use tails::{BraceTail, NameTail};

@@ -8,8 +8,8 @@ ghost use Rattle.sv_expr_parser.specs.Signs as sign;
 
 use crate::grammar::Grammar;
 use crate::nesting::height;
-use crate::openers::Joiner;
-use crate::signs::{binary_mark, joiner, right_level, strength};
+use crate::openers::{Joiner, Opener};
+use crate::signs::{binary_mark, joiner, opener, right_level, strength};
 use items::{Boxed, Items};
 use std::alloc::{AllocError, Global};
 use sv_cursor::{Cursor, Mark, ParseErr};
@@ -173,6 +173,13 @@ pub fn expr(alloc: Global, tokens: &mut Cursor<'_>, depth: u8, least: u8) -> Res
         expr,
     }
     .level(tokens, least)
+}
+
+/// What kind of expression begins with the next token, where one may.
+pub fn begins(tokens: &Cursor<'_>) -> Option<Opener>
+    ensures { result ≡ told sign.opener_test tokens.now }
+{
+    opener(tokens)
 }
 
 /// The selects behind the name of a target, a range being the last, in whose expressions fewer than `depth` hold a

@@ -139,7 +139,7 @@ whole_push d (c ∷ stack) b r =
     ap (λ (o : Outcome Lvalue). and_then o (λ x. brace_rest d c.place (c.found ++ x ∷ [])))
     (whole_push (d - 1) stack b r ∙ ap (λ n. whole_of (d - 1) stack (and_then r (λ x. brace_rest n b.place (b.found ++ x ∷ [])))) e)
 
-some_told : {C : Type 0} (q : Option C) → is_some q ≡ true → (c : C) × (q ≡ Some c)
+pub some_told : {C : Type 0} (q : Option C) → is_some q ≡ true → (c : C) × (q ≡ Some c)
 some_told None e = absurd (cc)
 some_told (Some c) e = (c, refl)
 

@@ -4,23 +4,28 @@ use Rattle.std.specs.Str.{bytes_eq}
 use Rattle.sv_outside.specs.declared.refusal.Place.{Place}
 use Rattle.sv_outside.specs.declared.text.Token.{Token}
 use Rattle.sv_tree.specs.declared.word.Word.{Word}
+use Rattle.sv_tree.specs.declared.stmts.Stmt.{Stmt}
+use Rattle.sv_tree.specs.declared.design.Item.{Item}
+use Rattle.sv_tree.specs.declared.design.Gen.{Gen}
 use Rattle.sv_cursor.specs.declared.error.ParseErr.{ParseErr}
 use Rattle.sv_cursor.specs.declared.error.ParseErr.TheVariants.{Syntax}
 use Rattle.sv_cursor.specs.declared.sort.Keyword.{Keyword}
+use Rattle.sv_cursor.specs.declared.sort.Keyword.TheVariants as key
 use Rattle.sv_cursor.specs.declared.sort.Mark.{Mark as MarkName}
 use Rattle.sv_cursor.specs.declared.sort.Mark.TheVariants as m
 use Rattle.sv_cursor.specs.declared.sort.Sort.{Sort}
 use Rattle.sv_cursor.specs.declared.sort.Sort.TheVariants as s
 use Rattle.sv_cursor.specs.Sorts.{sort}
-use Rattle.sv_cursor.specs.Parsers.{Outcome, told, take_told, token}
-use Rattle.sv_cursor.specs.Tests.{first_sort, if_so, is_mark, same_mark, mark_test, id_test, id_by, place_test}
+use Rattle.sv_cursor.specs.Parsers.{Outcome, Parser, ◌<$>◌, ◌▷◌, ◌⊗◌, by_told, told, take_told, token}
+use Rattle.sv_cursor.specs.Tests.{mark, keyword, keyword_test, first_sort, if_so, is_mark, same_mark, mark_test, id_test, id_by, place_test}
 use Rattle.sv_cursor.proofs.Tested.{mark_told, mark_here}
 use Rattle.sv_expr_parser.specs.Signs.{opener, opener_test}
 use Rattle.sv_parser.specs.declared.openers.PinsOpener.TheVariants as pins_by
-use Rattle.sv_parser.specs.Combined.{word_of, word_test, sign_of, sign_test, sort_test}
-use Rattle.sv_parser.specs.Stmts.{assign_test, with_place}
+use Rattle.sv_parser.specs.Combined.{◌▸◌, word_of, word_test, sign_of, sign_test, sort_test}
+use Rattle.sv_parser.specs.Items.{gen, gen_block, single}
+use Rattle.sv_parser.specs.Stmts.{assign_test, with_place, made_for, turns, loop}
 use Rattle.sv_parser.specs.Targets.{repeat_test}
-use Rattle.sv_parser.specs.Words.{assign_by_mark, ordered_if, pins_by_mark, pins_by_sort}
+use Rattle.sv_parser.specs.Words.{whole_by_word, assign_by_mark, ordered_if, pins_by_mark, pins_by_sort}
 
 pub word_first : {A : Type 0} (of : Keyword → Option A) (i : List Token) → told (word_test of) i ≡ word_of of (first_sort i)
 unfolding word_test
@@ -103,3 +108,13 @@ pub no_name : (v : Word) (i : List Token) (z : ParseErr) → ◌≡◌ {A = Outc
 unfolding token repeat_test
 no_name v [] z e = e
 no_name v (a ∷ i) z e = none_by (bytes_eq a.text v.text) (id_test a) (a ∷ i) z e
+
+-- ---- loops
+
+pub loop_parts : (stmt : Parser Stmt) (i : List Token) → ◌≡◌ {A = Outcome Stmt} (loop stmt i) ((made_for <$> (keyword key.For ⊗ (mark m.LeftParen ▸ (token (word_test whole_by_word) ⊗ (token id_test ▷ turns stmt))))) i)
+unfolding loop
+loop_parts stmt i = refl
+
+pub gen_parts : (item : Parser Item) (i : List Token) → ◌≡◌ {A = Outcome Gen} (gen item i) (by_told (keyword_test key.Begin) (λ _. gen_block item) (single item) i)
+unfolding gen
+gen_parts item i = refl

@@ -389,7 +389,7 @@ region_same f h i near shrinks =
     (λ p j short. ap (λ (r : Outcome (List Item)). and_then (and_then {A = List Item × Place} (and_then r (λ a. keyword k.Endgenerate >>= (λ b. pure (a, b)))) (λ c. pure c.0)) (λ y. pure (p, y)))
     (many_same f h (length i) near shrinks (sort_test item_by_sort) j short)))))
 
-by_item : (loop cond f h : Parser Item) (found : Option ItemOpener) (i : List Token) → ((j : List Token) → length j < length i → ◌≡◌ {A = Outcome Item} (f j) (h j)) → Shrinks h
+pub by_item : (loop cond f h : Parser Item) (found : Option ItemOpener) (i : List Token) → ((j : List Token) → length j < length i → ◌≡◌ {A = Outcome Item} (f j) (h j)) → Shrinks h
     → ◌≡◌ {A = Outcome Item} (branch found (item_for loop cond f) refuse i) (branch found (item_for loop cond h) refuse i)
 by_item loop cond f h (Some item_by.Generate) i near shrinks = region_same f h i near shrinks
 by_item loop cond f h (Some _) i near shrinks = refl
@@ -402,7 +402,7 @@ at_end loop cond (suc n) = refl
 
 module _ (h d : ℕ) (le : d ≤ 201) (loop cond : Parser Item) (loops : IsReader (Over 201 h 201) d Plain (Begun item_by.For) item_depths NoColon loop)
     (conds : IsReader (Over 201 h 201) d Plain (Begun item_by.If) item_depths NoColon cond) where
-  stable : (n l : ℕ) (i : List Token) → length i ≤ n → length i ≤ l → ◌≡◌ {A = Outcome Item} (regions loop cond n i) (regions loop cond l i)
+  pub stable : (n l : ℕ) (i : List Token) → length i ≤ n → length i ≤ l → ◌≡◌ {A = Outcome Item} (regions loop cond n i) (regions loop cond l i)
   unfolding regions item_level
   stable n l [] a b = at_end loop cond n ∙ sym (at_end loop cond l)
   stable zero l (x ∷ i) a b = absurd (omega arith)
@@ -421,7 +421,7 @@ module _ (h d : ℕ) (le : d ≤ 201) (loop cond : Parser Item) (loops : IsReade
 
 -- ---- the depths of generate constructs
 
-begun_moved : (c : ItemOpener) → IsMoved (Begun c) item_depths
+pub begun_moved : (c : ItemOpener) → IsMoved (Begun c) item_depths
 begun_moved c = record { count = λ x i o v. (counted_done_item x).count i o v.1; rest = λ x i o v. (counted_done_item x).rest i o v.1 }
 
 over_first : (l : Depths) → 0 < length l → BadAt (Over 201 1 201) (in_generate l) 0
@@ -429,14 +429,14 @@ unfolding in_generate
 over_first [] some = absurd (omega arith)
 over_first (n ∷ l) some = inr (inr (inl (omega arith)))
 
-loop_deep : (x : Item) (i o : List Token) → Begun item_by.For x i o → BadAt (Over 201 1 201) (item_depths x) 0
+pub loop_deep : (x : Item) (i o : List Token) → Begun item_by.For x i o → BadAt (Over 201 1 201) (item_depths x) 0
 loop_deep x i o v =
     let c = (classed item_by.For x i o v).0 in
     let e = (classed item_by.For x i o v).1 in
     subst (λ x. BadAt (Over 201 1 201) (item_depths x) 0) e
     (subst (λ l. BadAt (Over 201 1 201) l 0) (sym (made.nests_for c.0 (is_given c.1.0) c.1.1.0 c.1.1.1.0 c.1.1.1.1.0 c.1.1.1.1.1.0 c.1.1.1.1.1.1)) (over_first _ (simp length-append (omega arith))))
 
-cond_deep : (x : Item) (i o : List Token) → Begun item_by.If x i o → BadAt (Over 201 1 201) (item_depths x) 0
+pub cond_deep : (x : Item) (i o : List Token) → Begun item_by.If x i o → BadAt (Over 201 1 201) (item_depths x) 0
 cond_deep x i o v =
     let c = (classed item_by.If x i o v).0 in
     let e = (classed item_by.If x i o v).1 in

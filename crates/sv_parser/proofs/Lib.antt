@@ -13,6 +13,7 @@ pub mod Limits
 pub mod Modules
 pub mod Params
 pub mod Ports
+pub mod Regioning
 pub mod Rules
 pub mod Same
 pub mod Steps

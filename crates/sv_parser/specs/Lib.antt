@@ -6,6 +6,7 @@ pub mod Instances
 pub mod Items
 pub mod Lists
 pub mod Params
+pub mod Regions
 pub mod Source
 pub mod Stmts
 pub mod Targets

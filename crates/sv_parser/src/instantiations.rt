@@ -18,7 +18,7 @@ use crate::told::sees;
 use items::Items;
 use std::alloc::{AllocError, Global};
 use sv_cursor::{Cursor, Mark, ParseErr, Sort};
-use sv_expr_parser::{Opener, opener};
+use sv_expr_parser::{Opener, begins};
 use sv_tree::{Expr, Inst, Item, NamedPin, One, Pin, Pins, Range, TypeTree, Word};
 
 // ---- connections
@@ -26,7 +26,7 @@ use sv_tree::{Expr, Inst, Item, NamedPin, One, Pin, Pins, Range, TypeTree, Word}
 fn maybe_expression(alloc: Global, tokens: &mut Cursor<'_>) -> Result<Option<Expr>, ParseErr>
     ensures { Reads (parser.maybe_read opener_test forms.expression tokens.old) result tokens.new }
 {
-    match opener(tokens) {
+    match begins(tokens) {
         Some(_) => {
             let inner = expression(alloc, tokens)?;
             Ok(Some(inner))
@@ -144,7 +144,7 @@ fn pins_next(tokens: &Cursor<'_>) -> Option<PinsOpener>
 {
     match tokens.peek_mark(Mark::Dot) {
         Some(_) => Some(PinsOpener::Named),
-        None => ordered_if(opener(tokens)),
+        None => ordered_if(begins(tokens)),
     }
 }
 

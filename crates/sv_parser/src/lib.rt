@@ -9,6 +9,8 @@ mod lvalues;
 mod module_items;
 mod openers;
 mod parameters;
+mod regions;
+mod source;
 mod statements;
 mod tails;
 mod told;

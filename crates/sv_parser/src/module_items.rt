@@ -11,13 +11,12 @@ ghost use Rattle.sv_parser.specs.Lists.{Nests};
 ghost use Rattle.sv_parser.specs.Stmts as stmts;
 ghost use Rattle.sv_parser.specs.Words as words;
 
-use crate::forms::{form, given, typedef};
-use crate::instantiations::named_item;
+use crate::forms::{form, given};
 use crate::labels::{block_label, end_label, step};
 use crate::lists::{MOST_NESTING, expression, more_names, names, with_first};
 use crate::lvalues::lvalue;
 use crate::openers::{AlwaysWord, ItemOpener};
-use crate::parameters::{param, typed_name};
+use crate::parameters::typed_name;
 use crate::statements::stmt;
 use crate::tails::AlwaysTail;
 use crate::told::{always_next, is_given, sees, take_edge, take_net};
@@ -153,7 +152,7 @@ fn kind(alloc: Global, tokens: &mut Cursor<'_>) -> Result<BlockKind, ParseErr>
 
 /// A block of a module (A.6.2, always_construct).
 #[tactic(auto, unfolding(crate::specs::Items::always))]
-fn always(alloc: Global, tokens: &mut Cursor<'_>) -> Result<Block, ParseErr>
+pub fn always(alloc: Global, tokens: &mut Cursor<'_>) -> Result<Block, ParseErr>
     ensures { Reads (spec.always tokens.old) result tokens.new }
 {
     let kind = kind(alloc, tokens)?;
@@ -163,8 +162,9 @@ fn always(alloc: Global, tokens: &mut Cursor<'_>) -> Result<Block, ParseErr>
 
 // ---- items that hold no items
 
+/// One or more nets (A.2.1.3, net_declaration).
 #[tactic(auto, unfolding(crate::specs::Items::net, crate::specs::Instances::more_names, crate::specs::Lists::more, crate::specs::Lists::behind_comma))]
-fn net(alloc: Global, tokens: &mut Cursor<'_>) -> Result<Item, ParseErr>
+pub fn net(alloc: Global, tokens: &mut Cursor<'_>) -> Result<Item, ParseErr>
     ensures { Reads (spec.net tokens.old) result tokens.new }
 {
     let word = take_net(tokens)?;
@@ -175,8 +175,9 @@ fn net(alloc: Global, tokens: &mut Cursor<'_>) -> Result<Item, ParseErr>
     Ok(Item::Net(word, form, all))
 }
 
+/// One or more variables (A.2.1.3, data_declaration).
 #[tactic(auto, unfolding(crate::specs::Items::variable))]
-fn variable(alloc: Global, tokens: &mut Cursor<'_>) -> Result<Item, ParseErr>
+pub fn variable(alloc: Global, tokens: &mut Cursor<'_>) -> Result<Item, ParseErr>
     ensures { Reads (spec.variable tokens.old) result tokens.new }
 {
     let shape = form(alloc, tokens, MOST_NESTING + 1)?;
@@ -185,8 +186,9 @@ fn variable(alloc: Global, tokens: &mut Cursor<'_>) -> Result<Item, ParseErr>
     Ok(Item::Variable(shape, all))
 }
 
+/// One or more loop variables (A.4.2, genvar_declaration).
 #[tactic(auto, unfolding(crate::specs::Items::genvar))]
-fn genvar(alloc: Global, tokens: &mut Cursor<'_>) -> Result<Item, ParseErr>
+pub fn genvar(alloc: Global, tokens: &mut Cursor<'_>) -> Result<Item, ParseErr>
     ensures { Reads (spec.genvar tokens.old) result tokens.new }
 {
     tokens.keyword(Keyword::Genvar)?;
@@ -237,8 +239,9 @@ fn pairs(alloc: Global, tokens: &mut Cursor<'_>) -> Result<Items<AssignPair>, Pa
     Ok(all)
 }
 
+/// One or more assignments (A.6.1, continuous_assign).
 #[tactic(auto, unfolding(crate::specs::Items::assigns))]
-fn assigns(alloc: Global, tokens: &mut Cursor<'_>) -> Result<Item, ParseErr>
+pub fn assigns(alloc: Global, tokens: &mut Cursor<'_>) -> Result<Item, ParseErr>
     ensures { Reads (spec.assigns tokens.old) result tokens.new }
 {
     tokens.keyword(Keyword::Assign)?;
@@ -398,7 +401,7 @@ impl<F: Fn(Global, &mut Cursor<'_>, u8) -> Result<Item, ParseErr>> Generates<F> 
         }
     }
 
-    #[tactic(auto, unfolding(crate::specs::Items::gen))]
+    #[tactic(auto, using(crate::proofs::Firsts::gen_parts))]
     fn gen_body(&self, tokens: &mut Cursor<'_>) -> Result<Gen, ParseErr>
         requires { Nests (spec.item self.now.depth) self.now.depth (F.pre self.now.item) (F.post self.now.item) }
         ensures { Reads (spec.gen (spec.item self.now.depth) tokens.old) result tokens.new }

@@ -20,7 +20,7 @@ use crate::told::{is_given, maybe_uniq, take_case, take_whole, taken};
 use items::{Boxed, Items};
 use std::alloc::{AllocError, Global};
 use sv_cursor::{Cursor, Keyword, Mark, ParseErr, Sort};
-use sv_expr_parser::opener;
+use sv_expr_parser::begins;
 use sv_outside::Place;
 use sv_tree::{Arm, AssignMark, Expr, Step, Stmt, Word};
 
@@ -147,7 +147,7 @@ fn sees_stmt(tokens: &Cursor<'_>) -> bool
 fn sees_expression(tokens: &Cursor<'_>) -> bool
     ensures { result ≡ is_some (told opener_test tokens.now) }
 {
-    opener(tokens).is_some()
+    begins(tokens).is_some()
 }
 
 // ---- arms
@@ -440,7 +440,7 @@ impl<F: Fn(Global, &mut Cursor<'_>, u8) -> Result<Stmt, ParseErr>> Statements<F>
         Ok((start, (condition, (step, body))))
     }
 
-    #[tactic(auto, unfolding(crate::specs::Stmts::loop))]
+    #[tactic(auto, using(crate::proofs::Firsts::loop_parts))]
     fn counted(&self, tokens: &mut Cursor<'_>) -> Result<Stmt, ParseErr>
         requires { Nests (spec.stmt self.now.depth) self.now.depth (F.pre self.now.stmt) (F.post self.now.stmt) }
         ensures { Reads (spec.loop (spec.stmt self.now.depth) tokens.old) result tokens.new }

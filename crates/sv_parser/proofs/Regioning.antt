@@ -1,0 +1,158 @@
+-- Generate regions, read with a list of the regions that are open.
+use Rattle.std.proofs.Common.{◌≡◌, ◌≢◌, ℕ, zero, suc, ◌+◌, ◌-◌, ◌<◌, ◌≤◌, true, false, is_some, List, [], ◌∷◌, ◌++◌, length, Option, Some, None, Ok, Err, refl, sym, ◌∙◌, ap, append_assoc, append-nil, arith}
+use Rattle.sv_outside.specs.declared.refusal.Place.{Place}
+use Rattle.sv_outside.specs.declared.text.Token.{Token}
+use Rattle.sv_tree.specs.declared.design.Item.{Item}
+use Rattle.sv_tree.specs.declared.design.Item.TheVariants as it
+use Rattle.sv_tree.specs.NestingDesign.{item_depths}
+use Rattle.sv_cursor.specs.declared.error.ParseErr.{ParseErr}
+use Rattle.sv_cursor.specs.declared.error.ParseErr.TheVariants.{Syntax}
+use Rattle.sv_cursor.specs.declared.sort.Keyword.TheVariants as k
+use Rattle.sv_cursor.specs.Tests.{keyword_test, keyword}
+use Rattle.sv_cursor.specs.Parsers.{Outcome, Parser, and_then, ◌>>=◌, ◌<$>◌, ◌⊗◌, pure, refuse, too_deep, told, branch, cons, many_from, many}
+use Rattle.sv_cursor.proofs.Readers.{IsReader, Meets, meets_weaker, deep_reader}
+use Rattle.sv_parser.specs.declared.openers.ItemOpener.{ItemOpener}
+use Rattle.sv_parser.specs.declared.openers.ItemOpener.TheVariants as item_by
+use Rattle.sv_parser.specs.Combined.{◌▸◌, ◌◂◌, sort_test}
+use Rattle.sv_parser.specs.Words.{item_by_sort}
+use Rattle.sv_parser.specs.Items.{items, region, gen_loop, gen_if, item_for, item_level, regions, whole_item, item_from, item}
+use Rattle.sv_parser.specs.Regions.{loop_of, cond_of, region_rest, region_of}
+use Rattle.sv_parser.proofs.Limits.{Over}
+use Rattle.sv_parser.proofs.Same.{Shrinks}
+use Rattle.sv_parser.proofs.Bracing.{enough, some_told}
+use Rattle.sv_parser.proofs.GenLevel.{Begun, counted_done_item, Plain, item_grows, cond_reads, loop_reads}
+use Rattle.sv_parser.proofs.Items.{DoneItem}
+use Rattle.sv_parser.proofs.Gens.{NoColon}
+use Rattle.sv_parser.proofs.ItemLevel.{by_item, stable, begun_moved, loop_deep, cond_deep, item_reads}
+
+-- ---- an item takes a token, and is made of items
+
+pub item_shorter : (g : ℕ) → g ≤ 200 → (i : List Token) → Meets (item g i) (λ x j. length j < length i)
+item_shorter g le i = meets_weaker (item g i) (λ x j. DoneItem x i j) (λ x j. length j < length i) ((item_reads g le).sound i) (λ x j h. omega (arith, (counted_done_item x).count i j h, item_grows x))
+
+item_shrinks : (g : ℕ) → g ≤ 200 → Shrinks (item g)
+item_shrinks g le i = meets_weaker (item g i) (λ x j. length j < length i) (λ x j. length j ≤ length i) (item_shorter g le i) (λ x j h. omega arith)
+
+module _ (h d : ℕ) (le : d ≤ 201) (loop cond : Parser Item) (loops : IsReader (Over 201 h 201) d Plain (Begun item_by.For) item_depths NoColon loop)
+    (conds : IsReader (Over 201 h 201) d Plain (Begun item_by.If) item_depths NoColon cond) (shrinks : Shrinks (whole_item (regions loop cond))) where
+  level_again : (i : List Token) → ◌≡◌ {A = Outcome Item} (whole_item (regions loop cond) i) (item_level loop cond (whole_item (regions loop cond)) i)
+  unfolding regions item_level
+  level_again [] = refl
+  level_again (a ∷ i) =
+      by_item loop cond (regions loop cond (length i)) (whole_item (regions loop cond)) (told (sort_test item_by_sort) (a ∷ i)) (a ∷ i)
+      (λ j short. stable h d le loop cond loops conds (length i) (length j) j (omega arith) (omega arith)) shrinks
+
+pub item_again : (g : ℕ) → g ≤ 200 → (i : List Token) → ◌≡◌ {A = Outcome Item} (item g i) (item_level (loop_of g) (cond_of g) (item g) i)
+unfolding item_from loop_of cond_of
+item_again zero le i =
+    level_again 1 0 (omega arith) too_deep too_deep
+    (deep_reader (Over 201 1 201) (Begun item_by.For) item_depths (begun_moved item_by.For) loop_deep Plain NoColon)
+    (deep_reader (Over 201 1 201) (Begun item_by.If) item_depths (begun_moved item_by.If) cond_deep Plain NoColon) (item_shrinks 0 le) i
+item_again (suc g) le i =
+    let r = item_reads g (omega arith) in
+    level_again (suc (suc g)) (suc g) (omega arith) (gen_loop (item g)) (gen_if (item g)) (loop_reads (suc g) g (omega arith) (item g) r) (cond_reads (suc g) g (omega arith) (item g) r) (item_shrinks (suc g) le) i
+
+module _ (g : ℕ) (le : g ≤ 200) where
+  pub no_item_begins : (i : List Token) → told (sort_test item_by_sort) i ≡ None → ◌≡◌ {A = Outcome Item} (item g i) (Err (Syntax (length i)))
+  unfolding item_level
+  no_item_begins i e = item_again g le i ∙ ap (λ q. branch q (item_for (loop_of g) (cond_of g) (item g)) refuse i) e
+
+  pub item_begins_by : (c : ItemOpener) (i : List Token) → told (sort_test item_by_sort) i ≡ Some c → ◌≡◌ {A = Outcome Item} (item g i) (item_for (loop_of g) (cond_of g) (item g) c i)
+  unfolding item_level
+  item_begins_by c i e = item_again g le i ∙ ap (λ q. branch q (item_for (loop_of g) (cond_of g) (item g)) refuse i) e
+
+  -- ---- open regions
+
+  pub region_err : (stack : List (List Item)) (e : ParseErr) → ◌≡◌ {A = Outcome Item} (region_of g stack (Err e)) (Err e)
+  unfolding region_of
+  region_err [] e = refl
+  region_err (b ∷ inner) e = ap (λ (r : Outcome Item). and_then r (λ x. region_rest g (b ++ x ∷ []))) (region_err inner e)
+
+  pub region_push : (stack : List (List Item)) (b : List Item) (r : Outcome Item)
+      → ◌≡◌ {A = Outcome Item} (region_of g (stack ++ b ∷ []) r) (region_of g stack (and_then r (λ x. region_rest g (b ++ x ∷ []))))
+  unfolding region_of
+  region_push [] b r = refl
+  region_push (c ∷ stack) b r = ap (λ (o : Outcome Item). and_then o (λ x. region_rest g (c ++ x ∷ []))) (region_push stack b r)
+
+  module _ (found : List Item) where
+    abbrev finish : Outcome (List Item) → Outcome Item
+    finish r = and_then (and_then {A = List Item × Place} (and_then r (λ a. keyword k.Endgenerate >>= (λ b. pure (a, b)))) (λ c. pure c.0)) (λ more. pure (it.Generate (found ++ more)))
+
+    abbrev items_from : ℕ → Parser (List Item)
+    items_from n = many_from (sort_test item_by_sort) (item g) n
+
+    none_more : (n : ℕ) (i : List Token) → told (sort_test item_by_sort) i ≡ None → ◌≡◌ {A = Outcome (List Item)} (items_from n i) (Ok ([], i))
+    unfolding many_from
+    none_more zero i e = refl
+    none_more (suc n) i e = ap (λ q. branch q (λ _. cons <$> (item g ⊗ items_from n)) (pure []) i) e
+
+    some_more : (n : ℕ) (i : List Token) (c : ItemOpener) → told (sort_test item_by_sort) i ≡ Some c → ◌≡◌ {A = Outcome (List Item)} (items_from (suc n) i) ((cons <$> (item g ⊗ items_from n)) i)
+    unfolding many_from
+    some_more n i c e = ap (λ q. branch q (λ _. cons <$> (item g ⊗ items_from n)) (pure []) i) e
+
+    end_by : (r : Outcome Place) → ◌≡◌ {A = Outcome Item} (and_then (and_then {A = List Item × Place} (and_then r (λ b. pure ([], b))) (λ c. pure c.0)) (λ more. pure (it.Generate (found ++ more)))) (and_then r (λ _. pure (it.Generate found)))
+    end_by (Ok (b, j)) = ap (λ l. Ok (it.Generate l, j)) (append-nil found)
+    end_by (Err e) = refl
+
+    -- a region that ends
+    pub region_closed : (i : List Token) → told (sort_test item_by_sort) i ≡ None → ◌≡◌ {A = Outcome Item} (region_rest g found i) (and_then (keyword k.Endgenerate i) (λ _. pure (it.Generate found)))
+    unfolding region_rest
+    region_closed i none = ap finish (none_more (length i) i none) ∙ end_by (keyword k.Endgenerate i)
+
+    last_by : (y : Item) (more : List Item) (r : Outcome Place)
+        → ◌≡◌ {A = Outcome Item} (and_then (and_then {A = List Item × Place} (and_then r (λ b. pure (y ∷ more, b))) (λ c. pure c.0)) (λ l. pure (it.Generate (found ++ l))))
+        (and_then (and_then {A = List Item × Place} (and_then r (λ b. pure (more, b))) (λ c. pure c.0)) (λ l. pure (it.Generate ((found ++ y ∷ []) ++ l))))
+    last_by y more (Ok (b, j)) = ap (λ l. Ok (it.Generate l, j)) (sym (append_assoc found (y ∷ []) more))
+    last_by y more (Err e) = refl
+
+    tail_by : (y : Item) (r : Outcome (List Item))
+        → ◌≡◌ {A = Outcome Item} (finish (and_then {A = Item × List Item} (and_then r (λ l. pure (y, l))) (λ c. pure (cons c))))
+        (and_then (and_then {A = List Item × Place} (and_then r (λ a. keyword k.Endgenerate >>= (λ b. pure (a, b)))) (λ c. pure c.0)) (λ more. pure (it.Generate ((found ++ y ∷ []) ++ more))))
+    tail_by y (Ok (more, j)) = last_by y more (keyword k.Endgenerate j)
+    tail_by y (Err e) = refl
+
+    part_by : (n : ℕ) (r : Outcome Item) → Meets r (λ y j. length j ≤ n)
+        → ◌≡◌ {A = Outcome Item} (finish (and_then {A = Item × List Item} (and_then r (λ y. items_from n >>= (λ l. pure (y, l)))) (λ c. pure (cons c)))) (and_then r (λ y. region_rest g (found ++ y ∷ [])))
+    unfolding region_rest
+    part_by n (Ok (y, j)) low =
+        ap (λ (r : Outcome (List Item)). finish (and_then {A = Item × List Item} (and_then r (λ l. pure (y, l))) (λ c. pure (cons c)))) (enough (sort_test item_by_sort) (item g) (item_shorter g le) n (length j) j low (omega arith))
+        ∙ tail_by y (items_from (length j) j)
+    part_by n (Err e) low = refl
+
+    go_by : (i : List Token) (c : ItemOpener) → told (sort_test item_by_sort) i ≡ Some c → ◌≡◌ {A = Outcome Item} (region_rest g found i) (and_then (item g i) (λ y. region_rest g (found ++ y ∷ [])))
+    unfolding region_rest
+    go_by [] c e = absurd (cc)
+    go_by (a ∷ i) c e =
+        ap finish (some_more (length i) (a ∷ i) c e)
+        ∙ part_by (length i) (item g (a ∷ i)) (meets_weaker (item g (a ∷ i)) (λ y j. length j < length (a ∷ i)) (λ y j. length j ≤ length i) (item_shorter g le (a ∷ i)) (λ y j h. omega arith))
+
+    -- a region that goes on
+    pub region_goes : (i : List Token) → is_some (told (sort_test item_by_sort) i) ≡ true → ◌≡◌ {A = Outcome Item} (region_rest g found i) (and_then (item g i) (λ y. region_rest g (found ++ y ∷ [])))
+    region_goes i some = let c = some_told (told (sort_test item_by_sort) i) some in go_by i c.0 c.1
+
+  -- ---- a region that begins
+
+  end_begun : (p : Place) (r : Outcome Place) (all : List Item)
+      → ◌≡◌ {A = Outcome Item}
+      (and_then {A = List Item} (and_then {A = Place × List Item} (and_then {A = List Item} (and_then {A = List Item × Place} (and_then r (λ b. pure (all, b))) (λ c. pure c.0)) (λ l. pure (p, l))) (λ c. pure c.1)) (λ l. pure (it.Generate l)))
+      (and_then {A = List Item} (and_then {A = List Item × Place} (and_then r (λ b. pure (all, b))) (λ c. pure c.0)) (λ l. pure (it.Generate ([] ++ l))))
+  end_begun p (Ok (b, o)) all = refl
+  end_begun p (Err e) all = refl
+
+  begun_by : (p : Place) (r : Outcome (List Item))
+      → ◌≡◌ {A = Outcome Item}
+      (and_then {A = List Item} (and_then {A = Place × List Item} (and_then {A = List Item} (and_then {A = List Item × Place} (and_then r (λ a. keyword k.Endgenerate >>= (λ b. pure (a, b)))) (λ c. pure c.0)) (λ l. pure (p, l))) (λ c. pure c.1)) (λ l. pure (it.Generate l)))
+      (and_then {A = List Item} (and_then {A = List Item × Place} (and_then r (λ a. keyword k.Endgenerate >>= (λ b. pure (a, b)))) (λ c. pure c.0)) (λ l. pure (it.Generate ([] ++ l))))
+  begun_by p (Ok (all, j)) = end_begun p (keyword k.Endgenerate j) all
+  begun_by p (Err e) = refl
+
+  pub region_begun : (i j : List Token) (p : Place) → ◌≡◌ {A = Outcome Place} (keyword k.Generate i) (Ok (p, j)) → ◌≡◌ {A = Outcome Item} (region (item g) i) (region_rest g [] j)
+  unfolding region items region_rest
+  region_begun i j p e =
+      ap (λ (r : Outcome Place). and_then {A = List Item} (and_then {A = Place × List Item} (and_then r (λ p. (many (sort_test item_by_sort) (item g) ◂ keyword k.Endgenerate) >>= (λ l. pure (p, l)))) (λ c. pure c.1)) (λ l. pure (it.Generate l))) e
+      ∙ begun_by p (many (sort_test item_by_sort) (item g) j)
+
+  pub region_fails : (i : List Token) (z : ParseErr) → ◌≡◌ {A = Outcome Place} (keyword k.Generate i) (Err z) → ◌≡◌ {A = Outcome Item} (region (item g) i) (Err z)
+  unfolding region items
+  region_fails i z e =
+      ap (λ (r : Outcome Place). and_then {A = List Item} (and_then {A = Place × List Item} (and_then r (λ p. (many (sort_test item_by_sort) (item g) ◂ keyword k.Endgenerate) >>= (λ l. pure (p, l)))) (λ c. pure c.1)) (λ l. pure (it.Generate l))) e
