@@ -1,5 +1,5 @@
 -- Targets in braces, read with a list of the braces that are open.
-use Rattle.std.proofs.Common.{◌≡◌, ◌≢◌, ℕ, zero, suc, ◌+◌, ◌-◌, ◌<◌, ◌≤◌, true, false, is_some, List, [], ◌∷◌, ◌++◌, length, Option, Some, None, Ok, Err, refl, sym, ◌∙◌, ap, append_assoc, append-nil, arith}
+use Rattle.std.proofs.Common.{◌≡◌, ◌≢◌, ℕ, zero, suc, ◌+◌, ◌-◌, ◌<◌, ◌≤◌, true, false, is_some, List, [], ◌∷◌, ◌++◌, length, Option, Some, None, Ok, Err, refl, sym, ◌∙◌, ap, subst, append_assoc, append-nil, length-append, arith}
 use Rattle.sv_outside.specs.declared.refusal.Place.{Place}
 use Rattle.sv_outside.specs.declared.text.Token.{Token}
 use Rattle.sv_tree.specs.declared.word.Word.{Word}
@@ -7,7 +7,7 @@ use Rattle.sv_tree.specs.declared.exprs.Select.{Select}
 use Rattle.sv_tree.specs.declared.stmts.Lvalue.{Lvalue}
 use Rattle.sv_tree.specs.declared.stmts.Lvalue.TheVariants as lv
 use Rattle.sv_cursor.specs.declared.error.ParseErr.{ParseErr}
-use Rattle.sv_cursor.specs.declared.error.ParseErr.TheVariants.{Syntax}
+use Rattle.sv_cursor.specs.declared.error.ParseErr.TheVariants.{Memory, Syntax}
 use Rattle.sv_cursor.specs.declared.sort.Mark.{Mark as MarkName}
 use Rattle.sv_cursor.specs.declared.sort.Mark.TheVariants as m
 use Rattle.sv_cursor.specs.Tests.{mark_test, id_test, mark}
@@ -17,7 +17,7 @@ use Rattle.sv_expr_parser.specs.Reading.{expr, selects}
 use Rattle.sv_parser.specs.declared.lvalues.OpenBrace.{OpenBrace}
 use Rattle.sv_parser.specs.declared.openers.TargetOpener.{TargetOpener}
 use Rattle.sv_parser.specs.declared.openers.TargetOpener.TheVariants as target_by
-use Rattle.sv_parser.specs.Braces.{brace_rest, whole_of}
+use Rattle.sv_parser.specs.Braces.{brace_rest, whole_of, Turns}
 use Rattle.sv_parser.specs.Combined.{◌▸◌, ◌◂◌, sort_test, listed}
 use Rattle.sv_parser.specs.Words.{target_by_sort}
 use Rattle.sv_parser.specs.Targets.{made_target, named_target, made_targets, braced_targets, target_for, target_level, lvalue_from, lvalue}
@@ -143,6 +143,10 @@ pub some_told : {C : Type 0} (q : Option C) → is_some q ≡ true → (c : C) �
 some_told None e = absurd (cc)
 some_told (Some c) e = (c, refl)
 
+none_by : {C : Type 0} (q : Option C) → is_some q ≡ false → q ≡ None
+none_by None e = refl
+none_by (Some c) e = absurd (cc)
+
 mark_there : (name : MarkName) (i : List Token) (p : Place) → told (mark_test name) i ≡ Some p → ◌≡◌ {A = Outcome Place} (mark name i) (Ok (p, next i))
 unfolding token
 mark_there name i p e = ap (λ q. take_told q i) e
@@ -253,3 +257,122 @@ brace_fails n k i z en e h = open_by k (Err z) n i en e h
 
 pub name_shorter : (i : List Token) → Meets (named_target i) (λ x j. length j < length i)
 name_shorter = target_shorter
+
+-- ---- a target that was read is put into the innermost brace
+
+abbrev pub Holds : (ℕ → Outcome Lvalue) → ℕ → List OpenBrace → Lvalue → List Token → Type 0
+Holds start n stack x i = (d : ℕ) → n ≤ d → ◌≡◌ {A = Outcome Lvalue} (start d) (whole_of d stack (Ok (x, i)))
+
+module _ (start : ℕ → Outcome Lvalue) (n : ℕ) (old new : List OpenBrace) (b : OpenBrace) (x : Lvalue) (i : List Token) (h : Holds start n old x i) (popped : old ≡ new ++ b ∷ []) where
+  put : (d : ℕ) → n ≤ d → ◌≡◌ {A = Outcome Lvalue} (start d) (whole_of d new (brace_rest (d - length new) b.place (b.found ++ x ∷ []) i))
+  put d le = h d le ∙ (ap (λ s. whole_of d s (Ok (x, i))) popped ∙ whole_push d new b (Ok (x, i)))
+
+  none_comma : is_some (told (mark_test m.Comma) i) ≡ false → told (mark_test m.Comma) i ≡ None
+  none_comma e = none_by (told (mark_test m.Comma) i) e
+
+  pub closes : (p : Place) (j : List Token) → is_some (told (mark_test m.Comma) i) ≡ false → ◌≡◌ {A = Outcome Place} (mark m.RightBrace i) (Ok (p, j)) → Holds start n new (lv.Concat b.place (b.found ++ x ∷ [])) j
+  closes p j none e = λ d le. put d le
+      ∙ ap (whole_of d new) (closed_by (d - length new) b.place (b.found ++ x ∷ []) i (none_comma none) ∙ ap (λ (r : Outcome Place). and_then r (λ _. pure (lv.Concat b.place (b.found ++ x ∷ [])))) e)
+
+  pub close_fails : (z : ParseErr) → is_some (told (mark_test m.Comma) i) ≡ false → ◌≡◌ {A = Outcome Place} (mark m.RightBrace i) (Err z) → (d : ℕ) → n ≤ d → ◌≡◌ {A = Outcome Lvalue} (start d) (Err z)
+  close_fails z none e = λ d le. put d le
+      ∙ (ap (whole_of d new) (closed_by (d - length new) b.place (b.found ++ x ∷ []) i (none_comma none) ∙ ap (λ (r : Outcome Place). and_then r (λ _. pure (lv.Concat b.place (b.found ++ x ∷ [])))) e)
+      ∙ whole_err d new z)
+
+  pub goes_on : is_some (told (mark_test m.Comma) i) ≡ true → (d : ℕ) → n ≤ d
+      → ◌≡◌ {A = Outcome Lvalue} (start d) (whole_of d (new ++ record { place = b.place; found = b.found ++ x ∷ [] } ∷ []) (lvalue_from (suc d - length (new ++ record { place = b.place; found = b.found ++ x ∷ [] } ∷ [])) (next i)))
+  goes_on some = λ d le.
+      let c : OpenBrace = record { place = b.place; found = b.found ++ x ∷ [] } in
+      let e : d - length new ≡ suc d - length (new ++ c ∷ []) = omega (arith, length-append new (c ∷ [])) in
+      put d le
+      ∙ (ap (whole_of d new) (goes_by (d - length new) b.place (b.found ++ x ∷ []) i some)
+      ∙ (sym (whole_push d new c (lvalue_from (d - length new) (next i))) ∙ ap (λ k. whole_of d (new ++ c ∷ []) (lvalue_from k (next i))) e))
+
+pub comma_takes : (i : List Token) → is_some (told (mark_test m.Comma) i) ≡ true → length (next i) < length i
+comma_takes [] e = absurd (cc)
+comma_takes (a ∷ i) e = omega arith
+
+pub none_open : (start : ℕ → Outcome Lvalue) (n : ℕ) (stack : List OpenBrace) (x : Lvalue) (i : List Token) → Holds start n stack x i → length stack ≤ 0 → (d : ℕ) → n ≤ d → ◌≡◌ {A = Outcome Lvalue} (start d) (Ok (x, i))
+unfolding whole_of
+none_open start n [] x i h e = h
+none_open start n (b ∷ stack) x i h e = absurd (omega arith)
+
+-- ---- one turn
+
+module _ (stack : List OpenBrace) (i : List Token) where
+  abbrev now_at : ℕ → Outcome Lvalue
+  now_at d = whole_of d stack (lvalue_from (suc d - length stack) i)
+
+  below : (d : ℕ) → length stack ≤ d → suc d - length stack ≡ suc (d - length stack)
+  below d le = omega arith
+
+  pub name_read : (x : Lvalue) (j : List Token) → told (sort_test target_by_sort) i ≡ Some target_by.Name → ◌≡◌ {A = Outcome Lvalue} (named_target i) (Ok (x, j))
+      → (d : ℕ) → length stack ≤ d → ◌≡◌ {A = Outcome Lvalue} (now_at d) (whole_of d stack (Ok (x, j)))
+  name_read x j t e = λ d le. ap (whole_of d stack) (name_begins (suc d - length stack) (d - length stack) i (below d le) t ∙ e)
+
+  pub name_fails : (z : ParseErr) → told (sort_test target_by_sort) i ≡ Some target_by.Name → ◌≡◌ {A = Outcome Lvalue} (named_target i) (Err z)
+      → (d : ℕ) → length stack ≤ d → ◌≡◌ {A = Outcome Lvalue} (now_at d) (Err z)
+  name_fails z t e = λ d le. ap (whole_of d stack) (name_begins (suc d - length stack) (d - length stack) i (below d le) t ∙ e) ∙ whole_err d stack z
+
+  pub brace_read : (p : Place) (j : List Token) → told (sort_test target_by_sort) i ≡ Some target_by.Brace → ◌≡◌ {A = Outcome Place} (mark m.LeftBrace i) (Ok (p, j))
+      → (d : ℕ) → length stack ≤ d
+      → ◌≡◌ {A = Outcome Lvalue} (now_at d) (whole_of d (stack ++ record { place = p; found = [] } ∷ []) (lvalue_from (suc d - length (stack ++ record { place = p; found = [] } ∷ [])) j))
+  brace_read p j t e = λ d le.
+      let c : OpenBrace = record { place = p; found = [] } in
+      let same : d - length stack ≡ suc d - length (stack ++ c ∷ []) = omega (arith, length-append stack (c ∷ [])) in
+      ap (whole_of d stack) (brace_begins (suc d - length stack) (d - length stack) i j p (below d le) t e)
+      ∙ (sym (whole_push d stack c (lvalue_from (d - length stack) j)) ∙ ap (λ k. whole_of d (stack ++ c ∷ []) (lvalue_from k j)) same)
+
+  pub brace_refused : (z : ParseErr) → told (sort_test target_by_sort) i ≡ Some target_by.Brace → ◌≡◌ {A = Outcome Place} (mark m.LeftBrace i) (Err z)
+      → (d : ℕ) → length stack ≤ d → ◌≡◌ {A = Outcome Lvalue} (now_at d) (Err z)
+  brace_refused z t e = λ d le. ap (whole_of d stack) (brace_fails (suc d - length stack) (d - length stack) i z (below d le) t e) ∙ whole_err d stack z
+
+  pub none_turns : told (sort_test target_by_sort) i ≡ None → (d : ℕ) → length stack ≤ d → ◌≡◌ {A = Outcome Lvalue} (whole_of d stack (lvalue_from (suc d - length stack) i)) (Err (Syntax (length i)))
+  none_turns t d le = ap (whole_of d stack) (none_begins (suc d - length stack) i t) ∙ whole_err d stack (Syntax (length i))
+
+pub longer : (stack : List OpenBrace) (b : OpenBrace) → length (stack ++ b ∷ []) ≤ suc (length stack)
+longer stack b = omega (arith, length-append stack (b ∷ []))
+
+pub mark_takes : (name : MarkName) (i j : List Token) (p : Place) → ◌≡◌ {A = Outcome Place} (mark name i) (Ok (p, j)) → length j < length i
+mark_takes name i j p e = subst (λ (r : Outcome Place). Meets r (λ x j. length j < length i)) e (token_shorter (mark_test name) i)
+
+pub name_takes : (i j : List Token) (x : Lvalue) → ◌≡◌ {A = Outcome Lvalue} (named_target i) (Ok (x, j)) → length j < length i
+name_takes i j x e = subst (λ (r : Outcome Lvalue). Meets r (λ x j. length j < length i)) e (target_shorter i)
+
+-- ---- all turns
+
+-- what is read from the first token on is told by what is still open
+pub record Open (i : List Token) (n turn : ℕ) (stack : List OpenBrace) (j : List Token) : Type 0 where
+  pub low : length stack ≤ turn
+  pub left : length j + turn ≤ n
+  pub same : (d : ℕ) → n ≡ suc d → ◌≡◌ {A = Outcome Lvalue} (lvalue i) (whole_of d stack (lvalue_from (suc d - length stack) j))
+
+pub open_first : (i : List Token) → Open i (length i) 0 [] i
+unfolding whole_of
+open_first i = record { low = omega arith; left = omega arith; same = λ d e. ap (λ n. lvalue_from n i) e }
+
+pub open_next : (i : List Token) (n turn : ℕ) (stack new : List OpenBrace) (j k : List Token) → Open i n turn stack j → turn < n → Turns stack j (Ok None) new k → Open i n (turn + 1) new k
+open_next i n turn stack new j k o less t = record {
+  low = omega (arith, o.low, t.0);
+  left = omega (arith, o.left, t.1);
+  same = λ d e. o.same d e ∙ t.2 d (omega (arith, o.low));
+}
+
+pub open_done : (i : List Token) (n turn : ℕ) (stack new : List OpenBrace) (j k : List Token) (x : Lvalue) → Open i n turn stack j → turn < n → Turns stack j (Ok (Some x)) new k → ◌≡◌ {A = Outcome Lvalue} (lvalue i) (Ok (x, k))
+open_done i n turn stack new j k x o less t = let e : n ≡ suc (n - 1) = omega arith in o.same (n - 1) e ∙ t (n - 1) (omega (arith, o.low))
+
+pub open_fails : (i : List Token) (n turn : ℕ) (stack new : List OpenBrace) (j k : List Token) (z : ParseErr) → Open i n turn stack j → turn < n → Turns stack j (Err z) new k → z ≢ Memory → ◌≡◌ {A = Outcome Lvalue} (lvalue i) (Err z)
+open_fails i n turn stack new j k z o less t real = let e : n ≡ suc (n - 1) = omega arith in o.same (n - 1) e ∙ t real (n - 1) (omega (arith, o.low))
+
+end_by_none : (start : Outcome Lvalue) (d n : ℕ) (stack : List OpenBrace) (j : List Token) → ◌≡◌ {A = Outcome Lvalue} start (whole_of d stack (lvalue_from n j)) → length j ≤ 0 → ◌≡◌ {A = Outcome Lvalue} start (Err (Syntax (length j)))
+end_by_none start d n stack [] h low = h ∙ (ap (whole_of d stack) (at_end n) ∙ whole_err d stack (Syntax 0))
+end_by_none start d n stack (a ∷ j) h low = absurd (omega arith)
+
+empty_end : (i : List Token) → length i ≡ 0 → ◌≡◌ {A = Outcome Lvalue} (lvalue i) (Err (Syntax 0))
+empty_end [] e = at_end 0
+empty_end (a ∷ i) e = absurd (omega arith)
+
+pub open_end : (i : List Token) (n turn : ℕ) (stack : List OpenBrace) (j : List Token) → Open i n turn stack j → n ≤ turn → length i ≡ n → ◌≡◌ {A = Outcome Lvalue} (lvalue i) (Err (Syntax (length j)))
+open_end i zero turn stack [] o le e = empty_end i e
+open_end i zero turn stack (a ∷ j) o le e = let l = o.left in absurd (omega arith)
+open_end i (suc d) turn stack j o le e = end_by_none (lvalue i) d (suc d - length stack) stack j (o.same d refl) (omega (arith, o.left))

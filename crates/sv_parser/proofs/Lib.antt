@@ -21,4 +21,5 @@ pub mod StmtLevel
 pub mod Stmts
 pub mod Targets
 pub mod Types
+pub mod Wholes
 pub mod Words

@@ -1,5 +1,5 @@
 -- Generate regions, read with a list of the regions that are open.
-use Rattle.std.proofs.Common.{◌≡◌, ◌≢◌, ℕ, zero, suc, ◌+◌, ◌-◌, ◌<◌, ◌≤◌, true, false, is_some, List, [], ◌∷◌, ◌++◌, length, Option, Some, None, Ok, Err, refl, sym, ◌∙◌, ap, append_assoc, append-nil, arith}
+use Rattle.std.proofs.Common.{◌≡◌, ◌≢◌, ℕ, zero, suc, ◌+◌, ◌-◌, ◌<◌, ◌≤◌, true, false, is_some, List, [], ◌∷◌, ◌++◌, length, Option, Some, None, Ok, Err, refl, sym, ◌∙◌, ap, subst, append_assoc, append-nil, arith}
 use Rattle.sv_outside.specs.declared.refusal.Place.{Place}
 use Rattle.sv_outside.specs.declared.text.Token.{Token}
 use Rattle.sv_tree.specs.declared.design.Item.{Item}
@@ -16,7 +16,7 @@ use Rattle.sv_parser.specs.declared.openers.ItemOpener.TheVariants as item_by
 use Rattle.sv_parser.specs.Combined.{◌▸◌, ◌◂◌, sort_test}
 use Rattle.sv_parser.specs.Words.{item_by_sort}
 use Rattle.sv_parser.specs.Items.{items, region, gen_loop, gen_if, item_for, item_level, regions, whole_item, item_from, item}
-use Rattle.sv_parser.specs.Regions.{loop_of, cond_of, region_rest, region_of}
+use Rattle.sv_parser.specs.Regions.{loop_of, cond_of, region_rest, region_of, Turns}
 use Rattle.sv_parser.proofs.Limits.{Over}
 use Rattle.sv_parser.proofs.Same.{Shrinks}
 use Rattle.sv_parser.proofs.Bracing.{enough, some_told}
@@ -24,6 +24,14 @@ use Rattle.sv_parser.proofs.GenLevel.{Begun, counted_done_item, Plain, item_grow
 use Rattle.sv_parser.proofs.Items.{DoneItem}
 use Rattle.sv_parser.proofs.Gens.{NoColon}
 use Rattle.sv_parser.proofs.ItemLevel.{by_item, stable, begun_moved, loop_deep, cond_deep, item_reads}
+
+none_told : {C : Type 0} (q : Option C) → is_some q ≡ false → q ≡ None
+none_told None e = refl
+none_told (Some c) e = absurd (cc)
+
+at_none : (i : List Token) → length i ≤ 0 → told (sort_test item_by_sort) i ≡ None
+at_none [] low = refl
+at_none (a ∷ i) low = absurd (omega arith)
 
 -- ---- an item takes a token, and is made of items
 
@@ -156,3 +164,77 @@ module _ (g : ℕ) (le : g ≤ 200) where
   unfolding region items
   region_fails i z e =
       ap (λ (r : Outcome Place). and_then {A = List Item} (and_then {A = Place × List Item} (and_then r (λ p. (many (sort_test item_by_sort) (item g) ◂ keyword k.Endgenerate) >>= (λ l. pure (p, l)))) (λ c. pure c.1)) (λ l. pure (it.Generate l))) e
+
+-- ---- an item that was read is put into the innermost region
+
+module _ (g : ℕ) (le : g ≤ 200) (start : Outcome Item) (old new : List (List Item)) (found : List Item) (x : Item) (i : List Token)
+    (h : ◌≡◌ {A = Outcome Item} start (region_of g old (Ok (x, i)))) (popped : old ≡ new ++ found ∷ []) where
+  put : ◌≡◌ {A = Outcome Item} start (region_of g new (region_rest g (found ++ x ∷ []) i))
+  put = h ∙ (ap (λ s. region_of g s (Ok (x, i))) popped ∙ region_push g le new found (Ok (x, i)))
+
+  pub region_ends : (p : Place) (j : List Token) → is_some (told (sort_test item_by_sort) i) ≡ false → ◌≡◌ {A = Outcome Place} (keyword k.Endgenerate i) (Ok (p, j))
+      → ◌≡◌ {A = Outcome Item} start (region_of g new (Ok (it.Generate (found ++ x ∷ []), j)))
+  region_ends p j none e = put
+      ∙ ap (region_of g new) (region_closed g le (found ++ x ∷ []) i (none_told (told (sort_test item_by_sort) i) none) ∙ ap (λ (r : Outcome Place). and_then r (λ _. pure (it.Generate (found ++ x ∷ [])))) e)
+
+  pub region_refused : (z : ParseErr) → is_some (told (sort_test item_by_sort) i) ≡ false → ◌≡◌ {A = Outcome Place} (keyword k.Endgenerate i) (Err z) → ◌≡◌ {A = Outcome Item} start (Err z)
+  region_refused z none e = put
+      ∙ (ap (region_of g new) (region_closed g le (found ++ x ∷ []) i (none_told (told (sort_test item_by_sort) i) none) ∙ ap (λ (r : Outcome Place). and_then r (λ _. pure (it.Generate (found ++ x ∷ [])))) e)
+      ∙ region_err g le new z)
+
+  pub region_more : is_some (told (sort_test item_by_sort) i) ≡ true → ◌≡◌ {A = Outcome Item} start (region_of g (new ++ (found ++ x ∷ []) ∷ []) (item g i))
+  region_more some = put ∙ (ap (region_of g new) (region_goes g le (found ++ x ∷ []) i some) ∙ sym (region_push g le new (found ++ x ∷ []) (item g i)))
+
+pub none_within : (g : ℕ) (start : Outcome Item) (stack : List (List Item)) (x : Item) (i : List Token) → ◌≡◌ {A = Outcome Item} start (region_of g stack (Ok (x, i))) → length stack ≤ 0
+    → ◌≡◌ {A = Outcome Item} start (Ok (x, i))
+unfolding region_of
+none_within g start [] x i h low = h
+none_within g start (b ∷ stack) x i h low = absurd (omega arith)
+
+-- ---- one turn
+
+module _ (g : ℕ) (le : g ≤ 200) (start : Outcome Item) (stack : List (List Item)) (i : List Token) (h : ◌≡◌ {A = Outcome Item} start (region_of g stack (item g i))) where
+  pub plain_read : (c : ItemOpener) (x : Item) (j : List Token) → told (sort_test item_by_sort) i ≡ Some c → ◌≡◌ {A = Outcome Item} (item_for (loop_of g) (cond_of g) (item g) c i) (Ok (x, j))
+      → (length j < length i) × ◌≡◌ {A = Outcome Item} start (region_of g stack (Ok (x, j)))
+  plain_read c x j t e =
+      let same = item_begins_by g le c i t ∙ e in
+      (subst (λ (r : Outcome Item). Meets r (λ x j. length j < length i)) same (item_shorter g le i), h ∙ ap (region_of g stack) same)
+
+  pub plain_fails : (c : ItemOpener) (z : ParseErr) → told (sort_test item_by_sort) i ≡ Some c → ◌≡◌ {A = Outcome Item} (item_for (loop_of g) (cond_of g) (item g) c i) (Err z) → ◌≡◌ {A = Outcome Item} start (Err z)
+  plain_fails c z t e = h ∙ (ap (region_of g stack) (item_begins_by g le c i t ∙ e) ∙ region_err g le stack z)
+
+  pub opened_read : (x : Item) (j : List Token) → told (sort_test item_by_sort) i ≡ Some item_by.Generate → ◌≡◌ {A = Outcome Item} (region (item g) i) (Ok (x, j)) → ◌≡◌ {A = Outcome Item} start (region_of g stack (Ok (x, j)))
+  opened_read x j t e = h ∙ ap (region_of g stack) (item_begins_by g le item_by.Generate i t ∙ e)
+
+  pub opened_goes : (j : List Token) → told (sort_test item_by_sort) i ≡ Some item_by.Generate → ◌≡◌ {A = Outcome Item} (region (item g) i) (and_then (item g j) (λ x. region_rest g ([] ++ x ∷ [])))
+      → ◌≡◌ {A = Outcome Item} start (region_of g (stack ++ [] ∷ []) (item g j))
+  opened_goes j t e = h ∙ (ap (region_of g stack) (item_begins_by g le item_by.Generate i t ∙ e) ∙ sym (region_push g le stack [] (item g j)))
+
+  pub opened_fails : (z : ParseErr) → told (sort_test item_by_sort) i ≡ Some item_by.Generate → ◌≡◌ {A = Outcome Item} (region (item g) i) (Err z) → ◌≡◌ {A = Outcome Item} start (Err z)
+  opened_fails z t e = h ∙ (ap (region_of g stack) (item_begins_by g le item_by.Generate i t ∙ e) ∙ region_err g le stack z)
+
+  pub no_item_reads : told (sort_test item_by_sort) i ≡ None → ◌≡◌ {A = Outcome Item} start (Err (Syntax (length i)))
+  no_item_reads t = h ∙ (ap (region_of g stack) (no_item_begins g le i t) ∙ region_err g le stack (Syntax (length i)))
+
+  pub end_of_items : length i ≤ 0 → ◌≡◌ {A = Outcome Item} start (Err (Syntax (length i)))
+  end_of_items low = no_item_reads (at_none i low)
+
+pub none_turns : (g : ℕ) → g ≤ 200 → (stack : List (List Item)) (i : List Token) → told (sort_test item_by_sort) i ≡ None → ◌≡◌ {A = Outcome Item} (region_of g stack (item g i)) (Err (Syntax (length i)))
+none_turns g le stack i t = no_item_reads g le (region_of g stack (item g i)) stack i refl t
+
+-- ---- all turns
+
+-- what is read from the first token on is told by what is still open
+pub record OpenItems (g : ℕ) (i : List Token) (n turn : ℕ) (stack : List (List Item)) (j : List Token) : Type 0 where
+  pub left : length j + turn ≤ n
+  pub same : ◌≡◌ {A = Outcome Item} (item g i) (region_of g stack (item g j))
+
+pub items_first : (g : ℕ) (i : List Token) → OpenItems g i (length i) 0 [] i
+unfolding region_of
+items_first g i = record { left = omega arith; same = refl }
+
+pub items_next : (g : ℕ) (i : List Token) (n turn : ℕ) (stack new : List (List Item)) (j l : List Token) → OpenItems g i n turn stack j → Turns g stack j (Ok None) new l → OpenItems g i n (turn + 1) new l
+items_next g i n turn stack new j l o t = record { left = omega (arith, o.left, t.0); same = o.same ∙ t.1 }
+
+pub items_end : (g : ℕ) → g ≤ 200 → (i : List Token) (n turn : ℕ) (stack : List (List Item)) (j : List Token) → OpenItems g i n turn stack j → n ≤ turn → ◌≡◌ {A = Outcome Item} (item g i) (Err (Syntax (length j)))
+items_end g le i n turn stack j o low = end_of_items g le (item g i) stack j o.same (omega (arith, o.left))

@@ -30,3 +30,11 @@ Closes x stack i (Ok None) new j =
     (length new ≤ length stack) × (length j < length i)
     × ((d : ℕ) → length stack ≤ d → ◌≡◌ {A = Outcome Lvalue} (whole_of d stack (Ok (x, i))) (whole_of d new (lvalue_from (suc d - length new) j)))
 Closes x stack i (Err e) new j = e ≢ Memory → (d : ℕ) → length stack ≤ d → ◌≡◌ {A = Outcome Lvalue} (whole_of d stack (Ok (x, i))) (Err e)
+
+-- What becomes of the target that comes next in the innermost brace: the whole, or one more is to be read.
+abbrev pub Turns : List OpenBrace → List Token → Result (Option Lvalue) ParseErr → List OpenBrace → List Token → Type 0
+Turns stack i (Ok (Some whole)) new j = (d : ℕ) → length stack ≤ d → ◌≡◌ {A = Outcome Lvalue} (whole_of d stack (lvalue_from (suc d - length stack) i)) (Ok (whole, j))
+Turns stack i (Ok None) new j =
+    (length new ≤ suc (length stack)) × (length j < length i)
+    × ((d : ℕ) → length stack ≤ d → ◌≡◌ {A = Outcome Lvalue} (whole_of d stack (lvalue_from (suc d - length stack) i)) (whole_of d new (lvalue_from (suc d - length new) j)))
+Turns stack i (Err e) new j = e ≢ Memory → (d : ℕ) → length stack ≤ d → ◌≡◌ {A = Outcome Lvalue} (whole_of d stack (lvalue_from (suc d - length stack) i)) (Err e)

@@ -10,4 +10,5 @@ pub mod Regions
 pub mod Source
 pub mod Stmts
 pub mod Targets
+pub mod Whole
 pub mod Words

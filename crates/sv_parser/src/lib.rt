@@ -9,6 +9,7 @@ mod lvalues;
 mod module_items;
 mod openers;
 mod parameters;
+mod parse;
 mod regions;
 mod source;
 mod statements;
@@ -17,9 +18,13 @@ mod told;
 
 pub use forms::{form, typedef};
 pub use labels::step;
+pub use lvalues::lvalue;
 pub use openers::{
     AlwaysWord, ItemOpener, ParamOpener, PartOpener, PinsOpener, StepOpener, StmtOpener,
     TailOpener, TargetOpener, TypeOpener,
 };
 pub use parameters::{par_port, param, port};
+pub use parse::parse;
+pub use regions::item;
+pub use statements::stmt;
 pub use tails::{AlwaysTail, BranchTail, NameTail, PlainTail, StepTail};

@@ -1,5 +1,5 @@
 // Targets. They may lie in any number of braces, so those that are open stand in a list.
-ghost use Rattle.std.specs.Prelude.{◌≡◌};
+ghost use Rattle.std.specs.Prelude.{◌≡◌, Some};
 ghost use Rattle.sv_cursor.specs.Parsers.{Reads, told};
 ghost use Rattle.sv_parser.specs.Combined.{sort_test};
 ghost use Rattle.sv_parser.specs.Braces as brace;
@@ -69,9 +69,10 @@ fn close(
 {
     let mut target = target;
     for _turn in 0..stack.len() {
-        let Some(OpenBrace { place, mut found }) = stack.pop() else {
+        let Some(innermost) = stack.pop() else {
             return Ok(Some(target));
         };
+        let OpenBrace { place, mut found } = innermost;
         found.push(target)?;
         if sees(tokens, Mark::Comma) {
             tokens.skip();
@@ -84,25 +85,54 @@ fn close(
     Ok(Some(target))
 }
 
+fn turn_for(
+    alloc: Global,
+    tokens: &mut Cursor<'_>,
+    stack: &mut Items<OpenBrace>,
+    opener: TargetOpener,
+) -> Result<Option<Lvalue>, ParseErr>
+    requires { told (sort_test words.target_by_sort) tokens.old ≡ Some opener }
+    ensures { brace.Turns stack.old tokens.old result stack.new tokens.new }
+{
+    match opener {
+        TargetOpener::Name => {
+            let target = named_target(alloc, tokens)?;
+            close(tokens, stack, target)
+        }
+        TargetOpener::Brace => {
+            let place = tokens.mark(Mark::LeftBrace)?;
+            let found = Items::new(alloc);
+            stack.push(OpenBrace { place, found })?;
+            Ok(None)
+        }
+    }
+}
+
+// A target that is no brace, or a brace that opens: the whole, where none is open then, and nothing where one more
+// target has to come next.
+#[tactic(auto, using(crate::proofs::Bracing::none_turns))]
+fn turn(
+    alloc: Global,
+    tokens: &mut Cursor<'_>,
+    stack: &mut Items<OpenBrace>,
+) -> Result<Option<Lvalue>, ParseErr>
+    ensures { brace.Turns stack.old tokens.old result stack.new tokens.new }
+{
+    match target_next(tokens) {
+        Some(opener) => turn_for(alloc, tokens, stack, opener),
+        None => Err(tokens.refuse()),
+    }
+}
+
 /// A target (A.8.5, variable_lvalue and net_lvalue). The cursor stands behind it then.
 pub fn lvalue(alloc: Global, tokens: &mut Cursor<'_>) -> Result<Lvalue, ParseErr>
     ensures { Reads (spec.lvalue tokens.old) result tokens.new }
 {
     let mut stack = Items::new(alloc);
     for _turn in 0..tokens.left() {
-        match target_next(tokens) {
-            Some(TargetOpener::Name) => {
-                let target = named_target(alloc, tokens)?;
-                if let Some(whole) = close(tokens, &mut stack, target)? {
-                    return Ok(whole);
-                }
-            }
-            Some(TargetOpener::Brace) => {
-                let place = tokens.mark(Mark::LeftBrace)?;
-                let found = Items::new(alloc);
-                stack.push(OpenBrace { place, found })?;
-            }
-            None => return Err(tokens.refuse()),
+        match turn(alloc, tokens, &mut stack)? {
+            Some(whole) => return Ok(whole),
+            None => {}
         }
     }
     Err(tokens.refuse())

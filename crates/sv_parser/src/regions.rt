@@ -1,9 +1,11 @@
 // Items of modules. Generate regions may lie in any number of others, so those that are open stand in a list.
-ghost use Rattle.std.specs.Prelude.{◌≡◌, ◌≢◌, ◌≤◌, ℕ, suc};
-ghost use Rattle.sv_cursor.specs.Parsers.{Reads};
+ghost use Rattle.std.specs.Prelude.{◌≡◌, ◌≤◌, ℕ, suc, true, false, Some};
+ghost use Rattle.sv_cursor.specs.Parsers.{Reads, told};
+ghost use Rattle.sv_parser.specs.Combined.{sort_test};
 ghost use Rattle.sv_parser.specs.Items as spec;
 ghost use Rattle.sv_parser.specs.Lists.{Nests};
 ghost use Rattle.sv_parser.specs.Regions as region;
+ghost use Rattle.sv_parser.specs.Words as words;
 
 use crate::forms::typedef;
 use crate::instantiations::named_item;
@@ -17,22 +19,32 @@ use std::alloc::Global;
 use sv_cursor::{Cursor, Keyword, ParseErr};
 use sv_tree::Item;
 
+fn is_region(opener: ItemOpener) -> bool
+    ensures { result ≡ region.is_region opener }
+{
+    match opener {
+        ItemOpener::Generate => true,
+        _ => false,
+    }
+}
+
 // Puts an item into the innermost region, and closes those that end behind it: the whole, where none is open then,
 // and nothing where one more item stands there. At most `depth` generate constructs may hold a token of an item.
 fn settle(
     tokens: &mut Cursor<'_>,
     stack: &mut Items<Items<Item>>,
     part: Item,
-    _depth: u8,
+    depth_of_items: u8,
 ) -> Result<Option<Item>, ParseErr>
-    requires { _depth ≤ 200 }
-    ensures { region.Settles _depth part stack.old tokens.old result stack.new tokens.new }
+    requires { depth_of_items ≤ 200 }
+    ensures { region.Settles depth_of_items part stack.old tokens.old result stack.new tokens.new }
 {
     let mut part = part;
     for _turn in 0..stack.len() {
-        let Some(mut found) = stack.pop() else {
+        let Some(innermost) = stack.pop() else {
             return Ok(Some(part));
         };
+        let mut found = innermost;
         found.push(part)?;
         if sees_item(tokens) {
             stack.push(found)?;
@@ -49,10 +61,10 @@ fn settle(
 fn opened(
     alloc: Global,
     tokens: &mut Cursor<'_>,
-    _depth: u8,
+    depth_of_items: u8,
 ) -> Result<Option<Item>, ParseErr>
-    requires { _depth ≤ 200 }
-    ensures { region.Opens _depth tokens.old result tokens.new }
+    requires { depth_of_items ≤ 200 }
+    ensures { region.Opens depth_of_items tokens.old result tokens.new }
 {
     tokens.keyword(Keyword::Generate)?;
     if sees_item(tokens) {
@@ -108,7 +120,7 @@ impl<F: Copy + Fn(Global, &mut Cursor<'_>, u8) -> Result<Item, ParseErr>> Region
     // An item that is no region.
     fn plain(&self, tokens: &mut Cursor<'_>, opener: ItemOpener) -> Result<Item, ParseErr>
         requires nests { (g : ℕ) → self.now.depth ≡ suc g → Nests (spec.item g) g (F.pre self.now.item) (F.post self.now.item) }
-        requires other { opener ≢ ItemOpener.Generate }
+        requires other { region.is_region opener ≡ false }
         ensures { Reads (spec.item_for (region.loop_of self.now.depth) (region.cond_of self.now.depth) (spec.item self.now.depth) opener tokens.old) result tokens.new }
     {
         match opener {
@@ -135,6 +147,80 @@ impl<F: Copy + Fn(Global, &mut Cursor<'_>, u8) -> Result<Item, ParseErr>> Region
         }
     }
 
+    // An item that is no region, which goes into the innermost region.
+    fn plain_turn(
+        &self,
+        tokens: &mut Cursor<'_>,
+        stack: &mut Items<Items<Item>>,
+        opener: ItemOpener,
+    ) -> Result<Option<Item>, ParseErr>
+        requires nests { (g : ℕ) → self.now.depth ≡ suc g → Nests (spec.item g) g (F.pre self.now.item) (F.post self.now.item) }
+        requires small { self.now.depth ≤ 200 }
+        requires begins { told (sort_test words.item_by_sort) tokens.old ≡ Some opener }
+        requires other { region.is_region opener ≡ false }
+        ensures { region.Turns self.now.depth stack.old tokens.old result stack.new tokens.new }
+    {
+        let part = self.plain(tokens, opener)?;
+        settle(tokens, stack, part, self.depth)
+    }
+
+    // A region, which goes into the innermost one where it holds no items, and else is open then.
+    fn region_turn(
+        &self,
+        tokens: &mut Cursor<'_>,
+        stack: &mut Items<Items<Item>>,
+        opener: ItemOpener,
+    ) -> Result<Option<Item>, ParseErr>
+        requires small { self.now.depth ≤ 200 }
+        requires begins { told (sort_test words.item_by_sort) tokens.old ≡ Some opener }
+        requires other { region.is_region opener ≡ true }
+        ensures { region.Turns self.now.depth stack.old tokens.old result stack.new tokens.new }
+    {
+        match opened(self.alloc, tokens, self.depth)? {
+            Some(part) => settle(tokens, stack, part, self.depth),
+            None => {
+                stack.push(Items::new(self.alloc))?;
+                Ok(None)
+            }
+        }
+    }
+
+    fn turn_for(
+        &self,
+        tokens: &mut Cursor<'_>,
+        stack: &mut Items<Items<Item>>,
+        opener: ItemOpener,
+    ) -> Result<Option<Item>, ParseErr>
+        requires nests { (g : ℕ) → self.now.depth ≡ suc g → Nests (spec.item g) g (F.pre self.now.item) (F.post self.now.item) }
+        requires small { self.now.depth ≤ 200 }
+        requires begins { told (sort_test words.item_by_sort) tokens.old ≡ Some opener }
+        ensures { region.Turns self.now.depth stack.old tokens.old result stack.new tokens.new }
+    {
+        if is_region(opener) {
+            self.region_turn(tokens, stack, opener)
+        } else {
+            self.plain_turn(tokens, stack, opener)
+        }
+    }
+
+    // The item that comes next: the whole, where no region is open behind it, and nothing where one more item has to
+    // come next.
+    #[tactic(auto, using(crate::proofs::Regioning::none_turns))]
+    fn turn(
+        &self,
+        tokens: &mut Cursor<'_>,
+        stack: &mut Items<Items<Item>>,
+    ) -> Result<Option<Item>, ParseErr>
+        requires nests { (g : ℕ) → self.now.depth ≡ suc g → Nests (spec.item g) g (F.pre self.now.item) (F.post self.now.item) }
+        requires small { self.now.depth ≤ 200 }
+        ensures { region.Turns self.now.depth stack.old tokens.old result stack.new tokens.new }
+    {
+        match item_next(tokens) {
+            Some(opener) => self.turn_for(tokens, stack, opener),
+            None => Err(tokens.refuse()),
+        }
+    }
+
     fn whole(&self, tokens: &mut Cursor<'_>) -> Result<Item, ParseErr>
         requires nests { (g : ℕ) → self.now.depth ≡ suc g → Nests (spec.item g) g (F.pre self.now.item) (F.post self.now.item) }
         requires small { self.now.depth ≤ 200 }
@@ -142,22 +228,9 @@ impl<F: Copy + Fn(Global, &mut Cursor<'_>, u8) -> Result<Item, ParseErr>> Region
     {
         let mut stack = Items::new(self.alloc);
         for _turn in 0..tokens.left() {
-            match item_next(tokens) {
-                Some(ItemOpener::Generate) => match opened(self.alloc, tokens, self.depth)? {
-                    Some(part) => {
-                        if let Some(whole) = settle(tokens, &mut stack, part, self.depth)? {
-                            return Ok(whole);
-                        }
-                    }
-                    None => stack.push(Items::new(self.alloc))?,
-                },
-                Some(opener) => {
-                    let part = self.plain(tokens, opener)?;
-                    if let Some(whole) = settle(tokens, &mut stack, part, self.depth)? {
-                        return Ok(whole);
-                    }
-                }
-                None => return Err(tokens.refuse()),
+            match self.turn(tokens, &mut stack)? {
+                Some(whole) => return Ok(whole),
+                None => {}
             }
         }
         Err(tokens.refuse())

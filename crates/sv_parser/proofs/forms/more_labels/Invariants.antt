@@ -8,5 +8,5 @@ use Rattle.sv_parser.specs.Forms.{enum_label}
 use Rattle.sv_parser.proofs.forms.more_labels.Given as goal
 
 abbrev pub invariant-loop-turn : goal.invariant-loop-turn
-invariant-loop-turn g l =
+invariant-loop-turn l =
     more enum_label l.fn.tokens ≡ after l.found (many_from (mark_test m.Comma) (behind_comma enum_label) (l._turn-end - l._turn) l.tokens)

@@ -7,5 +7,5 @@ use Rattle.sv_parser.specs.Forms.{range, ranges}
 use Rattle.sv_parser.proofs.forms.ranges.Given as goal
 
 abbrev pub invariant-loop-turn : goal.invariant-loop-turn
-invariant-loop-turn g l =
+invariant-loop-turn l =
     ranges l.fn.tokens ≡ after l.found (many_from (mark_test m.LeftBracket) range (l._turn-end - l._turn) l.tokens)

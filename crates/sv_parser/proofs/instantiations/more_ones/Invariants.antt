@@ -8,5 +8,5 @@ use Rattle.sv_parser.specs.Instances.{one}
 use Rattle.sv_parser.proofs.instantiations.more_ones.Given as goal
 
 abbrev pub invariant-loop-turn : goal.invariant-loop-turn
-invariant-loop-turn g l =
+invariant-loop-turn l =
     more one l.fn.tokens ≡ after l.found (many_from (mark_test m.Comma) (behind_comma one) (l._turn-end - l._turn) l.tokens)

@@ -8,5 +8,5 @@ use Rattle.sv_parser.specs.Instances.{named_pin}
 use Rattle.sv_parser.proofs.instantiations.more_pins.Given as goal
 
 abbrev pub invariant-loop-turn : goal.invariant-loop-turn
-invariant-loop-turn g l =
+invariant-loop-turn l =
     more named_pin l.fn.tokens ≡ after l.found (many_from (mark_test m.Comma) (behind_comma named_pin) (l._turn-end - l._turn) l.tokens)

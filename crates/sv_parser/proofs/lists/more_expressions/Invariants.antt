@@ -8,5 +8,5 @@ use Rattle.sv_parser.specs.Forms.{expression}
 use Rattle.sv_parser.proofs.lists.more_expressions.Given as goal
 
 abbrev pub invariant-loop-turn : goal.invariant-loop-turn
-invariant-loop-turn g l =
+invariant-loop-turn l =
     more expression l.fn.tokens ≡ after l.found (many_from (mark_test m.Comma) (behind_comma expression) (l._turn-end - l._turn) l.tokens)

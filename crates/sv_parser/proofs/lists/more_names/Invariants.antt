@@ -9,5 +9,5 @@ use Rattle.sv_cursor.specs.Tests.{id_test}
 use Rattle.sv_parser.proofs.lists.more_names.Given as goal
 
 abbrev pub invariant-loop-turn : goal.invariant-loop-turn
-invariant-loop-turn g l =
+invariant-loop-turn l =
     more (token id_test) l.fn.tokens ≡ after l.found (many_from (mark_test m.Comma) (behind_comma (token id_test)) (l._turn-end - l._turn) l.tokens)

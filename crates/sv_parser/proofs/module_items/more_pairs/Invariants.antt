@@ -8,5 +8,5 @@ use Rattle.sv_parser.specs.Items.{pair}
 use Rattle.sv_parser.proofs.module_items.more_pairs.Given as goal
 
 abbrev pub invariant-loop-turn : goal.invariant-loop-turn
-invariant-loop-turn g l =
+invariant-loop-turn l =
     more pair l.fn.tokens ≡ after l.found (many_from (mark_test m.Comma) (behind_comma pair) (l._turn-end - l._turn) l.tokens)

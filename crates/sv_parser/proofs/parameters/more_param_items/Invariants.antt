@@ -8,5 +8,5 @@ use Rattle.sv_parser.specs.Params.{param_item}
 use Rattle.sv_parser.proofs.parameters.more_param_items.Given as goal
 
 abbrev pub invariant-loop-turn : goal.invariant-loop-turn
-invariant-loop-turn g l =
+invariant-loop-turn l =
     more param_item l.fn.tokens ≡ after l.found (many_from (mark_test m.Comma) (behind_comma param_item) (l._turn-end - l._turn) l.tokens)

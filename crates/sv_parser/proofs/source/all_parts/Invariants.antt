@@ -8,5 +8,5 @@ use Rattle.sv_parser.specs.Lists.{while_told}
 use Rattle.sv_parser.proofs.source.all_parts.Given as goal
 
 abbrev pub invariant-loop-turn : goal.invariant-loop-turn
-invariant-loop-turn g l =
+invariant-loop-turn l =
     while_told (word_test part_by_word) part l.fn.tokens ≡ after l.found (many_from (word_test part_by_word) part (l._turn-end - l._turn) l.tokens)

@@ -7,5 +7,5 @@ use Rattle.sv_parser.specs.Items.{item, items}
 use Rattle.sv_parser.proofs.source.body.Given as goal
 
 abbrev pub invariant-loop-turn : goal.invariant-loop-turn
-invariant-loop-turn g l =
+invariant-loop-turn l =
     items (item 200) l.fn.tokens ≡ after l.found (many_from (sort_test item_by_sort) (item 200) (l._turn-end - l._turn) l.tokens)

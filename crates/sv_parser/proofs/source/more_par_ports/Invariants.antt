@@ -8,5 +8,5 @@ use Rattle.sv_parser.specs.Params.{par_port}
 use Rattle.sv_parser.proofs.source.more_par_ports.Given as goal
 
 abbrev pub invariant-loop-turn : goal.invariant-loop-turn
-invariant-loop-turn g l =
+invariant-loop-turn l =
     more par_port l.fn.tokens ≡ after l.found (many_from (mark_test m.Comma) (behind_comma par_port) (l._turn-end - l._turn) l.tokens)
