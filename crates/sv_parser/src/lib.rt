@@ -9,12 +9,12 @@ mod lvalues;
 mod module_items;
 mod openers;
 mod parameters;
-mod parse;
 mod regions;
 mod source;
 mod statements;
 mod tails;
 mod told;
+mod whole;
 
 pub use forms::{form, typedef};
 pub use labels::step;
@@ -24,7 +24,7 @@ pub use openers::{
     TailOpener, TargetOpener, TypeOpener,
 };
 pub use parameters::{par_port, param, port};
-pub use parse::parse;
 pub use regions::item;
 pub use statements::stmt;
 pub use tails::{AlwaysTail, BranchTail, NameTail, PlainTail, StepTail};
+pub use whole::parse;
