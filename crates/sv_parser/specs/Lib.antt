@@ -5,6 +5,7 @@ pub mod Forms
 pub mod Instances
 pub mod Items
 pub mod Lists
+pub mod Loops
 pub mod Params
 pub mod Regions
 pub mod Source

@@ -8,6 +8,7 @@ ghost use Rattle.sv_parser.specs.Combined.{listed, sort_test, word_test};
 ghost use Rattle.sv_parser.specs.Items as spec;
 ghost use Rattle.sv_parser.specs.Lists as list;
 ghost use Rattle.sv_parser.specs.Lists.{Nests};
+ghost use Rattle.sv_parser.specs.Loops as loops;
 ghost use Rattle.sv_parser.specs.Stmts as stmts;
 ghost use Rattle.sv_parser.specs.Words as words;
 
@@ -460,6 +461,37 @@ impl<F: Fn(Global, &mut Cursor<'_>, u8) -> Result<Item, ParseErr>> Generates<F> 
         Ok(Item::If(place, condition, first, second))
     }
 
+    #[tactic(auto, unfolding(crate::specs::Loops::stepped))]
+    fn stepped(
+        &self,
+        tokens: &mut Cursor<'_>,
+        variable: &Word,
+    ) -> Result<(Step, Boxed<Gen>), ParseErr>
+        requires { Nests (spec.item self.now.depth) self.now.depth (F.pre self.now.item) (F.post self.now.item) }
+        ensures { Reads (loops.stepped (spec.gen (spec.item self.now.depth)) variable.now tokens.old) result tokens.new }
+    {
+        let by = step(self.alloc, tokens, variable)?;
+        tokens.mark(Mark::RightParen)?;
+        let body = self.body(tokens)?;
+        Ok((by, body))
+    }
+
+    #[tactic(auto, unfolding(crate::specs::Loops::tested))]
+    fn tested(
+        &self,
+        tokens: &mut Cursor<'_>,
+        variable: &Word,
+    ) -> Result<(Expr, (Step, Boxed<Gen>)), ParseErr>
+        requires { Nests (spec.item self.now.depth) self.now.depth (F.pre self.now.item) (F.post self.now.item) }
+        ensures { Reads (loops.tested (spec.gen (spec.item self.now.depth)) variable.now tokens.old) result tokens.new }
+    {
+        let condition = expression(self.alloc, tokens)?;
+        tokens.mark(Mark::Semicolon)?;
+        let rest = self.stepped(tokens, variable)?;
+        Ok((condition, rest))
+    }
+
+    #[tactic(auto, unfolding(crate::specs::Loops::stepped, crate::specs::Loops::tested))]
     fn turns(
         &self,
         tokens: &mut Cursor<'_>,
@@ -471,12 +503,8 @@ impl<F: Fn(Global, &mut Cursor<'_>, u8) -> Result<Item, ParseErr>> Generates<F> 
         tokens.mark(Mark::Assign)?;
         let start = expression(self.alloc, tokens)?;
         tokens.mark(Mark::Semicolon)?;
-        let condition = expression(self.alloc, tokens)?;
-        tokens.mark(Mark::Semicolon)?;
-        let step = step(self.alloc, tokens, variable)?;
-        tokens.mark(Mark::RightParen)?;
-        let body = self.body(tokens)?;
-        Ok((start, (condition, (step, body))))
+        let rest = self.tested(tokens, variable)?;
+        Ok((start, rest))
     }
 
     /// A generate loop (A.4.2, loop_generate_construct).

@@ -8,6 +8,7 @@ ghost use Rattle.sv_expr_parser.specs.Signs.{opener_test};
 ghost use Rattle.sv_parser.specs.Combined.{sign_of, sort_test};
 ghost use Rattle.sv_parser.specs.Lists as list;
 ghost use Rattle.sv_parser.specs.Lists.{Nests};
+ghost use Rattle.sv_parser.specs.Loops as loops;
 ghost use Rattle.sv_parser.specs.Stmts as spec;
 ghost use Rattle.sv_parser.specs.Words as words;
 
@@ -421,6 +422,37 @@ impl<F: Fn(Global, &mut Cursor<'_>, u8) -> Result<Stmt, ParseErr>> Statements<F>
 
     // ---- loops
 
+    #[tactic(auto, unfolding(crate::specs::Loops::stepped))]
+    fn stepped(
+        &self,
+        tokens: &mut Cursor<'_>,
+        variable: &Word,
+    ) -> Result<(Step, Boxed<Stmt>), ParseErr>
+        requires { Nests (spec.stmt self.now.depth) self.now.depth (F.pre self.now.stmt) (F.post self.now.stmt) }
+        ensures { Reads (loops.stepped (spec.stmt self.now.depth) variable.now tokens.old) result tokens.new }
+    {
+        let by = step(self.alloc, tokens, variable)?;
+        tokens.mark(Mark::RightParen)?;
+        let body = self.body(tokens)?;
+        Ok((by, body))
+    }
+
+    #[tactic(auto, unfolding(crate::specs::Loops::tested))]
+    fn tested(
+        &self,
+        tokens: &mut Cursor<'_>,
+        variable: &Word,
+    ) -> Result<(Expr, (Step, Boxed<Stmt>)), ParseErr>
+        requires { Nests (spec.stmt self.now.depth) self.now.depth (F.pre self.now.stmt) (F.post self.now.stmt) }
+        ensures { Reads (loops.tested (spec.stmt self.now.depth) variable.now tokens.old) result tokens.new }
+    {
+        let condition = expression(self.alloc, tokens)?;
+        tokens.mark(Mark::Semicolon)?;
+        let rest = self.stepped(tokens, variable)?;
+        Ok((condition, rest))
+    }
+
+    #[tactic(auto, unfolding(crate::specs::Loops::stepped, crate::specs::Loops::tested))]
     fn turns(
         &self,
         tokens: &mut Cursor<'_>,
@@ -432,12 +464,8 @@ impl<F: Fn(Global, &mut Cursor<'_>, u8) -> Result<Stmt, ParseErr>> Statements<F>
         tokens.mark(Mark::Assign)?;
         let start = expression(self.alloc, tokens)?;
         tokens.mark(Mark::Semicolon)?;
-        let condition = expression(self.alloc, tokens)?;
-        tokens.mark(Mark::Semicolon)?;
-        let step = step(self.alloc, tokens, variable)?;
-        tokens.mark(Mark::RightParen)?;
-        let body = self.body(tokens)?;
-        Ok((start, (condition, (step, body))))
+        let rest = self.tested(tokens, variable)?;
+        Ok((start, rest))
     }
 
     #[tactic(auto, using(crate::proofs::Firsts::loop_parts))]
