@@ -63,7 +63,6 @@ pub range_begins : (r : Range) (i o : List Token) → SpellsRange r i o → (p :
 unfolding mark_text
 range_begins r i o h = let g = told_of_mark m.LeftBracket r.place i h.0 h.1 in (r.place, g)
 
-
 -- what stops several names
 abbrev pub NamesStops : List Token → Type 0
 NamesStops o = (told (mark_test m.Comma) o ≡ None) × Any o
@@ -363,8 +362,14 @@ module _ (s g t : ℕ) (le : suc t ≤ 201) (f : Parser TypeTree) (reads : IsTyp
   members_reads = (some_rule (sort_test type_by_sort) member_rule member_begins member_grows (λ c i h. tt)).reads
 
   abbrev members_rule : Rule (Over s g t) t (List Member)
-  members_rule = record { spelled = some SpellsMember; nests = each_depths member_depths; stops = MembersStop; parser = members f; reads = members_reads;
-      moved = (some_rule (sort_test type_by_sort) member_rule member_begins member_grows (λ c i h. tt)).moved }
+  members_rule = record {
+    spelled = some SpellsMember;
+    nests = each_depths member_depths;
+    stops = MembersStop;
+    parser = members f;
+    reads = members_reads;
+    moved = (some_rule (sort_test type_by_sort) member_rule member_begins member_grows (λ c i h. tt)).moved;
+  }
 
   abbrev struct_rule : Rule (Over s g t) (suc t) (Option Sign × (List Member × List Range))
   struct_rule =
