@@ -1,6 +1,8 @@
 //! Whole source texts are read: types, parameters, statements, items and modules.
 #![tactic(auto)]
 
+mod forms;
+mod keywords;
 mod openers;
 mod tails;
 
