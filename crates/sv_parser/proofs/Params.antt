@@ -164,8 +164,14 @@ module _ (s g t d : ℕ) (le : d ≤ 201) where
   maybe_type_reads = (optional (sort_test param_type_by_sort) param_type_rule param_type_begins).reads
 
   abbrev maybe_type_rule : Rule (Over s g t) d (Option ParamType)
-  maybe_type_rule = record { spelled = maybe SpellsParamType; nests = if_given param_type_depths; stops = ParamStops; parser = maybe_param_type; reads = maybe_type_reads;
-      moved = (optional (sort_test param_type_by_sort) param_type_rule param_type_begins).moved }
+  maybe_type_rule = record {
+    spelled = maybe SpellsParamType;
+    nests = if_given param_type_depths;
+    stops = ParamStops;
+    parser = maybe_param_type;
+    reads = maybe_type_reads;
+    moved = (optional (sort_test param_type_by_sort) param_type_rule param_type_begins).moved;
+  }
 
   param_stops_name : (i : List Token) → IsFirst so.Id i → ParamStops i
   param_stops_name i h = (told_param so.Id i h, type_stops_name i h)
