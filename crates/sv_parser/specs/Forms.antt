@@ -123,6 +123,9 @@ module _ (form : Parser TypeTree) where
   unfoldable pub member : Parser Member
   member = made_member <$> (form ⊗ (names ◂ mark m.Semicolon))
 
+  unfoldable pub other_members : Parser (List Member)
+  other_members = many (sort_test type_by_sort) member
+
   unfoldable pub members : Parser (List Member)
   members = some_of (sort_test type_by_sort) member
 

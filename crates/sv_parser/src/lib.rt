@@ -4,6 +4,7 @@
 mod forms;
 mod keywords;
 mod openers;
+mod structs;
 mod tails;
 
 pub use openers::{
