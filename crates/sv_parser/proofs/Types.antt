@@ -204,6 +204,9 @@ sign_begin : (w : Sign) → type_by_word (sign_word_name w) ≡ Some type_by.Sig
 sign_begin sign.Signed = refl
 sign_begin sign.Unsigned = refl
 
+pub told_type_first : (i : List Token) → told (sort_test type_by_sort) i ≡ type_by_sort (first_sort i)
+told_type_first i = told_sort type_by_sort i refl
+
 told_type : (x : Sort) (i : List Token) → IsFirst x i → told (sort_test type_by_sort) i ≡ type_by_sort x
 told_type x i h = told_sort type_by_sort i refl ∙ ap type_by_sort h
 

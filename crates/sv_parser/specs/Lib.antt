@@ -3,6 +3,7 @@ pub mod Combined
 pub mod Forms
 pub mod Instances
 pub mod Items
+pub mod Nests
 pub mod Params
 pub mod Source
 pub mod Stmts

@@ -1,7 +1,10 @@
 //! Whole source texts are read: types, parameters, statements, items and modules.
 #![tactic(auto)]
 
+mod forms;
+mod keywords;
 mod openers;
+mod structs;
 mod tails;
 
 pub use openers::{
