@@ -4,6 +4,7 @@
 mod forms;
 mod keywords;
 mod openers;
+mod parameters;
 mod structs;
 mod tails;
 
