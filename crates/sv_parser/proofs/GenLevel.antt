@@ -66,9 +66,7 @@ use Rattle.sv_parser.proofs.Begins.{NoElse}
 use Rattle.sv_parser.proofs.Arms.{Closed}
 use Rattle.sv_parser.proofs.Instances.{TailSpelled}
 use Rattle.sv_parser.proofs.Blocks.{DoneBlock, block_begins}
-
 use Rattle.sv_parser.proofs.Items.{DoneItem, DoneGen, counted_done_gen, Semicolon, OtherGen, CondSpelled, GenTurns, LoopSpelled, RegionSpelled, ItemClass, ItemView, told_item, always_word, net_view, variable_view, typedef_view, param_view, genvar_view, assign_view, always_view, inst_view}
-
 use Rattle.sv_parser.proofs.Gens.{item_begins, item_told_no_colon, item_no_begin, GenBlockSpelled, cond_to, loop_to, gen_block_to, gen_block_from, single_to, single_from, item_view}
 use Rattle.sv_tree.specs.declared.design.Gen.TheBlock.{shape-the_row-Item-0, hidden-the_row-Item-0, shape-the_row-Item-1, hidden-the_row-Item-1, shape-the_row-Gen-2, hidden-the_row-Gen-2}
 use Rattle.sv_tree.specs.declared.stmts.BlockKind.{BlockKind}

@@ -66,7 +66,6 @@ use Rattle.sv_parser.proofs.Begins.{NoElse}
 use Rattle.sv_parser.proofs.Arms.{Closed}
 use Rattle.sv_parser.proofs.Instances.{TailSpelled}
 use Rattle.sv_parser.proofs.Blocks.{DoneBlock, block_begins}
-
 use Rattle.sv_parser.proofs.Items.{DoneItem, DoneGen, Semicolon, OtherGen, CondSpelled, GenTurns, LoopSpelled, RegionSpelled, ItemClass, ItemView, told_item, always_word, net_view, variable_view, typedef_view, param_view, genvar_view, assign_view, always_view, inst_view}
 
 -- ---- first tokens
@@ -168,9 +167,10 @@ cond_to (p, (c, (x, None))) i o h =
     let a = h.2.2.2.2 in
     (made.to_if p c x None i o (h.0, h.1, (h.2.0, h.2.1, (h.2.2.0, h.2.2.1, (h.2.2.2.0, h.2.2.2.1, (a.0, a.1.0, a.2.1))))), inr (subst NoElse a.2.1 a.2.0))
 cond_to (p, (c, (x, Some y))) i o h =
-    let a = h.2.2.2.2 in
-    (made.to_if p c x (Some y) i o (h.0, h.1, (h.2.0, h.2.1, (h.2.2.0, h.2.2.1, (h.2.2.2.0, h.2.2.2.1, (a.0, a.1.0, (closed_before (is_closed_gen x) a.0 a.2.0 a.1.1 a.2.1, (a.2.0, a.2.1, a.2.2.0))))))),
-    subst (λ b. Closed b o) (sym (made.closed_if p c x (Some y))) a.2.2.1)
+    let a = h.2.2.2.2 in (
+      made.to_if p c x (Some y) i o (h.0, h.1, (h.2.0, h.2.1, (h.2.2.0, h.2.2.1, (h.2.2.2.0, h.2.2.2.1, (a.0, a.1.0, (closed_before (is_closed_gen x) a.0 a.2.0 a.1.1 a.2.1, (a.2.0, a.2.1, a.2.2.0))))))),
+      subst (λ b. Closed b o) (sym (made.closed_if p c x (Some y))) a.2.2.1,
+    )
 
 cond_from : (p : Place) (c : Expr) (x : Gen) (y : Option Gen) (i o : List Token) → DoneItem (it.If p c x y) i o → CondSpelled (p, (c, (x, y))) i o
 unfolding keyword_text mark_text
@@ -200,10 +200,11 @@ pub loop_to : (c : Place × (Option Place × (Word × Turns Gen))) (i o : List T
 unfolding keyword_text mark_text
 loop_to c i o h =
     let b = h.2.2.2.2 in
-    let a = b.2.2.2.2.2.2 in
-    (made.to_for c.0 (is_given c.1.0) c.1.1.0 c.1.1.1.0 c.1.1.1.1.0 c.1.1.1.1.1.0 c.1.1.1.1.1.1 i o
-    (h.0, h.1, (h.2.0, h.2.1, (h.2.2.0, header_to c.1.0 h.2.0 h.2.2.0 h.2.2.1, (h.2.2.2.0, h.2.2.2.1, (b.0, b.1, (b.2.0, b.2.1, (b.2.2.0, b.2.2.1, (b.2.2.2.0, b.2.2.2.1, (b.2.2.2.2.0, b.2.2.2.2.1, (b.2.2.2.2.2.0, b.2.2.2.2.2.1, (a.0, a.1, a.2.0))))))))))),
-    subst (λ q. Closed q o) (sym (made.closed_for c.0 (is_given c.1.0) c.1.1.0 c.1.1.1.0 c.1.1.1.1.0 c.1.1.1.1.1.0 c.1.1.1.1.1.1)) a.2.1)
+    let a = b.2.2.2.2.2.2 in (
+      made.to_for c.0 (is_given c.1.0) c.1.1.0 c.1.1.1.0 c.1.1.1.1.0 c.1.1.1.1.1.0 c.1.1.1.1.1.1 i o
+          (h.0, h.1, (h.2.0, h.2.1, (h.2.2.0, header_to c.1.0 h.2.0 h.2.2.0 h.2.2.1, (h.2.2.2.0, h.2.2.2.1, (b.0, b.1, (b.2.0, b.2.1, (b.2.2.0, b.2.2.1, (b.2.2.2.0, b.2.2.2.1, (b.2.2.2.2.0, b.2.2.2.2.1, (b.2.2.2.2.2.0, b.2.2.2.2.2.1, (a.0, a.1, a.2.0))))))))))),
+      subst (λ q. Closed q o) (sym (made.closed_for c.0 (is_given c.1.0) c.1.1.0 c.1.1.1.0 c.1.1.1.1.0 c.1.1.1.1.1.0 c.1.1.1.1.1.1)) a.2.1,
+    )
 
 loop_from : (p : Place) (header : Bool) (v : Word) (start test : Expr) (next : Step) (x : Gen) (i o : List Token) → DoneItem (it.For p header v start test next x) i o
     → (c : Place × (Option Place × (Word × Turns Gen))) × (made_loop c ≡ it.For p header v start test next x) × LoopSpelled c i o
@@ -212,10 +213,51 @@ loop_from p header v start test next x i o h =
     let g = made.of_for p header v start test next x i o h.0 in
     let q = header_from header g.2.0 g.2.2.0 g.2.2.1 in
     let b = g.2.2.2.2 in
-    let a = b.2.2.2.2.2.2 in
-    ((p, (q.0, (v, (start, (test, (next, x)))))), ap (λ header. it.For p header v start test next x) q.1,
-    (g.0, g.1, (g.2.0, g.2.1, (g.2.2.0, q.2, (g.2.2.2.0, g.2.2.2.1, (b.0, b.1, (b.2.0, b.2.1, (b.2.2.0, b.2.2.1, (b.2.2.2.0, b.2.2.2.1, (b.2.2.2.2.0, b.2.2.2.2.1, (b.2.2.2.2.2.0, b.2.2.2.2.2.1,
-    (a.0, a.1, (a.2, subst (λ q. Closed q o) (made.closed_for p header v start test next x) h.1)))))))))))))
+    let a = b.2.2.2.2.2.2 in (
+      (p, (q.0, (v, (start, (test, (next, x)))))),
+      ap (λ header. it.For p header v start test next x) q.1,
+      (
+        g.0,
+        g.1,
+        (
+          g.2.0,
+          g.2.1,
+          (
+            g.2.2.0,
+            q.2,
+            (
+              g.2.2.2.0,
+              g.2.2.2.1,
+              (
+                b.0,
+                b.1,
+                (
+                  b.2.0,
+                  b.2.1,
+                  (
+                    b.2.2.0,
+                    b.2.2.1,
+                    (
+                      b.2.2.2.0,
+                      b.2.2.2.1,
+                      (
+                        b.2.2.2.2.0,
+                        b.2.2.2.2.1,
+                        (
+                          b.2.2.2.2.2.0,
+                          b.2.2.2.2.2.1,
+                          (a.0, a.1, (a.2, subst (λ q. Closed q o) (made.closed_for p header v start test next x) h.1)),
+                        ),
+                      ),
+                    ),
+                  ),
+                ),
+              ),
+            ),
+          ),
+        ),
+      ),
+    )
 
 -- ---- regions and blocks
 

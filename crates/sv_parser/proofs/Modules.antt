@@ -291,9 +291,11 @@ unfolding mark_text keyword_text
 module_from x i o h =
     let a = h.2.2 in
     let b = a.2.2 in
-    let d = b.2 in
-    ((x.name, (x.params, (x.ports, (x.items, x.label)))), refl,
-    (h.0, h.1, (h.2.0, h.2.1, (a.0, a.1, (a.2.0, a.2.1, (b.0, b.1, (d.0, each_item_done x.items b.0 d.0 d.1 (endmodule_no_else d.0 d.2.0 d.2.1), d.2)))))))
+    let d = b.2 in (
+      (x.name, (x.params, (x.ports, (x.items, x.label)))),
+      refl,
+      (h.0, h.1, (h.2.0, h.2.1, (a.0, a.1, (a.2.0, a.2.1, (b.0, b.1, (d.0, each_item_done x.items b.0 d.0 d.1 (endmodule_no_else d.0 d.2.0 d.2.1), d.2)))))),
+    )
 
 module_nested : (c : Word × ModuleRest) → module_tuple.nests c ≡ module_depths (made_module c)
 module_nested c = simp append_assoc

@@ -41,12 +41,15 @@ use Rattle.sv_parser.specs.declared.openers.ParamOpener.{ParamOpener}
 use Rattle.sv_parser.specs.declared.openers.ParamOpener.TheVariants as param_by
 use Rattle.sv_parser.specs.Combined.{word_of, word_test, sort_test}
 use Rattle.sv_parser.specs.Words.{sign_by_word, param_by_word, param_type_by_word, param_type_by_sort}
-use Rattle.sv_parser.specs.Forms.{given, maybe_sign, form, made_typedef, typedef}
-use Rattle.sv_parser.specs.Params.{maybe_range, made_whole, whole_type, made_word_bits, word_bits, made_sign_bits, sign_bits, made_range_bits, range_bits, param_type_for, param_type, maybe_param_type, made_par_port, par_port, made_param_item, param_item, made_param, param}
+use Rattle.sv_parser.specs.Forms.{range_if, given, maybe_sign, form, made_typedef, typedef}
+use Rattle.sv_parser.specs.Params.{made_whole, whole_type, made_word_bits, word_bits, made_sign_bits, sign_bits, made_range_bits, range_bits, param_type_for, param_type, maybe_param_type, made_par_port, par_port, made_param_item, param_item, made_param, param}
 use Rattle.sv_parser.proofs.Rules.{Rule, Fixed, the_mark, the_key, placed, less, before, seq, closing, optional, tree_reads, rule_of, until, list_rule, name_rule, Way, choose_reads, ReadBy, reader_of, IsFirst, first_of_mark, first_of_name, told_sort, told_word, no_mark}
 use Rattle.sv_parser.proofs.Words.{sign_rule, sign_first, sign_begins, sign_word_name, whole_rule, whole_first, whole_word_name, param_bits_rule, param_bits_first, param_bits_word_name, param_rule, param_first, param_begins, param_word_name}
 use Rattle.sv_parser.proofs.Limits.{Over, is_end, first_end, end_mark}
 use Rattle.sv_parser.proofs.Types.{NoRange, TypeStops, NamesStops, no_sign, range_first, range_begins, range_rule, given_rule, maybe_sign_rule, maybe_range_rule, sign_before_range, type_stops_name, form_reads}
+
+pub told_param_first : (i : List Token) → told (sort_test param_type_by_sort) i ≡ param_type_by_sort (first_sort i)
+told_param_first i = told_sort param_type_by_sort i refl
 
 told_param : (x : Sort) (i : List Token) → IsFirst x i → told (sort_test param_type_by_sort) i ≡ param_type_by_sort x
 told_param x i h = told_sort param_type_by_sort i refl ∙ ap param_type_by_sort h
@@ -137,7 +140,7 @@ module _ (s g t d : ℕ) (le : d ≤ 201) where
   }
 
   same : (c : ParamOpener) → ◌≡◌ {A = Parser ParamType} (reader_of (ways c)) (param_type_for c)
-  unfolding whole_type word_bits sign_bits range_bits maybe_sign maybe_range
+  unfolding whole_type word_bits sign_bits range_bits maybe_sign range_if
   same param_by.Whole = refl
   same param_by.Word = refl
   same param_by.Sign = refl
@@ -164,8 +167,14 @@ module _ (s g t d : ℕ) (le : d ≤ 201) where
   maybe_type_reads = (optional (sort_test param_type_by_sort) param_type_rule param_type_begins).reads
 
   abbrev maybe_type_rule : Rule (Over s g t) d (Option ParamType)
-  maybe_type_rule = record { spelled = maybe SpellsParamType; nests = if_given param_type_depths; stops = ParamStops; parser = maybe_param_type; reads = maybe_type_reads;
-      moved = (optional (sort_test param_type_by_sort) param_type_rule param_type_begins).moved }
+  maybe_type_rule = record {
+    spelled = maybe SpellsParamType;
+    nests = if_given param_type_depths;
+    stops = ParamStops;
+    parser = maybe_param_type;
+    reads = maybe_type_reads;
+    moved = (optional (sort_test param_type_by_sort) param_type_rule param_type_begins).moved;
+  }
 
   param_stops_name : (i : List Token) → IsFirst so.Id i → ParamStops i
   param_stops_name i h = (told_param so.Id i h, type_stops_name i h)

@@ -52,7 +52,6 @@ use Rattle.sv_parser.proofs.Targets.{NoSelect, no_select, lvalue_rule}
 use Rattle.sv_parser.proofs.Steps.{NoColon, block_label_rule, end_label_reads, end_label_moved, step_tree_rule}
 use Rattle.sv_parser.proofs.Begins.{NoElse, StmtTold, empty_told, block_told, stmt_if_told, stmt_case_told, for_told, assign_told, stmt_begins, stmt_no_else, exprs_no_else, told_opener}
 use Rattle.sv_parser.proofs.Arms.{Closed, DoneStmt, counted_done, DoneArm, is_arm_closed, ArmsEnd, DoneArms, arms_rule, stmt_told_no_colon, stmt_no_colon}
-
 use Rattle.sv_parser.proofs.Stmts.{AssignSpelled, assign_mark_rule, assign_no_select, key_no_colon, end_no_else, endcase_no_else, each_done, each_stmt, some_arm_done, some_arm, stmt_grows, variable_rule}
 
 -- ---- what stands behind `unique` and its like
@@ -123,9 +122,11 @@ if_to u c x None i o h =
     let a = h.2.2.2.2.2 in
     (made.to_if u c x None i o (h.0, h.1, (h.2.0, h.2.1, (h.2.2.0, h.2.2.1, (h.2.2.2.0, h.2.2.2.1, (h.2.2.2.2.0, h.2.2.2.2.1, (a.0, a.1.0, a.2.1)))))), inr (subst NoElse a.2.1 a.2.0))
 if_to u c x (Some y) i o h =
-    let a = h.2.2.2.2.2 in
-    (made.to_if u c x (Some y) i o
-    (h.0, h.1, (h.2.0, h.2.1, (h.2.2.0, h.2.2.1, (h.2.2.2.0, h.2.2.2.1, (h.2.2.2.2.0, h.2.2.2.2.1, (a.0, a.1.0, (closed_before x a.0 a.2.0 a.1.1 a.2.1, (a.2.0, a.2.1, a.2.2.0)))))))), subst (λ b. Closed b o) (sym (made.closed_if u c x (Some y))) a.2.2.1)
+    let a = h.2.2.2.2.2 in (
+      made.to_if u c x (Some y) i o
+          (h.0, h.1, (h.2.0, h.2.1, (h.2.2.0, h.2.2.1, (h.2.2.2.0, h.2.2.2.1, (h.2.2.2.2.0, h.2.2.2.2.1, (a.0, a.1.0, (closed_before x a.0 a.2.0 a.1.1 a.2.1, (a.2.0, a.2.1, a.2.2.0)))))))),
+      subst (λ b. Closed b o) (sym (made.closed_if u c x (Some y))) a.2.2.1,
+    )
 
 if_from : (u : Option Uniq) (c : Expr) (x : Stmt) (y : Option Stmt) (i o : List Token) → DoneStmt (st.If u c x y) i o → (maybe uniq_key u ⨟ BranchSpelled (branch_tail.If c x y)) i o
 unfolding keyword_text mark_text
@@ -136,9 +137,27 @@ if_from u c x None i o h =
     (g.0, g.1, (g.2.0, g.2.1, (g.2.2.0, g.2.2.1, (g.2.2.2.0, g.2.2.2.1, (g.2.2.2.2.0, g.2.2.2.2.1, (a.0, (a.1, inr (subst NoElse (sym a.2) n)), (subst NoElse (sym a.2) n, a.2)))))))
 if_from u c x (Some y) i o h =
     let g = made.of_if u c x (Some y) i o h.0 in
-    let a = g.2.2.2.2.2 in
-    (g.0, g.1, (g.2.0, g.2.1, (g.2.2.0, g.2.2.1, (g.2.2.2.0, g.2.2.2.1, (g.2.2.2.2.0, g.2.2.2.2.1,
-    (a.0, (a.1, inl a.2.0), (a.2.1.0, a.2.1.1, (a.2.1.2, subst (λ b. Closed b o) (made.closed_if u c x (Some y)) h.1))))))))
+    let a = g.2.2.2.2.2 in (
+      g.0,
+      g.1,
+      (
+        g.2.0,
+        g.2.1,
+        (
+          g.2.2.0,
+          g.2.2.1,
+          (
+            g.2.2.2.0,
+            g.2.2.2.1,
+            (
+              g.2.2.2.2.0,
+              g.2.2.2.2.1,
+              (a.0, (a.1, inl a.2.0), (a.2.1.0, a.2.1.1, (a.2.1.2, subst (λ b. Closed b o) (made.closed_if u c x (Some y)) h.1))),
+            ),
+          ),
+        ),
+      ),
+    )
 
 -- ---- a `case`
 
@@ -186,19 +205,58 @@ loop_to : (c : Place × (WholeWord × (Word × Turns Stmt))) (i o : List Token) 
 unfolding keyword_text mark_text
 loop_to c i o h =
     let b = h.2.2.2.2 in
-    let a = b.2.2.2.2.2.2 in
-    (made.to_for c.0 c.1.0 c.1.1.0 c.1.1.1.0 c.1.1.1.1.0 c.1.1.1.1.1.0 c.1.1.1.1.1.1 i o
-    (h.0, h.1, (h.2.0, h.2.1, (h.2.2.0, h.2.2.1, (h.2.2.2.0, h.2.2.2.1, (b.0, b.1, (b.2.0, b.2.1, (b.2.2.0, b.2.2.1, (b.2.2.2.0, b.2.2.2.1, (b.2.2.2.2.0, b.2.2.2.2.1, (b.2.2.2.2.2.0, b.2.2.2.2.2.1, (a.0, a.1, a.2.0))))))))))),
-    subst (λ q. Closed q o) (sym (made.closed_for c.0 c.1.0 c.1.1.0 c.1.1.1.0 c.1.1.1.1.0 c.1.1.1.1.1.0 c.1.1.1.1.1.1)) a.2.1)
+    let a = b.2.2.2.2.2.2 in (
+      made.to_for c.0 c.1.0 c.1.1.0 c.1.1.1.0 c.1.1.1.1.0 c.1.1.1.1.1.0 c.1.1.1.1.1.1 i o
+          (h.0, h.1, (h.2.0, h.2.1, (h.2.2.0, h.2.2.1, (h.2.2.2.0, h.2.2.2.1, (b.0, b.1, (b.2.0, b.2.1, (b.2.2.0, b.2.2.1, (b.2.2.2.0, b.2.2.2.1, (b.2.2.2.2.0, b.2.2.2.2.1, (b.2.2.2.2.2.0, b.2.2.2.2.2.1, (a.0, a.1, a.2.0))))))))))),
+      subst (λ q. Closed q o) (sym (made.closed_for c.0 c.1.0 c.1.1.0 c.1.1.1.0 c.1.1.1.1.0 c.1.1.1.1.1.0 c.1.1.1.1.1.1)) a.2.1,
+    )
 
 loop_from : (p : Place) (form : WholeWord) (v : Word) (start test : Expr) (next : Step) (body : Stmt) (i o : List Token) → DoneStmt (st.For p form v start test next body) i o → LoopSpelled (p, (form, (v, (start, (test, (next, body)))))) i o
 unfolding keyword_text mark_text
 loop_from p form v start test next body i o h =
     let g = made.of_for p form v start test next body i o h.0 in
     let b = g.2.2.2.2 in
-    let a = b.2.2.2.2.2.2 in
-    (g.0, g.1, (g.2.0, g.2.1, (g.2.2.0, g.2.2.1, (g.2.2.2.0, g.2.2.2.1, (b.0, b.1, (b.2.0, b.2.1, (b.2.2.0, b.2.2.1, (b.2.2.2.0, b.2.2.2.1, (b.2.2.2.2.0, b.2.2.2.2.1, (b.2.2.2.2.2.0, b.2.2.2.2.2.1,
-    (a.0, a.1, (a.2, subst (λ q. Closed q o) (made.closed_for p form v start test next body) h.1))))))))))))
+    let a = b.2.2.2.2.2.2 in (
+      g.0,
+      g.1,
+      (
+        g.2.0,
+        g.2.1,
+        (
+          g.2.2.0,
+          g.2.2.1,
+          (
+            g.2.2.2.0,
+            g.2.2.2.1,
+            (
+              b.0,
+              b.1,
+              (
+                b.2.0,
+                b.2.1,
+                (
+                  b.2.2.0,
+                  b.2.2.1,
+                  (
+                    b.2.2.2.0,
+                    b.2.2.2.1,
+                    (
+                      b.2.2.2.2.0,
+                      b.2.2.2.2.1,
+                      (
+                        b.2.2.2.2.2.0,
+                        b.2.2.2.2.2.1,
+                        (a.0, a.1, (a.2, subst (λ q. Closed q o) (made.closed_for p form v start test next body) h.1)),
+                      ),
+                    ),
+                  ),
+                ),
+              ),
+            ),
+          ),
+        ),
+      ),
+    )
 
 assign_to : (c : Lvalue × ((AssignMark × Place) × Expr)) (i o : List Token) → (SpellsLvalue c.0 ⨟ (AssignSpelled c.1.0 ⨟ (Spells 0 c.1.1 ⨟ mark_spelled (mark_text m.Semicolon)))) i o → DoneStmt (made_assign c) i o
 unfolding mark_text
@@ -279,8 +337,14 @@ module _ (s g t : ℕ) (le : suc s ≤ 201) (f : Parser Stmt) (reads : IsStmts s
   else_reads = (shut (keyword_test k.Else) else_rule (λ x i o h. key_begins k.Else i h.0 h.1)).reads
 
   abbrev maybe_else_rule : Rule (Over s g t) s (Option Stmt)
-  maybe_else_rule = record { spelled = Shut (keyword_test k.Else) OtherSpelled; nests = other_nests; stops = NoColon; parser = maybe_else f; reads = else_reads;
-      moved = (shut (keyword_test k.Else) else_rule (λ x i o h. key_begins k.Else i h.0 h.1)).moved }
+  maybe_else_rule = record {
+    spelled = Shut (keyword_test k.Else) OtherSpelled;
+    nests = other_nests;
+    stops = NoColon;
+    parser = maybe_else f;
+    reads = else_reads;
+    moved = (shut (keyword_test k.Else) else_rule (λ x i o h. key_begins k.Else i h.0 h.1)).moved;
+  }
 
   abbrev if_rule : Rule (Over s g t) (suc s) (Expr × (Stmt × Option Stmt))
   if_rule =

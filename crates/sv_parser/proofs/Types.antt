@@ -63,7 +63,6 @@ pub range_begins : (r : Range) (i o : List Token) → SpellsRange r i o → (p :
 unfolding mark_text
 range_begins r i o h = let g = told_of_mark m.LeftBracket r.place i h.0 h.1 in (r.place, g)
 
-
 -- what stops several names
 abbrev pub NamesStops : List Token → Type 0
 NamesStops o = (told (mark_test m.Comma) o ≡ None) × Any o
@@ -204,6 +203,9 @@ bits_begin bits_word.Reg = refl
 sign_begin : (w : Sign) → type_by_word (sign_word_name w) ≡ Some type_by.Sign
 sign_begin sign.Signed = refl
 sign_begin sign.Unsigned = refl
+
+pub told_type_first : (i : List Token) → told (sort_test type_by_sort) i ≡ type_by_sort (first_sort i)
+told_type_first i = told_sort type_by_sort i refl
 
 told_type : (x : Sort) (i : List Token) → IsFirst x i → told (sort_test type_by_sort) i ≡ type_by_sort x
 told_type x i h = told_sort type_by_sort i refl ∙ ap type_by_sort h
@@ -363,8 +365,14 @@ module _ (s g t : ℕ) (le : suc t ≤ 201) (f : Parser TypeTree) (reads : IsTyp
   members_reads = (some_rule (sort_test type_by_sort) member_rule member_begins member_grows (λ c i h. tt)).reads
 
   abbrev members_rule : Rule (Over s g t) t (List Member)
-  members_rule = record { spelled = some SpellsMember; nests = each_depths member_depths; stops = MembersStop; parser = members f; reads = members_reads;
-      moved = (some_rule (sort_test type_by_sort) member_rule member_begins member_grows (λ c i h. tt)).moved }
+  members_rule = record {
+    spelled = some SpellsMember;
+    nests = each_depths member_depths;
+    stops = MembersStop;
+    parser = members f;
+    reads = members_reads;
+    moved = (some_rule (sort_test type_by_sort) member_rule member_begins member_grows (λ c i h. tt)).moved;
+  }
 
   abbrev struct_rule : Rule (Over s g t) (suc t) (Option Sign × (List Member × List Range))
   struct_rule =

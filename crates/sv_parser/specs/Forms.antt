@@ -53,6 +53,30 @@ made_label c = record { name = c.0; value = c.1 }
 unfoldable pub enum_label : Parser EnumLabel
 enum_label = made_label <$> (token id_test ⊗ maybe_read (mark_test m.Assign) given)
 
+unfoldable pub maybe_given : Parser (Option Expr)
+maybe_given = maybe_read (mark_test m.Assign) given
+
+unfoldable pub comma_name : Parser Word
+comma_name = mark m.Comma ▸ token id_test
+
+unfoldable pub comma_label : Parser EnumLabel
+comma_label = mark m.Comma ▸ enum_label
+
+unfoldable pub other_labels : Parser (List EnumLabel)
+other_labels = many (mark_test m.Comma) comma_label
+
+unfoldable pub labels : Parser (List EnumLabel)
+labels = listed enum_label
+
+unfoldable pub range_if : Parser (Option Range)
+range_if = maybe_read (mark_test m.LeftBracket) range
+
+unfoldable pub other_names : Parser (List Word)
+other_names = many (mark_test m.Comma) comma_name
+
+unfoldable pub names_end : Parser (List Word)
+names_end = names ◂ mark m.Semicolon
+
 -- ---- types
 
 abbrev pub made_word_vector : BitsWord × (Option Sign × List Range) → TypeTree
@@ -98,6 +122,9 @@ made_struct c = ty.Struct c.0 c.1.0 c.1.1
 module _ (form : Parser TypeTree) where
   unfoldable pub member : Parser Member
   member = made_member <$> (form ⊗ (names ◂ mark m.Semicolon))
+
+  unfoldable pub other_members : Parser (List Member)
+  other_members = many (sort_test type_by_sort) member
 
   unfoldable pub members : Parser (List Member)
   members = some_of (sort_test type_by_sort) member

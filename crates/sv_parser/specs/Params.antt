@@ -18,18 +18,15 @@ use Rattle.sv_tree.specs.declared.design.Way.{Way}
 use Rattle.sv_tree.specs.declared.design.NetWord.{NetWord}
 use Rattle.sv_tree.specs.declared.design.Port.{Port}
 use Rattle.sv_cursor.specs.declared.sort.Mark.TheVariants as m
-use Rattle.sv_cursor.specs.Parsers.{Parser, ◌<$>◌, ◌⊗◌, refuse, token, by_told, maybe_read}
+use Rattle.sv_cursor.specs.Parsers.{Parser, ◌<$>◌, ◌⊗◌, refuse, token, by_told, maybe_read, many}
 use Rattle.sv_cursor.specs.Tests.{mark_test, id_test, mark}
 use Rattle.sv_parser.specs.declared.openers.ParamOpener.{ParamOpener}
 use Rattle.sv_parser.specs.declared.openers.ParamOpener.TheVariants as param_by
 use Rattle.sv_parser.specs.Combined.{◌▸◌, ◌◂◌, word_test, sort_test, listed}
 use Rattle.sv_parser.specs.Words.{sign_by_word, whole_by_word, param_bits_by_word, param_by_word, way_by_word, net_by_word, param_type_by_sort, word_type_by_sort, behind_by_sort}
-use Rattle.sv_parser.specs.Forms.{range, ranges, given, maybe_sign, form}
+use Rattle.sv_parser.specs.Forms.{range, ranges, range_if, given, maybe_sign, form}
 
 -- ---- types of parameters
-
-unfoldable pub maybe_range : Parser (Option Range)
-maybe_range = maybe_read (mark_test m.LeftBracket) range
 
 abbrev pub made_whole : WholeWord × Option Sign → ParamType
 made_whole c = param_type_of.Whole c.0 c.1
@@ -41,13 +38,13 @@ abbrev pub made_word_bits : ParamBits × (Option Sign × Option Range) → Param
 made_word_bits c = param_type_of.Bits (Some c.0) c.1.0 c.1.1
 
 unfoldable pub word_bits : Parser ParamType
-word_bits = made_word_bits <$> (token (word_test param_bits_by_word) ⊗ (maybe_sign ⊗ maybe_range))
+word_bits = made_word_bits <$> (token (word_test param_bits_by_word) ⊗ (maybe_sign ⊗ range_if))
 
 abbrev pub made_sign_bits : Sign × Option Range → ParamType
 made_sign_bits c = param_type_of.Bits None (Some c.0) c.1
 
 unfoldable pub sign_bits : Parser ParamType
-sign_bits = made_sign_bits <$> (token (word_test sign_by_word) ⊗ maybe_range)
+sign_bits = made_sign_bits <$> (token (word_test sign_by_word) ⊗ range_if)
 
 abbrev pub made_range_bits : Range → ParamType
 made_range_bits r = param_type_of.Bits None None (Some r)
@@ -80,6 +77,18 @@ made_param_item c = record { name = c.0; value = c.1 }
 
 unfoldable pub param_item : Parser ParamItem
 param_item = made_param_item <$> (token id_test ⊗ given)
+
+unfoldable pub comma_item : Parser ParamItem
+comma_item = mark m.Comma ▸ param_item
+
+unfoldable pub other_items : Parser (List ParamItem)
+other_items = many (mark_test m.Comma) comma_item
+
+unfoldable pub param_items : Parser (List ParamItem)
+param_items = listed param_item
+
+unfoldable pub maybe_param_word : Parser (Option ParamWord)
+maybe_param_word = maybe_read (word_test param_by_word) (token (word_test param_by_word))
 
 abbrev pub made_param : ParamWord × (Option ParamType × List ParamItem) → Param
 made_param c = record { word = c.0; form = c.1.0; list = c.1.1 }

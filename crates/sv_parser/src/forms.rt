@@ -7,7 +7,6 @@ ghost use Rattle.sv_parser.specs.Combined.{listed, sort_test};
 ghost use Rattle.sv_parser.specs.Forms as spec;
 ghost use Rattle.sv_parser.specs.Lists as list;
 ghost use Rattle.sv_parser.specs.Lists.{Nests};
-ghost use Rattle.sv_parser.specs.Params as params;
 ghost use Rattle.sv_parser.specs.Words as words;
 
 use crate::lists::{MOST_NESTING, expression, names, with_first};
@@ -47,9 +46,9 @@ pub fn ranges(alloc: Global, tokens: &mut Cursor<'_>) -> Result<Items<Range>, Pa
 }
 
 /// A range, where one comes next.
-#[tactic(auto, unfolding(crate::specs::Params::maybe_range))]
+#[tactic(auto, unfolding(crate::specs::Forms::range_if))]
 pub fn maybe_range(alloc: Global, tokens: &mut Cursor<'_>) -> Result<Option<Range>, ParseErr>
-    ensures { Reads (params.maybe_range tokens.old) result tokens.new }
+    ensures { Reads (spec.range_if tokens.old) result tokens.new }
 {
     match tokens.peek_mark(Mark::LeftBracket) {
         Some(_) => {
@@ -173,7 +172,7 @@ fn braced_labels(alloc: Global, tokens: &mut Cursor<'_>) -> Result<Items<EnumLab
     Ok(all)
 }
 
-#[tactic(auto, unfolding(crate::specs::Forms::enumeration, crate::specs::Forms::maybe_sign, crate::specs::Params::maybe_range))]
+#[tactic(auto, unfolding(crate::specs::Forms::enumeration, crate::specs::Forms::maybe_sign, crate::specs::Forms::range_if))]
 fn enumeration(alloc: Global, tokens: &mut Cursor<'_>) -> Result<TypeTree, ParseErr>
     ensures { Reads (spec.enumeration tokens.old) result tokens.new }
 {

@@ -27,4 +27,4 @@ pub use parameters::{par_port, param, port};
 pub use regions::item;
 pub use statements::stmt;
 pub use tails::{AlwaysTail, BranchTail, NameTail, PlainTail, StepTail};
-pub use whole::parse;
+pub use whole::{parse, texts_are_decided};

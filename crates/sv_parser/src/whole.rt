@@ -1,6 +1,8 @@
 // The tree of a whole text.
-ghost use Rattle.std.specs.Prelude.{◌≡◌, ◌-◌, length};
+ghost use Rattle.std.specs.Prelude.{◌≡◌, ◌-◌, List, length};
 ghost use Rattle.sv_cursor.specs.Parsers.{Reads};
+ghost use Rattle.sv_parser.specs.Answers.{Decides};
+ghost use Rattle.sv_parser.specs.Source as text;
 ghost use Rattle.sv_parser.specs.Whole as spec;
 ghost use Rattle.sv_parser.specs.Whole.{IsParsed};
 
@@ -116,4 +118,12 @@ pub fn parse(alloc: Global, tokens: &Tokens) -> Result<Source, TextErr>
         }
         Err(ParseErr::Memory) => Err(TextErr::Memory),
     }
+}
+
+/// What reading makes of any tokens: the one tree that all of them spell; or no tree does, and none whose spelling begins
+/// with them up to the token at which reading stops; or each tree whose spelling begins so is nested too deep.
+#[tactic(auto, using(crate::proofs::Laws::decides))]
+pub fn texts_are_decided()
+    ensures { (tokens : List Token) → Decides tokens (text.source tokens) }
+{
 }

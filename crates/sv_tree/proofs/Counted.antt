@@ -261,7 +261,7 @@ counted_colon false = counted_nothing
 -- from the variable of a loop to the mark behind its step
 pub counted_turns : (v : Word) (start test : Expr) (next : Step)
     → Counted (name v ⨟ mark (codes "=") ⨟ Spells 0 start ⨟ mark (codes ";") ⨟ Spells 0 test ⨟ mark (codes ";") ⨟ SpellsStep v next ⨟ mark (codes ")"))
-      (length (turns_depths (expr_depths start) (expr_depths test) next))
+    (length (turns_depths (expr_depths start) (expr_depths test) next))
 counted_turns v start test next =
     counted_as _ (simp length-append (omega arith))
     (counted_name v ⋈ counted_mark (codes "=") ⋈ counted_expr 0 start ⋈ counted_mark (codes ";") ⋈ counted_expr 0 test ⋈ counted_mark (codes ";") ⋈ counted_step v next ⋈ counted_mark (codes ")"))
