@@ -1,5 +1,6 @@
 -- Targets in braces, read with a list of the braces that are open.
-use Rattle.std.proofs.Common.{◌≡◌, ◌≢◌, ℕ, zero, suc, ◌+◌, ◌-◌, ◌<◌, ◌≤◌, true, false, is_some, List, [], ◌∷◌, ◌++◌, length, Option, Some, None, Ok, Err, refl, sym, ◌∙◌, ap, subst, append_assoc, append-nil, length-append, arith}
+use Rattle.std.proofs.Common.{◌≡◌, ◌≢◌, ℕ, zero, suc, ◌+◌, ◌-◌, ◌<◌, ◌≤◌, true, false, is_some, List, [], ◌∷◌, ◌++◌, length, Option, Some, None, Result, Ok, Err, refl, sym, ◌∙◌, ap, subst, append_assoc, append-nil, length-append, arith}
+use Rattle.std.specs.Result.{IsErrAnd}
 use Rattle.sv_outside.specs.declared.refusal.Place.{Place}
 use Rattle.sv_outside.specs.declared.text.Token.{Token}
 use Rattle.sv_tree.specs.declared.word.Word.{Word}
@@ -17,7 +18,7 @@ use Rattle.sv_expr_parser.specs.Reading.{expr, selects}
 use Rattle.sv_parser.specs.declared.lvalues.OpenBrace.{OpenBrace}
 use Rattle.sv_parser.specs.declared.openers.TargetOpener.{TargetOpener}
 use Rattle.sv_parser.specs.declared.openers.TargetOpener.TheVariants as target_by
-use Rattle.sv_parser.specs.Braces.{brace_rest, whole_of, Turns}
+use Rattle.sv_parser.specs.Braces.{brace_rest, whole_of, Closes, Turns}
 use Rattle.sv_parser.specs.Combined.{◌▸◌, ◌◂◌, sort_test, listed}
 use Rattle.sv_parser.specs.Words.{target_by_sort}
 use Rattle.sv_parser.specs.Targets.{made_target, named_target, made_targets, braced_targets, target_for, target_level, lvalue_from, lvalue}
@@ -338,6 +339,31 @@ mark_takes name i j p e = subst (λ (r : Outcome Place). Meets r (λ x j. length
 
 pub name_takes : (i j : List Token) (x : Lvalue) → ◌≡◌ {A = Outcome Lvalue} (named_target i) (Ok (x, j)) → length j < length i
 name_takes i j x e = subst (λ (r : Outcome Lvalue). Meets r (λ x j. length j < length i)) e (target_shorter i)
+
+-- ---- what a turn answers, by what was read
+
+pub closes_handed : (x : Lvalue) (stack : List OpenBrace) (i : List Token) (r : Result (Option Lvalue) ParseErr) (z : ParseErr) (new : List OpenBrace) (j : List Token) → IsErrAnd r (λ y. y ≡ z)
+    → (z ≢ Memory → (d : ℕ) → length stack ≤ d → ◌≡◌ {A = Outcome Lvalue} (whole_of d stack (Ok (x, i))) (Err z)) → Closes x stack i r new j
+closes_handed x stack i (Ok a) z new j h f = absurd h
+closes_handed x stack i (Err y) z new j h f = λ real d le. f (λ e. real (h ∙ e)) d le ∙ ap Err (sym h)
+
+pub turns_handed : (stack : List OpenBrace) (i : List Token) (r : Result (Option Lvalue) ParseErr) (z : ParseErr) (new : List OpenBrace) (j : List Token) → IsErrAnd r (λ y. y ≡ z)
+    → (z ≢ Memory → (d : ℕ) → length stack ≤ d → ◌≡◌ {A = Outcome Lvalue} (whole_of d stack (lvalue_from (suc d - length stack) i)) (Err z)) → Turns stack i r new j
+turns_handed stack i (Ok a) z new j h f = absurd h
+turns_handed stack i (Err y) z new j h f = λ real d le. f (λ e. real (h ∙ e)) d le ∙ ap Err (sym h)
+
+pub named_turns : (stack : List OpenBrace) (i : List Token) (x : Lvalue) (j : List Token) (r : Result (Option Lvalue) ParseErr) (new : List OpenBrace) (k : List Token)
+    → told (sort_test target_by_sort) i ≡ Some target_by.Name → ◌≡◌ {A = Outcome Lvalue} (named_target i) (Ok (x, j)) → Closes x stack j r new k → Turns stack i r new k
+named_turns stack i x j (Ok (Some w)) new k t e c = λ d le. name_read stack i x j t e d le ∙ c d le
+named_turns stack i x j (Ok None) new k t e c = (omega (arith, c.0), omega (arith, c.1, name_takes i j x e), λ d le. name_read stack i x j t e d le ∙ c.2 d le)
+named_turns stack i x j (Err z) new k t e c = λ real d le. name_read stack i x j t e d le ∙ c real d le
+
+pub braced_turns : (stack : List OpenBrace) (i j : List Token) (p : Place) → told (sort_test target_by_sort) i ≡ Some target_by.Brace → ◌≡◌ {A = Outcome Place} (mark m.LeftBrace i) (Ok (p, j))
+    → Turns stack i (Ok None) (stack ++ record { place = p; found = [] } ∷ []) j
+braced_turns stack i j p t e = (longer stack (record { place = p; found = [] }), mark_takes m.LeftBrace i j p e, brace_read stack i p j t e)
+
+pub less_open : (old new : List OpenBrace) (b : OpenBrace) → old ≡ new ++ b ∷ [] → length old ≡ suc (length new)
+less_open old new b e = omega (arith, ap length e, length-append new (b ∷ []))
 
 -- ---- all turns
 

@@ -60,7 +60,7 @@ no_assign (a ∷ i) e = absurd (cc)
 pub named_pins_next : (i : List Token) (p : Place) → told (mark_test m.Dot) i ≡ Some p → told (sort_test pins_by_sort) i ≡ Some pins_by.Named
 unfolding sort_test
 named_pins_next [] p e = absurd (cc)
-named_pins_next (a ∷ i) p e = let g = mark_told m.Dot a p e in ap pins_by_sort (mark_here a m.Dot g.0 g.1.0)
+named_pins_next (a ∷ i) p e = let g = mark_told m.Dot a p e in ap pins_by_sort (mark_here a m.Dot g.0 g.1)
 
 by_mark : (name : MarkName) (p : Place) → if_so (same_mark name m.Dot) p ≡ None → pins_by_mark name ≡ ordered_if (opener (s.Mark name))
 unfolding same_mark
@@ -81,8 +81,12 @@ ordered_pins_next (a ∷ i) e = by_sort (sort a) a.place e
 abbrev word_in : Token → Word
 word_in a = record { text = a.text; place = a.place }
 
+read_word : Word → Outcome Word → Word
+read_word w (Ok p) = p.0
+read_word w (Err e) = w
+
 word_is : (x : Sort) (a : Token) (i j : List Token) (w : Word) → ◌≡◌ {A = Outcome Word} (take_told (id_by x (word_in a)) (a ∷ i)) (Ok (w, j)) → word_in a ≡ w
-word_is s.Id a i j w e = cc
+word_is s.Id a i j w e = ap (read_word w) e
 word_is _ a i j w e = absurd (cc)
 
 pub repeated : (v w : Word) (i j : List Token) → ◌≡◌ {A = Outcome Word} (token id_test i) (Ok (w, j)) → bytes_eq w.text v.text ≡ true → ◌≡◌ {A = Outcome Word} (token (repeat_test v) i) (Ok (w, j))

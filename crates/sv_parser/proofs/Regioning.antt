@@ -1,12 +1,13 @@
 -- Generate regions, read with a list of the regions that are open.
-use Rattle.std.proofs.Common.{◌≡◌, ◌≢◌, ℕ, zero, suc, ◌+◌, ◌-◌, ◌<◌, ◌≤◌, true, false, is_some, List, [], ◌∷◌, ◌++◌, length, Option, Some, None, Ok, Err, refl, sym, ◌∙◌, ap, subst, append_assoc, append-nil, arith}
+use Rattle.std.proofs.Common.{◌≡◌, ◌≢◌, ℕ, zero, suc, ◌+◌, ◌-◌, ◌<◌, ◌≤◌, true, false, is_some, List, [], ◌∷◌, ◌++◌, length, Option, Some, None, Result, Ok, Err, refl, sym, ◌∙◌, ap, subst, append_assoc, append-nil, length-append, arith}
+use Rattle.std.specs.Result.{IsErrAnd}
 use Rattle.sv_outside.specs.declared.refusal.Place.{Place}
 use Rattle.sv_outside.specs.declared.text.Token.{Token}
 use Rattle.sv_tree.specs.declared.design.Item.{Item}
 use Rattle.sv_tree.specs.declared.design.Item.TheVariants as it
 use Rattle.sv_tree.specs.NestingDesign.{item_depths}
 use Rattle.sv_cursor.specs.declared.error.ParseErr.{ParseErr}
-use Rattle.sv_cursor.specs.declared.error.ParseErr.TheVariants.{Syntax}
+use Rattle.sv_cursor.specs.declared.error.ParseErr.TheVariants.{Memory, Syntax}
 use Rattle.sv_cursor.specs.declared.sort.Keyword.TheVariants as k
 use Rattle.sv_cursor.specs.Tests.{keyword_test, keyword}
 use Rattle.sv_cursor.specs.Parsers.{Outcome, Parser, and_then, ◌>>=◌, ◌<$>◌, ◌⊗◌, pure, refuse, too_deep, told, branch, cons, many_from, many}
@@ -16,7 +17,7 @@ use Rattle.sv_parser.specs.declared.openers.ItemOpener.TheVariants as item_by
 use Rattle.sv_parser.specs.Combined.{◌▸◌, ◌◂◌, sort_test}
 use Rattle.sv_parser.specs.Words.{item_by_sort}
 use Rattle.sv_parser.specs.Items.{items, region, gen_loop, gen_if, item_for, item_level, regions, whole_item, item_from, item}
-use Rattle.sv_parser.specs.Regions.{loop_of, cond_of, region_rest, region_of, Turns}
+use Rattle.sv_parser.specs.Regions.{loop_of, cond_of, region_rest, region_of, is_region, Settles, Opens, Turns}
 use Rattle.sv_parser.proofs.Limits.{Over}
 use Rattle.sv_parser.proofs.Same.{Shrinks}
 use Rattle.sv_parser.proofs.Bracing.{enough, some_told}
@@ -222,6 +223,54 @@ module _ (g : ℕ) (le : g ≤ 200) (start : Outcome Item) (stack : List (List I
 pub none_turns : (g : ℕ) → g ≤ 200 → (stack : List (List Item)) (i : List Token) → told (sort_test item_by_sort) i ≡ None → ◌≡◌ {A = Outcome Item} (region_of g stack (item g i)) (Err (Syntax (length i)))
 none_turns g le stack i t = no_item_reads g le (region_of g stack (item g i)) stack i refl t
 
+-- ---- what a turn answers, by what was read
+
+pub settles_handed : (g : ℕ) (x : Item) (stack : List (List Item)) (i : List Token) (r : Result (Option Item) ParseErr) (z : ParseErr) (new : List (List Item)) (j : List Token) → IsErrAnd r (λ y. y ≡ z)
+    → (z ≢ Memory → ◌≡◌ {A = Outcome Item} (region_of g stack (Ok (x, i))) (Err z)) → Settles g x stack i r new j
+settles_handed g x stack i (Ok a) z new j h f = absurd h
+settles_handed g x stack i (Err y) z new j h f = λ real. f (λ e. real (h ∙ e)) ∙ ap Err (sym h)
+
+pub opens_handed : (g : ℕ) (i : List Token) (r : Result (Option Item) ParseErr) (z : ParseErr) (j : List Token) → IsErrAnd r (λ y. y ≡ z)
+    → (z ≢ Memory → ◌≡◌ {A = Outcome Item} (region (item g) i) (Err z)) → Opens g i r j
+opens_handed g i (Ok a) z j h f = absurd h
+opens_handed g i (Err y) z j h f = λ real. f (λ e. real (h ∙ e)) ∙ ap Err (sym h)
+
+pub turns_handed : (g : ℕ) (stack : List (List Item)) (i : List Token) (r : Result (Option Item) ParseErr) (z : ParseErr) (new : List (List Item)) (j : List Token) → IsErrAnd r (λ y. y ≡ z)
+    → (z ≢ Memory → ◌≡◌ {A = Outcome Item} (region_of g stack (item g i)) (Err z)) → Turns g stack i r new j
+turns_handed g stack i (Ok a) z new j h f = absurd h
+turns_handed g stack i (Err y) z new j h f = λ real. f (λ e. real (h ∙ e)) ∙ ap Err (sym h)
+
+settled_turns : (g : ℕ) (stack : List (List Item)) (i : List Token) (x : Item) (j : List Token) (r : Result (Option Item) ParseErr) (new : List (List Item)) (k : List Token)
+    → (length j < length i) × ◌≡◌ {A = Outcome Item} (region_of g stack (item g i)) (region_of g stack (Ok (x, j))) → Settles g x stack j r new k → Turns g stack i r new k
+settled_turns g stack i x j (Ok (Some w)) new k h s = h.1 ∙ s
+settled_turns g stack i x j (Ok None) new k h s = (omega (arith, h.0, s.0), h.1 ∙ s.1)
+settled_turns g stack i x j (Err z) new k h s = λ real. h.1 ∙ s real
+
+pub plain_turns : (g : ℕ) → g ≤ 200 → (stack : List (List Item)) (i : List Token) (c : ItemOpener) (x : Item) (j : List Token) (r : Result (Option Item) ParseErr) (new : List (List Item)) (k : List Token)
+    → told (sort_test item_by_sort) i ≡ Some c → ◌≡◌ {A = Outcome Item} (item_for (loop_of g) (cond_of g) (item g) c i) (Ok (x, j)) → Settles g x stack j r new k → Turns g stack i r new k
+plain_turns g le stack i c x j r new k t e s = settled_turns g stack i x j r new k (plain_read g le (region_of g stack (item g i)) stack i refl c x j t e) s
+
+region_opener : (c : ItemOpener) → is_region c ≡ true → c ≡ item_by.Generate
+region_opener item_by.Generate e = refl
+region_opener _ e = absurd (cc)
+
+pub begins_region : (c : ItemOpener) (i : List Token) → told (sort_test item_by_sort) i ≡ Some c → is_region c ≡ true → told (sort_test item_by_sort) i ≡ Some item_by.Generate
+begins_region c i t e = t ∙ ap Some (region_opener c e)
+
+pub region_turns : (g : ℕ) → g ≤ 200 → (stack : List (List Item)) (i : List Token) (x : Item) (j : List Token) (r : Result (Option Item) ParseErr) (new : List (List Item)) (k : List Token)
+    → told (sort_test item_by_sort) i ≡ Some item_by.Generate → Opens g i (Ok (Some x)) j → Settles g x stack j r new k → Turns g stack i r new k
+region_turns g le stack i x j r new k t o s = settled_turns g stack i x j r new k (o.0, opened_read g le (region_of g stack (item g i)) stack i refl x j t o.1) s
+
+pub region_opens : (g : ℕ) → g ≤ 200 → (stack : List (List Item)) (i j : List Token) → told (sort_test item_by_sort) i ≡ Some item_by.Generate → Opens g i (Ok None) j → Turns g stack i (Ok None) (stack ++ [] ∷ []) j
+region_opens g le stack i j t o = (o.0, opened_goes g le (region_of g stack (item g i)) stack i refl j t o.1)
+
+pub region_stops : (g : ℕ) → g ≤ 200 → (stack : List (List Item)) (i j : List Token) (z : ParseErr) → told (sort_test item_by_sort) i ≡ Some item_by.Generate → Opens g i (Err z) j → z ≢ Memory
+    → ◌≡◌ {A = Outcome Item} (region_of g stack (item g i)) (Err z)
+region_stops g le stack i j z t o real = opened_fails g le (region_of g stack (item g i)) stack i refl z t (o real)
+
+pub less_within : (old new : List (List Item)) (b : List Item) → old ≡ new ++ b ∷ [] → length old ≡ suc (length new)
+less_within old new b e = omega (arith, ap length e, length-append new (b ∷ []))
+
 -- ---- all turns
 
 -- what is read from the first token on is told by what is still open
@@ -238,3 +287,9 @@ items_next g i n turn stack new j l o t = record { left = omega (arith, o.left, 
 
 pub items_end : (g : ℕ) → g ≤ 200 → (i : List Token) (n turn : ℕ) (stack : List (List Item)) (j : List Token) → OpenItems g i n turn stack j → n ≤ turn → ◌≡◌ {A = Outcome Item} (item g i) (Err (Syntax (length j)))
 items_end g le i n turn stack j o low = end_of_items g le (item g i) stack j o.same (omega (arith, o.left))
+
+pub items_done : (g : ℕ) (i : List Token) (n turn : ℕ) (stack new : List (List Item)) (j l : List Token) (x : Item) → OpenItems g i n turn stack j → Turns g stack j (Ok (Some x)) new l → ◌≡◌ {A = Outcome Item} (item g i) (Ok (x, l))
+items_done g i n turn stack new j l x o t = o.same ∙ t
+
+pub items_fail : (g : ℕ) (i : List Token) (n turn : ℕ) (stack new : List (List Item)) (j l : List Token) (z : ParseErr) → OpenItems g i n turn stack j → Turns g stack j (Err z) new l → z ≢ Memory → ◌≡◌ {A = Outcome Item} (item g i) (Err z)
+items_fail g i n turn stack new j l z o t real = o.same ∙ t real
