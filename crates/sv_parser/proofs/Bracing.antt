@@ -365,6 +365,33 @@ braced_turns stack i j p t e = (longer stack (record { place = p; found = [] }),
 pub less_open : (old new : List OpenBrace) (b : OpenBrace) → old ≡ new ++ b ∷ [] → length old ≡ suc (length new)
 less_open old new b e = omega (arith, ap length e, length-append new (b ∷ []))
 
+pub comma_closes : (x0 : Lvalue) (stack0 : List OpenBrace) (i0 : List Token) (turn end : ℕ) (old new : List OpenBrace) (b : OpenBrace) (x : Lvalue) (i : List Token) (found : List Lvalue) (pushed : List OpenBrace) (rest : List Token)
+    → length old + turn ≤ end → end ≤ length stack0 → length i ≤ length i0 → Holds (λ d. whole_of d stack0 (Ok (x0, i0))) (length stack0) old x i
+    → old ≡ new ++ b ∷ [] → found ≡ b.found ++ x ∷ [] → pushed ≡ new ++ record { place = b.place; found = found } ∷ [] → is_some (told (mark_test m.Comma) i) ≡ true → rest ≡ next i
+    → Closes x0 stack0 i0 (Ok None) pushed rest
+comma_closes x0 stack0 i0 turn end old new b x i found pushed rest low fit short h popped ef ep some er =
+    rw ep (rw ef (rw er (
+      omega (arith, low, fit, less_open old new b popped, longer new (record { place = b.place; found = b.found ++ x ∷ [] })),
+      omega (arith, short, comma_takes i some),
+      goes_on (λ d. whole_of d stack0 (Ok (x0, i0))) (length stack0) old new b x i h popped some,
+    )))
+
+pub brace_closes : (x0 : Lvalue) (stack0 : List OpenBrace) (i0 : List Token) (turn end : ℕ) (old new : List OpenBrace) (b : OpenBrace) (x : Lvalue) (i : List Token) (found : List Lvalue) (p : Place) (j : List Token)
+    → length old + turn ≤ end → end ≤ length stack0 → length i ≤ length i0 → Holds (λ d. whole_of d stack0 (Ok (x0, i0))) (length stack0) old x i
+    → old ≡ new ++ b ∷ [] → found ≡ b.found ++ x ∷ [] → is_some (told (mark_test m.Comma) i) ≡ false → ◌≡◌ {A = Outcome Place} (mark m.RightBrace i) (Ok (p, j))
+    → (length new + (turn + 1) ≤ end) × (length j ≤ length i0) × (end ≤ length stack0) × Holds (λ d. whole_of d stack0 (Ok (x0, i0))) (length stack0) new (lv.Concat b.place found) j
+brace_closes x0 stack0 i0 turn end old new b x i found p j low fit short h popped ef none e =
+    rw ef (
+      omega (arith, low, less_open old new b popped),
+      omega (arith, short, mark_takes m.RightBrace i j p e),
+      fit,
+      closes (λ d. whole_of d stack0 (Ok (x0, i0))) (length stack0) old new b x i h popped p j none e,
+    )
+
+pub brace_turns : (stack : List OpenBrace) (i j : List Token) (p : Place) (found : List Lvalue) (pushed : List OpenBrace) → found ≡ [] → pushed ≡ stack ++ record { place = p; found = found } ∷ []
+    → told (sort_test target_by_sort) i ≡ Some target_by.Brace → ◌≡◌ {A = Outcome Place} (mark m.LeftBrace i) (Ok (p, j)) → Turns stack i (Ok None) pushed j
+brace_turns stack i j p found pushed ef ep t e = rw ep (rw ef (braced_turns stack i j p t e))
+
 -- ---- all turns
 
 -- what is read from the first token on is told by what is still open
@@ -375,7 +402,7 @@ pub record Open (i : List Token) (n turn : ℕ) (stack : List OpenBrace) (j : Li
 
 pub open_first : (i : List Token) → Open i (length i) 0 [] i
 unfolding whole_of
-open_first i = record { low = omega arith; left = omega arith; same = λ d e. ap (λ n. lvalue_from n i) e }
+open_first i = record { low = omega arith; left = omega arith; same = λ d e. (let k : suc d ≡ suc d - 0 = omega arith in ap (λ n. lvalue_from n i) (e ∙ k)) }
 
 pub open_next : (i : List Token) (n turn : ℕ) (stack new : List OpenBrace) (j k : List Token) → Open i n turn stack j → turn < n → Turns stack j (Ok None) new k → Open i n (turn + 1) new k
 open_next i n turn stack new j k o less t = record {

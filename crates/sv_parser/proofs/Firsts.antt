@@ -81,7 +81,7 @@ ordered_pins_next (a ∷ i) e = by_sort (sort a) a.place e
 abbrev word_in : Token → Word
 word_in a = record { text = a.text; place = a.place }
 
-read_word : Word → Outcome Word → Word
+abbrev read_word : Word → Outcome Word → Word
 read_word w (Ok p) = p.0
 read_word w (Err e) = w
 

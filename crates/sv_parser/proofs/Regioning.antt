@@ -8,6 +8,7 @@ use Rattle.sv_tree.specs.declared.design.Item.TheVariants as it
 use Rattle.sv_tree.specs.NestingDesign.{item_depths}
 use Rattle.sv_cursor.specs.declared.error.ParseErr.{ParseErr}
 use Rattle.sv_cursor.specs.declared.error.ParseErr.TheVariants.{Memory, Syntax}
+use Rattle.sv_cursor.specs.declared.sort.Keyword.{Keyword}
 use Rattle.sv_cursor.specs.declared.sort.Keyword.TheVariants as k
 use Rattle.sv_cursor.specs.Tests.{keyword_test, keyword}
 use Rattle.sv_cursor.specs.Parsers.{Outcome, Parser, and_then, ◌>>=◌, ◌<$>◌, ◌⊗◌, pure, refuse, too_deep, told, branch, cons, many_from, many}
@@ -19,11 +20,11 @@ use Rattle.sv_parser.specs.Words.{item_by_sort}
 use Rattle.sv_parser.specs.Items.{items, region, gen_loop, gen_if, item_for, item_level, regions, whole_item, item_from, item}
 use Rattle.sv_parser.specs.Regions.{loop_of, cond_of, region_rest, region_of, is_region, Settles, Opens, Turns}
 use Rattle.sv_parser.proofs.Limits.{Over}
-use Rattle.sv_parser.proofs.Same.{Shrinks}
+use Rattle.sv_parser.proofs.Same.{Shrinks, token_shorter}
 use Rattle.sv_parser.proofs.Bracing.{enough, some_told}
 use Rattle.sv_parser.proofs.GenLevel.{Begun, counted_done_item, Plain, item_grows, cond_reads, loop_reads}
 use Rattle.sv_parser.proofs.Items.{DoneItem}
-use Rattle.sv_parser.proofs.Gens.{NoColon}
+use Rattle.sv_parser.proofs.Steps.{NoColon}
 use Rattle.sv_parser.proofs.ItemLevel.{by_item, stable, begun_moved, loop_deep, cond_deep, item_reads}
 
 none_told : {C : Type 0} (q : Option C) → is_some q ≡ false → q ≡ None
@@ -270,6 +271,40 @@ region_stops g le stack i j z t o real = opened_fails g le (region_of g stack (i
 
 pub less_within : (old new : List (List Item)) (b : List Item) → old ≡ new ++ b ∷ [] → length old ≡ suc (length new)
 less_within old new b e = omega (arith, ap length e, length-append new (b ∷ []))
+
+keyword_takes : (word : Keyword) (i j : List Token) (p : Place) → ◌≡◌ {A = Outcome Place} (keyword word i) (Ok (p, j)) → length j < length i
+keyword_takes word i j p e = subst (λ (r : Outcome Place). Meets r (λ x j. length j < length i)) e (token_shorter (keyword_test word) i)
+
+pub more_settles : (g : ℕ) → g ≤ 200 → (x0 : Item) (stack0 : List (List Item)) (i0 : List Token) (old new : List (List Item)) (b : List Item) (x : Item) (i : List Token) (found : List Item) (pushed : List (List Item))
+    → length i ≤ length i0 → ◌≡◌ {A = Outcome Item} (region_of g stack0 (Ok (x0, i0))) (region_of g old (Ok (x, i))) → old ≡ new ++ b ∷ [] → found ≡ b ++ x ∷ [] → pushed ≡ new ++ found ∷ []
+    → is_some (told (sort_test item_by_sort) i) ≡ true → Settles g x0 stack0 i0 (Ok None) pushed i
+more_settles g le x0 stack0 i0 old new b x i found pushed short h popped ef ep some = rw ep (rw ef (short, region_more g le (region_of g stack0 (Ok (x0, i0))) old new b x i h popped some))
+
+pub region_settles : (g : ℕ) → g ≤ 200 → (x0 : Item) (stack0 : List (List Item)) (i0 : List Token) (turn end : ℕ) (old new : List (List Item)) (b : List Item) (x : Item) (i : List Token) (found : List Item) (p : Place) (j : List Token)
+    → length old + turn ≤ end → length i ≤ length i0 → ◌≡◌ {A = Outcome Item} (region_of g stack0 (Ok (x0, i0))) (region_of g old (Ok (x, i))) → old ≡ new ++ b ∷ [] → found ≡ b ++ x ∷ []
+    → is_some (told (sort_test item_by_sort) i) ≡ false → ◌≡◌ {A = Outcome Place} (keyword k.Endgenerate i) (Ok (p, j))
+    → (length new + (turn + 1) ≤ end) × (length j ≤ length i0) × ◌≡◌ {A = Outcome Item} (region_of g stack0 (Ok (x0, i0))) (region_of g new (Ok (it.Generate found, j)))
+region_settles g le x0 stack0 i0 turn end old new b x i found p j low short h popped ef none e =
+    rw ef (
+      omega (arith, low, less_within old new b popped),
+      omega (arith, short, keyword_takes k.Endgenerate i j p e),
+      region_ends g le (region_of g stack0 (Ok (x0, i0))) old new b x i h popped p j none e,
+    )
+
+pub opens_more : (g : ℕ) → g ≤ 200 → (i j : List Token) (p : Place) → ◌≡◌ {A = Outcome Place} (keyword k.Generate i) (Ok (p, j)) → is_some (told (sort_test item_by_sort) j) ≡ true → Opens g i (Ok None) j
+opens_more g le i j p e some = (keyword_takes k.Generate i j p e, region_begun g le i j p e ∙ region_goes g le [] j some)
+
+pub opens_none : (g : ℕ) → g ≤ 200 → (i j l : List Token) (p q : Place) (found : List Item) → found ≡ [] → ◌≡◌ {A = Outcome Place} (keyword k.Generate i) (Ok (p, j)) → is_some (told (sort_test item_by_sort) j) ≡ false
+    → ◌≡◌ {A = Outcome Place} (keyword k.Endgenerate j) (Ok (q, l)) → Opens g i (Ok (Some (it.Generate found))) l
+opens_none g le i j l p q found ef e none f =
+    rw ef (
+      omega (arith, keyword_takes k.Generate i j p e, keyword_takes k.Endgenerate j l q f),
+      region_begun g le i j p e ∙ (region_closed g le [] j (none_told (told (sort_test item_by_sort) j) none) ∙ ap (λ (r : Outcome Place). and_then r (λ _. pure (it.Generate []))) f),
+    )
+
+pub none_opens : (g : ℕ) → g ≤ 200 → (stack : List (List Item)) (i j : List Token) (found : List Item) (pushed : List (List Item)) → found ≡ [] → pushed ≡ stack ++ found ∷ []
+    → told (sort_test item_by_sort) i ≡ Some item_by.Generate → Opens g i (Ok None) j → Turns g stack i (Ok None) pushed j
+none_opens g le stack i j found pushed ef ep t o = rw ep (rw ef (region_opens g le stack i j t o))
 
 -- ---- all turns
 

@@ -1,5 +1,5 @@
 // Items of modules. Generate regions may lie in any number of others, so those that are open stand in a list.
-ghost use Rattle.std.specs.Prelude.{◌≡◌, ◌≤◌, ℕ, suc, true, false, Some};
+ghost use Rattle.std.specs.Prelude.{◌≡◌, ◌-◌, ◌≤◌, true, false, Some};
 ghost use Rattle.sv_cursor.specs.Parsers.{Reads, told};
 ghost use Rattle.sv_parser.specs.Combined.{sort_test};
 ghost use Rattle.sv_parser.specs.Items as spec;
@@ -57,7 +57,7 @@ fn settle(
 }
 
 // A region with no items, or nothing where the first stands there.
-#[tactic(auto, using(crate::proofs::Regioning::region_begun, crate::proofs::Regioning::region_fails, crate::proofs::Regioning::region_goes, crate::proofs::Regioning::region_closed))]
+#[tactic(auto, using(crate::proofs::Regioning::region_begun, crate::proofs::Regioning::region_fails, crate::proofs::Regioning::region_closed))]
 fn opened(
     alloc: Global,
     tokens: &mut Cursor<'_>,
@@ -85,9 +85,8 @@ struct Regions<F> {
 }
 
 impl<F: Copy + Fn(Global, &mut Cursor<'_>, u8) -> Result<Item, ParseErr>> Regions<F> {
-    #[tactic(auto, unfolding(crate::specs::Regions::loop_of))]
     fn counted(&self, tokens: &mut Cursor<'_>) -> Result<Item, ParseErr>
-        requires { (g : ℕ) → self.now.depth ≡ suc g → Nests (spec.item g) g (F.pre self.now.item) (F.post self.now.item) }
+        requires { 1 ≤ self.now.depth → Nests (spec.item (self.now.depth - 1)) (self.now.depth - 1) (F.pre self.now.item) (F.post self.now.item) }
         ensures { Reads (region.loop_of self.now.depth tokens.old) result tokens.new }
     {
         if self.depth == 0 {
@@ -101,9 +100,8 @@ impl<F: Copy + Fn(Global, &mut Cursor<'_>, u8) -> Result<Item, ParseErr>> Region
         .counted(tokens)
     }
 
-    #[tactic(auto, unfolding(crate::specs::Regions::cond_of))]
     fn conditional(&self, tokens: &mut Cursor<'_>) -> Result<Item, ParseErr>
-        requires { (g : ℕ) → self.now.depth ≡ suc g → Nests (spec.item g) g (F.pre self.now.item) (F.post self.now.item) }
+        requires { 1 ≤ self.now.depth → Nests (spec.item (self.now.depth - 1)) (self.now.depth - 1) (F.pre self.now.item) (F.post self.now.item) }
         ensures { Reads (region.cond_of self.now.depth tokens.old) result tokens.new }
     {
         if self.depth == 0 {
@@ -119,7 +117,7 @@ impl<F: Copy + Fn(Global, &mut Cursor<'_>, u8) -> Result<Item, ParseErr>> Region
 
     // An item that is no region.
     fn plain(&self, tokens: &mut Cursor<'_>, opener: ItemOpener) -> Result<Item, ParseErr>
-        requires nests { (g : ℕ) → self.now.depth ≡ suc g → Nests (spec.item g) g (F.pre self.now.item) (F.post self.now.item) }
+        requires nests { 1 ≤ self.now.depth → Nests (spec.item (self.now.depth - 1)) (self.now.depth - 1) (F.pre self.now.item) (F.post self.now.item) }
         requires other { region.is_region opener ≡ false }
         ensures { Reads (spec.item_for (region.loop_of self.now.depth) (region.cond_of self.now.depth) (spec.item self.now.depth) opener tokens.old) result tokens.new }
     {
@@ -154,7 +152,7 @@ impl<F: Copy + Fn(Global, &mut Cursor<'_>, u8) -> Result<Item, ParseErr>> Region
         stack: &mut Items<Items<Item>>,
         opener: ItemOpener,
     ) -> Result<Option<Item>, ParseErr>
-        requires nests { (g : ℕ) → self.now.depth ≡ suc g → Nests (spec.item g) g (F.pre self.now.item) (F.post self.now.item) }
+        requires nests { 1 ≤ self.now.depth → Nests (spec.item (self.now.depth - 1)) (self.now.depth - 1) (F.pre self.now.item) (F.post self.now.item) }
         requires small { self.now.depth ≤ 200 }
         requires begins { told (sort_test words.item_by_sort) tokens.old ≡ Some opener }
         requires other { region.is_region opener ≡ false }
@@ -191,7 +189,7 @@ impl<F: Copy + Fn(Global, &mut Cursor<'_>, u8) -> Result<Item, ParseErr>> Region
         stack: &mut Items<Items<Item>>,
         opener: ItemOpener,
     ) -> Result<Option<Item>, ParseErr>
-        requires nests { (g : ℕ) → self.now.depth ≡ suc g → Nests (spec.item g) g (F.pre self.now.item) (F.post self.now.item) }
+        requires nests { 1 ≤ self.now.depth → Nests (spec.item (self.now.depth - 1)) (self.now.depth - 1) (F.pre self.now.item) (F.post self.now.item) }
         requires small { self.now.depth ≤ 200 }
         requires begins { told (sort_test words.item_by_sort) tokens.old ≡ Some opener }
         ensures { region.Turns self.now.depth stack.old tokens.old result stack.new tokens.new }
@@ -211,7 +209,7 @@ impl<F: Copy + Fn(Global, &mut Cursor<'_>, u8) -> Result<Item, ParseErr>> Region
         tokens: &mut Cursor<'_>,
         stack: &mut Items<Items<Item>>,
     ) -> Result<Option<Item>, ParseErr>
-        requires nests { (g : ℕ) → self.now.depth ≡ suc g → Nests (spec.item g) g (F.pre self.now.item) (F.post self.now.item) }
+        requires nests { 1 ≤ self.now.depth → Nests (spec.item (self.now.depth - 1)) (self.now.depth - 1) (F.pre self.now.item) (F.post self.now.item) }
         requires small { self.now.depth ≤ 200 }
         ensures { region.Turns self.now.depth stack.old tokens.old result stack.new tokens.new }
     {
@@ -222,7 +220,7 @@ impl<F: Copy + Fn(Global, &mut Cursor<'_>, u8) -> Result<Item, ParseErr>> Region
     }
 
     fn whole(&self, tokens: &mut Cursor<'_>) -> Result<Item, ParseErr>
-        requires nests { (g : ℕ) → self.now.depth ≡ suc g → Nests (spec.item g) g (F.pre self.now.item) (F.post self.now.item) }
+        requires nests { 1 ≤ self.now.depth → Nests (spec.item (self.now.depth - 1)) (self.now.depth - 1) (F.pre self.now.item) (F.post self.now.item) }
         requires small { self.now.depth ≤ 200 }
         ensures { Reads (spec.item self.now.depth tokens.old) result tokens.new }
     {
