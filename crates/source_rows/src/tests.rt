@@ -65,7 +65,8 @@ module m ; always_ff @ ( posedge a , posedge b ) ; endmodule => E25 36
 module m ; always_ff @ ( posedge a or negedge b ) ; endmodule => E25 36";
 
 // The reserved words that stand in no rule of the grammar.
-static OUT_OF_SCOPE: &str = "alias always_latch and assert assume automatic bind break buf bufif0 bufif1 byte casex checker class clocking const continue cover covergroup deassign defparam disable do event export extern final force foreach forever fork function import initial inside interface join longint nand nor not notif0 notif1 or package primitive program property pulldown pullup real realtime release repeat return sequence shortint shortreal specify static string supply0 supply1 task time tran tri0 tri1 triand trior trireg union var wait wand while wor xnor xor";
+static OUT_OF_SCOPE: &str =
+    "alias always_latch and assert assume automatic bind break buf bufif0 bufif1 byte casex checker class clocking const continue cover covergroup deassign defparam disable do event export extern final force foreach forever fork function import initial inside interface join longint nand nor not notif0 notif1 or package primitive program property pulldown pullup real realtime release repeat return sequence shortint shortreal specify static string supply0 supply1 task time tran tri0 tri1 triand trior trireg union var wait wand while wor xnor xor";
 
 fn tokens_of(alloc: Global, text: &[u8]) -> Result<Tokens, TextErr> {
     let list = lex(alloc, 0, text)?;
@@ -130,7 +131,8 @@ fn words_out_of_scope_are_refused_where_they_stand(rt: HostRuntime) -> Result<()
 
 #[test]
 fn no_front_of_a_module_is_a_text(rt: HostRuntime) -> Result<(), TextErr> {
-    let text: &[u8] = b"module m ( input a ) ; always_comb if ( a ) b = { a , 1 } ; else b [ 0 ] = 2 ; endmodule";
+    let text: &[u8] =
+        b"module m ( input a ) ; always_comb if ( a ) b = { a , 1 } ; else b [ 0 ] = 2 ; endmodule";
     assert!(rt; told(rt.alloc(), text)? == (0, 0, 0));
     let mut at = 1;
     while at + 1 < text.len() {
@@ -143,11 +145,7 @@ fn no_front_of_a_module_is_a_text(rt: HostRuntime) -> Result<(), TextErr> {
 }
 
 // In the second line so many times one text, a middle, and so many times another.
-fn nested(
-    alloc: Global,
-    parts: [&[u8]; 5],
-    times: usize,
-) -> Result<(u8, usize), TextErr> {
+fn nested(alloc: Global, parts: [&[u8]; 5], times: usize) -> Result<(u8, usize), TextErr> {
     let [head, before, middle, after, tail] = parts;
     let mut text = Vec::new(alloc);
     text.extend_from_slice(head)?;
@@ -166,11 +164,23 @@ fn nested(
 
 #[test]
 fn two_hundred_of_a_kind_may_hold_a_token(rt: HostRuntime) -> Result<(), TextErr> {
-    let block: [&[u8]; 5] = [b"module m; always_comb", b"begin ", b";", b" end", b" endmodule"];
+    let block: [&[u8]; 5] = [
+        b"module m; always_comb",
+        b"begin ",
+        b";",
+        b" end",
+        b" endmodule",
+    ];
     let condition: [&[u8]; 5] = [b"module m;", b"if (a) ", b"logic b;", b"", b" endmodule"];
     let form: [&[u8]; 5] = [b"typedef", b"struct packed { ", b"logic", b" a; }", b" t;"];
     let target: [&[u8]; 5] = [b"module m; assign", b"{", b"a", b"}", b" = 1; endmodule"];
-    let region: [&[u8]; 5] = [b"module m;", b"generate ", b"", b" endgenerate", b" endmodule"];
+    let region: [&[u8]; 5] = [
+        b"module m;",
+        b"generate ",
+        b"",
+        b" endgenerate",
+        b" endmodule",
+    ];
     for parts in [block, condition, form] {
         assert!(rt; nested(rt.alloc(), parts, 200)? == (0, 0));
         assert!(rt; nested(rt.alloc(), parts, 201)? == (9, 2));

@@ -110,11 +110,7 @@ fn named_pins(alloc: Global, tokens: &mut Cursor<'_>) -> Result<Items<NamedPin>,
     Ok(all)
 }
 
-fn pins_for(
-    alloc: Global,
-    tokens: &mut Cursor<'_>,
-    opener: PinsOpener,
-) -> Result<Pins, ParseErr>
+fn pins_for(alloc: Global, tokens: &mut Cursor<'_>, opener: PinsOpener) -> Result<Pins, ParseErr>
     ensures { Reads (spec.pins_for opener tokens.old) result tokens.new }
 {
     match opener {
@@ -348,12 +344,7 @@ fn name_tail(alloc: Global, tokens: &mut Cursor<'_>) -> Result<NameTail, ParseEr
 
 // ---- the whole item
 
-fn plain_item(
-    alloc: Global,
-    first: Word,
-    name: Word,
-    tail: PlainTail,
-) -> Result<Item, AllocError>
+fn plain_item(alloc: Global, first: Word, name: Word, tail: PlainTail) -> Result<Item, AllocError>
     ensures { IfOk result (λ x. x ≡ spec.made_named_item (first, NameTail.Plain name tail)) }
 {
     match tail {

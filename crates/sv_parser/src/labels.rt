@@ -25,11 +25,7 @@ fn same(a: &[u8], b: &[u8]) -> bool
 
 /// The name that has to come next, with the same text as the other (`Syntax` where it does not).
 #[tactic(auto, using(crate::proofs::Firsts::repeated, crate::proofs::Firsts::not_repeated, crate::proofs::Firsts::no_name))]
-pub fn repeated(
-    alloc: Global,
-    tokens: &mut Cursor<'_>,
-    other: &Word,
-) -> Result<Word, ParseErr>
+pub fn repeated(alloc: Global, tokens: &mut Cursor<'_>, other: &Word) -> Result<Word, ParseErr>
     ensures { Reads (parser.token (spec.repeat_test other.now) tokens.old) result tokens.new }
 {
     let refusal = tokens.refuse();
@@ -65,11 +61,7 @@ pub fn block_label(alloc: Global, tokens: &mut Cursor<'_>) -> Result<Option<Word
 }
 
 #[tactic(auto, unfolding(crate::specs::Lists::behind_colon))]
-fn colon_repeated(
-    alloc: Global,
-    tokens: &mut Cursor<'_>,
-    other: &Word,
-) -> Result<Word, ParseErr>
+fn colon_repeated(alloc: Global, tokens: &mut Cursor<'_>, other: &Word) -> Result<Word, ParseErr>
     ensures { Reads (list.behind_colon (parser.token (spec.repeat_test other.now)) tokens.old) result tokens.new }
 {
     tokens.mark(Mark::Colon)?;
@@ -129,11 +121,7 @@ fn step_tail(alloc: Global, tokens: &mut Cursor<'_>) -> Result<StepTail, ParseEr
 }
 
 #[tactic(auto, unfolding(crate::specs::Targets::step_before))]
-fn step_before(
-    alloc: Global,
-    tokens: &mut Cursor<'_>,
-    variable: &Word,
-) -> Result<Step, ParseErr>
+fn step_before(alloc: Global, tokens: &mut Cursor<'_>, variable: &Word) -> Result<Step, ParseErr>
     ensures { Reads (spec.step_before variable.now tokens.old) result tokens.new }
 {
     let mark = take_step(tokens)?;

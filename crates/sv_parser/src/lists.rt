@@ -19,11 +19,7 @@ use sv_tree::{Expr, Word};
 pub const MOST_NESTING: u8 = 200;
 
 /// A part, and those that follow it.
-pub fn with_first<A: Drop>(
-    alloc: Global,
-    first: A,
-    more: Items<A>,
-) -> Result<Items<A>, AllocError>
+pub fn with_first<A: Drop>(alloc: Global, first: A, more: Items<A>) -> Result<Items<A>, AllocError>
     ensures { IfOk result (λ all. all ≡ first ∷ more) }
 {
     let mut all = Items::new(alloc);

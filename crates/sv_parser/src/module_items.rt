@@ -127,11 +127,7 @@ fn plain_kind(alloc: Global, tokens: &mut Cursor<'_>) -> Result<BlockKind, Parse
     Ok(always_kind(tail))
 }
 
-fn kind_for(
-    alloc: Global,
-    tokens: &mut Cursor<'_>,
-    word: AlwaysWord,
-) -> Result<BlockKind, ParseErr>
+fn kind_for(alloc: Global, tokens: &mut Cursor<'_>, word: AlwaysWord) -> Result<BlockKind, ParseErr>
     ensures { Reads (spec.kind_for word tokens.old) result tokens.new }
 {
     match word {

@@ -124,10 +124,7 @@ fn param_type(alloc: Global, tokens: &mut Cursor<'_>) -> Result<ParamType, Parse
 }
 
 #[tactic(auto, unfolding(crate::specs::Params::maybe_param_type))]
-fn maybe_param_type(
-    alloc: Global,
-    tokens: &mut Cursor<'_>,
-) -> Result<Option<ParamType>, ParseErr>
+fn maybe_param_type(alloc: Global, tokens: &mut Cursor<'_>) -> Result<Option<ParamType>, ParseErr>
     ensures { Reads (spec.maybe_param_type tokens.old) result tokens.new }
 {
     match param_type_next(tokens) {

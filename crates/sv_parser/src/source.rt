@@ -187,11 +187,7 @@ type ModuleRest = (
 );
 
 // What stands behind the name of a module.
-fn module_rest(
-    alloc: Global,
-    tokens: &mut Cursor<'_>,
-    name: &Word,
-) -> Result<ModuleRest, ParseErr>
+fn module_rest(alloc: Global, tokens: &mut Cursor<'_>, name: &Word) -> Result<ModuleRest, ParseErr>
     ensures { Reads (spec.module_rest name.now tokens.old) result tokens.new }
 {
     let params = params(alloc, tokens)?;

@@ -478,9 +478,7 @@ impl<F: Fn(Global, &mut Cursor<'_>, u8) -> Result<Stmt, ParseErr>> Statements<F>
         let word = take_whole(tokens)?;
         let variable = tokens.id(self.alloc)?;
         let (start, (condition, (step, body))) = self.turns(tokens, &variable)?;
-        Ok(Stmt::For(
-            place, word, variable, start, condition, step, body,
-        ))
+        Ok(Stmt::For(place, word, variable, start, condition, step, body))
     }
 
     // ---- a statement

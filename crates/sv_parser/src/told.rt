@@ -45,7 +45,6 @@ pub fn taken<A>(tokens: &mut Cursor<'_>, word: Option<A>) -> Result<A, ParseErr>
     }
 }
 
-
 fn sign_of(word: Keyword) -> Option<Sign>
     ensures { result ≡ words.sign_by_word word }
 {
@@ -89,7 +88,6 @@ pub fn maybe_sign(tokens: &mut Cursor<'_>) -> Result<Option<Sign>, ParseErr>
     }
 }
 
-
 fn bits_of(word: Keyword) -> Option<BitsWord>
     ensures { result ≡ words.bits_by_word word }
 {
@@ -119,7 +117,6 @@ pub fn take_bits(tokens: &mut Cursor<'_>) -> Result<BitsWord, ParseErr>
     let word = bits_next(tokens);
     taken(tokens, word)
 }
-
 
 fn whole_of(word: Keyword) -> Option<WholeWord>
     ensures { result ≡ words.whole_by_word word }
@@ -151,7 +148,6 @@ pub fn take_whole(tokens: &mut Cursor<'_>) -> Result<WholeWord, ParseErr>
     taken(tokens, word)
 }
 
-
 fn param_bits_of(word: Keyword) -> Option<ParamBits>
     ensures { result ≡ words.param_bits_by_word word }
 {
@@ -182,7 +178,6 @@ pub fn take_param_bits(tokens: &mut Cursor<'_>) -> Result<ParamBits, ParseErr>
     let word = param_bits_next(tokens);
     taken(tokens, word)
 }
-
 
 fn param_of(word: Keyword) -> Option<ParamWord>
     ensures { result ≡ words.param_by_word word }
@@ -226,7 +221,6 @@ pub fn maybe_param(tokens: &mut Cursor<'_>) -> Result<Option<ParamWord>, ParseEr
         None => Ok(None),
     }
 }
-
 
 fn way_of(word: Keyword) -> Option<Way>
     ensures { result ≡ words.way_by_word word }
@@ -272,7 +266,6 @@ pub fn maybe_way(tokens: &mut Cursor<'_>) -> Result<Option<Way>, ParseErr>
     }
 }
 
-
 fn net_of(word: Keyword) -> Option<NetWord>
     ensures { result ≡ words.net_by_word word }
 {
@@ -315,7 +308,6 @@ pub fn maybe_net(tokens: &mut Cursor<'_>) -> Result<Option<NetWord>, ParseErr>
         None => Ok(None),
     }
 }
-
 
 fn uniq_of(word: Keyword) -> Option<Uniq>
     ensures { result ≡ words.uniq_by_word word }
@@ -361,7 +353,6 @@ pub fn maybe_uniq(tokens: &mut Cursor<'_>) -> Result<Option<Uniq>, ParseErr>
     }
 }
 
-
 fn case_of(word: Keyword) -> Option<CaseWord>
     ensures { result ≡ words.case_by_word word }
 {
@@ -391,7 +382,6 @@ pub fn take_case(tokens: &mut Cursor<'_>) -> Result<CaseWord, ParseErr>
     let word = case_next(tokens);
     taken(tokens, word)
 }
-
 
 fn edge_of(word: Keyword) -> Option<Edge>
     ensures { result ≡ words.edge_by_word word }
@@ -423,7 +413,6 @@ pub fn take_edge(tokens: &mut Cursor<'_>) -> Result<Edge, ParseErr>
     taken(tokens, word)
 }
 
-
 fn always_of(word: Keyword) -> Option<AlwaysWord>
     ensures { result ≡ words.always_by_word word }
 {
@@ -445,7 +434,6 @@ pub fn always_next(tokens: &Cursor<'_>) -> Option<AlwaysWord>
         _ => None,
     }
 }
-
 
 fn step_of(mark: Mark) -> Option<StepMark>
     ensures { result ≡ words.step_by_mark mark }
@@ -476,7 +464,6 @@ pub fn take_step(tokens: &mut Cursor<'_>) -> Result<StepMark, ParseErr>
     let mark = step_next(tokens);
     taken(tokens, mark)
 }
-
 
 fn step_sign_of(mark: Mark) -> Option<StepSign>
     ensures { result ≡ words.step_sign_by_mark mark }

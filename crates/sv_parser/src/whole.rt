@@ -8,9 +8,7 @@ ghost use Rattle.sv_parser.specs.Whole.{IsParsed};
 
 use crate::source::source;
 use std::alloc::Global;
-use sv_cursor::{
-    Cursor, Keyword, Mark, ParseErr, Sort, place_at, refusal, sort_of, syntax_number,
-};
+use sv_cursor::{Cursor, Keyword, Mark, ParseErr, Sort, place_at, refusal, sort_of, syntax_number};
 use sv_outside::{TextErr, Token, Tokens};
 use sv_tree::Source;
 
@@ -125,5 +123,4 @@ pub fn parse(alloc: Global, tokens: &Tokens) -> Result<Source, TextErr>
 #[tactic(auto, using(crate::proofs::Laws::decides))]
 pub fn texts_are_decided()
     ensures { (tokens : List Token) → Decides tokens (text.source tokens) }
-{
-}
+{}
