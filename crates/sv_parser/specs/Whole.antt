@@ -8,7 +8,8 @@ use Rattle.sv_outside.specs.Text.{TokenList}
 use Rattle.sv_tree.specs.declared.design.Source.{Source}
 use Rattle.sv_tree.specs.Nesting.{IsTooDeep}
 use Rattle.sv_tree.specs.NestingDesign.{source_depths}
-use Rattle.sv_cursor.specs.declared.error.ParseErr.TheVariants.{Syntax}
+use Rattle.sv_cursor.specs.declared.error.ParseErr.{ParseErr}
+use Rattle.sv_cursor.specs.declared.error.ParseErr.TheVariants.{Memory, Syntax, TooDeep}
 use Rattle.sv_cursor.specs.declared.sort.Keyword.{Keyword}
 use Rattle.sv_cursor.specs.declared.sort.Keyword.TheVariants as key
 use Rattle.sv_cursor.specs.declared.sort.Mark.{Mark as MarkName}
@@ -59,6 +60,15 @@ unfoldable pub number_at : List Token → ℕ → ℕ
 number_at tokens n = if is_event_comma tokens n then 25 else syntax_number_of (slice_get tokens n)
 
 -- ---- answers
+
+-- What reading says of all the tokens.
+abbrev pub IsRead : List Token → Result Source ParseErr → Type 0
+IsRead tokens (Ok x) = IsSpelled x tokens × ((y : Source) → IsSpelled y tokens → y ≡ x)
+IsRead tokens (Err (Syntax left)) =
+    (left ≤ length tokens) × (source tokens ≡ Err (Syntax left)) × ((y : Source) → IsSpelled y tokens → ⊥)
+    × ((y : Source) (spelling : List Token) (m : ℕ) → IsSpelled y spelling → take m spelling ≡ take m tokens → m + left ≤ length tokens)
+IsRead tokens (Err (TooDeep deep left)) = IsTooDeep IsSpelled source_depths tokens (length tokens - deep)
+IsRead tokens (Err Memory) = Unit {0}
 
 -- No tree spells the tokens, nor a text that begins with them up to the one at which reading stops.
 pub record IsSyntax (tokens : TokenList) (e : TextErr) : Type 0 where

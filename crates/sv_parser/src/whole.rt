@@ -1,10 +1,9 @@
 // The tree of a whole text.
 ghost use Rattle.std.specs.Prelude.{◌≡◌, ◌-◌, List, length};
-ghost use Rattle.sv_cursor.specs.Parsers.{Reads};
 ghost use Rattle.sv_parser.specs.Answers.{Decides};
 ghost use Rattle.sv_parser.specs.Source as text;
 ghost use Rattle.sv_parser.specs.Whole as spec;
-ghost use Rattle.sv_parser.specs.Whole.{IsParsed};
+ghost use Rattle.sv_parser.specs.Whole.{IsParsed, IsRead};
 
 use crate::source::source;
 use std::alloc::Global;
@@ -91,6 +90,15 @@ fn number_at(tokens: &[Token], at: usize) -> u8
     }
 }
 
+// The tree of all tokens, or where reading stops.
+#[tactic(auto, using(crate::proofs::Wholes::read_as))]
+fn read(alloc: Global, tokens: &[Token]) -> Result<Source, ParseErr>
+    ensures { IsRead tokens.now result }
+{
+    let mut cursor = Cursor::new(tokens);
+    source(alloc, &mut cursor)
+}
+
 /// The tree that all of the tokens spell (A.1.2, source_text). They spell no other.
 ///
 /// Refused where no tree spells them: as E25 at a reserved word that is in no rule of the grammar, at `===`, `!==`,
@@ -103,8 +111,7 @@ pub fn parse(alloc: Global, tokens: &Tokens) -> Result<Source, TextErr>
     ensures { IsParsed tokens.now result }
 {
     let all = tokens.list.as_slice();
-    let mut cursor = Cursor::new(all);
-    match source(alloc, &mut cursor) {
+    match read(alloc, all) {
         Ok(whole) => Ok(whole),
         Err(ParseErr::Syntax(left)) => {
             let at = all.len().saturating_sub(left);
