@@ -1,5 +1,5 @@
 // The tree of a whole text.
-ghost use Rattle.std.specs.Prelude.{◌≡◌, ◌-◌, List, length};
+ghost use Rattle.std.specs.Prelude.{◌≡◌, List};
 ghost use Rattle.sv_parser.specs.Answers.{Decides};
 ghost use Rattle.sv_parser.specs.Source as text;
 ghost use Rattle.sv_parser.specs.Whole as spec;
