@@ -38,6 +38,16 @@ class Gates:
             total.append(bit)
         return total
 
+    def choose(self, condition, left, right):
+        return self.either(self.both(condition, left), self.both(-condition, right))
+
+    def shift(self, word, amount, places, false):
+        """Shifts a word to the left by a number, whose bits are taken in the order of these places."""
+        for place in places:
+            moved = ([false] * (1 << place) + word)[: len(word)]
+            word = [self.choose(amount[place], a, b) for a, b in zip(moved, word)]
+        return word
+
     def multiply(self, left, right, false):
         total = [false] * len(left)
         for place, b in enumerate(right):
@@ -46,17 +56,56 @@ class Gates:
         return total
 
 
-def swapped(width, operation):
-    """Says that an operation gives something else where its operands are swapped: unsatisfiable."""
+def apart(width, count, one, other):
+    """Says that two functions of so many words give something else; unsatisfiable where they are the same function."""
     gates = Gates()
     false = gates.fresh()
     gates.clauses.append([-false])
-    left = [gates.fresh() for _ in range(width)]
-    right = [gates.fresh() for _ in range(width)]
-    first = operation(gates, left, right, false)
-    second = operation(gates, right, left, false)
+    words = [[gates.fresh() for _ in range(width)] for _ in range(count)]
+    first = one(gates, false, *words)
+    second = other(gates, false, *words)
     gates.clauses.append([gates.differ(a, b) for a, b in zip(first, second)])
     return gates.clauses
+
+
+def swapped(width, operation):
+    """Says that an operation gives something else where its operands are swapped: unsatisfiable."""
+    return apart(
+        width,
+        2,
+        lambda gates, false, a, b: operation(gates, a, b, false),
+        lambda gates, false, a, b: operation(gates, b, a, false),
+    )
+
+
+def regrouped(width):
+    """(a + b) + c against a + (b + c)."""
+    return apart(
+        width,
+        3,
+        lambda gates, false, a, b, c: gates.add(gates.add(a, b, false), c, false),
+        lambda gates, false, a, b, c: gates.add(a, gates.add(b, c, false), false),
+    )
+
+
+def distributed(width):
+    """a * (b + c) against a * b + a * c."""
+    return apart(
+        width,
+        3,
+        lambda gates, false, a, b, c: gates.multiply(a, gates.add(b, c, false), false),
+        lambda gates, false, a, b, c: gates.add(gates.multiply(a, b, false), gates.multiply(a, c, false), false),
+    )
+
+
+def shifted(places):
+    """A shift by a number against the same with its bits taken the other way round."""
+    return apart(
+        1 << places,
+        2,
+        lambda gates, false, a, b: gates.shift(a, b, range(places), false),
+        lambda gates, false, a, b: gates.shift(a, b, reversed(range(places)), false),
+    )
 
 
 def pigeons(holes):
@@ -94,6 +143,10 @@ for width in (32, 128):
     write("add%d" % width, swapped(width, Gates.add))
 for width in (5, 6, 7):
     write("mul%d" % width, swapped(width, Gates.multiply))
+for width in (16, 32):
+    write("regrouped%d" % width, regrouped(width))
+write("distributed5", distributed(5))
+write("shifted32", shifted(5))
 write("pigeons7", pigeons(7))
 for seed in range(3):
     write("random150_%d" % seed, random_clauses(150, 4.26, seed))

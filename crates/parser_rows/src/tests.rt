@@ -186,40 +186,44 @@ fn around(alloc: Global, before: &[u8], times: usize, after: &[u8]) -> Result<Ve
     Ok(text)
 }
 
-// How many tokens are taken, or the number of the refusal and its line.
-fn taken(alloc: Global, text: &[u8]) -> Result<(usize, u8, usize), TextErr> {
+// Whether all of the text is one expression, and whether it is refused as too deep in the second line.
+fn depth_told(alloc: Global, text: &[u8]) -> Result<(bool, bool), TextErr> {
     let tokens = lex(alloc, 0, text)?;
     let end = end_of(0, text);
     match parse_expr(alloc, tokens.as_slice(), end, 0) {
-        Ok((_, len)) => Ok((len, 0, 0)),
-        Err(TextErr::No(refusal)) => Ok((0, refusal.number, refusal.place.line)),
+        Ok((_, len)) => Ok((len == tokens.len(), false)),
+        Err(TextErr::No(refusal)) => Ok((false, refusal.number == 9 && refusal.place.line == 2)),
         Err(TextErr::Memory) => Err(TextErr::Memory),
     }
 }
 
+// What holds a part, in place of which a `.` stands: one expression more each time.
+static AROUND: &str = "(.)
+{.}
+{2{.}}
+8'(.)
+n'(.)
+(n)'(.)
+signed'(.)
+$clog2(.)
+a[.]
+a[1:.]
+a?.:b
+~.
+a+.
+a->.
+a?b:.";
+
 #[test]
 fn two_hundred_expressions_may_hold_a_token(rt: HostRuntime) -> Result<(), TextErr> {
-    let rows: [(&[u8], usize, &[u8], (usize, u8, usize)); 13] = [
-        (b"(", 199, b")", (399, 0, 0)),
-        (b"(", 200, b")", (401, 0, 0)),
-        (b"(", 201, b")", (0, 9, 2)),
-        (b"(", 300, b")", (0, 9, 2)),
-        (b"(", 300, b"", (0, 9, 2)),
-        (b"- ", 200, b"", (201, 0, 0)),
-        (b"- ", 201, b"", (0, 9, 2)),
-        (b"a+", 200, b"", (401, 0, 0)),
-        (b"a+", 201, b"", (0, 9, 2)),
-        (b"a->", 200, b"", (401, 0, 0)),
-        (b"a->", 201, b"", (0, 9, 2)),
-        (b"a?b:", 201, b"", (0, 9, 2)),
-        (b"{", 201, b"}", (0, 9, 2)),
-    ];
-    for (before, times, after, want) in rows {
-        let text = around(rt.alloc(), before, times, after)?;
-        assert!(rt;
-            taken(rt.alloc(), text.as_slice())? == want,
-            "{before:?} {times}"
-        );
+    for row in AROUND.lines() {
+        if let Some((before, after)) = row.split_once('.') {
+            for times in [199, 200, 201, 300] {
+                let text = around(rt.alloc(), before.as_bytes(), times, after.as_bytes())?;
+                let told = depth_told(rt.alloc(), text.as_slice())?;
+                assert!(rt; told == (times <= 200, times > 200), "{row} {times}");
+            }
+        }
     }
     Ok(())
 }

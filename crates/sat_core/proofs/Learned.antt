@@ -11,7 +11,7 @@ use Rattle.refute_check.specs.Accepted.{Derives, IsDerived, known_of, clause_at}
 use Rattle.refute_check.proofs.Derivations.{length_known}
 use Rattle.refute_check.proofs.Denials.{negate_twice}
 use Rattle.sat_core.specs.declared.trail.Assigned.{Assigned}
-use Rattle.sat_core.specs.Trail.{dims, falses, Tracks, Why, IsApart, IsExplained, IsSound, all_of}
+use Rattle.sat_core.specs.Trail.{dims, falses, Tracks, Why, IsApart, IsExplained, IsSound}
 use Rattle.sat_core.proofs.Trails.{explained_push, newest_push}
 use Rattle.sat_core.specs.Learn.{seen_at, no_assigned, IsBelow, IsTraced, IsAnchored, StopsBelow, Suffices}
 use Rattle.refute_check.specs.Fresh.{NamesOnce, Subsumes, IsNew}
@@ -79,29 +79,25 @@ known_push clauses log s =
     ∙ ap (λ l. (clauses ++ map (λ (t : Entry). t.clause) l) ++ s.clause ∷ []) (sym (take_all (length log) log (omega arith)))
 
 -- after the new clause has made its open literal true
-pub learned_sound : (clauses : List (Vec Dim Global)) (log : List Entry) (s : Entry) (vars : ℕ) (seen : List Bool) (x e : Assigned) (trail2 trail3 trail4 : List Assigned) (values4 : List (Option Bool)) →
+pub learned_sound : (db : List (List Dim)) (s : Entry) (vars : ℕ) (seen : List Bool) (x e : Assigned) (trail2 trail3 trail4 : List Assigned) (values4 : List (Option Bool)) →
     s.clause ≡ x.dim ∷ kept seen (reverse trail2) → kept seen (reverse trail3) ≡ kept seen (reverse trail2) → denied (falses trail3) x.dim.var ≡ None → IsApart vars (reverse trail3) → IsAnchored seen (reverse trail3) →
-    IsExplained (all_of clauses log) (reverse trail3) → Tracks values4 trail4 → trail4 ≡ trail3 ++ e ∷ [] → e ≡ record { dim = negate x.dim; reason = Some (length clauses + length log) } → IsSound (all_of clauses (log ++ s ∷ [])) values4 trail4
-learned_sound clauses log s vars seen x e trail2 trail3 trail4 values4 is same o apart anchored explained tracks more ise =
-    let db = all_of clauses log in
+    IsExplained db (reverse trail3) → Tracks values4 trail4 → trail4 ≡ trail3 ++ e ∷ [] → e ≡ record { dim = negate x.dim; reason = Some (length db) } → IsSound (db ++ s.clause ∷ []) values4 trail4
+learned_sound db s vars seen x e trail2 trail3 trail4 values4 is same o apart anchored explained tracks more ise =
     let c : List Dim = s.clause in
     let c_is : c ≡ x.dim ∷ kept seen (reverse trail3) = is ∙ ap (λ k. x.dim ∷ k) (sym same) in
-    let now : all_of clauses (log ++ s ∷ []) ≡ db ++ c ∷ [] = known_push (map (λ v. v.items) clauses) log s in
     let has : Contains c x.dim = subst (λ (k : List Dim). Contains k x.dim) (sym c_is) (0, omega arith, refl) in
     let rest : IsExplained (db ++ c ∷ []) (reverse trail3) = explained_more vars db c x.dim seen (reverse trail3) has o
     (λ y k. subst (λ (cl : List Dim). Contains cl y) (sym c_is) (Contains-append_right (x.dim ∷ []) (kept seen (reverse trail3)) y k)) apart anchored explained in
     let unit : IsUnit (denied (falses trail3)) c x.dim = subst (λ (cl : List Dim). IsUnit (denied (falses trail3)) cl x.dim) (sym c_is) (unit_new vars seen x.dim (reverse trail3) o apart) in
-    let len : length db ≡ length clauses + length log = length_known clauses log (length log) (omega arith) in
-    let at : clause_at (db ++ c ∷ []) (length clauses + length log) ≡ c = ap (clause_at (db ++ c ∷ [])) (sym len) ∙ get_or-append_seam db c [] [] in
-    let why : Why (db ++ c ∷ []) (denied (falses trail3)) (record { dim = negate x.dim; reason = Some (length clauses + length log) }) = (
+    let at : clause_at (db ++ c ∷ []) (length db) ≡ c = get_or-append_seam db c [] [] in
+    let why : Why (db ++ c ∷ []) (denied (falses trail3)) (record { dim = negate x.dim; reason = Some (length db) }) = (
       let l : length (db ++ c ∷ []) ≡ length db + 1 = length-append db (c ∷ []) in omega arith,
       subst (λ (cl : List Dim). IsUnit (denied (falses trail3)) cl (negate (negate x.dim))) (sym at) (subst (λ (y : Dim). IsUnit (denied (falses trail3)) c y) (sym (negate_twice x.dim)) unit),
     ) in
     record {
       tracks = tracks;
-      explained = subst (λ (d : List (List Dim)). IsExplained d (reverse trail4)) (sym now)
-          (subst (λ (t : List Assigned). IsExplained (db ++ c ∷ []) (reverse t)) (sym more)
-          (explained_push (db ++ c ∷ []) trail3 e (subst (Why (db ++ c ∷ []) (denied (falses trail3))) (sym ise) why) rest));
+      explained = subst (λ (t : List Assigned). IsExplained (db ++ c ∷ []) (reverse t)) (sym more)
+          (explained_push (db ++ c ∷ []) trail3 e (subst (Why (db ++ c ∷ []) (denied (falses trail3))) (sym ise) why) rest);
     }
 
 -- what the trail that a conflict was traced back to teaches
@@ -153,20 +149,17 @@ second_has : (x : Dim) (K : List Dim) (y : Dim) (ys : List Dim) → K ≡ y ∷ 
 second_has x K y ys e = subst (λ (l : List Dim). Contains (x ∷ l) y) (sym e) (1, omega arith, refl)
 
 -- after the new clause stands among the others, is watched, and has made its first literal true
-pub taken_up : (vars : ℕ) (clauses : List (Vec Dim Global)) (log : List Entry) (s : Entry) (pairs : List Pair) (rows rows2 : List (List Watch)) (t0 t1 t2 : TrailLists) (seen : List Bool) (n k : ℕ) (p : Pair) (e : Assigned) →
-    IsReady vars (all_of clauses log) pairs rows t0 → IsTaught vars (all_of clauses log) t0.entries seen n s →
+pub taken_up : (vars : ℕ) (db : List (List Dim)) (s : Entry) (pairs : List Pair) (rows rows2 : List (List Watch)) (t0 t1 t2 : TrailLists) (seen : List Bool) (n k : ℕ) (p : Pair) (e : Assigned) →
+    IsReady vars db pairs rows t0 → IsTaught vars db t0.entries seen n s →
     Tracks t1.values t1.entries → length t1.values ≡ vars → IsAnchored seen (reverse t1.entries) → StopsBelow t0.entries t1.entries →
     kept seen (reverse t1.entries) ≡ kept seen (reverse (take (n - 1) t0.entries)) → valuation t1.values (get_or t0.entries (n - 1) no_assigned).dim.var ≡ None →
-    k ≡ length clauses + length log → p ≡ first_pair s.clause → rows2 ≡ with_pair rows p k →
+    k ≡ length db → p ≡ first_pair s.clause → rows2 ≡ with_pair rows p k →
     Tracks t2.values t2.entries → length t2.values ≡ length t1.values → t2.entries ≡ t1.entries ++ e ∷ [] → e ≡ record { dim = negate (get_or t0.entries (n - 1) no_assigned).dim; reason = Some k } →
-    IsReady vars (all_of clauses (log ++ s ∷ [])) (pairs ++ p ∷ []) rows2 t2 × IsHalfway (all_of clauses (log ++ s ∷ [])) (pairs ++ p ∷ []) t2 (length t1.entries)
-taken_up vars clauses log s pairs rows rows2 t0 t1 t2 seen n k p e ready taught tracks1 width1 anchored below same open' kis pis ris tracks2 width2 more eis =
-    let db = all_of clauses log in
+    IsReady vars (db ++ s.clause ∷ []) (pairs ++ p ∷ []) rows2 t2 × IsHalfway (db ++ s.clause ∷ []) (pairs ++ p ∷ []) t2 (length t1.entries)
+taken_up vars db s pairs rows rows2 t0 t1 t2 seen n k p e ready taught tracks1 width1 anchored below same open' kis pis ris tracks2 width2 more eis =
     let x : Assigned = get_or t0.entries (n - 1) no_assigned in
     let c : List Dim = s.clause in
     let K : List Dim = kept seen (reverse t1.entries) in
-    let now : all_of clauses (log ++ s ∷ []) ≡ db ++ c ∷ [] = known_push (map (λ v. v.items) clauses) log s in
-    let len : length db ≡ length clauses + length log = length_known clauses log (length log) (omega arith) in
     let kdb : k ≡ length db = omega arith in
     let apart1 : IsApart vars (reverse t1.entries) = subst (λ (w : ℕ). IsApart w (reverse t1.entries)) width1 tracks1.apart in
     let o : denied (falses t1.entries) x.dim.var ≡ None = ap (λ (a : Valuation). a x.dim.var) (sym tracks1.same) ∙ open' in
@@ -195,18 +188,17 @@ taken_up vars clauses log s pairs rows rows2 t0 t1 t2 seen n k p e ready taught 
     let set_true : high x.dim.var ≡ Some (not x.dim.negated) = subst (λ (d : Dim). high d.var ≡ Some d.negated) (ap (λ (y : Assigned). y.dim) eis) (now_assigned t2.values t1.entries t2.entries e tracks2 more) in
     let new_half : IsHalf low high c p = inl (x.dim, subst (λ (l : List Dim). Contains l x.dim) (sym cis) (0, omega arith, refl), set_true) in (
       record {
-        sound = learned_sound clauses log s vars seen x e (take (n - 1) t0.entries) t1.entries t2.entries t2.values taught.first same o apart1 anchored explained1 tracks2 more
+        sound = learned_sound db s vars seen x e (take (n - 1) t0.entries) t1.entries t2.entries t2.values taught.first same o apart1 anchored explained1 tracks2 more
             (eis ∙ ap (λ m. let a : Assigned = record { dim = negate x.dim; reason = Some m } in a) kis);
         width = width2 ∙ width1;
-        paired = subst (λ (d : List (List Dim)). ArePairs d (pairs ++ p ∷ [])) (sym now) (pairs_push db pairs c p (λ _. (ca, cb)) ready.paired);
-        filed = subst (λ (r : List (List Watch)). AreLists vars (all_of clauses (log ++ s ∷ [])) r) (sym ris2)
-            (subst (λ (d : List (List Dim)). AreLists vars d (with_pair rows p (length db))) (sym now) (lists_push vars db rows c p ca cb range ready.filed));
+        paired = pairs_push db pairs c p (λ _. (ca, cb)) ready.paired;
+        filed = subst (λ (r : List (List Watch)). AreLists vars (db ++ s.clause ∷ []) r) (sym ris2)
+            (lists_push vars db rows c p ca cb range ready.filed);
         listed = subst (λ (r : List (List Watch)). Listed (pairs ++ p ∷ []) r) (sym ris2) (listed_push vars pairs rows p (length db) ready.filed.count va vb (sym ready.paired.count) ready.listed);
-        was = subst (λ (d : List (List Dim)). WasCalm d (pairs ++ p ∷ []) (reverse t2.entries)) (sym now)
-            (was_assigned (db ++ c ∷ []) (pairs ++ p ∷ []) t1.entries t2.entries e k more (ap (λ (y : Assigned). y.reason) eis) was2);
+        was = was_assigned (db ++ c ∷ []) (pairs ++ p ∷ []) t1.entries t2.entries e k more (ap (λ (y : Assigned). y.reason) eis) was2;
       },
       record {
         range = (let l = one_longer t1.entries t2.entries e more in omega arith);
-        half = subst (λ (d : List (List Dim)). AllHalf d (pairs ++ p ∷ []) low high) (sym now) (half_push db pairs c p low high ready.paired.count half1 new_half);
+        half = half_push db pairs c p low high ready.paired.count half1 new_half;
       },
     )

@@ -9,4 +9,8 @@ pub mod Rows
 pub mod Pushes
 pub mod Backs
 pub mod Starts
+pub mod Restarts
+pub mod Queues
+pub mod Places
 pub mod Shorter
+pub mod Stores

@@ -1,9 +1,10 @@
 -- How a conflict is traced back along the trail.
-use Rattle.std.specs.Prelude.{cond, ◌++◌, ◌≡◌, ◌≢◌, ℕ, ◌⊎◌, Bool, true, false, Some, None, List, [], ◌∷◌, reverse, slice_index_or}
+use Rattle.std.specs.Prelude.{cond, ◌++◌, ◌≡◌, ◌≢◌, ℕ, ◌⊎◌, Bool, true, false, Some, None, List, [], ◌∷◌, reverse, slice_index_or, length}
 use Rattle.cnf.specs.declared.Dim.{Dim}
 use Rattle.cnf.specs.Clauses.{Valuation, denied}
 use Rattle.refute_check.specs.Accepted.{Derives}
 use Rattle.sat_core.specs.declared.trail.Assigned.{Assigned}
+use Rattle.sat_core.specs.Lists.{TrailLists}
 use Rattle.sat_core.specs.Trail.{dims}
 
 abbrev pub no_assigned : Assigned
@@ -48,3 +49,7 @@ StopsBelow whole front = (e : Assigned) × (rest : List Assigned) × (whole ≡ 
 -- From the values of the seen variables alone the hints lead to a conflict.
 abbrev pub Suffices : List (List Dim) → List Assigned → List Bool → List ℕ → Type 0
 Suffices db es seen hints = (a : Valuation) → ((v : ℕ) → a v ≡ cond (seen_at seen v) (denied (dims es) v) None) → Derives db a (reverse hints)
+
+-- The trail is as it was, and so is the place up to which it was looked at; or it ends right below a decision, which is that place.
+abbrev pub WentBack : TrailLists → TrailLists → ℕ → ℕ → Type 0
+WentBack old new from place = ((new ≡ old) × (place ≡ from)) ⊎ (StopsBelow old.entries new.entries × (place ≡ length new.entries))

@@ -8,3 +8,5 @@ pub mod Found
 pub mod Lesson
 pub mod End
 pub mod Start
+pub mod Queue
+pub mod Store

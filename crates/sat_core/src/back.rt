@@ -1,10 +1,10 @@
 //! Back along the trail.
 
-ghost use Rattle.std.specs.Prelude.{◌≡◌, ℕ, ◌+◌, ◌-◌, ◌<◌, ◌≤◌, Option, None, length, MatchBool, List, ◌++◌, reverse, take, slice_index_or, ◌⊎◌};
+ghost use Rattle.std.specs.Prelude.{◌≡◌, ℕ, ◌+◌, ◌-◌, ◌<◌, ◌≤◌, Option, None, length, MatchBool, IfSome, List, ◌++◌, reverse, take, slice_index_or, ◌⊎◌};
 ghost use Rattle.std.specs.List.{All, filter};
 ghost use Rattle.cnf.specs.Clauses.{valuation};
 ghost use Rattle.sat_core.specs.Trail.{falses, Tracks};
-ghost use Rattle.sat_core.specs.Learn.{seen_at, IsClear, IsAnchored, IsTraced, StopsBelow, no_assigned};
+ghost use Rattle.sat_core.specs.Learn.{seen_at, IsClear, IsAnchored, IsTraced, StopsBelow, WentBack, no_assigned};
 
 use crate::trail::{Assigned, Trail};
 
@@ -90,4 +90,35 @@ pub fn go_back(trail: &mut Trail, seen: &[bool], n: usize)
 {
     cut(trail, n - 1);
     unwind(trail, seen);
+}
+
+/// The place of the first decision.
+fn first_decision(entries: &[Assigned]) -> Option<usize>
+    ensures { IfSome result (λ i. (i < length entries.now) × ((slice_index_or entries.now i no_assigned).reason ≡ None)) }
+{
+    for (i, e) in entries.iter().enumerate() {
+        if e.reason.is_none() {
+            return Some(i);
+        }
+    }
+    None
+}
+
+/// Takes all decisions back, where the search is to start anew. Answers from where to propagate; that was `from` before.
+pub fn restart(trail: &mut Trail, from: usize) -> usize
+    requires { Tracks trail.old.values trail.old.entries }
+    ensures tracks { Tracks trail.new.values trail.new.entries }
+    ensures width { length trail.new.values ≡ length trail.old.values }
+    ensures back { WentBack trail.old trail.new from result }
+{
+    if !trail.is_restart_due() {
+        return from;
+    }
+    match first_decision(trail.entries()) {
+        None => from,
+        Some(n) => {
+            cut(trail, n);
+            n
+        }
+    }
 }

@@ -8,62 +8,56 @@ ghost use Rattle.refute_check.specs.Fresh.{IsNew};
 ghost use Rattle.refute_check.specs.Count.{free_count};
 ghost use Rattle.refute_check.specs.Accepted.{clause_at};
 ghost use Rattle.sat_core.specs.declared.trail.Assigned.{Assigned};
-ghost use Rattle.sat_core.specs.Trail.{falses, Tracks, IsSound, all_of};
+ghost use Rattle.sat_core.specs.Trail.{falses, Tracks, IsSound};
 ghost use Rattle.sat_core.specs.Lesson.{IsHalfway, IsLast, IsReady, IsTaught};
 ghost use Rattle.sat_core.specs.Watch.{first_pair, rows, with_pair};
 ghost use Rattle.sat_core.specs.Learn.{seen_at, IsClear, IsAnchored, IsAlone, IsTraced, Explains, StopsBelow, Suffices};
 
 use crate::back::{go_back, is_clear};
 use crate::lists::add_to;
+use crate::store::Store;
 use crate::trail::{Assigned, Trail};
 use crate::watch::{Pair, Watch};
 use cnf::Dim;
-use refute_check::{Step, clause_of};
+use refute_check::Step;
 use std::alloc::{AllocError, Global};
 
-/// Marks a variable, and notes it if it was not marked. Answers how many (one or none) were not marked and had their value at
-/// the newest level.
-fn mark_one(
-    trail: &Trail,
-    seen: &mut [bool],
-    touched: &mut Vec<usize>,
-    var: usize,
-) -> Result<usize, AllocError>
+/// Marks a variable. Answers how many (one or none) were not marked and had their value at the newest level.
+fn mark_one(trail: &Trail, seen: &mut [bool], var: usize) -> usize
     requires range { var < length seen.old }
     requires width { length seen.old ≡ length trail.now.values }
-    ensures marked { OnOk result (seen_at seen.new var ≡ true) }
-    ensures more { OnOk result ((v : ℕ) → seen_at seen.old v ≡ true → seen_at seen.new v ≡ true) }
+    ensures marked { seen_at seen.new var ≡ true }
+    ensures more { (v : ℕ) → seen_at seen.old v ≡ true → seen_at seen.new v ≡ true }
 {
     if seen[var] {
-        return Ok(0);
+        return 0;
     }
     seen[var] = true;
-    touched.push(var)?;
     if trail.level_of(var) == trail.level() {
-        Ok(1)
+        1
     } else {
-        Ok(0)
+        0
     }
 }
 
-/// Marks the variables of a clause, and notes those that were not marked. Answers how many of these had their value at the
-/// newest level.
-fn mark(
-    trail: &Trail,
-    seen: &mut [bool],
-    touched: &mut Vec<usize>,
-    clause: &[Dim],
-) -> Result<usize, AllocError>
+/// Marks the variables of a clause. Answers how many were not marked and had their value at the newest level.
+fn mark(trail: &Trail, seen: &mut [bool], clause: &[Dim]) -> usize
     requires range { AreBelow (length seen.old) clause.now }
     requires width { length seen.old ≡ length trail.now.values }
-    ensures marked { OnOk result (All (λ d. seen_at seen.new d.var ≡ true) clause.now) }
-    ensures more { OnOk result ((v : ℕ) → seen_at seen.old v ≡ true → seen_at seen.new v ≡ true) }
+    ensures marked { All (λ d. seen_at seen.new d.var ≡ true) clause.now }
+    ensures more { (v : ℕ) → seen_at seen.old v ≡ true → seen_at seen.new v ≡ true }
 {
     let mut count: usize = 0;
     for d in clause {
-        count = count.saturating_add(mark_one(trail, seen, touched, d.var)?);
+        count = count.saturating_add(mark_one(trail, seen, d.var));
     }
-    Ok(count)
+    count
+}
+
+// Writes down a variable that was marked.
+fn note(walked: &mut Vec<usize>, var: usize) -> Result<(), AllocError> {
+    walked.push(var)?;
+    Ok(())
 }
 
 /// Whether the newest variable is the only one that is seen since the last decision, which there is.
@@ -81,39 +75,34 @@ fn is_alone(trail: &[Assigned], seen: &[bool]) -> bool
     is_clear(&trail[..n - 1], seen)
 }
 
-/// Traces a conflict back, and writes the hints that lead to it, the last one first. Answers how much of the trail is left:
-/// nothing, or up to the one literal of its level that is seen.
+/// Traces a conflict back, and writes the hints that lead to it, the last one first, and the variables that were seen, the
+/// newest first. Answers how much of the trail is left: nothing, or up to the one literal of its level that is seen.
 fn trace(
     trail: &Trail,
     seen: &mut [bool],
-    touched: &mut Vec<usize>,
-    clauses: &[Vec<Dim>],
-    steps: &[Step],
+    walked: &mut Vec<usize>,
+    store: &Store,
     conflict: usize,
     hints: &mut Vec<usize>,
 ) -> Result<usize, AllocError>
-    requires width { AllBelow (length trail.now.values) (all_of clauses.now steps.now) }
-    requires sound { IsSound (all_of clauses.now steps.now) trail.now.values trail.now.entries }
+    requires width { AllBelow (length trail.now.values) store.now }
+    requires sound { IsSound store.now trail.now.values trail.now.entries }
     requires seen { length seen.old ≡ length trail.now.values }
     requires hints { hints.old.items ≡ [] }
-    requires known { conflict < length (all_of clauses.now steps.now) }
-    requires conflict { IsConflict (valuation trail.now.values) (clause_at (all_of clauses.now steps.now) conflict) }
+    requires known { conflict < length store.now }
+    requires conflict { IsConflict (valuation trail.now.values) (clause_at store.now conflict) }
     ensures range { IfOk result (λ n. n ≤ length trail.now.entries) }
-    ensures explains { IfOk result (λ n. Explains (all_of clauses.now steps.now) (reverse (take n trail.now.entries)) seen.new hints.new.items) }
+    ensures explains { IfOk result (λ n. Explains store.now (reverse (take n trail.now.entries)) seen.new hints.new.items) }
     ensures traced { IfOk result (λ n. IsTraced seen.new (reverse (take n trail.now.entries))) }
 {
     let entries = trail.entries();
-    let mut count = mark(
-        trail,
-        seen,
-        touched,
-        clause_of(clauses, steps, steps.len(), conflict),
-    )?;
+    let mut count = mark(trail, seen, store.clause(conflict));
     hints.push(conflict)?;
     let mut i = entries.len();
     while i > 0 {
         let e = entries[i - 1];
         if seen[e.dim.var] {
+            note(walked, e.dim.var)?;
             if count <= 1 && is_alone(&entries[..i], seen) {
                 return Ok(i);
             }
@@ -122,12 +111,7 @@ fn trace(
                     return Ok(i);
                 }
                 Some(r) => {
-                    let more = mark(
-                        trail,
-                        seen,
-                        touched,
-                        clause_of(clauses, steps, steps.len(), r),
-                    )?;
+                    let more = mark(trail, seen, store.clause(r));
                     seen[e.dim.var] = false;
                     count = count.saturating_add(more).saturating_sub(1);
                     hints.push(r)?;
@@ -160,34 +144,36 @@ fn is_implied(seen: &[bool], clause: &[Dim], var: usize) -> bool
     true
 }
 
-/// Drops the literal at a place of the trail, which is not the last of the first `left`, if the others imply it.
+/// Notes the variable at a place of the trail, which is not the last of the first `left`, if it is seen, and drops its literal
+/// if the others imply it.
 fn drop_implied(
     trail: &Trail,
     seen: &mut [bool],
+    walked: &mut Vec<usize>,
     left: usize,
     i: usize,
-    clauses: &[Vec<Dim>],
-    steps: &[Step],
+    store: &Store,
     hints: &mut Vec<usize>,
 ) -> Result<(), AllocError>
-    requires width { AllBelow (length trail.now.values) (all_of clauses.now steps.now) }
-    requires sound { IsSound (all_of clauses.now steps.now) trail.now.values trail.now.entries }
+    requires width { AllBelow (length trail.now.values) store.now }
+    requires sound { IsSound store.now trail.now.values trail.now.entries }
     requires seen { length seen.old ≡ length trail.now.values }
     requires place { i + 1 < left }
     requires range { left ≤ length trail.now.entries }
-    requires enough { Suffices (all_of clauses.now steps.now) (reverse (take left trail.now.entries)) seen.old hints.old.items }
+    requires enough { Suffices store.now (reverse (take left trail.now.entries)) seen.old hints.old.items }
     requires traced { IsTraced seen.old (reverse (take left trail.now.entries)) }
-    ensures enough { OnOk result (Suffices (all_of clauses.now steps.now) (reverse (take left trail.now.entries)) seen.new hints.new.items) }
+    ensures enough { OnOk result (Suffices store.now (reverse (take left trail.now.entries)) seen.new hints.new.items) }
     ensures traced { OnOk result (IsTraced seen.new (reverse (take left trail.now.entries))) }
 {
     let e = trail.entries()[i];
     if !seen[e.dim.var] {
         return Ok(());
     }
+    note(walked, e.dim.var)?;
     match e.reason {
         None => Ok(()),
         Some(r) => {
-            if !is_implied(seen, clause_of(clauses, steps, steps.len(), r), e.dim.var) {
+            if !is_implied(seen, store.clause(r), e.dim.var) {
                 return Ok(());
             }
             seen[e.dim.var] = false;
@@ -197,28 +183,28 @@ fn drop_implied(
     }
 }
 
-/// Drops the literals that the others imply, but the last of the first `left`.
+/// Notes the variables that are seen, and drops the literals that the others imply, but the last of the first `left`.
 fn shorten(
     trail: &Trail,
     seen: &mut [bool],
+    walked: &mut Vec<usize>,
     left: usize,
-    clauses: &[Vec<Dim>],
-    steps: &[Step],
+    store: &Store,
     hints: &mut Vec<usize>,
 ) -> Result<(), AllocError>
-    requires width { AllBelow (length trail.now.values) (all_of clauses.now steps.now) }
-    requires sound { IsSound (all_of clauses.now steps.now) trail.now.values trail.now.entries }
+    requires width { AllBelow (length trail.now.values) store.now }
+    requires sound { IsSound store.now trail.now.values trail.now.entries }
     requires seen { length seen.old ≡ length trail.now.values }
     requires range { left ≤ length trail.now.entries }
-    requires enough { Suffices (all_of clauses.now steps.now) (reverse (take left trail.now.entries)) seen.old hints.old.items }
+    requires enough { Suffices store.now (reverse (take left trail.now.entries)) seen.old hints.old.items }
     requires traced { IsTraced seen.old (reverse (take left trail.now.entries)) }
-    ensures enough { OnOk result (Suffices (all_of clauses.now steps.now) (reverse (take left trail.now.entries)) seen.new hints.new.items) }
+    ensures enough { OnOk result (Suffices store.now (reverse (take left trail.now.entries)) seen.new hints.new.items) }
     ensures traced { OnOk result (IsTraced seen.new (reverse (take left trail.now.entries))) }
 {
     let mut next = left;
     while next > 1 {
         next -= 1;
-        drop_implied(trail, seen, left, next - 1, clauses, steps, hints)?;
+        drop_implied(trail, seen, walked, left, next - 1, store, hints)?;
     }
     Ok(())
 }
@@ -252,23 +238,22 @@ fn teach(
     alloc: Global,
     trail: &Trail,
     seen: &mut [bool],
-    touched: &mut Vec<usize>,
-    clauses: &[Vec<Dim>],
-    steps: &[Step],
+    walked: &mut Vec<usize>,
+    store: &Store,
     conflict: usize,
 ) -> Result<Taught, AllocError>
-    requires width { AllBelow (length trail.now.values) (all_of clauses.now steps.now) }
-    requires sound { IsSound (all_of clauses.now steps.now) trail.now.values trail.now.entries }
+    requires width { AllBelow (length trail.now.values) store.now }
+    requires sound { IsSound store.now trail.now.values trail.now.entries }
     requires seen { length seen.old ≡ length trail.now.values }
-    requires known { conflict < length (all_of clauses.now steps.now) }
-    requires conflict { IsConflict (valuation trail.now.values) (clause_at (all_of clauses.now steps.now) conflict) }
+    requires known { conflict < length store.now }
+    requires conflict { IsConflict (valuation trail.now.values) (clause_at store.now conflict) }
     ensures range { IfOk result (λ t. t.left ≤ length trail.now.entries) }
-    ensures last { IfOk result (λ t. t.left ≡ 0 → IsLast (length trail.now.values) (all_of clauses.now steps.now) t.step) }
-    ensures taught { IfOk result (λ t. 0 < t.left → IsTaught (length trail.now.values) (all_of clauses.now steps.now) trail.now.entries seen.new t.left t.step) }
+    ensures last { IfOk result (λ t. t.left ≡ 0 → IsLast (length trail.now.values) store.now t.step) }
+    ensures taught { IfOk result (λ t. 0 < t.left → IsTaught (length trail.now.values) store.now trail.now.entries seen.new t.left t.step) }
 {
     let mut hints = Vec::new(alloc);
-    let left = trace(trail, seen, touched, clauses, steps, conflict, &mut hints)?;
-    shorten(trail, seen, left, clauses, steps, &mut hints)?;
+    let left = trace(trail, seen, walked, store, conflict, &mut hints)?;
+    shorten(trail, seen, walked, left, store, &mut hints)?;
     let clause = collect(alloc, &trail.entries()[..left], seen)?;
     hints.reverse();
     Ok(Taught {
@@ -320,25 +305,27 @@ fn take_up(
     seen: &[bool],
     pairs: &mut Vec<Pair>,
     lists: &mut [Vec<Watch>],
-    clauses: &[Vec<Dim>],
+    store: &mut Store,
     steps: &mut Vec<Step>,
     left: usize,
     step: Step,
 ) -> Result<usize, AllocError>
-    requires ready { IsReady (length trail.old.values) (all_of clauses.now steps.old.items) pairs.old.items (rows lists.old) trail.old }
+    requires ready { IsReady (length trail.old.values) store.old pairs.old.items (rows lists.old) trail.old }
     requires seen { length seen.now ≡ length trail.old.values }
     requires some { 0 < left }
     requires range { left ≤ length trail.old.entries }
-    requires taught { IsTaught (length trail.old.values) (all_of clauses.now steps.old.items) trail.old.entries seen.now left step }
+    requires taught { IsTaught (length trail.old.values) store.old trail.old.entries seen.now left step }
     ensures step { OnOk result (steps.new.items ≡ steps.old.items ++ step ∷ []) }
-    ensures ready { OnOk result (IsReady (length trail.old.values) (all_of clauses.now steps.new.items) pairs.new.items (rows lists.new) trail.new) }
-    ensures half { IfOk result (λ from. IsHalfway (all_of clauses.now steps.new.items) pairs.new.items trail.new from) }
+    ensures store { OnOk result (store.new ≡ store.old ++ step.clause ∷ []) }
+    ensures ready { OnOk result (IsReady (length trail.old.values) store.new pairs.new.items (rows lists.new) trail.new) }
+    ensures half { IfOk result (λ from. IsHalfway store.new pairs.new.items trail.new from) }
 {
     let top = trail.entries()[left - 1].dim;
     go_back(trail, seen, left);
-    let reason = clauses.len() + steps.len();
+    let reason = store.len();
     let pair = first_two(step.clause.as_slice());
     watch_pair(pairs, lists, pair, reason)?;
+    store.push(step.clause.as_slice())?;
     steps.push(step)?;
     let from = trail.entries().len();
     trail.assign(Assigned {
@@ -352,20 +339,11 @@ fn take_up(
 }
 
 // Takes the marks away.
-fn clear_marks(seen: &mut [bool], touched: &[usize]) {
-    for var in touched {
+fn clear_marks(seen: &mut [bool], walked: &[usize]) {
+    for var in walked {
         if let Some(mark) = seen.get_mut(*var) {
             *mark = false;
         }
-    }
-}
-
-// Lets the variables be chosen before all others.
-fn bump_all(trail: &mut Trail, touched: &[usize])
-    ensures { trail.new ≡ trail.old }
-{
-    for var in touched {
-        trail.bump(*var);
     }
 }
 
@@ -377,40 +355,33 @@ pub fn learn(
     seen: &mut [bool],
     pairs: &mut Vec<Pair>,
     lists: &mut [Vec<Watch>],
-    clauses: &[Vec<Dim>],
+    store: &mut Store,
     steps: &mut Vec<Step>,
     conflict: usize,
 ) -> Result<Option<usize>, AllocError>
-    requires width { AllBelow (length trail.old.values) (all_of clauses.now steps.old.items) }
-    requires ready { IsReady (length trail.old.values) (all_of clauses.now steps.old.items) pairs.old.items (rows lists.old) trail.old }
+    requires width { AllBelow (length trail.old.values) store.old }
+    requires ready { IsReady (length trail.old.values) store.old pairs.old.items (rows lists.old) trail.old }
     requires seen { length seen.old ≡ length trail.old.values }
-    requires known { conflict < length (all_of clauses.now steps.old.items) }
-    requires conflict { IsConflict (valuation trail.old.values) (clause_at (all_of clauses.now steps.old.items) conflict) }
+    requires known { conflict < length store.old }
+    requires conflict { IsConflict (valuation trail.old.values) (clause_at store.old conflict) }
     ensures refuted { IfOk result (λ from. IfNone from ((s : Entry) × (steps.new.items ≡ steps.old.items ++ s ∷ [])
-        × IsLast (length trail.old.values) (all_of clauses.now steps.old.items) s)) }
+        × IsLast (length trail.old.values) store.old s)) }
     ensures learned { IfOk result (λ from. IfSome from (λ _. (s : Entry) × (steps.new.items ≡ steps.old.items ++ s ∷ [])
-        × IsNew (length trail.old.values) (all_of clauses.now steps.old.items) s)) }
-    ensures less { IfOk result (λ from. IfSome from (λ _. free_count (length trail.old.values) (all_of clauses.now steps.new.items) all_open
-        < free_count (length trail.old.values) (all_of clauses.now steps.old.items) all_open)) }
-    ensures ready { IfOk result (λ from. IfSome from (λ _. IsReady (length trail.old.values) (all_of clauses.now steps.new.items) pairs.new.items (rows lists.new) trail.new)) }
-    ensures half { IfOk result (λ from. IfSome from (λ n. IsHalfway (all_of clauses.now steps.new.items) pairs.new.items trail.new n)) }
+        × (store.new ≡ store.old ++ s.clause ∷ []) × IsNew (length trail.old.values) store.old s)) }
+    ensures less { IfOk result (λ from. IfSome from (λ _. free_count (length trail.old.values) store.new all_open
+        < free_count (length trail.old.values) store.old all_open)) }
+    ensures ready { IfOk result (λ from. IfSome from (λ _. IsReady (length trail.old.values) store.new pairs.new.items (rows lists.new) trail.new)) }
+    ensures half { IfOk result (λ from. IfSome from (λ n. IsHalfway store.new pairs.new.items trail.new n)) }
 {
-    let mut touched = Vec::new(alloc);
-    let Taught { left, step } = teach(
-        alloc,
-        trail,
-        seen,
-        &mut touched,
-        clauses,
-        steps.as_slice(),
-        conflict,
-    )?;
+    let mut walked = Vec::new(alloc);
+    let Taught { left, step } = teach(alloc, trail, seen, &mut walked, store, conflict)?;
     if left == 0 {
         steps.push(step)?;
         return Ok(None);
     }
-    bump_all(trail, &touched);
-    let from = take_up(trail, seen, pairs, lists, clauses, steps, left, step)?;
-    clear_marks(seen, &touched);
+    trail.bump_all(&mut walked)?;
+    trail.reserve_places(store.len().saturating_add(1))?;
+    let from = take_up(trail, seen, pairs, lists, store, steps, left, step)?;
+    clear_marks(seen, &walked);
     Ok(Some(from))
 }

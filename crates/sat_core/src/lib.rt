@@ -4,10 +4,13 @@
 mod back;
 mod learn;
 mod lists;
+mod luby;
 mod order;
+mod queue;
 mod search;
 mod solver;
 mod start;
+mod store;
 mod trail;
 mod walk;
 mod watch;

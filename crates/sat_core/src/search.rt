@@ -3,17 +3,17 @@
 ghost use Rattle.std.specs.Prelude.{◌≡◌, ℕ, ◌+◌, ◌<◌, ◌≤◌, Option, Some, None, length, OnOk, IfOk, MatchOption, reverse};
 ghost use Rattle.std.specs.List.{All};
 ghost use Rattle.cnf.specs.Clauses.{AllBelow, valuation};
-ghost use Rattle.sat_core.specs.Trail.{IsQuiet, IsSound, all_of, open_count};
+ghost use Rattle.sat_core.specs.Trail.{IsQuiet, IsSound, open_count};
 ghost use Rattle.sat_core.specs.Watch.{AllHalf, ArePairs, AreLists, IsCalm, Listed, WasCalm, rows};
 ghost use Rattle.sat_core.specs.Walk.{before};
 ghost use Rattle.sat_core.specs.Found.{IsFound};
 
 use crate::lists::{close_gap, put_list, take_list};
+use crate::store::Store;
 use crate::trail::{Assigned, Trail};
 use crate::walk::work_off;
 use crate::watch::{Pair, Watch};
 use cnf::Dim;
-use refute_check::Step;
 use std::alloc::{AllocError, Global};
 
 /// Looks at the clauses in which the literal at a place of the trail is watched, up to one that is false.
@@ -23,41 +23,31 @@ fn look_through(
     pairs: &mut [Pair],
     lists: &mut [Vec<Watch>],
     at: usize,
-    clauses: &[Vec<Dim>],
-    steps: &[Step],
+    store: &Store,
 ) -> Result<Option<usize>, AllocError>
-    requires width { AllBelow (length trail.old.values) (all_of clauses.now steps.now) }
-    requires sound { IsSound (all_of clauses.now steps.now) trail.old.values trail.old.entries }
+    requires width { AllBelow (length trail.old.values) store.now }
+    requires sound { IsSound store.now trail.old.values trail.old.entries }
     requires at { at < length trail.old.entries }
-    requires pairs { ArePairs (all_of clauses.now steps.now) pairs.old }
-    requires lists { AreLists (length trail.old.values) (all_of clauses.now steps.now) (rows lists.old) }
+    requires pairs { ArePairs store.now pairs.old }
+    requires lists { AreLists (length trail.old.values) store.now (rows lists.old) }
     requires listed { Listed pairs.old (rows lists.old) }
-    requires half { AllHalf (all_of clauses.now steps.now) pairs.old (before trail.old.entries at) (valuation trail.old.values) }
-    requires was { WasCalm (all_of clauses.now steps.now) pairs.old (reverse trail.old.entries) }
-    ensures sound { OnOk result (IsSound (all_of clauses.now steps.now) trail.new.values trail.new.entries) }
+    requires half { AllHalf store.now pairs.old (before trail.old.entries at) (valuation trail.old.values) }
+    requires was { WasCalm store.now pairs.old (reverse trail.old.entries) }
+    ensures sound { OnOk result (IsSound store.now trail.new.values trail.new.entries) }
     ensures width { OnOk result (length trail.new.values ≡ length trail.old.values) }
     ensures place { OnOk result (at < length trail.new.entries) }
     ensures longer { OnOk result (length trail.old.entries ≤ length trail.new.entries) }
     ensures filled { OnOk result (open_count trail.new.values + length trail.new.entries ≡ open_count trail.old.values + length trail.old.entries) }
-    ensures pairs { OnOk result (ArePairs (all_of clauses.now steps.now) pairs.new) }
-    ensures lists { OnOk result (AreLists (length trail.old.values) (all_of clauses.now steps.now) (rows lists.new)) }
+    ensures pairs { OnOk result (ArePairs store.now pairs.new) }
+    ensures lists { OnOk result (AreLists (length trail.old.values) store.now (rows lists.new)) }
     ensures listed { OnOk result (Listed pairs.new (rows lists.new)) }
-    ensures was { OnOk result (WasCalm (all_of clauses.now steps.now) pairs.new (reverse trail.new.entries)) }
-    ensures found { IfOk result (λ found. IsFound (all_of clauses.now steps.now) (valuation trail.new.values) found
-        (AllHalf (all_of clauses.now steps.now) pairs.new (before trail.new.entries (at + 1)) (valuation trail.new.values))) }
+    ensures was { OnOk result (WasCalm store.now pairs.new (reverse trail.new.entries)) }
+    ensures found { IfOk result (λ found. IsFound store.now (valuation trail.new.values) found
+        (AllHalf store.now pairs.new (before trail.new.entries (at + 1)) (valuation trail.new.values))) }
 {
     let d = trail.entries()[at].dim;
     let mut list = take_list(alloc, lists, d);
-    let walk = work_off(
-        trail,
-        pairs,
-        lists,
-        list.as_mut_slice(),
-        at,
-        d,
-        clauses,
-        steps,
-    )?;
+    let walk = work_off(trail, pairs, lists, list.as_mut_slice(), at, d, store)?;
     close_gap(&mut list, walk.kept, walk.read);
     put_list(lists, d, list);
     Ok(walk.conflict)
@@ -70,30 +60,29 @@ fn propagate(
     pairs: &mut [Pair],
     lists: &mut [Vec<Watch>],
     from: usize,
-    clauses: &[Vec<Dim>],
-    steps: &[Step],
+    store: &Store,
 ) -> Result<Option<usize>, AllocError>
-    requires width { AllBelow (length trail.old.values) (all_of clauses.now steps.now) }
-    requires sound { IsSound (all_of clauses.now steps.now) trail.old.values trail.old.entries }
+    requires width { AllBelow (length trail.old.values) store.now }
+    requires sound { IsSound store.now trail.old.values trail.old.entries }
     requires from { from ≤ length trail.old.entries }
-    requires pairs { ArePairs (all_of clauses.now steps.now) pairs.old }
-    requires lists { AreLists (length trail.old.values) (all_of clauses.now steps.now) (rows lists.old) }
+    requires pairs { ArePairs store.now pairs.old }
+    requires lists { AreLists (length trail.old.values) store.now (rows lists.old) }
     requires listed { Listed pairs.old (rows lists.old) }
-    requires half { AllHalf (all_of clauses.now steps.now) pairs.old (before trail.old.entries from) (valuation trail.old.values) }
-    requires was { WasCalm (all_of clauses.now steps.now) pairs.old (reverse trail.old.entries) }
-    ensures sound { OnOk result (IsSound (all_of clauses.now steps.now) trail.new.values trail.new.entries) }
+    requires half { AllHalf store.now pairs.old (before trail.old.entries from) (valuation trail.old.values) }
+    requires was { WasCalm store.now pairs.old (reverse trail.old.entries) }
+    ensures sound { OnOk result (IsSound store.now trail.new.values trail.new.entries) }
     ensures width { OnOk result (length trail.new.values ≡ length trail.old.values) }
     ensures fewer { OnOk result (open_count trail.new.values ≤ open_count trail.old.values) }
-    ensures pairs { OnOk result (ArePairs (all_of clauses.now steps.now) pairs.new) }
-    ensures lists { OnOk result (AreLists (length trail.old.values) (all_of clauses.now steps.now) (rows lists.new)) }
+    ensures pairs { OnOk result (ArePairs store.now pairs.new) }
+    ensures lists { OnOk result (AreLists (length trail.old.values) store.now (rows lists.new)) }
     ensures listed { OnOk result (Listed pairs.new (rows lists.new)) }
-    ensures was { OnOk result (WasCalm (all_of clauses.now steps.now) pairs.new (reverse trail.new.entries)) }
-    ensures found { IfOk result (λ found. IsFound (all_of clauses.now steps.now) (valuation trail.new.values) found
-        (IsCalm (all_of clauses.now steps.now) pairs.new (valuation trail.new.values))) }
+    ensures was { OnOk result (WasCalm store.now pairs.new (reverse trail.new.entries)) }
+    ensures found { IfOk result (λ found. IsFound store.now (valuation trail.new.values) found
+        (IsCalm store.now pairs.new (valuation trail.new.values))) }
 {
     let mut at = from;
     while at < trail.entries().len() {
-        let found = look_through(alloc, trail, pairs, lists, at, clauses, steps)?;
+        let found = look_through(alloc, trail, pairs, lists, at, store)?;
         if found.is_some() {
             return Ok(found);
         }
@@ -110,29 +99,28 @@ pub fn search(
     pairs: &mut [Pair],
     lists: &mut [Vec<Watch>],
     from: usize,
-    clauses: &[Vec<Dim>],
-    steps: &[Step],
+    store: &Store,
 ) -> Result<Option<usize>, AllocError>
-    requires width { AllBelow (length trail.old.values) (all_of clauses.now steps.now) }
-    requires sound { IsSound (all_of clauses.now steps.now) trail.old.values trail.old.entries }
+    requires width { AllBelow (length trail.old.values) store.now }
+    requires sound { IsSound store.now trail.old.values trail.old.entries }
     requires from { from ≤ length trail.old.entries }
-    requires pairs { ArePairs (all_of clauses.now steps.now) pairs.old }
-    requires lists { AreLists (length trail.old.values) (all_of clauses.now steps.now) (rows lists.old) }
+    requires pairs { ArePairs store.now pairs.old }
+    requires lists { AreLists (length trail.old.values) store.now (rows lists.old) }
     requires listed { Listed pairs.old (rows lists.old) }
-    requires half { AllHalf (all_of clauses.now steps.now) pairs.old (before trail.old.entries from) (valuation trail.old.values) }
-    requires was { WasCalm (all_of clauses.now steps.now) pairs.old (reverse trail.old.entries) }
-    ensures sound { OnOk result (IsSound (all_of clauses.now steps.now) trail.new.values trail.new.entries) }
+    requires half { AllHalf store.now pairs.old (before trail.old.entries from) (valuation trail.old.values) }
+    requires was { WasCalm store.now pairs.old (reverse trail.old.entries) }
+    ensures sound { OnOk result (IsSound store.now trail.new.values trail.new.entries) }
     ensures width { OnOk result (length trail.new.values ≡ length trail.old.values) }
-    ensures pairs { OnOk result (ArePairs (all_of clauses.now steps.now) pairs.new) }
-    ensures lists { OnOk result (AreLists (length trail.old.values) (all_of clauses.now steps.now) (rows lists.new)) }
+    ensures pairs { OnOk result (ArePairs store.now pairs.new) }
+    ensures lists { OnOk result (AreLists (length trail.old.values) store.now (rows lists.new)) }
     ensures listed { OnOk result (Listed pairs.new (rows lists.new)) }
-    ensures was { OnOk result (WasCalm (all_of clauses.now steps.now) pairs.new (reverse trail.new.entries)) }
-    ensures found { IfOk result (λ found. IsFound (all_of clauses.now steps.now) (valuation trail.new.values) found
-        (IsQuiet (all_of clauses.now steps.now) (valuation trail.new.values) × All (λ o. o ≡ None → ⊥) trail.new.values)) }
+    ensures was { OnOk result (WasCalm store.now pairs.new (reverse trail.new.entries)) }
+    ensures found { IfOk result (λ found. IsFound store.now (valuation trail.new.values) found
+        (IsQuiet store.now (valuation trail.new.values) × All (λ o. o ≡ None → ⊥) trail.new.values)) }
 {
     let mut next = from;
     loop {
-        match propagate(alloc, trail, pairs, lists, next, clauses, steps)? {
+        match propagate(alloc, trail, pairs, lists, next, store)? {
             Some(k) => return Ok(Some(k)),
             None => {}
         }

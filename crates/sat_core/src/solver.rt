@@ -4,15 +4,18 @@ ghost use Rattle.std.specs.Prelude.{◌≡◌, ℕ, ◌*◌, ◌+◌, ◌<◌, �
 ghost use Rattle.std.specs.List.{All};
 ghost use Rattle.cnf.specs.Formula.{formula_of};
 ghost use Rattle.cnf.specs.Clauses.{AllBelow, all_open, valuation};
-ghost use Rattle.sat_core.specs.Trail.{IsQuiet, all_of};
+ghost use Rattle.sat_core.specs.Trail.{IsQuiet};
 ghost use Rattle.sat_core.specs.Watch.{rows};
 ghost use Rattle.sat_core.specs.Found.{IsFound};
 ghost use Rattle.sat_core.specs.Lesson.{IsHalfway, IsReady};
 ghost use Rattle.sat_core.specs.End.{IsRightEnd};
 
+use crate::back::restart;
 use crate::learn::learn;
+use crate::order::Preference;
 use crate::search::search;
 use crate::start::start;
+use crate::store::Store;
 use crate::trail::Trail;
 use crate::watch::{Pair, Watch};
 use cnf::{Cnf, Dim};
@@ -55,28 +58,19 @@ fn conflict_of(
     lists: &mut [Vec<Watch>],
     found: Option<usize>,
     from: usize,
-    clauses: &[Vec<Dim>],
-    steps: &[Step],
+    store: &Store,
 ) -> Result<Option<usize>, AllocError>
-    requires width { AllBelow (length trail.old.values) (all_of clauses.now steps.now) }
-    requires ready { IsReady (length trail.old.values) (all_of clauses.now steps.now) pairs.old.items (rows lists.old) trail.old }
-    requires found { IsFound (all_of clauses.now steps.now) (valuation trail.old.values) found (IsHalfway (all_of clauses.now steps.now) pairs.old.items trail.old from) }
-    ensures ready { OnOk result (IsReady (length trail.old.values) (all_of clauses.now steps.now) pairs.new.items (rows lists.new) trail.new) }
-    ensures found { IfOk result (λ found. IsFound (all_of clauses.now steps.now) (valuation trail.new.values) found
-        (IsQuiet (all_of clauses.now steps.now) (valuation trail.new.values) × All (λ o. o ≡ None → ⊥) trail.new.values)) }
+    requires width { AllBelow (length trail.old.values) store.now }
+    requires ready { IsReady (length trail.old.values) store.now pairs.old.items (rows lists.old) trail.old }
+    requires found { IsFound store.now (valuation trail.old.values) found (IsHalfway store.now pairs.old.items trail.old from) }
+    ensures ready { OnOk result (IsReady (length trail.old.values) store.now pairs.new.items (rows lists.new) trail.new) }
+    ensures found { IfOk result (λ found. IsFound store.now (valuation trail.new.values) found
+        (IsQuiet store.now (valuation trail.new.values) × All (λ o. o ≡ None → ⊥) trail.new.values)) }
 {
     match found {
         Some(k) => Ok(Some(k)),
         None => {
-            let next = search(
-                alloc,
-                trail,
-                pairs.as_mut_slice(),
-                lists,
-                from,
-                clauses,
-                steps,
-            )?;
+            let next = search(alloc, trail, pairs.as_mut_slice(), lists, from, store)?;
             Ok(next)
         }
     }
@@ -102,32 +96,24 @@ fn run(
 {
     let mut pairs: Vec<Pair> = Vec::new(alloc);
     let mut steps: Vec<Step> = Vec::new(alloc);
+    let mut store = Store::from_clauses(alloc, clauses)?;
     let mut found = start(trail, &mut pairs, lists, clauses)?;
     let mut from = 0;
     loop {
-        match conflict_of(
-            alloc,
-            trail,
-            &mut pairs,
-            lists,
-            found,
-            from,
-            clauses,
-            steps.as_slice(),
-        )? {
+        match conflict_of(alloc, trail, &mut pairs, lists, found, from, &store)? {
             None => {
                 return Ok(SatEnd::Sat(solution(alloc, trail.values())?));
             }
             Some(conflict) => {
                 match learn(
-                    alloc, trail, seen, &mut pairs, lists, clauses, &mut steps, conflict,
+                    alloc, trail, seen, &mut pairs, lists, &mut store, &mut steps, conflict,
                 )? {
                     None => return Ok(SatEnd::Unsat(Log { steps })),
                     Some(next) => {
                         if is_spent(budget, steps.len()) {
                             return Ok(SatEnd::Spent(Log { steps }));
                         }
-                        from = next;
+                        from = restart(trail, next);
                         found = None;
                     }
                 }
@@ -148,6 +134,15 @@ fn empty_lists(alloc: Global, count: usize) -> Result<Vec<Vec<Watch>>, AllocErro
     Ok(lists)
 }
 
+// Clauses of gates have some of one or two literals. Where there are none, no variable is nearer to inputs than others.
+fn preference(clauses: &[Vec<Dim>]) -> Preference {
+    if clauses.iter().all(|c| c.len() > 2) {
+        Preference::Busiest
+    } else {
+        Preference::InTurns
+    }
+}
+
 /// Makes room and runs.
 fn solve_all(
     alloc: Global,
@@ -160,7 +155,7 @@ fn solve_all(
     ensures { IfOk result (IsRightEnd (formula_of vars (map (λ v. v.items) clauses.now)) budget) }
 {
     let count = vars.checked_mul(2).ok_or(AllocError)?;
-    let mut trail = Trail::new(alloc, vars)?;
+    let mut trail = Trail::new(alloc, vars, preference(clauses))?;
     let mut seen = vec![in alloc; false; vars]?;
     let mut lists = empty_lists(alloc, count)?;
     run(

@@ -5,7 +5,8 @@ ghost use Rattle.std.specs.List.{All};
 ghost use Rattle.cnf.specs.Clauses.{all_open, valuation};
 ghost use Rattle.sat_core.specs.Trail.{Tracks, open_count};
 
-use crate::order::Order;
+use crate::order::{Order, Preference};
+use crate::queue::Queue;
 use cnf::Dim;
 use std::alloc::{AllocError, Global};
 use std::marker::Model;
@@ -18,8 +19,8 @@ pub struct Assigned {
 }
 
 /// Values of variables, and the literals that they make false in the order in which they came. Contracts see these two
-/// lists. Beside them it keeps, for the choice of decisions alone, the level at which each variable had a value last, that
-/// value, and an order of the variables.
+/// lists. Beside them it keeps a queue of the variables, and, for the choice of decisions alone, the level at which each variable
+/// had a value last, that value, what conflicts it stood in, and the place of each clause at which a literal was found last.
 #[derive(Drop)]
 pub struct Trail {
     values: Vec<Option<bool>>,
@@ -27,18 +28,22 @@ pub struct Trail {
     levels: Vec<usize>,
     phases: Vec<bool>,
     level: usize,
+    queue: Queue,
     order: Order,
+    places: Vec<usize>,
 }
 
 impl Model for Trail {
     ghost use Rattle.std.specs.Prelude.{◌≡◌, length};
     ghost use Rattle.sat_core.specs.Lists.{TrailLists};
+    ghost use Rattle.sat_core.specs.Queue.{IsQueue};
 
     ghost Value = { TrailLists };
 
     ghost view = { λ t. record { values = t.values.items; entries = t.entries.items } };
 
-    ghost invariant = { λ t. (length t.levels.items ≡ length t.values.items) × (length t.phases.items ≡ length t.values.items) };
+    ghost invariant = { λ t. (length t.levels.items ≡ length t.values.items) × (length t.phases.items ≡ length t.values.items)
+        × IsQueue t.values.items t.queue.list.items t.queue.stamps.items t.queue.clock t.queue.next };
 }
 
 // The level after one more literal.
@@ -59,6 +64,14 @@ fn level_without(level: usize, e: Assigned) -> usize {
     }
 }
 
+// Appends zeros up to a length.
+fn fill_up(places: &mut Vec<usize>, count: usize) -> Result<(), AllocError> {
+    for _ in places.len()..count {
+        places.push(0)?;
+    }
+    Ok(())
+}
+
 // No value for each variable.
 fn open_values(alloc: Global, vars: usize) -> Result<Vec<Option<bool>>, AllocError>
     ensures width { IfOk result (λ values. length values.items ≡ vars) }
@@ -69,21 +82,9 @@ fn open_values(alloc: Global, vars: usize) -> Result<Vec<Option<bool>>, AllocErr
     Ok(values)
 }
 
-// A variable that has no value.
-fn first_open(values: &[Option<bool>]) -> Option<usize>
-    ensures { MatchOption result (All (λ o. o ≡ None → ⊥) values.now) (λ v. (v < length values.now) × (valuation values.now v ≡ None)) }
-{
-    for (v, value) in values.iter().enumerate() {
-        if value.is_none() {
-            return Some(v);
-        }
-    }
-    None
-}
-
 impl Trail {
     /// A trail on which each of the variables below `vars` is open.
-    pub fn new(alloc: Global, vars: usize) -> Result<Trail, AllocError>
+    pub fn new(alloc: Global, vars: usize, preference: Preference) -> Result<Trail, AllocError>
         ensures width { IfOk result (λ trail. length trail.values ≡ vars) }
         ensures open { IfOk result (λ trail. valuation trail.values ≡ all_open) }
         ensures empty { IfOk result (λ trail. trail.entries ≡ []) }
@@ -94,7 +95,9 @@ impl Trail {
             levels: vec![in alloc; 0; vars]?,
             phases: vec![in alloc; false; vars]?,
             level: 0,
-            order: Order::new(alloc, vars)?,
+            queue: Queue::new(alloc, vars)?,
+            order: Order::new(alloc, vars, preference)?,
+            places: Vec::new(alloc),
         })
     }
 
@@ -136,17 +139,44 @@ impl Trail {
         ensures open { MatchOption result (All (λ o. o ≡ None → ⊥) self.old.values) (λ v. (v < length self.old.values) × (valuation self.old.values v ≡ None)) }
         ensures unchanged { self.new ≡ self.old }
     {
-        match self.order.choose(&self.values) {
-            Some(var) => Some(var),
-            None => first_open(&self.values),
+        self.queue.choose(&self.values)
+    }
+
+    /// Of each clause, by its number, the place from which to look for a literal that is not false.
+    pub fn places(&self) -> &[usize] {
+        self.places.as_slice()
+    }
+
+    /// Sets the place of a clause, if there is room for it.
+    pub fn set_place(&mut self, clause: usize, place: usize)
+        ensures { self.new ≡ self.old }
+    {
+        if let Some(old) = self.places.get_mut(clause) {
+            *old = place;
         }
     }
 
-    /// Lets a variable be chosen before all others.
-    pub fn bump(&mut self, var: usize)
+    /// Makes room for the places of so many clauses.
+    pub fn reserve_places(&mut self, count: usize) -> Result<(), AllocError>
         ensures { self.new ≡ self.old }
     {
-        self.order.bump(var);
+        fill_up(&mut self.places, count)
+    }
+
+    /// Lets the variables of a conflict, the newest first, be chosen before all others.
+    pub fn bump_all(&mut self, walked: &mut [usize]) -> Result<(), AllocError>
+        ensures { self.new ≡ self.old }
+    {
+        self.order.arrange(walked)?;
+        self.queue.bump_all(&self.values, walked);
+        Ok(())
+    }
+
+    /// Whether the search is to start anew.
+    pub fn is_restart_due(&mut self) -> bool
+        ensures { self.new ≡ self.old }
+    {
+        self.order.is_restart_due()
     }
 
     /// Makes an open literal false.
@@ -179,7 +209,7 @@ impl Trail {
         let e = self.entries.pop().unwrap();
         self.values[e.dim.var] = None;
         self.level = level_without(self.level, e);
-        self.order.reopen(e.dim.var);
+        self.queue.reopen(e.dim.var);
         e
     }
 }

@@ -4,7 +4,7 @@ ghost use Rattle.std.specs.Prelude.{◌≡◌, ◌≢◌, ℕ, ◌<◌, ◌≤�
 ghost use Rattle.std.specs.List.{All, Contains};
 ghost use Rattle.cnf.specs.Clauses.{AreBelow, IsFalsified, Valuation, valuation};
 ghost use Rattle.sat_core.specs.Watch.{HasTrue, IsHalf, IsBeside, Watches};
-ghost use Rattle.sat_core.specs.Visited.{IsVisited};
+ghost use Rattle.sat_core.specs.Visited.{IsFreeAt, IsVisited};
 
 use cnf::Dim;
 
@@ -27,8 +27,8 @@ pub struct Watch {
 pub enum Visit {
     /// It stays in the list, with this literal to be looked at first.
     Keep(Dim),
-    /// The second of this pair is watched in place of the false literal.
-    Move(Pair),
+    /// The second of this pair, which stands at this place of the clause, is watched in place of the false literal.
+    Move(Pair, usize),
     /// This literal is open, and each other one is false.
     Unit(Dim),
     /// Each literal is false.
@@ -57,18 +57,37 @@ pub fn is_true(values: &[Option<bool>], d: Dim) -> bool
     }
 }
 
-/// A literal that is not false, and not `other`.
-pub fn other_free(values: &[Option<bool>], clause: &[Dim], other: Dim) -> Option<Dim>
+/// The first place of a literal that is not false, and not `other`.
+fn first_free(values: &[Option<bool>], clause: &[Dim], other: Dim) -> Option<usize>
     requires { AreBelow (length values.now) clause.now }
-    ensures { MatchOption result (All (λ e. (e ≡ other) ⊎ IsFalsified (valuation values.now) e) clause.now)
-        (λ x. Contains clause.now x × (x ≢ other) × (IsFalsified (valuation values.now) x → ⊥)) }
+    ensures { IsFreeAt (valuation values.now) clause.now other result }
 {
-    for d in clause {
+    for (i, d) in clause.iter().enumerate() {
         if *d != other && !is_false(values, *d) {
-            return Some(*d);
+            return Some(i);
         }
     }
     None
+}
+
+// The number, if it is below the length, or else 0.
+fn within(from: usize, length: usize) -> usize
+    ensures { result ≤ length }
+{
+    if from < length { from } else { 0 }
+}
+
+/// The place of a literal that is not false, and not `other`. It is looked for from a place on, and then before it.
+#[tactic(auto, using(crate::proofs::Places::free_later, crate::proofs::Places::free_rest))]
+pub fn other_free(values: &[Option<bool>], clause: &[Dim], other: Dim, from: usize) -> Option<usize>
+    requires { AreBelow (length values.now) clause.now }
+    ensures { IsFreeAt (valuation values.now) clause.now other result }
+{
+    let start = within(from, clause.len());
+    match first_free(values, &clause[start..], other) {
+        Some(i) => Some(start + i),
+        None => first_free(values, &clause[..start], other),
+    }
 }
 
 /// The watched literal beside `d`, if two are watched and `d` is one of them.
@@ -86,13 +105,15 @@ fn beside(pair: Pair, d: Dim) -> Option<Dim>
     }
 }
 
-/// Decides what is to be done with a clause of which `d` has become false; `blocker` is one of its literals.
+/// Decides what is to be done with a clause of which `d` has become false; `blocker` is one of its literals, and `from` the
+/// place from which to look for another one to be watched.
 pub fn look_again(
     values: &[Option<bool>],
     clause: &[Dim],
     pair: Pair,
     blocker: Dim,
     d: Dim,
+    from: usize,
 ) -> Visit
     requires range { AreBelow (length values.now) clause.now }
     requires blocker { Contains clause.now blocker }
@@ -102,12 +123,19 @@ pub fn look_again(
 {
     match beside(pair, d) {
         None => Visit::Keep(blocker),
-        Some(other) => look_beside(values, clause, pair, d, other),
+        Some(other) => look_beside(values, clause, pair, d, other, from),
     }
 }
 
 #[tactic(auto, using(crate::proofs::Watches::visit_unit, crate::proofs::Watches::visit_conflict))]
-fn look_beside(values: &[Option<bool>], clause: &[Dim], pair: Pair, d: Dim, other: Dim) -> Visit
+fn look_beside(
+    values: &[Option<bool>],
+    clause: &[Dim],
+    pair: Pair,
+    d: Dim,
+    other: Dim,
+    from: usize,
+) -> Visit
     requires range { AreBelow (length values.now) clause.now }
     requires two { d ≢ other }
     requires beside { IsBeside pair d other }
@@ -117,8 +145,14 @@ fn look_beside(values: &[Option<bool>], clause: &[Dim], pair: Pair, d: Dim, othe
     if is_true(values, other) {
         return Visit::Keep(other);
     }
-    match other_free(values, clause, other) {
-        Some(x) => Visit::Move(Pair { a: other, b: x }),
+    match other_free(values, clause, other, from) {
+        Some(i) => Visit::Move(
+            Pair {
+                a: other,
+                b: clause[i],
+            },
+            i,
+        ),
         None => {
             if is_false(values, other) {
                 Visit::Conflict

@@ -2,6 +2,7 @@ ghost use Rattle.std.specs.Prelude.{◌<◌, IfOk, IfSome, IsTrue, map};
 ghost use Rattle.std.specs.List.{All};
 ghost use Rattle.cnf.specs.Clauses.{AllBelow};
 
+use crate::scanning::scanned;
 use aig::{Aig, Lit};
 use cnf::{Cnf, Dim, clauses_of};
 use refute_check::{CheckErr, Checker, Log};
@@ -142,6 +143,10 @@ fn solve_row(rt: &impl Abort, alloc: Global, row: &str) -> Result<(), Fail> {
     let wanted = parts.next().ok_or("no answer")?;
     let cnf = formula(alloc, vars.trim().parse()?, clauses.trim())?;
     let budget = budget_of(budget.trim())?;
+    if budget.is_none() {
+        let has_solution = wanted.trim() == "sat";
+        assert_eq!(rt; scanned(alloc, &cnf)?, Some(has_solution), "{name}");
+    }
     assert_eq!(rt;
         answer(alloc, &cnf, budget)?.as_str(),
         wanted.trim(),
@@ -281,6 +286,64 @@ fn gates_are_solved_through_their_clauses(rt: HostRuntime) -> Result<(), Fail> {
     let not_one = aig.and(!only_a, !only_b)?;
     let differ_but_not_one = aig.and(differ, not_one)?;
     let cnf = clauses_of(rt.alloc(), &aig, differ_but_not_one)?;
+    assert_eq!(rt; answer(rt.alloc(), &cnf, None)?.as_str(), "unsat");
+    Ok(())
+}
+
+// The next number of a sequence that looks random.
+fn next_random(state: &mut u64) -> u64 {
+    *state = state
+        .wrapping_mul(6_364_136_223_846_793_005)
+        .wrapping_add(1_442_695_040_888_963_407);
+    *state >> 33
+}
+
+// A clause of three literals.
+fn random_clause(alloc: Global, vars: u64, state: &mut u64) -> Result<Vec<Dim>, AllocError>
+    requires { 0 < vars }
+{
+    let mut clause = Vec::new(alloc);
+    for _ in 0..3 {
+        let var = (next_random(state) % vars) as usize;
+        let negated = next_random(state) % 2 == 0;
+        clause.push(Dim { var, negated })?;
+    }
+    Ok(clause)
+}
+
+fn random_formula(alloc: Global, vars: u64, count: u32, state: &mut u64) -> Result<Cnf, AllocError>
+    requires { 0 < vars }
+{
+    let mut clauses = Vec::new(alloc);
+    for _ in 0..count {
+        clauses.push(random_clause(alloc, vars, state)?)?;
+    }
+    Ok(Cnf {
+        vars: vars as usize,
+        clauses,
+    })
+}
+
+#[test]
+fn a_plain_solver_finds_the_same(rt: HostRuntime) -> Result<(), Fail> {
+    let alloc = rt.alloc();
+    let mut state = 1u64;
+    for round in 0..40u32 {
+        let cnf = random_formula(alloc, 8, 34, &mut state)?;
+        let wanted = match scanned(alloc, &cnf)? {
+            Some(true) => "sat",
+            Some(false) => "unsat",
+            None => "no answer",
+        };
+        assert_eq!(rt; answer(alloc, &cnf, None)?.as_str(), wanted, "{round}");
+    }
+    Ok(())
+}
+
+#[test]
+fn the_search_starts_anew_and_ends(rt: HostRuntime) -> Result<(), Fail> {
+    let mut state = 5u64;
+    let cnf = random_formula(rt.alloc(), 100, 480, &mut state)?;
     assert_eq!(rt; answer(rt.alloc(), &cnf, None)?.as_str(), "unsat");
     Ok(())
 }

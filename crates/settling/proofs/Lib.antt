@@ -1,5 +1,6 @@
 pub mod Classes
 pub mod Rounds
 pub mod Least
+pub mod More
 pub mod Events
 mod Rows

@@ -21,6 +21,7 @@ use Rattle.sv_meaning.specs.Targets.{Target, targets, widths, slots}
 use Rattle.sv_meaning.specs.Deeds.{Deed, deed}
 use Rattle.sv_meaning.specs.Blocks.{has_bit, distinct, reads, all_unknown, comb_look, comb_end, clocked_look, clocked_value, trigger_bit, Manner, comb, clocked, no_manner, manner, block_value}
 use Rattle.sv_meaning.specs.Designs.{driven, assigned_to, port_gives, gives, contributions_of, Work, assignment, block, port, is_joined, as_targets, wire_slots, no_word}
+use Rattle.settling.proofs.More.{more-append, more-store}
 use Rattle.settling.specs.Least.{Under, More}
 use Rattle.sv_meaning.specs.Laws.{ContributionsRise}
 use Rattle.sv_meaning.proofs.Good.{Rises, Good}
@@ -68,12 +69,6 @@ block-rises no_manner a g prev now before later h u = h
 
 -- ---- lists of contributions: the same bits, and more of each
 
-pub more-append : (a b c d : List Contribution) → More a c → More b d → More (a ++ b) (c ++ d)
-more-append [] b [] d h g = g
-more-append [] b (y ∷ c) d h g = absurd h
-more-append (x ∷ a) b [] d h g = absurd h
-more-append (x ∷ a) b (y ∷ c) d h g = (h.0, h.1, more-append a b c d h.2 g)
-
 more-driven : (to : List (Option WireBit)) (a c : List Bit) → Below a c → More (driven to a) (driven to c)
 unfolding driven all_pairs
 more-driven [] [] [] h = tt
@@ -94,10 +89,6 @@ assigned-rises m g r t i w = order.below-take w _ _ (g.rises r t i (max w m.size
 
 more-assigned : (to : List Target) (m : Meaning) → Good m → (now later : Store) → Under now later → More (assigned_to to m now) (assigned_to to m later)
 more-assigned to m g now later u = more-driven (slots to) _ _ (assigned-rises m g (reads now) (reads later) (reads-rise now later u) (widths to))
-
-pub more-store : (bits : List WireBit) (s t : Store) → Under s t → More (map (λ b. (b, value_at s b)) bits) (map (λ b. (b, value_at t b)) bits)
-more-store [] s t u = tt
-more-store (b ∷ more) s t u = (refl, u b.wire b.at, more-store more s t u)
 
 more-port : (w : Way) (at : Scope) (n : ℕ) (x : Layout) (actual : Expr) (now later : Store) → Under now later → More (port_gives w at n x actual now) (port_gives w at n x actual later)
 more-port way.Input at n x actual now later u = more-driven (wire_slots n x) _ _ (assigned-rises (mean at actual) (good at actual) (reads now) (reads later) (reads-rise now later u) (width x))

@@ -3,11 +3,12 @@ use Rattle.std.proofs.Common.{ℕ, suc, Bool, true, false, List, [], ◌∷◌, 
 use Rattle.settling.specs.Settling.{Store, value_at}
 use Rattle.settling.specs.Least.{Under, More, Rises}
 use Rattle.settling.proofs.Least.{least_exists, least_rises, more-refl}
+use Rattle.settling.proofs.More.{more-append, more-store}
 use Rattle.settling.proofs.Rounds.{under-refl}
 use Rattle.sv_meaning.specs.Layouts.{width}
 use Rattle.sv_meaning.specs.Designs.{Design, Wire, links_of, given_in, stimuli_from, bits_of_wire}
 use Rattle.sv_meaning.specs.Laws.{LeastSettlingExists, LeastSettlingRises}
-use Rattle.sv_meaning.proofs.Contributions.{more-append, more-store, contributions-rise}
+use Rattle.sv_meaning.proofs.Contributions.{contributions-rise}
 
 stimulus-rises : (n : ℕ) (w : Wire) (b : Bool) (stim more : Store) → Under stim more
     → More (cond b (map (λ c. (c, value_at stim c)) (bits_of_wire n 0 (width w.layout))) []) (cond b (map (λ c. (c, value_at more c)) (bits_of_wire n 0 (width w.layout))) [])

@@ -54,7 +54,7 @@ good-parts (a ∷ more) g = good-beside a (parts more) g.0 (good-parts more g.1)
 good-concat : (p : Place) (all : List Meaning) → AllGood all → Good (concat p all)
 good-concat p all g = good-needs _ _ (good-from p _ (good-parts all g))
 
-length-copies : (n k : ℕ) (a : List Bit) → length a ≡ k → length (copies n a) ≡ n * k
+pub length-copies : (n k : ℕ) (a : List Bit) → length a ≡ k → length (copies n a) ≡ n * k
 unfolding copies
 length-copies zero k a e = omega arith
 length-copies (suc n) k a e = let p = length-copies n k a e in let q = length-append a (copies n a) in omega (arith, p, q, e)
@@ -80,7 +80,7 @@ cut-widened w a x =
     let e = length-append a (replicate (w - length a) x) in let f = length-replicate (w - length a) x in
     let g = length-take w (a ++ replicate (w - length a) x) in omega (arith, e, f, g)
 
-length-fitted : (s : Bool) (w : ℕ) (a : List Bit) → length (fitted s w a) ≡ w
+pub length-fitted : (s : Bool) (w : ℕ) (a : List Bit) → length (fitted s w a) ≡ w
 length-fitted true w a = cut-widened w a (top a)
 length-fitted false w a = cut-widened w a Zero
 
@@ -176,7 +176,7 @@ abbrev pub GoodSteps : List Step → Type 0
 GoodSteps [] = Unit {0}
 GoodSteps (s ∷ more) = GoodStep s × GoodSteps more
 
-length-bits_at : (p : Option ℤ) (w : ℕ) (a : List Bit) → length (bits_at p w a) ≡ w
+pub length-bits_at : (p : Option ℤ) (w : ℕ) (a : List Bit) → length (bits_at p w a) ≡ w
 length-bits_at None w a = length-replicate w Unknown
 length-bits_at (Some i) w a = widths.length-window a i w
 

@@ -2,9 +2,7 @@ use Rattle.std.proofs.Common.{◌≡◌, ◌≢◌, ◌<◌, ◌+◌, ◌++◌, 
 use Rattle.std.specs.List.{All}
 use Rattle.cnf.specs.declared.Dim.{Dim}
 use Rattle.refute_check.specs.Accepted.{clause_at}
-use Rattle.refute_check.proofs.Derivations.{length_known}
 use Rattle.sat_core.specs.declared.trail.Assigned.{Assigned}
-use Rattle.sat_core.specs.Trail.{all_of}
 use Rattle.sat_core.specs.Learn.{seen_at, no_assigned, Suffices, IsTraced}
 use Rattle.sat_core.proofs.Steps.{explained_front, place_is, front_is, reason_known}
 use Rattle.sat_core.proofs.Rows.{dim_near}
@@ -16,27 +14,25 @@ bounds-seen-e c =
     subst (λ (n : ℕ). (get_or c.entries.result.now c.args.i no_assigned).dim.var < n) (sym c.requires.seen)
     (dim_near (length c.args.trail.now.values) c.args.i c.args.trail.now.entries c.entries.result.now no_assigned c.entries.ensures c.requires.sound.tracks.apart (omega (arith, c.requires.place, c.requires.range)))
 
-pub clause_of-requires-clause-hint : goal.clause_of-requires-clause-hint
-clause_of-requires-clause-hint c =
-    let db = all_of c.args.clauses.now c.args.steps.now in
+pub clause-requires : goal.clause-requires
+clause-requires c =
+    let db = c.args.store.now in
     let entries = c.args.trail.now.entries in
     let k = c.args.i in
     let lt : k < length entries = omega (arith, c.requires.place, c.requires.range) in
     let x : Assigned = get_or entries k no_assigned in
     let why : x.reason ≡ Some c.in-Some.r = subst (λ (t : List Assigned). (get_or t k no_assigned).reason ≡ Some c.in-Some.r) c.entries.ensures c.in-Some.is in
-    let known : c.in-Some.r < length db = reason_known db (take (k + 1) entries) (take k entries) x c.in-Some.r (explained_front db entries (take (k + 1) entries) (drop (k + 1) entries) (front_is entries (k + 1)) c.requires.sound.explained) (place_is entries k no_assigned lt) why in
-    let len = length_known c.args.clauses.now c.args.steps.now (length c.args.steps.now) (omega arith) in
-    omega arith
+    reason_known db (take (k + 1) entries) (take k entries) x c.in-Some.r (explained_front db entries (take (k + 1) entries) (drop (k + 1) entries) (front_is entries (k + 1)) c.requires.sound.explained) (place_is entries k no_assigned lt) why
 
 pub returns-in_ok-push-in-Some-clause-enough : goal.returns-in_ok-push-in-Some-clause-enough
 returns-in_ok-push-in-Some-clause-enough c =
-    let db = all_of c.args.clauses.now c.args.steps.now in
+    let db = c.args.store.now in
     let entries = c.args.trail.now.entries in
     let k = c.args.i in
     let r = c.in-Some.r in
     let same : get_or c.entries.result.now k no_assigned ≡ get_or entries k no_assigned = ap (λ (t : List Assigned). get_or t k no_assigned) c.entries.ensures in
     let marked0 : All (λ d. d.var ≢ (get_or c.entries.result.now k no_assigned).dim.var → seen_at c.args.seen.now d.var ≡ true) (clause_at db r) =
-    subst (λ (cl : List Dim). All (λ d. d.var ≢ (get_or c.entries.result.now k no_assigned).dim.var → seen_at c.args.seen.now d.var ≡ true) cl) c.clause_of.ensures (c.is_implied.ensures c.if-not-is_implied.false) in
+    subst (λ (cl : List Dim). All (λ d. d.var ≢ (get_or c.entries.result.now k no_assigned).dim.var → seen_at c.args.seen.now d.var ≡ true) cl) c.clause.ensures (c.is_implied.ensures c.if-not-is_implied.false) in
     let both = dropped db (length c.args.trail.now.values) entries c.args.left k c.args.seen.now c.args.hints.now.items r c.requires.sound.tracks.apart c.requires.sound.explained c.requires.place c.requires.range c.requires.seen
     (subst (λ (y : Assigned). y.reason ≡ Some r) same c.in-Some.is) (subst (λ (y : Assigned). seen_at c.args.seen.now y.dim.var ≡ true) same c.if-not-seen-e.false)
     (subst (λ (y : Assigned). All (λ d. d.var ≢ y.dim.var → seen_at c.args.seen.now d.var ≡ true) (clause_at db r)) same marked0) c.requires.enough c.requires.traced in
@@ -45,13 +41,13 @@ returns-in_ok-push-in-Some-clause-enough c =
 
 pub returns-in_ok-push-in-Some-clause-traced : goal.returns-in_ok-push-in-Some-clause-traced
 returns-in_ok-push-in-Some-clause-traced c =
-    let db = all_of c.args.clauses.now c.args.steps.now in
+    let db = c.args.store.now in
     let entries = c.args.trail.now.entries in
     let k = c.args.i in
     let r = c.in-Some.r in
     let same : get_or c.entries.result.now k no_assigned ≡ get_or entries k no_assigned = ap (λ (t : List Assigned). get_or t k no_assigned) c.entries.ensures in
     let marked0 : All (λ d. d.var ≢ (get_or c.entries.result.now k no_assigned).dim.var → seen_at c.args.seen.now d.var ≡ true) (clause_at db r) =
-    subst (λ (cl : List Dim). All (λ d. d.var ≢ (get_or c.entries.result.now k no_assigned).dim.var → seen_at c.args.seen.now d.var ≡ true) cl) c.clause_of.ensures (c.is_implied.ensures c.if-not-is_implied.false) in
+    subst (λ (cl : List Dim). All (λ d. d.var ≢ (get_or c.entries.result.now k no_assigned).dim.var → seen_at c.args.seen.now d.var ≡ true) cl) c.clause.ensures (c.is_implied.ensures c.if-not-is_implied.false) in
     let both = dropped db (length c.args.trail.now.values) entries c.args.left k c.args.seen.now c.args.hints.now.items r c.requires.sound.tracks.apart c.requires.sound.explained c.requires.place c.requires.range c.requires.seen
     (subst (λ (y : Assigned). y.reason ≡ Some r) same c.in-Some.is) (subst (λ (y : Assigned). seen_at c.args.seen.now y.dim.var ≡ true) same c.if-not-seen-e.false)
     (subst (λ (y : Assigned). All (λ d. d.var ≢ y.dim.var → seen_at c.args.seen.now d.var ≡ true) (clause_at db r)) same marked0) c.requires.enough c.requires.traced in

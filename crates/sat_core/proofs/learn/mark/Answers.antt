@@ -12,9 +12,9 @@ no_dim = record { var = 0; negated = false }
 pub loop-d-preserved : goal.loop-d-preserved
 loop-d-preserved c = record {
   marked = All-more (λ d. seen_at c.mark_one.new.seen d.var ≡ true) c.args.clause.now c.loop-d.d-index no_dim c.loop-d-test.true
-      (All-weaker (λ d. seen_at c.loop-d.seen d.var ≡ true) (λ d. seen_at c.mark_one.new.seen d.var ≡ true) (λ d h. c.in_ok-mark_one.ensures.more d.var h) (take c.loop-d.d-index c.args.clause.now) c.loop-d.invariant.marked)
-      c.in_ok-mark_one.ensures.marked;
-  more = λ v h. c.in_ok-mark_one.ensures.more v (c.loop-d.invariant.more v h);
+      (All-weaker (λ d. seen_at c.loop-d.seen d.var ≡ true) (λ d. seen_at c.mark_one.new.seen d.var ≡ true) (λ d h. c.mark_one.ensures.more d.var h) (take c.loop-d.d-index c.args.clause.now) c.loop-d.invariant.marked)
+      c.mark_one.ensures.marked;
+  more = λ v h. c.mark_one.ensures.more v (c.loop-d.invariant.more v h);
 }
 
 pub returns-clause-marked : goal.returns-clause-marked

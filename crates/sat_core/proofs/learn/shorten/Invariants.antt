@@ -1,12 +1,11 @@
 use Rattle.std.proofs.Common.{◌≤◌, take, reverse}
-use Rattle.sat_core.specs.Trail.{all_of}
 use Rattle.sat_core.specs.Learn.{Suffices, IsTraced}
 use Rattle.sat_core.proofs.learn.shorten.Given as goal
 
 abbrev pub invariant-loop-next : goal.invariant-loop-next
 invariant-loop-next l = record {
   most : l.next ≤ l.left;
-  enough : Suffices (all_of l.clauses l.steps) (reverse (take l.left l.trail.entries)) l.seen l.hints.items;
+  enough : Suffices l.store (reverse (take l.left l.trail.entries)) l.seen l.hints.items;
   traced : IsTraced l.seen (reverse (take l.left l.trail.entries));
 }
 

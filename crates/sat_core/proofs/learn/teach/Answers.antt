@@ -2,7 +2,7 @@ use Rattle.std.proofs.Common.{◌≡◌, ◌<◌, ◌∙◌, [], ℕ, length, Li
 use Rattle.std.specs.List.{All, filter}
 use Rattle.std.proofs.lemmas.List.Elements.{All-take}
 use Rattle.sat_core.specs.declared.trail.Assigned.{Assigned}
-use Rattle.sat_core.specs.Trail.{all_of, falses}
+use Rattle.sat_core.specs.Trail.{falses}
 use Rattle.sat_core.specs.Learn.{seen_at, Suffices}
 use Rattle.sat_core.proofs.Steps.{trail_range}
 use Rattle.sat_core.proofs.Learned.{taught}
@@ -11,7 +11,7 @@ use Rattle.sat_core.proofs.learn.teach.Goals as goal
 
 pub shorten-requires-clause-enough : goal.shorten-requires-clause-enough
 shorten-requires-clause-enough c =
-    suffices_first (all_of c.args.clauses.now c.args.steps.now) (reverse (take c.in_ok-left.left c.args.trail.now.entries)) c.trace.new.seen c.trace.new.hints.items c.in_ok-left.ensures.explains
+    suffices_first c.args.store.now (reverse (take c.in_ok-left.left c.args.trail.now.entries)) c.trace.new.seen c.trace.new.hints.items c.in_ok-left.ensures.explains
 
 pub collect-requires : goal.collect-requires
 collect-requires c =
@@ -23,7 +23,7 @@ collect-requires c =
 
 pub returns-clause-last : goal.returns-clause-last
 returns-clause-last c = λ none.
-    let db = all_of c.args.clauses.now c.args.steps.now in
+    let db = c.args.store.now in
     let empty : c.in_ok-clause.clause.items ≡ [] = subst (λ (n : ℕ). c.in_ok-clause.clause.items ≡ filter (λ d. seen_at c.shorten.new.seen d.var) (falses (take n c.entries.result.now))) none c.in_ok-clause.ensures in
     let enough : Suffices db [] c.shorten.new.seen c.shorten.new.hints.items =
     subst (λ (n : ℕ). Suffices db (reverse (take n c.args.trail.now.entries)) c.shorten.new.seen c.shorten.new.hints.items) none c.in_ok-shorten.ensures.enough in
@@ -31,7 +31,7 @@ returns-clause-last c = λ none.
 
 pub returns-clause-taught : goal.returns-clause-taught
 returns-clause-taught c = λ some.
-    taught (all_of c.args.clauses.now c.args.steps.now) (length c.args.trail.now.values) c.args.trail.now.entries c.shorten.new.seen c.shorten.new.hints.items c.reverse.new.self.items c.in_ok-clause.clause.items c.in_ok-left.left
+    taught c.args.store.now (length c.args.trail.now.values) c.args.trail.now.entries c.shorten.new.seen c.shorten.new.hints.items c.reverse.new.self.items c.in_ok-clause.clause.items c.in_ok-left.left
     c.requires.sound.tracks.apart c.requires.sound.explained some c.in_ok-left.ensures.range c.in_ok-shorten.ensures.traced c.in_ok-shorten.ensures.enough
     (subst (λ (t : List Assigned). c.in_ok-clause.clause.items ≡ filter (λ d. seen_at c.shorten.new.seen d.var) (falses (take c.in_ok-left.left t))) c.entries.ensures c.in_ok-clause.ensures)
     c.reverse.ensures.items

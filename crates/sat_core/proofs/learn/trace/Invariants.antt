@@ -1,12 +1,11 @@
 use Rattle.std.proofs.Common.{◌≤◌, length, take, reverse}
-use Rattle.sat_core.specs.Trail.{all_of}
 use Rattle.sat_core.specs.Learn.{Explains}
 use Rattle.sat_core.proofs.learn.trace.Given as goal
 
 abbrev pub invariant-loop-i : goal.invariant-loop-i
 invariant-loop-i l = record {
   range : l.i ≤ length l.trail.entries;
-  explains : Explains (all_of l.clauses l.steps) (reverse (take l.i l.trail.entries)) l.seen l.hints.items;
+  explains : Explains l.store (reverse (take l.i l.trail.entries)) l.seen l.hints.items;
 }
 
 abbrev pub decreases-loop-i : goal.decreases-loop-i

@@ -4,7 +4,6 @@ use Rattle.std.proofs.lemmas.List.Elements.{All-nil}
 use Rattle.cnf.specs.Clauses.{valuation}
 use Rattle.sat_core.specs.declared.watch.Watch.{Watch}
 use Rattle.sat_core.specs.declared.trail.Assigned.{Assigned}
-use Rattle.sat_core.specs.Trail.{all_of}
 use Rattle.sat_core.specs.Watch.{IsGood, AreLists, Listed, ListedBut, Rest, numbers, rows, code}
 use Rattle.sat_core.specs.Walk.{before, left_of}
 use Rattle.sat_core.proofs.Rows.{dim_near, dim_stands, has_list, good_left, lists_set, listed_take, listed_put, rest_start, code_below, slice_back}
@@ -22,13 +21,13 @@ work_off-requires-clause-range c = dim_near (length c.args.trail.now.values) c.a
 
 pub work_off-requires-clause-lists : goal.work_off-requires-clause-lists
 work_off-requires-clause-lists c =
-    let db = all_of c.args.clauses.now c.args.steps.now in
+    let db = c.args.store.now in
     subst (λ (r : List (List Watch)). AreLists (length c.args.trail.now.values) db r) (sym c.take_list-list.ensures.rest)
     (lists_set (length c.args.trail.now.values) db (rows c.args.lists.now) _ [] (All-nil (IsGood db)) c.requires.lists)
 
 pub work_off-requires-clause-good : goal.work_off-requires-clause-good
 work_off-requires-clause-good c =
-    let db = all_of c.args.clauses.now c.args.steps.now in
+    let db = c.args.store.now in
     let lt = code_below _ (length (rows c.args.lists.now)) (let n = dim_near (length c.args.trail.now.values) c.args.at c.args.trail.now.entries c.entries.result.now no_assigned c.entries.ensures c.requires.sound.tracks.apart c.requires.at in let e = c.requires.lists.count in omega arith) in
     subst (λ (r : List Watch). All (IsGood db) r) (sym (c.as_mut_slice.ensures.value ∙ c.take_list-list.ensures.list))
     (c.requires.lists.good (code (get_or c.entries.result.now c.args.at no_assigned).dim) [] lt)
@@ -42,7 +41,7 @@ work_off-requires-clause-listed c =
 
 pub work_off-requires-clause-rest : goal.work_off-requires-clause-rest
 work_off-requires-clause-rest c =
-    let db = all_of c.args.clauses.now c.args.steps.now in
+    let db = c.args.store.now in
     let entries = c.args.trail.now.entries in
     let d = (get_or c.entries.result.now c.args.at no_assigned).dim in
     subst (λ (r : List Watch). Rest db c.args.pairs.now (before entries c.args.at) (before entries (c.args.at + 1)) (valuation c.args.trail.now.values) (numbers r)) (sym (c.as_mut_slice.ensures.value ∙ c.take_list-list.ensures.list))
@@ -55,7 +54,7 @@ put_list-requires c = has_list c.work_off.new.lists _ (length c.args.trail.now.v
 
 pub returns-clause-lists : goal.returns-clause-lists
 returns-clause-lists c =
-    let db = all_of c.args.clauses.now c.args.steps.now in
+    let db = c.args.store.now in
     let back = slice_back c.take_list-list.result.len c.work_off.new.list c.take_list-list.result.items c.as_mut_slice.result.now c.take_list-list.result.ok.0 c.work_off.auto.list c.as_mut_slice.ensures.value in
     let row : c.close_gap.new.list.items ≡ left_of c.work_off.new.list c.in_ok-walk.walk.kept c.in_ok-walk.walk.read =
     c.close_gap.ensures ∙ ap (λ (l : List Watch). left_of l c.in_ok-walk.walk.kept c.in_ok-walk.walk.read) back in

@@ -1,12 +1,12 @@
 use Rattle.std.proofs.Common.{◌≡◌, ◌≤◌, ◌+◌, ◌-◌, length, reverse}
 use Rattle.cnf.specs.Clauses.{valuation}
-use Rattle.sat_core.specs.Trail.{IsSound, all_of, open_count}
+use Rattle.sat_core.specs.Trail.{IsSound, open_count}
 use Rattle.sat_core.specs.Watch.{AllHalf, ArePairs, AreLists, Listed, WasCalm, rows}
 use Rattle.sat_core.specs.Walk.{before}
 use Rattle.sat_core.proofs.search.propagate.Given as goal
 
 abbrev pub invariant-loop-at : goal.invariant-loop-at
-invariant-loop-at l = let db = all_of l.clauses l.steps in record {
+invariant-loop-at l = let db = l.store in record {
   sound : IsSound db l.trail.values l.trail.entries;
   width : length l.trail.values ≡ length l.fn.trail.values;
   place : l.at ≤ length l.trail.entries;

@@ -3,7 +3,7 @@ use Rattle.std.specs.List.{All}
 use Rattle.std.proofs.lemmas.Option.{MatchOption-at_none}
 use Rattle.cnf.specs.Clauses.{valuation}
 use Rattle.sat_core.specs.Lists.{TrailLists}
-use Rattle.sat_core.specs.Trail.{IsSound, IsQuiet, all_of}
+use Rattle.sat_core.specs.Trail.{IsSound, IsQuiet}
 use Rattle.sat_core.specs.Watch.{AllHalf, AreLists, IsCalm, WasCalm, rows}
 use Rattle.sat_core.specs.Walk.{before}
 use Rattle.sat_core.proofs.Watches.{calm_quiet}
@@ -14,14 +14,14 @@ use Rattle.sat_core.proofs.search.search.Goals as goal
 
 pub returns-in-None-choose-clause-found : goal.returns-in-None-choose-clause-found
 returns-in-None-choose-clause-found c =
-    let db = all_of c.args.clauses.now c.args.steps.now in
+    let db = c.args.store.now in
     let calm : IsCalm db c.propagate.new.pairs (valuation c.propagate.new.trail.values) = MatchOption-at_none _ _ c.in-None.is c.in_ok-k.ensures.found in
     subst (λ (t : TrailLists). IsQuiet db (valuation t.values) × All (λ o. o ≡ None → ⊥) t.values) (sym c.choose.ensures.unchanged)
     (calm_quiet db c.propagate.new.pairs (valuation c.propagate.new.trail.values) calm, c.in-None-choose.ensures.open)
 
 pub loop-k-preserved : goal.loop-k-preserved
 loop-k-preserved c =
-    let db = all_of c.args.clauses.now c.args.steps.now in
+    let db = c.args.store.now in
     let pairs = c.propagate.new.pairs in
     let C = c.choose.new.self in
     let same = sym c.choose.ensures.unchanged in

@@ -10,15 +10,16 @@ use Rattle.sat_core.specs.Found.{IsFound}
 use Rattle.sat_core.specs.Lesson.{IsReady, IsHalfway}
 use Rattle.sat_core.proofs.solver.run.Given as goal
 
-abbrev pub invariant-loop-steps : goal.invariant-loop-steps
-invariant-loop-steps l = let vars = length l.fn.trail.values in record {
+abbrev pub invariant-loop-store : goal.invariant-loop-store
+invariant-loop-store l = let vars = length l.fn.trail.values in record {
   width : length l.trail.values ≡ vars;
-  ready : IsReady vars (all_of l.clauses l.steps.items) l.pairs.items (rows l.lists) l.trail;
-  state : IsFound (all_of l.clauses l.steps.items) (valuation l.trail.values) l.found (IsHalfway (all_of l.clauses l.steps.items) l.pairs.items l.trail l.from);
+  store : l.store ≡ all_of l.clauses l.steps.items;
+  ready : IsReady vars l.store l.pairs.items (rows l.lists) l.trail;
+  state : IsFound l.store (valuation l.trail.values) l.found (IsHalfway l.store l.pairs.items l.trail l.from);
   fresh : IsFresh (formula_of vars (map (λ v. v.items) l.clauses)) l.steps.items (length l.steps.items);
   within : IfSome l.budget (λ n. length l.steps.items < n);
 }
 
 -- how many sets of literals contain no clause so far
-abbrev pub decreases-loop-steps : goal.decreases-loop-steps
-decreases-loop-steps l = free_count (length l.fn.trail.values) (all_of l.clauses l.steps.items) all_open
+abbrev pub decreases-loop-store : goal.decreases-loop-store
+decreases-loop-store l = free_count (length l.fn.trail.values) l.store all_open

@@ -5,7 +5,6 @@ use Rattle.cnf.specs.declared.Dim.{Dim}
 use Rattle.cnf.specs.Clauses.{Valuation, valuation, IsUnit}
 use Rattle.refute_check.specs.Accepted.{clause_at}
 use Rattle.sat_core.specs.declared.watch.Watch.{Watch}
-use Rattle.sat_core.specs.Trail.{all_of}
 use Rattle.sat_core.specs.Watch.{HasTrue, AreFree, IsMove, IsGood, AreLists, ListedBut, Rest, pair_at, no_watch, numbers, rows, row_at, code}
 use Rattle.sat_core.specs.Walk.{before, left_of}
 use Rattle.sat_core.proofs.Steps.{sound_unit}
@@ -21,13 +20,13 @@ look_at-requires-clause-half c =
     let next = before c.args.trail.now.entries (c.args.at + 1) in
     let li : c.loop-i.i < length c.loop-i.list = let e = c.loop-i.auto.list in omega (arith, c.loop-i-test.true) in
     let lt = (c.loop-i.invariant.good c.loop-i.i no_watch li).0 in
-    subst (λ (a : Valuation). (x : Valuation) × (HasTrue a (clause_at (all_of c.args.clauses.now c.args.steps.now) k0) ⊎ AreFree x (clause_at (all_of c.args.clauses.now c.args.steps.now) k0) (pair_at c.loop-i.pairs k0)))
+    subst (λ (a : Valuation). (x : Valuation) × (HasTrue a (clause_at c.args.store.now k0) ⊎ AreFree x (clause_at c.args.store.now k0) (pair_at c.loop-i.pairs k0)))
     (ap valuation (sym c.values.ensures))
     (⊎_elim (λ h. (next, h)) (λ p. (low, p.0)) (c.loop-i.invariant.rest k0 lt))
 
 pub loop-i-preserved : goal.loop-i-preserved
 loop-i-preserved c =
-    let db = all_of c.args.clauses.now c.args.steps.now in
+    let db = c.args.store.now in
     let vars = length c.args.trail.now.values in
     let list = c.loop-i.list in
     let pairs = c.loop-i.pairs in
@@ -78,7 +77,7 @@ loop-i-preserved c =
           let lr : code q.b < length (rows c.loop-i.lists) = code_below q.b (length (rows c.loop-i.lists)) (let e = inv.lists.count in omega arith) in
           let rows2 = set (rows c.loop-i.lists) (code q.b) (row_at (rows c.loop-i.lists) q.b ++ w3 ∷ []) in
           let grown = w.in_ok-add_to-in-Move.ensures in
-          rw (w.trail-is, w.pairs-is, w.lists-is, w.list-is, w.kept-is) (record {
+          rw (w.trail-is ∙ w.set_place.ensures, w.pairs-is, w.lists-is, w.list-is, w.kept-is) (record {
             sound = inv.sound;
             width = inv.width;
             place = inv.place;

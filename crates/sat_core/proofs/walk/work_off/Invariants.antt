@@ -1,13 +1,13 @@
 use Rattle.std.proofs.Common.{◌≡◌, ◌<◌, ◌≤◌, ◌+◌, length, take, drop, reverse}
 use Rattle.std.specs.List.{All}
 use Rattle.cnf.specs.Clauses.{valuation}
-use Rattle.sat_core.specs.Trail.{IsSound, all_of, open_count}
+use Rattle.sat_core.specs.Trail.{IsSound, open_count}
 use Rattle.sat_core.specs.Watch.{ArePairs, AreLists, IsGood, ListedBut, Rest, WasCalm, numbers, rows}
 use Rattle.sat_core.specs.Walk.{before, left_of}
 use Rattle.sat_core.proofs.walk.work_off.Given as goal
 
 abbrev pub invariant-loop-i : goal.invariant-loop-i
-invariant-loop-i l = let db = all_of l.clauses l.steps in record {
+invariant-loop-i l = let db = l.store in record {
   sound : IsSound db l.trail.values l.trail.entries;
   width : length l.trail.values ≡ length l.fn.trail.values;
   place : l.at < length l.trail.entries;

@@ -1,0 +1,64 @@
+-- Flat designs that are well formed, and the valuations that settle them.
+use Rattle.std.specs.Prelude.{◌&&◌, nat_le, ℕ, ◌≤◌, Bool, List, [], ◌∷◌, ◌++◌, length, All, IsTrue}
+use Rattle.std.specs.List.{zip}
+use Rattle.lhs_alias.specs.Segs.{lhs_bits}
+use Rattle.lhs_alias.specs.Lies.{LieIn}
+use Rattle.lhs_alias.specs.Pairs.{FallTo, HaveOwnChildren}
+use Rattle.settling.specs.Settling.{Store, Contribution, Link, SettlesBy}
+use Rattle.settling.specs.Least.{Giving, IsLeast}
+use Rattle.sv_outside.specs.declared.text.Signal.{Signal}
+use Rattle.driver_resolve.specs.Drivers.{Phase, drivers_give, stimuli_from, widths_of, IsDriver}
+use Rattle.flat_net.specs.declared.flat.Flat.{Flat}
+use Rattle.flat_net.specs.declared.flat.Join.{Join}
+
+-- ---- well formed
+
+-- a byte that a path may have: it is printed, and no blank
+abbrev pub is_path_byte : ℕ → Bool
+is_path_byte b = nat_le 33 b && nat_le b 126
+
+-- a path, and a width of 1 to 128
+pub record IsSignal (s : Signal) : Type 0 where
+  pub some : 1 ≤ s.width
+  pub most : s.width ≤ 128
+  pub named : 1 ≤ length s.path
+  pub printed : All (λ b. IsTrue (is_path_byte b)) s.path
+
+-- as many bits on either side, one at least, and each child's wire numbered above its parent's
+pub record IsJoin (widths : List ℕ) (j : Join) : Type 0 where
+  pub child : LieIn widths j.child
+  pub parent : LieIn widths j.parent
+  pub some : 1 ≤ length j.child
+  pub some_above : 1 ≤ length j.parent
+  pub falls : FallTo (lhs_bits j.child) (lhs_bits j.parent)
+
+-- the pairs of joined bits, in the order of the joins
+unfoldable pub links_of : List Join → List Link
+links_of [] = []
+links_of (j ∷ more) = zip (lhs_bits j.child) (lhs_bits j.parent) ++ links_of more
+
+-- Signals, drivers and joins are sound, and no bit is joined twice as a child.
+pub record IsFlat (flat : Flat) : Type 0 where
+  pub wires : All IsSignal flat.wires
+  pub drivers : All (IsDriver (widths_of flat.wires) flat.arena) flat.drivers
+  pub joins : All (IsJoin (widths_of flat.wires)) flat.joins
+  pub own_children : HaveOwnChildren (links_of flat.joins)
+
+-- ---- settlings
+
+-- what drivers and stimuli give in a phase: the drivers in order, and then the inputs of the top
+abbrev pub given : Flat → Phase → List Contribution
+given flat p = drivers_give flat.arena flat.drivers p ++ stimuli_from 0 flat.wires p.stim
+
+-- the same, by the present valuation
+abbrev pub given_in : Flat → Store → Store → Giving
+given_in flat stim prev now = given flat (record { stim = stim; previous = prev; present = now })
+
+-- A valuation settles over the previous one and a stimulus (10.3, 23.3.3): joined bits are equal, and each class that is given
+-- values has their resolution.
+abbrev pub Settles : Flat → Store → Store → Store → Type 0
+Settles flat stim prev now = SettlesBy (links_of flat.joins) (given_in flat stim prev now) now
+
+-- a settling below every settling over the same previous valuation and stimulus
+abbrev pub IsLeastSettling : Flat → Store → Store → Store → Type 0
+IsLeastSettling flat stim prev now = IsLeast (links_of flat.joins) (given_in flat stim prev) now

@@ -1,0 +1,91 @@
+-- Rules of typing.
+use Rattle.std.proofs.Common.{◌≡◌, ℕ, Bool, true, false, ◌&&◌, not, List, [], ◌++◌, length, if◌then◌else◌, refl, sym, ap, ◌∙◌, subst, int_lt, pos}
+use Rattle.std.specs.List.{Contains}
+use Rattle.fourvec.specs.Bits.{is_known}
+use Rattle.sv_outside.specs.declared.refusal.Place.{Place}
+use Rattle.sv_outside.specs.declared.refusal.TextErr.{TextErr}
+use Rattle.sv_outside.specs.Literals.{is_number, is_based}
+use Rattle.sv_literal.specs.declared.meaning.Literal.{Literal}
+use Rattle.sv_literal.specs.Meaning.{meaning_of, number_of as number_literal, based_of, fill_of}
+use Rattle.sv_tree.specs.declared.word.Word.{Word}
+use Rattle.sv_meaning.specs.Faults.{Faults, or_then, not_constant, out_of_scope}
+use Rattle.sv_meaning.specs.Meanings.{Meaning, of_literal, literal_meaning, literal_faults, power, power_faults, constant_of, number_of, nowhere, whole}
+use Rattle.sv_typed.specs.declared.tree.Typed.{Typed}
+use Rattle.sv_typed.specs.declared.ops.Pair.{Pair}
+use Rattle.sv_typed.specs.declared.ops.Pair.TheVariants.{Computed, Moved, Compared, Combined}
+use Rattle.sv_typed.specs.Ops.{pair_meaning}
+use Rattle.sv_typed.specs.Typed.{Stands, IsSound, LiteralIsSound, own}
+use Rattle.sv_const.specs.Judging.{IsTyped, IsCause}
+use Rattle.sv_const.proofs.Lists.{in_left, in_right, in_first, in_second, in_fault, no_fault, both_clear, then_clear}
+use Rattle.sv_const.proofs.Judged.{cause_from}
+
+-- ---- literals
+
+fill_is_one : (t : List ℕ) → (meaning_of t).fill ≡ true → length (meaning_of t).value ≡ 1
+unfolding meaning_of number_literal based_of fill_of
+fill_is_one t h = go (is_number t) (is_based t) h
+  where
+    go : (a b : Bool) → (if a then number_literal t else (if b then based_of t else fill_of t)).fill ≡ true → length (if a then number_literal t else (if b then based_of t else fill_of t)).value ≡ 1
+    go true b h = cc
+    go false true h = cc
+    go false false h = refl
+
+literal_sound : (t : List ℕ) (l : Literal) → meaning_of t ≡ l → LiteralIsSound l
+literal_sound t l e = let P : Literal → Type 0 = λ x. x.fill ≡ true → length x.value ≡ 1 in subst P e (fill_is_one t)
+
+pub literal_typed : (w : Word) (l : Literal) (t : Typed) (c : Bool) → literal_faults w ≡ [] → meaning_of w.text ≡ l → ((all : Faults) (p : Place) → Stands t (literal_meaning all p l)) → (LiteralIsSound l → IsSound t) → IsTyped (of_literal w) ((of_literal w).faults c) t
+literal_typed w l t c f e h k = record {
+  clear = f;
+  stands = let P : Literal → Type 0 = λ x. Stands t (literal_meaning (literal_faults w) w.place x) in subst P (sym e) (h (literal_faults w) w.place);
+  sound = k (literal_sound w.text l e);
+}
+
+-- ---- operators
+
+pub pair_faults : (op : Pair) (m n : Meaning) (c : Bool) → (pair_meaning op m n).faults c ≡ m.faults c ++ n.faults c
+pair_faults (Computed op) m n c = refl
+pair_faults (Moved op) m n c = refl
+pair_faults (Compared op) m n c = refl
+pair_faults (Combined op) m n c = refl
+
+pub pair_cause : (op : Pair) (m n : Meaning) (c : Bool) (e : TextErr) → IsCause (m.faults c ++ n.faults c) e → IsCause ((pair_meaning op m n).faults c) e
+pair_cause op m n c e h = subst (λ f. IsCause f e) (sym (pair_faults op m n c)) h
+
+pub cause_left : (a b : Faults) (e : TextErr) → IsCause a e → IsCause (a ++ b) e
+cause_left a b e h = cause_from a (a ++ b) (in_left a b) e h
+
+pub cause_right : (a b : Faults) (e : TextErr) → IsCause b e → IsCause (a ++ b) e
+cause_right a b e h = cause_from b (a ++ b) (in_right a b) e h
+
+pub cause_first : (a b : Faults) (e : TextErr) → IsCause a e → IsCause (or_then a b) e
+cause_first a b e h = cause_from a (or_then a b) (in_first a b) e h
+
+-- ---- powers
+
+constants : (m n : Meaning) (x y : Typed) → Stands x m → Stands y n → (m.constant && n.constant) ≡ (x.constant && y.constant)
+unfolding Stands
+constants m n x y h k = ap (λ z. z.constant && n.constant) h.is ∙ ap (λ z. x.constant && z.constant) k.is
+
+below_is : (n : Meaning) (y : Typed) → Stands y n → (is_known (constant_of n) && int_lt (number_of n) (pos 0)) ≡ (is_known (own y nowhere) && int_lt (whole y.signed (own y nowhere)) (pos 0))
+unfolding Stands
+below_is n y h = ap (λ z. is_known (constant_of z) && int_lt (number_of z) (pos 0)) h.is
+
+pub power_free : (p : Place) (m n : Meaning) (c : Bool) (x y : Typed) → IsTyped m (m.faults c) x → IsTyped n (n.faults c) y → (x.constant && y.constant) ≡ false →
+    Contains ((power p m n).faults c) (record { number = out_of_scope; place = p; count = 0 })
+power_free p m n c x y h k e =
+    in_second (m.faults c ++ n.faults c) (power_faults p m n) _ (both_clear _ _ h.clear k.clear) (in_first _ _ _ (in_fault _ out_of_scope p (ap not (constants m n x y h.stands k.stands ∙ e))))
+
+pub power_below : (p : Place) (m n : Meaning) (c : Bool) (x y : Typed) → IsTyped m (m.faults c) x → IsTyped n (n.faults c) y → (x.constant && y.constant) ≡ true →
+    (is_known (own y nowhere) && int_lt (whole y.signed (own y nowhere)) (pos 0)) ≡ true → Contains ((power p m n).faults c) (record { number = not_constant; place = m.start; count = 0 })
+power_below p m n c x y h k e b =
+    in_second (m.faults c ++ n.faults c) (power_faults p m n) _ (both_clear _ _ h.clear k.clear)
+    (in_second _ _ _ (no_fault _ out_of_scope p (ap not (constants m n x y h.stands k.stands ∙ e))) (in_fault _ not_constant m.start (below_is n y k.stands ∙ b)))
+
+pub power_ok : (p : Place) (m n : Meaning) (c : Bool) (x y t : Typed) → IsTyped m (m.faults c) x → IsTyped n (n.faults c) y → (x.constant && y.constant) ≡ true →
+    (is_known (own y nowhere) && int_lt (whole y.signed (own y nowhere)) (pos 0)) ≡ false → Stands t (power p m n) → IsSound t → IsTyped (power p m n) ((power p m n).faults c) t
+power_ok p m n c x y t h k e b s z = record {
+  clear = then_clear (m.faults c ++ n.faults c) (power_faults p m n) (both_clear _ _ h.clear k.clear)
+      (then_clear _ _ (no_fault _ out_of_scope p (ap not (constants m n x y h.stands k.stands ∙ e))) (no_fault _ not_constant m.start (below_is n y k.stands ∙ b)));
+  stands = s;
+  sound = z;
+}

@@ -1,0 +1,91 @@
+// Constants, sizes and selects over the names of a place.
+ghost use Rattle.std.specs.Prelude.{◌≡◌, ◌≤◌, true, false, IfOk, map};
+ghost use Rattle.sv_meaning.specs.Meanings.{Meaning};
+ghost use Rattle.sv_meaning.specs.Values.{mean, step};
+ghost use Rattle.sv_typed.specs.Typed as typed_is;
+ghost use Rattle.sv_const.specs.Judging.{Judges};
+ghost use Rattle.sv_const.specs.Kinds.{layout_is, IsSound};
+ghost use Rattle.sv_const.specs.Names.{names_are};
+ghost use Rattle.sv_const.specs.Picks.{rule_faults};
+ghost use Rattle.sv_const.specs.Roots.{JudgesChain};
+ghost use Rattle.sv_const.specs.Sizes.{JudgesConstant, JudgesSize};
+
+use crate::chain::{Chain, IndexRule};
+use crate::cursor::{Cursor, Each};
+use crate::names::Names;
+use crate::refusals::refusal;
+use crate::start::start;
+use crate::typing::{chain_behind, typed};
+use crate::{Known, Layout, Size};
+use std::alloc::Global;
+use sv_outside::{Place, TextErr};
+use sv_tree::{Expr, Select};
+use sv_typed::Typed;
+
+// The value of a typed constant at the larger of a width and its own length, or E15 where it begins.
+#[tactic(auto, using(sv_typed::proofs::Sound::most_bits))]
+fn constant_of(start: Place, width: u8, x: Result<Typed, TextErr>) -> Result<Known, TextErr>
+    requires sound { IfOk x (λ t. typed_is.IsSound t) }
+    requires most { width ≤ 128 }
+    ensures { (m : Meaning) → m.start ≡ start → Judges m true x → JudgesConstant width m result }
+{
+    let x = x?;
+    let value = x.value(width.max(x.width), x.signed);
+    if value.is_bool() {
+        Ok(Known {
+            value,
+            signed: x.signed,
+        })
+    } else {
+        Err(TextErr::No(refusal(15, start)))
+    }
+}
+
+// The own size of what is typed.
+fn size_of(x: Result<Typed, TextErr>) -> Result<Size, TextErr>
+    ensures { (m : Meaning) → Judges m false x → JudgesSize m result }
+{
+    let x = x?;
+    Ok(Size {
+        width: x.width,
+        signed: x.signed,
+    })
+}
+
+/// The value of a constant expression at the larger of a width (0 to 128 bits) and its own length, wholly 0 and 1; or why
+/// it is refused: E2, E12, E14, E15, E16, E23 or E25 (IEEE 1800-2017, 11.2.1).
+#[tactic(auto, using(crate::proofs::Arms::sound_of_judged))]
+pub fn eval_const(
+    alloc: Global,
+    expr: &Expr,
+    names: &Names<'_>,
+    width: u8,
+) -> Result<Known, TextErr>
+    requires { width ≤ 128 }
+    ensures { JudgesConstant width (mean (names_are names.now) expr.now) result }
+{
+    constant_of(start(expr), width, typed(alloc, expr, names, true))
+}
+
+/// The own length and sign of an expression that may name signals; or why it is refused: E2, E12, E14, E15, E16, E23 or
+/// E25 (11.6.1, 11.8.1).
+pub fn sized(alloc: Global, expr: &Expr, names: &Names<'_>) -> Result<Size, TextErr>
+    ensures { JudgesSize (mean (names_are names.now) expr.now) result }
+{
+    size_of(typed(alloc, expr, names, false))
+}
+
+/// The selects behind what has a layout as parts of its bits, where each index is judged so; or why they are refused:
+/// E14 or E23, or one of what an index is refused for.
+pub fn select_chain(
+    alloc: Global,
+    layout: &Layout,
+    selects: &[Select],
+    names: &Names<'_>,
+    rule: IndexRule,
+) -> Result<Chain, TextErr>
+    requires { IsSound layout.now }
+    ensures { JudgesChain (rule_faults rule) (layout_is layout.now) (map (step (names_are names.now)) selects.now) result }
+{
+    chain_behind(alloc, Cursor::Whole(Each::Of(layout)), selects, names, rule)
+}

@@ -1,0 +1,70 @@
+// Layouts of bits, and what names stand for.
+use fourvec::Four;
+use items::{Boxed, Items};
+use sv_outside::Name;
+
+/// How the bits of a value lie (IEEE 1800-2017, 7.2 and 7.4).
+#[cycle(layout)]
+#[derive(Drop)]
+pub struct Layout {
+    /// How many bits, 1 to 128.
+    pub width: u8,
+    pub signed: bool,
+    pub form: Form,
+}
+
+/// What a layout is made of.
+#[cycle(layout)]
+#[derive(Drop)]
+pub enum Form {
+    /// One bit.
+    Scalar,
+    /// A packed range, whose bounds have 32 bits, and the layout of its elements. The element of the right bound is
+    /// the least significant.
+    Dim {
+        left: i64,
+        right: i64,
+        each: Boxed<Layout>,
+    },
+    /// The members of a packed structure, the first the most significant.
+    Members(Items<Field>),
+}
+
+/// A member of a packed structure.
+#[cycle(layout)]
+#[derive(Drop)]
+pub struct Field {
+    pub name: Name,
+    pub layout: Layout,
+}
+
+/// A constant: its bits, and whether it is signed.
+#[derive(Clone, Copy, PartialEq, Eq, Debug)]
+pub struct Known {
+    pub value: Four,
+    pub signed: bool,
+}
+
+/// The length of an expression in bits, 1 to 128, and its sign (11.6.1, 11.8.1).
+#[derive(Clone, Copy, PartialEq, Eq, Debug)]
+pub struct Size {
+    pub width: u8,
+    pub signed: bool,
+}
+
+/// What a name stands for.
+#[derive(Drop)]
+pub enum What {
+    /// A constant.
+    Number(Known),
+    /// A type.
+    Kind(Layout),
+    /// A net or variable of the design, by the number of its wire.
+    Wire { number: usize, layout: Layout },
+    /// A variable of a table, by its number.
+    Chosen { number: usize, layout: Layout },
+    /// A sample of a table, by its number.
+    Sampled { number: usize, layout: Layout },
+    /// The variable of generate loops, outside of a turn.
+    Genvar,
+}

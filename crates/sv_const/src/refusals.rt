@@ -1,0 +1,14 @@
+// Refusals of one place.
+ghost use Rattle.std.specs.Prelude.{◌≡◌};
+
+use sv_outside::{Place, Refusal};
+
+pub(crate) fn refusal(number: u8, place: Place) -> Refusal
+    ensures { result ≡ record { number = number; place = place; count = 0 } }
+{
+    Refusal {
+        number,
+        place,
+        count: 0,
+    }
+}

@@ -1,0 +1,93 @@
+// Names in the order in which they are declared.
+ghost use Rattle.std.specs.Prelude.{◌≡◌, [], ◌∷◌, ◌++◌, length, take, OnOk, OnErr, All, option_map, ◌≤◌, IfSome, MatchOption};
+ghost use Rattle.std.specs.Option.{option_copied};
+ghost use Rattle.sv_const.specs.Kinds.{scope_is, what_is, WhatIsSound, EntryIsSound};
+ghost use Rattle.sv_meaning.specs.Layouts.{find};
+
+use crate::What;
+use std::alloc::{AllocError, Global};
+use std::marker::Model;
+use sv_outside::Name;
+
+/// What is declared, in order. Contracts see the list of names with what they stand for.
+#[derive(Drop)]
+pub struct Scope {
+    list: Vec<(Name, What)>,
+}
+
+impl Model for Scope {
+    ghost use Rattle.std.specs.Prelude.{List, ℕ, All};
+    ghost use Rattle.sv_const.specs.declared.layout.What.{What};
+    ghost use Rattle.sv_const.specs.Kinds.{EntryIsSound};
+    ghost use Rattle.std.specs.Coded.{codes};
+    ghost use Rattle.sv_const.specs.contracts.layout.Form as form;
+
+    ghost Value = { List (List ℕ × What) };
+
+    ghost coded = { Prim.hlevel (codes, form.the_row.coded) };
+
+    ghost view = { λ a. a.list.items };
+
+    ghost invariant = { λ a. All EntryIsSound a.list.items };
+}
+
+impl Scope {
+    /// Nothing is declared.
+    pub fn new(alloc: Global) -> Scope
+        ensures { result ≡ [] }
+    {
+        Scope {
+            list: Vec::new(alloc),
+        }
+    }
+
+    /// How many names are declared.
+    pub fn len(&self) -> usize
+        ensures { result ≡ length self.now }
+    {
+        self.list.len()
+    }
+
+    /// Declares a name. Where memory is out, nothing changes.
+    pub fn push(&mut self, name: Name, what: What) -> Result<(), AllocError>
+        requires { WhatIsSound what }
+        ensures ok { OnOk result (self.new ≡ self.old ++ (name, what) ∷ []) }
+        ensures err { OnErr result (self.new ≡ self.old) }
+    {
+        self.list.push((name, what))?;
+        Ok(())
+    }
+
+    /// Takes the last declaration off, if there is one.
+    pub fn pop(&mut self) -> Option<(Name, What)>
+        ensures { MatchOption result
+            ((self.old ≡ []) × (self.new ≡ []))
+            (λ last. self.old ≡ self.new ++ last ∷ []) }
+    {
+        self.list.pop()
+    }
+
+    /// The last declaration of a name among the first `before`.
+    pub fn find(&self, name: &[u8], before: usize) -> Option<&What>
+        ensures is { option_map what_is (option_copied result) ≡ find name.now (scope_is (take before self.now)) }
+        ensures sound { IfSome result (λ what. WhatIsSound what.now) }
+    {
+        last_of(&self.list, name, before.min(self.list.len()))
+    }
+}
+
+// The last entry of a name among the first `before`.
+fn last_of<'a>(entries: &'a [(Name, What)], name: &[u8], before: usize) -> Option<&'a What>
+    requires within { before ≤ length entries.now }
+    requires sound { All EntryIsSound entries.now }
+    ensures is { option_map what_is (option_copied result) ≡ find name.now (scope_is (take before entries.now)) }
+    ensures sound { IfSome result (λ what. WhatIsSound what.now) }
+{
+    for at in (0..before).rev() {
+        let entry = &entries[at];
+        if entry.0.bytes() == name {
+            return Some(&entry.1);
+        }
+    }
+    None
+}

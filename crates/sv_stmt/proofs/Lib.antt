@@ -1,0 +1,10 @@
+pub mod Making
+pub mod Sizing
+pub mod Windows
+pub mod Pieces
+pub mod Reading
+pub mod Indices
+pub mod Trees
+pub mod Nameless
+pub mod Lowered
+pub mod Chains
