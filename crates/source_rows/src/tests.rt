@@ -53,6 +53,22 @@ module m ; always @ ( a ) ; endmodule => E8 23
 module m ; always_ff @ * ; endmodule => E8 24
 module m ; generate logic a ; endmodule => E8 31
 module m ; assign int = 1 ; endmodule => E8 19
+module m ( int a ) ; endmodule => E8 12
+module m ; always_comb begin int a ; end endmodule => E8 30
+module m ; always_comb for ( bit i = 0 ; i < 4 ; i ++ ) ; endmodule => E8 30
+module m ; for ( int i = 0 ; i < 4 ; i ++ ) logic a ; endmodule => E8 18
+parameter logic int a = 1 ; => E8 17
+int a ; => E8 1
+module m ( input int a ) ; endmodule => E25 18
+module m ( input a , bit b ) ; endmodule => E25 22
+module m ( input wire bit a ) ; endmodule => E25 23
+module m ; int a ; endmodule => E25 12
+module m ; wire int a ; endmodule => E25 17
+module m ; if ( a ) bit b ; endmodule => E25 21
+typedef bit t ; => E25 9
+typedef struct packed { int a ; } s ; => E25 25
+typedef struct packed { logic a ; bit b ; } s ; => E25 35
+typedef enum bit { A } e ; => E25 14
 typedef struct packed { } s ; => E8 25
 typedef enum { A } s ; => E8 14
 typedef struct { logic a ; } s ; => E8 16
@@ -67,6 +83,42 @@ module m ; always_ff @ ( posedge a or negedge b ) ; endmodule => E25 36";
 // The reserved words that stand in no rule of the grammar.
 static OUT_OF_SCOPE: &str =
     "alias always_latch and assert assume automatic bind break buf bufif0 bufif1 byte casex checker class clocking const continue cover covergroup deassign defparam disable do event export extern final force foreach forever fork function import initial inside interface join longint nand nor not notif0 notif1 or package primitive program property pulldown pullup real realtime release repeat return sequence shortint shortreal specify static string supply0 supply1 task time tran tri0 tri1 triand trior trireg union var wait wand while wor xnor xor";
+
+// Members of a struct, parameters, a generate loop and instances.
+static LEAVES: &str = "typedef struct packed { logic [3:0] hi; logic [0:3] lo; } pair_t;
+module leaf #(parameter int K = 0) (input pair_t p, output logic [7:0] q);
+  assign q = {p.lo[0], p.hi, 3'b000} + K;
+endmodule
+module top (input pair_t a);
+  for (genvar i = 0; i < 3; i++) begin : g
+    leaf #(.K(i)) u (.p(a), .q());
+  end
+endmodule
+";
+
+// A unit with registers, whose operation an enumeration names.
+static UNIT: &str = "typedef enum logic [2:0] {ADD, SUB, AND, OR, SLL} op_t;
+typedef struct packed { logic valid; op_t op; logic [31:0] a, b; } req_t;
+typedef struct packed { logic valid; logic [31:0] value; } res_t;
+module alu (input wire logic clk, input wire logic rst,
+            input req_t req, output res_t res);
+  req_t r;
+  logic [31:0] v;
+  always_comb begin
+    v = '0;
+    unique casez (r.op)
+      3'b00?: v = r.op[0] ? r.a - r.b : r.a + r.b;
+      AND: v = r.a & r.b;
+      OR: v = r.a | r.b;
+      SLL: v = r.a << r.b[4:0];
+      default: ;
+    endcase
+  end
+  always_ff @(posedge clk)
+    if (rst) begin r <= '0; res <= '0; end
+    else begin r <= req; res.valid <= r.valid; res.value <= v; end
+endmodule
+";
 
 fn tokens_of(alloc: Global, text: &[u8]) -> Result<Tokens, TextErr> {
     let list = lex(alloc, 0, text)?;
@@ -111,7 +163,7 @@ fn texts_are_read_or_refused_as_the_grammar_says(rt: HostRuntime) -> Result<(), 
             count = count.saturating_add(1);
         }
     }
-    assert_eq!(rt; count, 58);
+    assert_eq!(rt; count, 74);
     Ok(())
 }
 
@@ -134,13 +186,23 @@ fn no_front_of_a_module_is_a_text(rt: HostRuntime) -> Result<(), TextErr> {
     let text: &[u8] =
         b"module m ( input a ) ; always_comb if ( a ) b = { a , 1 } ; else b [ 0 ] = 2 ; endmodule";
     assert!(rt; told(rt.alloc(), text)? == (0, 0, 0));
-    let mut at = 1;
-    while at + 1 < text.len() {
+    for at in 1..text.len() {
         if text[at] == b' ' {
             assert!(rt; told(rt.alloc(), &text[..at])? == (8, 1, at + 1), "{at}");
         }
-        at += 1;
     }
+    Ok(())
+}
+
+#[test]
+fn designs_are_read_over_lines(rt: HostRuntime) -> Result<(), TextErr> {
+    assert!(rt; told(rt.alloc(), LEAVES.as_bytes())? == (0, 0, 0));
+    assert!(rt; told(rt.alloc(), UNIT.as_bytes())? == (0, 0, 0));
+    assert!(rt; told(rt.alloc(), b"")? == (0, 0, 0));
+    assert!(rt; told(rt.alloc(), b"module m(input logic a")? == (8, 1, 23));
+    let compared: &[u8] =
+        b"module m(input logic a, b, output logic y);\n  assign y = a === b; endmodule";
+    assert!(rt; told(rt.alloc(), compared)? == (25, 2, 16));
     Ok(())
 }
 

@@ -20,6 +20,7 @@ pub mod Steps
 pub mod StmtLevel
 pub mod Stmts
 pub mod Targets
+pub mod TwoStates
 pub mod Types
 pub mod Wholes
 pub mod Words

@@ -1,6 +1,7 @@
 -- What is answered of a whole text.
-use Rattle.std.proofs.Common.{◌≡◌, inl, inr, ℕ, ◌-◌, List, length, Result, Ok, Err, refl, subst}
-use Rattle.sv_outside.specs.Text.{TokenList}
+use Rattle.std.proofs.Common.{◌≡◌, inl, inr, ℕ, ◌-◌, List, length, Result, Ok, Err, refl, sym, ap, ◌∙◌, subst}
+use Rattle.sv_outside.specs.declared.refusal.Place.{Place}
+use Rattle.sv_outside.specs.declared.refusal.TextErr.{TextErr}
 use Rattle.sv_outside.specs.declared.text.Token.{Token}
 use Rattle.sv_tree.specs.declared.design.Source.{Source}
 use Rattle.sv_cursor.specs.declared.error.ParseErr.{ParseErr}
@@ -28,15 +29,21 @@ read_as tokens (Err Memory) new h = tt
 
 -- ---- what is answered
 
-module _ (tokens : TokenList) where
-  pub parsed_ok : (x : Source) → IsRead tokens.list (Ok x) → IsParsed tokens (Ok x)
+module _ (tokens : List Token) (end : Place) where
+  pub parsed_ok : (x : Source) → IsRead tokens (Ok x) → IsParsed tokens end (Ok x)
   parsed_ok x h = h
 
-  pub parsed_syntax : (left : ℕ) → IsRead tokens.list (Err (Syntax left))
-      → IsParsed tokens (Err (refused (number_at tokens.list (length tokens.list - left)) (place_at tokens.list tokens.end (length tokens.list - left))))
+  parsed_syntax : (left : ℕ) → IsRead tokens (Err (Syntax left))
+      → IsParsed tokens end (Err (refused (number_at tokens (length tokens - left)) (place_at tokens end (length tokens - left))))
   parsed_syntax left h = inl (record { left = left; inside = h.0; none = h.2; beyond = h.3; stops = h.1; is = refl })
 
-  pub parsed_deep : (deep left : ℕ) → IsRead tokens.list (Err (TooDeep deep left)) → IsParsed tokens (Err (refused 9 (place_at tokens.list tokens.end (length tokens.list - deep))))
-  parsed_deep deep left h = inr (record { number = length tokens.list - deep; deep = h; is = refl })
+  parsed_deep : (deep left : ℕ) → IsRead tokens (Err (TooDeep deep left)) → IsParsed tokens end (Err (refused 9 (place_at tokens end (length tokens - deep))))
+  parsed_deep deep left h = inr (record { number = length tokens - deep; deep = h; is = refl })
 
-pub ruleset parsed = (parsed_ok, parsed_syntax, parsed_deep)
+  pub syntax_is : (left number : ℕ) (place : Place) (e : TextErr) → IsRead tokens (Err (Syntax left)) → number ≡ number_at tokens (length tokens - left)
+      → place ≡ place_at tokens end (length tokens - left) → e ≡ refused number place → IsParsed tokens end (Err e)
+  syntax_is left number place e h is_number is_place is =
+      subst (λ e. IsParsed tokens end (Err e)) (sym (is ∙ (ap (λ n. refused n place) is_number ∙ ap (refused (number_at tokens (length tokens - left))) is_place))) (parsed_syntax left h)
+
+  pub deep_is : (deep left : ℕ) (place : Place) (e : TextErr) → IsRead tokens (Err (TooDeep deep left)) → place ≡ place_at tokens end (length tokens - deep) → e ≡ refused 9 place → IsParsed tokens end (Err e)
+  deep_is deep left place e h is_place is = subst (λ e. IsParsed tokens end (Err e)) (sym (is ∙ ap (refused 9) is_place)) (parsed_deep deep left h)

@@ -11,5 +11,6 @@ pub mod Regions
 pub mod Source
 pub mod Stmts
 pub mod Targets
+pub mod TwoState
 pub mod Whole
 pub mod Words

@@ -4,7 +4,6 @@ use Rattle.sv_outside.specs.declared.refusal.Place.{Place}
 use Rattle.sv_outside.specs.declared.refusal.TextErr.{TextErr}
 use Rattle.sv_outside.specs.declared.refusal.TextErr.TheVariants as text_err
 use Rattle.sv_outside.specs.declared.text.Token.{Token}
-use Rattle.sv_outside.specs.Text.{TokenList}
 use Rattle.sv_tree.specs.declared.design.Source.{Source}
 use Rattle.sv_tree.specs.Nesting.{IsTooDeep}
 use Rattle.sv_tree.specs.NestingDesign.{source_depths}
@@ -20,6 +19,7 @@ use Rattle.sv_cursor.specs.Sorts.{sort}
 use Rattle.sv_cursor.specs.Refusals.{syntax_number_of, place_at, refused}
 use Rattle.sv_parser.specs.Answers.{IsSpelled}
 use Rattle.sv_parser.specs.Source.{source}
+use Rattle.sv_parser.specs.TwoState.{is_two_state_type}
 
 -- ---- the number of a refusal
 
@@ -56,8 +56,9 @@ edge_before tokens n = if nat_lt n 2 then false else is_edge (sort_at tokens (n 
 abbrev pub is_event_comma : List Token → ℕ → Bool
 is_event_comma tokens n = if is_comma (sort_at tokens n) then edge_before tokens n else false
 
+-- 25 at `int` or `bit` where `logic` could be read, at such a comma, and at what is in no rule of the grammar
 unfoldable pub number_at : List Token → ℕ → ℕ
-number_at tokens n = if is_event_comma tokens n then 25 else syntax_number_of (slice_get tokens n)
+number_at tokens n = if is_two_state_type tokens n then 25 else (if is_event_comma tokens n then 25 else syntax_number_of (slice_get tokens n))
 
 -- ---- answers
 
@@ -71,22 +72,22 @@ IsRead tokens (Err (TooDeep deep left)) = IsTooDeep IsSpelled source_depths toke
 IsRead tokens (Err Memory) = Unit {0}
 
 -- No tree spells the tokens, nor a text that begins with them up to the one at which reading stops.
-pub record IsSyntax (tokens : TokenList) (e : TextErr) : Type 0 where
+pub record IsSyntax (tokens : List Token) (end : Place) (e : TextErr) : Type 0 where
   pub left : ℕ
-  pub inside : left ≤ length tokens.list
-  pub none : (y : Source) → IsSpelled y tokens.list → ⊥
-  pub beyond : (y : Source) (spelling : List Token) (m : ℕ) → IsSpelled y spelling → take m spelling ≡ take m tokens.list → m + left ≤ length tokens.list
-  pub stops : source tokens.list ≡ Err (Syntax left)
-  pub is : e ≡ refused (number_at tokens.list (length tokens.list - left)) (place_at tokens.list tokens.end (length tokens.list - left))
+  pub inside : left ≤ length tokens
+  pub none : (y : Source) → IsSpelled y tokens → ⊥
+  pub beyond : (y : Source) (spelling : List Token) (m : ℕ) → IsSpelled y spelling → take m spelling ≡ take m tokens → m + left ≤ length tokens
+  pub stops : source tokens ≡ Err (Syntax left)
+  pub is : e ≡ refused (number_at tokens (length tokens - left)) (place_at tokens end (length tokens - left))
 
 -- Nesting exceeds the limit at a token.
-pub record IsDeep (tokens : TokenList) (e : TextErr) : Type 0 where
+pub record IsDeep (tokens : List Token) (end : Place) (e : TextErr) : Type 0 where
   pub number : ℕ
-  pub deep : IsTooDeep IsSpelled source_depths tokens.list number
-  pub is : e ≡ refused 9 (place_at tokens.list tokens.end number)
+  pub deep : IsTooDeep IsSpelled source_depths tokens number
+  pub is : e ≡ refused 9 (place_at tokens end number)
 
 -- An answer: the one tree that the tokens spell.
-abbrev pub IsParsed : TokenList → Result Source TextErr → Type 0
-IsParsed tokens (Ok x) = IsSpelled x tokens.list × ((y : Source) → IsSpelled y tokens.list → y ≡ x)
-IsParsed tokens (Err text_err.Memory) = Unit {0}
-IsParsed tokens (Err (text_err.No r)) = IsSyntax tokens (text_err.No r) ⊎ IsDeep tokens (text_err.No r)
+abbrev pub IsParsed : List Token → Place → Result Source TextErr → Type 0
+IsParsed tokens end (Ok x) = IsSpelled x tokens × ((y : Source) → IsSpelled y tokens → y ≡ x)
+IsParsed tokens end (Err text_err.Memory) = Unit {0}
+IsParsed tokens end (Err (text_err.No r)) = IsSyntax tokens end (text_err.No r) ⊎ IsDeep tokens end (text_err.No r)

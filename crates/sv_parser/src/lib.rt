@@ -14,6 +14,7 @@ mod source;
 mod statements;
 mod tails;
 mod told;
+mod two_state;
 mod whole;
 
 pub use forms::{form, typedef};

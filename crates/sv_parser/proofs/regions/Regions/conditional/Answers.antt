@@ -7,6 +7,9 @@ pub returns : goal.returns
 unfolding cond_of
 returns g c = rw (deeper (λ n. cond_of n c.args.tokens.now) c.args.self.now.depth (omega arith)) c.conditional.ensures
 
-pub returns-then-depth-eq0 : goal.returns-then-depth-eq0
+pub returns-then-self-eq0 : goal.returns-then-self-eq0
 unfolding cond_of
-returns-then-depth-eq0 g c = let none : c.args.self.now.depth ≡ 0 = omega arith in λ _. ap (λ n. cond_of n c.args.tokens.now) none ∙ ap Err (sym c.too_deep.ensures)
+returns-then-self-eq0 g c = let none : c.args.self.now.depth ≡ 0 = omega arith in λ _. ap (λ n. cond_of n c.args.tokens.now) none ∙ ap Err (sym c.too_deep.ensures)
+
+pub conditional-requires : goal.conditional-requires
+conditional-requires g c = c.requires (omega arith)

@@ -7,6 +7,9 @@ pub returns : goal.returns
 unfolding loop_of
 returns g c = rw (deeper (λ n. loop_of n c.args.tokens.now) c.args.self.now.depth (omega arith)) c.counted.ensures
 
-pub returns-then-depth-eq0 : goal.returns-then-depth-eq0
+pub returns-then-self-eq0 : goal.returns-then-self-eq0
 unfolding loop_of
-returns-then-depth-eq0 g c = let none : c.args.self.now.depth ≡ 0 = omega arith in λ _. ap (λ n. loop_of n c.args.tokens.now) none ∙ ap Err (sym c.too_deep.ensures)
+returns-then-self-eq0 g c = let none : c.args.self.now.depth ≡ 0 = omega arith in λ _. ap (λ n. loop_of n c.args.tokens.now) none ∙ ap Err (sym c.too_deep.ensures)
+
+pub counted-requires : goal.counted-requires
+counted-requires g c = c.requires (omega arith)
