@@ -1,0 +1,33 @@
+use Rattle.std.proofs.Common.{◌+◌, ◌-◌, length, sym, ◌∙◌, rules, arith}
+use Rattle.std.proofs.lemmas.Grind.{common_steps}
+use Rattle.sv_cursor.specs.Parsers.{many_from}
+use Rattle.sv_cursor.proofs.Turns.{handed, after_none, many_ends, many_stops, many_fails, many_goes}
+use Rattle.sv_parser.specs.Combined.{word_test}
+use Rattle.sv_parser.specs.Words.{part_by_word}
+use Rattle.sv_parser.specs.Source.{part}
+use Rattle.sv_parser.specs.Lists.{while_told}
+use Rattle.sv_parser.proofs.source.all_parts.Goals as goal
+
+pub loop-turn-init : goal.loop-turn-init
+unfolding while_told
+loop-turn-init c =
+    let e = after_none (many_from (word_test part_by_word) part (length c.args.tokens.now) c.args.tokens.now) in
+    first_of (search rules, grind (arith, common_steps))
+
+pub returns : goal.returns
+returns c = many_stops (word_test part_by_word) part _ c.loop-turn.found _ c.loop-turn.tokens (omega arith) c.loop-turn.invariant
+
+pub returns-then-not-sees_part : goal.returns-then-not-sees_part
+returns-then-not-sees_part c = many_ends (word_test part_by_word) part _ c.loop-turn.found _ c.loop-turn.tokens (sym c.sees_part.ensures ∙ c.if-not-sees_part.true) c.loop-turn.invariant
+
+pub returns-in_err-part : goal.returns-in_err-part
+returns-in_err-part c =
+    handed _ c.from_residual.result c.in_err-part.field-0.0 c.part.new.tokens c.from_residual.ensures.1
+    (many_fails (word_test part_by_word) part _ c.loop-turn.found _ (c.left-turn-end.result - (c.loop-turn._turn + 1))
+    c.loop-turn.tokens c.part.new.tokens c.in_err-part.field-0.0 (omega arith) (sym c.sees_part.ensures ∙ c.if-not-sees_part.false) c.loop-turn.invariant c.in_err-part.ensures)
+
+pub loop-turn-preserved : goal.loop-turn-preserved
+loop-turn-preserved c =
+    rw c.in_ok-push.ensures.ok
+    (many_goes (word_test part_by_word) part _ c.loop-turn.found _ (c.left-turn-end.result - (c.loop-turn._turn + 1))
+    c.loop-turn.tokens c.part.new.tokens c.in_ok-part.part (omega arith) (sym c.sees_part.ensures ∙ c.if-not-sees_part.false) c.loop-turn.invariant c.in_ok-part.ensures)

@@ -1,0 +1,11 @@
+use Rattle.std.proofs.Common.{◌≡◌, ◌-◌}
+use Rattle.sv_cursor.specs.Parsers.{many_from}
+use Rattle.sv_cursor.proofs.Turns.{after}
+use Rattle.sv_parser.specs.Combined.{sort_test}
+use Rattle.sv_parser.specs.Words.{item_by_sort}
+use Rattle.sv_parser.specs.Items.{item, items}
+use Rattle.sv_parser.proofs.source.body.Given as goal
+
+abbrev pub invariant-loop-turn : goal.invariant-loop-turn
+invariant-loop-turn l =
+    items (item 200) l.fn.tokens ≡ after l.found (many_from (sort_test item_by_sort) (item 200) (l._turn-end - l._turn) l.tokens)

@@ -1,0 +1,12 @@
+use Rattle.std.proofs.Common.{◌≡◌, ◌-◌}
+use Rattle.sv_cursor.specs.Parsers.{many_from}
+use Rattle.sv_cursor.proofs.Turns.{after}
+use Rattle.sv_cursor.specs.declared.sort.Mark.TheVariants as m
+use Rattle.sv_cursor.specs.Tests.{mark_test}
+use Rattle.sv_parser.specs.Lists.{more, behind_comma}
+use Rattle.sv_parser.specs.Params.{par_port}
+use Rattle.sv_parser.proofs.source.more_par_ports.Given as goal
+
+abbrev pub invariant-loop-turn : goal.invariant-loop-turn
+invariant-loop-turn l =
+    more par_port l.fn.tokens ≡ after l.found (many_from (mark_test m.Comma) (behind_comma par_port) (l._turn-end - l._turn) l.tokens)

@@ -1,0 +1,322 @@
+// Modules and whole texts.
+ghost use Rattle.std.specs.Prelude.{◌≡◌, is_some};
+ghost use Rattle.sv_cursor.specs.Parsers as parser;
+ghost use Rattle.sv_cursor.specs.Parsers.{Reads, told};
+ghost use Rattle.sv_cursor.specs.Tests as test;
+ghost use Rattle.sv_parser.specs.Combined.{sort_test, word_test};
+ghost use Rattle.sv_parser.specs.Items as spec_items;
+ghost use Rattle.sv_parser.specs.Lists as list;
+ghost use Rattle.sv_parser.specs.Params as params_spec;
+ghost use Rattle.sv_parser.specs.Source as spec;
+ghost use Rattle.sv_parser.specs.Words as words;
+
+use crate::forms::typedef;
+use crate::labels::label_behind;
+use crate::lists::{MOST_NESTING, with_first};
+use crate::module_items::sees_item;
+use crate::openers::PartOpener;
+use crate::parameters::{par_port, param, port, typed_name};
+use crate::regions::item;
+use crate::told::{maybe_net, sees, take_way, way_next};
+use items::Items;
+use std::alloc::Global;
+use sv_cursor::{Cursor, Keyword, Mark, ParseErr, Sort};
+use sv_tree::{Item, Module, ParPort, Port, Source, SourcePart, Word};
+
+// ---- the header of a module
+
+#[tactic(auto, unfolding(crate::specs::Source::first_port))]
+fn first_port(alloc: Global, tokens: &mut Cursor<'_>) -> Result<Port, ParseErr>
+    ensures { Reads (spec.first_port tokens.old) result tokens.new }
+{
+    let way = take_way(tokens)?;
+    let kind = maybe_net(tokens)?;
+    let (form, name) = typed_name(alloc, tokens)?;
+    Ok(Port {
+        way: Some(way),
+        kind,
+        form,
+        name,
+    })
+}
+
+#[tactic(auto, unfolding(crate::specs::Lists::behind_comma))]
+fn comma_port(alloc: Global, tokens: &mut Cursor<'_>) -> Result<Port, ParseErr>
+    ensures { Reads (list.behind_comma params_spec.port tokens.old) result tokens.new }
+{
+    tokens.mark(Mark::Comma)?;
+    let part = port(alloc, tokens)?;
+    Ok(part)
+}
+
+fn more_ports(alloc: Global, tokens: &mut Cursor<'_>) -> Result<Items<Port>, ParseErr>
+    ensures { Reads (list.more params_spec.port tokens.old) result tokens.new }
+{
+    let mut found = Items::new(alloc);
+    for _turn in 0..tokens.left() {
+        if !sees(tokens, Mark::Comma) {
+            return Ok(found);
+        }
+        let part = comma_port(alloc, tokens)?;
+        found.push(part)?;
+    }
+    Ok(found)
+}
+
+#[tactic(auto, unfolding(crate::specs::Source::some_ports, crate::specs::Source::more_ports, crate::specs::Lists::more, crate::specs::Lists::behind_comma))]
+fn some_ports(alloc: Global, tokens: &mut Cursor<'_>) -> Result<Items<Port>, ParseErr>
+    ensures { Reads (spec.some_ports tokens.old) result tokens.new }
+{
+    let first = first_port(alloc, tokens)?;
+    let more = more_ports(alloc, tokens)?;
+    let all = with_first(alloc, first, more)?;
+    Ok(all)
+}
+
+#[tactic(auto, unfolding(crate::specs::Source::ports_inside))]
+fn ports_inside(alloc: Global, tokens: &mut Cursor<'_>) -> Result<Items<Port>, ParseErr>
+    ensures { Reads (spec.ports_inside tokens.old) result tokens.new }
+{
+    match way_next(tokens) {
+        Some(_) => some_ports(alloc, tokens),
+        None => Ok(Items::new(alloc)),
+    }
+}
+
+#[tactic(auto, unfolding(crate::specs::Source::ports))]
+fn ports(alloc: Global, tokens: &mut Cursor<'_>) -> Result<Items<Port>, ParseErr>
+    ensures { Reads (spec.ports tokens.old) result tokens.new }
+{
+    tokens.mark(Mark::LeftParen)?;
+    let all = ports_inside(alloc, tokens)?;
+    tokens.mark(Mark::RightParen)?;
+    Ok(all)
+}
+
+#[tactic(auto, unfolding(crate::specs::Source::maybe_ports))]
+fn maybe_ports(alloc: Global, tokens: &mut Cursor<'_>) -> Result<Option<Items<Port>>, ParseErr>
+    ensures { Reads (spec.maybe_ports tokens.old) result tokens.new }
+{
+    match tokens.peek_mark(Mark::LeftParen) {
+        Some(_) => {
+            let all = ports(alloc, tokens)?;
+            Ok(Some(all))
+        }
+        None => Ok(None),
+    }
+}
+
+#[tactic(auto, unfolding(crate::specs::Lists::behind_comma))]
+fn comma_par_port(alloc: Global, tokens: &mut Cursor<'_>) -> Result<ParPort, ParseErr>
+    ensures { Reads (list.behind_comma params_spec.par_port tokens.old) result tokens.new }
+{
+    tokens.mark(Mark::Comma)?;
+    let part = par_port(alloc, tokens)?;
+    Ok(part)
+}
+
+fn more_par_ports(alloc: Global, tokens: &mut Cursor<'_>) -> Result<Items<ParPort>, ParseErr>
+    ensures { Reads (list.more params_spec.par_port tokens.old) result tokens.new }
+{
+    let mut found = Items::new(alloc);
+    for _turn in 0..tokens.left() {
+        if !sees(tokens, Mark::Comma) {
+            return Ok(found);
+        }
+        let part = comma_par_port(alloc, tokens)?;
+        found.push(part)?;
+    }
+    Ok(found)
+}
+
+#[tactic(auto, unfolding(crate::specs::Source::params_inside, crate::specs::Source::more_par_ports, crate::specs::Lists::more, crate::specs::Lists::behind_comma))]
+fn params_inside(
+    alloc: Global,
+    tokens: &mut Cursor<'_>,
+) -> Result<(ParPort, Items<ParPort>), ParseErr>
+    ensures { Reads (spec.params_inside tokens.old) result tokens.new }
+{
+    tokens.mark(Mark::Hash)?;
+    tokens.mark(Mark::LeftParen)?;
+    let first = par_port(alloc, tokens)?;
+    let more = more_par_ports(alloc, tokens)?;
+    tokens.mark(Mark::RightParen)?;
+    Ok((first, more))
+}
+
+#[tactic(auto, unfolding(crate::specs::Source::params))]
+fn params(alloc: Global, tokens: &mut Cursor<'_>) -> Result<Items<ParPort>, ParseErr>
+    ensures { Reads (spec.params tokens.old) result tokens.new }
+{
+    match tokens.peek_mark(Mark::Hash) {
+        Some(_) => {
+            let (first, more) = params_inside(alloc, tokens)?;
+            let all = with_first(alloc, first, more)?;
+            Ok(all)
+        }
+        None => Ok(Items::new(alloc)),
+    }
+}
+
+// ---- modules
+
+fn body_item(alloc: Global, tokens: &mut Cursor<'_>) -> Result<Item, ParseErr>
+    ensures { Reads (spec_items.item 200 tokens.old) result tokens.new }
+{
+    item(alloc, tokens, MOST_NESTING)
+}
+
+fn body(alloc: Global, tokens: &mut Cursor<'_>) -> Result<Items<Item>, ParseErr>
+    ensures { Reads (spec_items.items (spec_items.item 200) tokens.old) result tokens.new }
+{
+    let mut found = Items::new(alloc);
+    for _turn in 0..tokens.left() {
+        if !sees_item(tokens) {
+            return Ok(found);
+        }
+        let part = body_item(alloc, tokens)?;
+        found.push(part)?;
+    }
+    Ok(found)
+}
+
+// The parameters, the ports, the items and the label of a module.
+type ModuleRest = (
+    Items<ParPort>,
+    (Option<Items<Port>>, (Items<Item>, Option<Word>)),
+);
+
+// What stands behind the name of a module.
+fn module_rest(alloc: Global, tokens: &mut Cursor<'_>, name: &Word) -> Result<ModuleRest, ParseErr>
+    ensures { Reads (spec.module_rest name.now tokens.old) result tokens.new }
+{
+    let params = params(alloc, tokens)?;
+    let ports = maybe_ports(alloc, tokens)?;
+    tokens.mark(Mark::Semicolon)?;
+    let items = body(alloc, tokens)?;
+    tokens.keyword(Keyword::Endmodule)?;
+    let label = label_behind(alloc, tokens, name)?;
+    Ok((params, (ports, (items, label))))
+}
+
+/// A module (A.1.2, module_declaration). The cursor stands behind it then.
+#[tactic(auto, unfolding(crate::specs::Source::modul))]
+fn module(alloc: Global, tokens: &mut Cursor<'_>) -> Result<Module, ParseErr>
+    ensures { Reads (spec.modul tokens.old) result tokens.new }
+{
+    tokens.keyword(Keyword::Module)?;
+    let name = tokens.id(alloc)?;
+    let (params, (ports, (items, label))) = module_rest(alloc, tokens, &name)?;
+    Ok(Module {
+        name,
+        params,
+        ports,
+        items,
+        label,
+    })
+}
+
+// ---- whole texts
+
+fn part_of_word(word: Keyword) -> Option<PartOpener>
+    ensures { result ≡ words.part_by_word word }
+{
+    match word {
+        Keyword::Module => Some(PartOpener::Module),
+        Keyword::Typedef => Some(PartOpener::Typedef),
+        Keyword::Parameter => Some(PartOpener::Param),
+        Keyword::Localparam => Some(PartOpener::Param),
+        _ => None,
+    }
+}
+
+#[tactic(auto, using(crate::proofs::Firsts::word_first))]
+fn part_next(tokens: &Cursor<'_>) -> Option<PartOpener>
+    ensures { result ≡ told (word_test words.part_by_word) tokens.now }
+{
+    match tokens.sort() {
+        Sort::Keyword(word) => part_of_word(word),
+        _ => None,
+    }
+}
+
+fn sees_part(tokens: &Cursor<'_>) -> bool
+    ensures { result ≡ is_some (told (word_test words.part_by_word) tokens.now) }
+{
+    part_next(tokens).is_some()
+}
+
+fn part_for(
+    alloc: Global,
+    tokens: &mut Cursor<'_>,
+    opener: PartOpener,
+) -> Result<SourcePart, ParseErr>
+    ensures { Reads (spec.part_for opener tokens.old) result tokens.new }
+{
+    match opener {
+        PartOpener::Module => {
+            let inner = module(alloc, tokens)?;
+            Ok(SourcePart::Module(inner))
+        }
+        PartOpener::Typedef => {
+            let inner = typedef(alloc, tokens)?;
+            Ok(SourcePart::Typedef(inner))
+        }
+        PartOpener::Param => {
+            let inner = param(alloc, tokens)?;
+            Ok(SourcePart::Param(inner))
+        }
+    }
+}
+
+#[tactic(auto, unfolding(crate::specs::Source::part))]
+fn part(alloc: Global, tokens: &mut Cursor<'_>) -> Result<SourcePart, ParseErr>
+    ensures { Reads (spec.part tokens.old) result tokens.new }
+{
+    match part_next(tokens) {
+        Some(opener) => part_for(alloc, tokens, opener),
+        None => Err(tokens.refuse()),
+    }
+}
+
+fn all_parts(alloc: Global, tokens: &mut Cursor<'_>) -> Result<Items<SourcePart>, ParseErr>
+    ensures { Reads (list.while_told (word_test words.part_by_word) spec.part tokens.old) result tokens.new }
+{
+    let mut found = Items::new(alloc);
+    for _turn in 0..tokens.left() {
+        if !sees_part(tokens) {
+            return Ok(found);
+        }
+        let part = part(alloc, tokens)?;
+        found.push(part)?;
+    }
+    Ok(found)
+}
+
+#[tactic(auto, unfolding(crate::specs::Source::parts, crate::specs::Lists::while_told))]
+fn parts(alloc: Global, tokens: &mut Cursor<'_>) -> Result<Source, ParseErr>
+    ensures { Reads (spec.parts tokens.old) result tokens.new }
+{
+    let parts = all_parts(alloc, tokens)?;
+    Ok(Source { parts })
+}
+
+// The tree, where no token is left.
+fn ended(tokens: &Cursor<'_>, whole: Source) -> Result<Source, ParseErr>
+    ensures { Reads (spec.ended whole tokens.now) result tokens.now }
+{
+    if tokens.left() == 0 {
+        Ok(whole)
+    } else {
+        Err(tokens.refuse())
+    }
+}
+
+/// A whole text (A.1.2, source_text), up to the end of the tokens.
+#[tactic(auto, unfolding(crate::specs::Source::source))]
+pub fn source(alloc: Global, tokens: &mut Cursor<'_>) -> Result<Source, ParseErr>
+    ensures { Reads (spec.source tokens.old) result tokens.new }
+{
+    let whole = parts(alloc, tokens)?;
+    ended(tokens, whole)
+}

@@ -1,0 +1,52 @@
+// What stands behind the first part of a tree.
+use items::{Boxed, Items};
+use sv_tree::{Arm, CaseWord, Event, Expr, One, Pins, Range, StepMark, StepSign, Stmt, Word};
+
+/// What stands behind the variable in a step.
+#[derive(Drop)]
+pub enum StepTail {
+    /// `++` or `--`
+    By(StepMark),
+    /// The mark of an assignment, and what is assigned.
+    Set(StepSign, Expr),
+}
+
+/// What stands behind `unique` and its like.
+#[derive(Drop)]
+pub enum BranchTail {
+    /// The condition of an `if`, the statement, and the one behind `else`.
+    If(Expr, Boxed<Stmt>, Option<Boxed<Stmt>>),
+    /// The word, what is compared, and the arms.
+    Case(CaseWord, Expr, Items<Arm>),
+}
+
+/// What stands behind the first name of an item, where it names a module or a type.
+#[derive(Drop)]
+pub enum NameTail {
+    /// Overrides, and instances.
+    Overridden(Option<Pins>, Items<One>),
+    /// One or more ranges of the type, and the names of variables.
+    Ranged(Items<Range>, Items<Word>),
+    /// A name, and what stands behind it.
+    Plain(Word, PlainTail),
+}
+
+/// What stands behind the second name of an item.
+#[derive(Drop)]
+pub enum PlainTail {
+    /// The connections of the instance of that name, and more instances.
+    Instances(Option<Pins>, Items<One>),
+    /// More names of variables.
+    Variables(Items<Word>),
+}
+
+/// What stands behind the `@` of an `always`.
+#[derive(Drop)]
+pub enum AlwaysTail {
+    /// `*`
+    Star,
+    /// `(*)`
+    StarParen,
+    /// The rest of an event.
+    Event(Event),
+}
