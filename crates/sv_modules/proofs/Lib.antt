@@ -5,3 +5,4 @@ pub mod Libraries
 pub mod Instances
 pub mod Given
 pub mod Pinned
+pub mod Found
