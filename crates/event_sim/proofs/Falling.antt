@@ -7,7 +7,7 @@ use Rattle.fourvec.specs.Bits.{bit_below}
 use Rattle.svex_arena.specs.Values.{Vector}
 use Rattle.event_sim.specs.Sims.{store_of}
 
-abbrev weight : Bit → ℕ
+abbrev pub weight : Bit → ℕ
 weight Unknown = 1
 weight x = 0
 
@@ -20,7 +20,7 @@ unfoldable pub unknowns : List Vector → ℕ
 unknowns [] = 0
 unknowns (row ∷ rows) = row_unknowns row + unknowns rows
 
-weight-falls : (x y : Bit) → bit_below x y ≡ true → weight y ≤ weight x
+pub weight-falls : (x y : Bit) → bit_below x y ≡ true → weight y ≤ weight x
 weight-falls Unknown Unknown h = omega arith
 weight-falls Unknown Zero h = omega arith
 weight-falls Unknown One h = omega arith
@@ -38,7 +38,7 @@ weight-falls Floating Zero h = cc
 weight-falls Floating One h = cc
 weight-falls Floating Unknown h = cc
 
-weight-same : (x y : Bit) → bit_below x y ≡ true → weight x ≡ weight y → x ≡ y
+pub weight-same : (x y : Bit) → bit_below x y ≡ true → weight x ≡ weight y → x ≡ y
 weight-same Unknown Unknown h e = refl
 weight-same Unknown Zero h e = absurd (omega (arith, e))
 weight-same Unknown One h e = absurd (omega (arith, e))

@@ -13,4 +13,6 @@ pub mod NetPlaces
 pub mod FlatNets
 pub mod Stepping
 pub mod Making
+pub mod Resting
+mod Rows
 pub mod Falling

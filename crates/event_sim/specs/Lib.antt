@@ -4,3 +4,4 @@ pub mod Passes
 pub mod Rows
 pub mod Runs
 pub mod Sims
+pub mod Steps

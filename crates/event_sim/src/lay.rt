@@ -263,7 +263,8 @@ fn give_input(
         → gifts.new.items ≡ gifts.old.items ++ (if signal.now.input
         then gifts_to (home_of links (joined_widths joins.now)) (Stimulus wire) 0 (wire_bits wire signal.now.width) else [])) }
 {
-    if signal.input {
+    let counts = signal.input;
+    if counts {
         let whole = whole_wire(alloc, wire, signal.width)?;
         let from = Source::Stimulus(wire);
         give(alloc, joins, starts, &from, &whole, gifts)

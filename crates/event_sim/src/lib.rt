@@ -3,6 +3,7 @@
 #![tactic(auto)]
 
 mod gift;
+mod laws;
 mod lay;
 mod make;
 mod nets;
@@ -10,4 +11,5 @@ mod pass;
 mod sim;
 mod values;
 
+pub use laws::steps_reach_the_least_settling;
 pub use sim::Sim;

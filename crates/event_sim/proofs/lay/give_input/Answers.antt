@@ -23,5 +23,5 @@ returns-in_ok-whole c =
     e links s
     ∙ ap (λ w. old ++ gifts_to home (Stimulus c.args.wire) 0 (lhs_bits w)) c.in_ok-whole.ensures
     ∙ ap (λ l. old ++ gifts_to home (Stimulus c.args.wire) 0 l) (whole-bits c.args.wire width)
-    ∙ ap (λ t. old ++ cond t (gifts_to home (Stimulus c.args.wire) 0 (wire_bits c.args.wire width)) []) (sym c.if-signal.true))
+    ∙ ap (λ t. old ++ cond t (gifts_to home (Stimulus c.args.wire) 0 (wire_bits c.args.wire width)) []) (sym c.if-counts.true))
     c.give.ensures

@@ -1,0 +1,50 @@
+-- Steps from X at every bit, each on a net by its number.
+use Rattle.std.specs.Prelude.{◌≡◌, ℕ, suc, ◌<◌, ◌≤◌, List, [], ◌∷◌, length, map, slice_index_or}
+use Rattle.lhs_alias.specs.Segs.{bit}
+use Rattle.lhs_alias.specs.Joined.{all_bits}
+use Rattle.settling.specs.Settling.{Store}
+use Rattle.settling.specs.Least.{Under}
+use Rattle.settling.specs.Events.{Net, event, after_events}
+use Rattle.driver_resolve.specs.Drivers.{widths_of}
+use Rattle.flat_net.specs.declared.flat.Flat.{Flat}
+use Rattle.flat_net.specs.Flats.{links_of, given_in, Settles, IsLeastSettling}
+use Rattle.event_sim.specs.Nets.{nets_of, net_bits}
+
+-- the bits of the net of a number
+abbrev pub net_of : Flat → ℕ → Net
+net_of flat k = net_bits flat (slice_index_or (nets_of flat) k (bit 0 0))
+
+-- one step
+abbrev pub stepped : Flat → Store → Store → ℕ → Store → Store
+stepped flat stim prev k now = event (links_of flat.joins) (given_in flat stim prev) (net_of flat k) now
+
+-- the valuation after steps, the latest first
+abbrev pub after_steps : Flat → Store → Store → List ℕ → Store
+after_steps flat stim prev steps = after_events (links_of flat.joins) (given_in flat stim prev) (map (net_of flat) steps)
+
+-- it stays below every settling
+abbrev pub StepsStayBelow : Flat → Type 0
+StepsStayBelow flat = (stim prev : Store) (steps : List ℕ) (t : Store) → Settles flat stim prev t → Under (after_steps flat stim prev steps) t
+
+-- a step raises bits or changes nothing
+abbrev pub StepsRaise : Flat → Type 0
+StepsRaise flat = (stim prev : Store) (steps : List ℕ) (k : ℕ)
+    → Under (after_steps flat stim prev steps) (stepped flat stim prev k (after_steps flat stim prev steps))
+
+-- where no step changes anything more, it is the least settling
+abbrev pub RestIsLeast : Flat → Type 0
+RestIsLeast flat = (stim prev : Store) (steps : List ℕ)
+    → ((k : ℕ) → k < length (nets_of flat) → (n at : ℕ) → stepped flat stim prev k (after_steps flat stim prev steps) n at ≡ after_steps flat stim prev steps n at)
+    → IsLeastSettling flat stim prev (after_steps flat stim prev steps)
+
+-- so many of the steps changed the valuation
+pub data Changed (flat : Flat) (stim prev : Store) : List ℕ → ℕ → Type 0 where
+  none : Changed flat stim prev [] 0
+  stayed : {k : ℕ} {before : List ℕ} {count : ℕ} → Changed flat stim prev before count
+      → after_steps flat stim prev (k ∷ before) ≡ after_steps flat stim prev before → Changed flat stim prev (k ∷ before) count
+  rose : {k : ℕ} {before : List ℕ} {count : ℕ} → Changed flat stim prev before count
+      → (after_steps flat stim prev (k ∷ before) ≡ after_steps flat stim prev before → ⊥) → Changed flat stim prev (k ∷ before) (suc count)
+
+-- at most as many steps change it as there are bits
+abbrev pub FewChange : Flat → Type 0
+FewChange flat = (stim prev : Store) (steps : List ℕ) (count : ℕ) → Changed flat stim prev steps count → count ≤ length (all_bits (widths_of flat.wires))
