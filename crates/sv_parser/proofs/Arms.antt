@@ -1,5 +1,5 @@
 -- The arms of case statements are read as they are spelled: one default at most.
-use Rattle.std.proofs.Common.{◌≡◌, ℕ, zero, suc, ◌+◌, ◌<◌, ◌≤◌, ◌⊎◌, inl, inr, Bool, true, false, List, [], ◌∷◌, ◌++◌, length, Option, Some, None, refl, sym, ◌∙◌, ap, subst, append_assoc, append-nil, length-append, arith}
+use Rattle.std.proofs.Common.{◌≡◌, ℕ, ◌+◌, ◌<◌, ◌≤◌, ◌⊎◌, Bool, true, false, List, [], ◌∷◌, ◌++◌, length, Option, Some, None, refl, sym, ◌∙◌, ap, subst, append_assoc, append-nil, length-append, arith}
 use Rattle.sv_outside.specs.declared.refusal.Place.{Place}
 use Rattle.sv_outside.specs.declared.text.Token.{Token}
 use Rattle.sv_tree.specs.declared.exprs.Expr.{Expr}
@@ -7,10 +7,9 @@ use Rattle.sv_tree.specs.declared.stmts.Stmt.{Stmt, end_of-Stmt, more_of-Stmt}
 use Rattle.sv_tree.specs.declared.stmts.Arm.{Arm, Labels', Default'}
 use Rattle.sv_tree.specs.declared.stmts.Arm.TheVariants as ar
 use Rattle.sv_tree.specs.declared.stmts.Arm.TheBlock.{shape-the_row-Stmt-0, hidden-the_row-Stmt-0, shape-the_row-Stmt-1, hidden-the_row-Stmt-1, shape-the_row-Arm-2, hidden-the_row-Arm-2}
-use Rattle.sv_tree.specs.Spelling.{Spelled, nothing, never, ◌⨟◌, when, mark as mark_spelled, mark_at, key, maybe, each, commas}
-use Rattle.sv_tree.specs.GrammarExprs.{Spells}
+use Rattle.sv_tree.specs.Spelling.{Spelled, nothing, never, ◌⨟◌, when, mark_at, key, maybe, each}
 use Rattle.sv_tree.specs.GrammarStmts.{is_closed, colon_if, SpellsStmt, SpellsArm}
-use Rattle.sv_tree.specs.Nesting.{Nesting, Depths, one, if_given, each_depths, commas_depths, expr_depths}
+use Rattle.sv_tree.specs.Nesting.{Depths, one, if_given, each_depths}
 use Rattle.sv_tree.specs.NestingDesign.{if_true, stmt_depths, arm_depths}
 use Rattle.sv_tree.proofs.MadeStmts.{some, is_default, count_default, default_count, default_labels, default_default}
 use Rattle.sv_tree.proofs.MadeStmts as made
@@ -25,12 +24,12 @@ use Rattle.sv_cursor.specs.Parsers.{Parser, told}
 use Rattle.sv_cursor.proofs.Readers.{IsReader, IsMoved, less_reader}
 use Rattle.sv_expr_parser.specs.declared.openers.Opener.{Opener}
 use Rattle.sv_expr_parser.specs.Signs.{opener, opener_test}
-use Rattle.sv_expr_parser.proofs.Tokens.{Any, Stops, placed_mark, some_mark}
+use Rattle.sv_expr_parser.proofs.Tokens.{placed_mark, some_mark}
 use Rattle.sv_parser.specs.declared.openers.StmtOpener.{StmtOpener}
-use Rattle.sv_parser.specs.Combined.{sort_test, listed}
+use Rattle.sv_parser.specs.Combined.{sort_test}
 use Rattle.sv_parser.specs.Words.{stmt_by_sort}
 use Rattle.sv_parser.specs.Stmts.{made_labels, labelled, is_given, made_default, default, all_labelled, from_default, behind_labelled, made_arms, arms}
-use Rattle.sv_parser.proofs.Rules.{Rule, Fixed, the_mark, the_key, placed, before, seq, seq_by, optional, several, tree_reads, tree_moved, rule_of, until, list_rule, moved_counted, mark_begins, key_begins, IsFirst, first_of_mark, first_of_key, told_sort, no_mark, no_key}
+use Rattle.sv_parser.proofs.Rules.{Rule, the_mark, the_key, placed, before, seq, seq_by, optional, several, tree_reads, tree_moved, rule_of, list_rule, mark_begins, key_begins, IsFirst, first_of_mark, first_of_key, told_sort, no_mark}
 use Rattle.sv_parser.proofs.Limits.{Over, expression_rule, first_end}
 use Rattle.sv_parser.proofs.Steps.{NoColon}
 use Rattle.sv_parser.proofs.Begins.{NoElse, exprs_begin, told_opener, stmt_begins}

@@ -1,5 +1,5 @@
 -- The first tokens of expressions and statements.
-use Rattle.std.proofs.Common.{◌≡◌, ℕ, zero, suc, ◌+◌, ◌<◌, ◌≤◌, Bool, true, false, List, [], ◌∷◌, ◌++◌, length, take, Option, Some, None, Ok, Err, refl, sym, ◌∙◌, ap, subst, arith}
+use Rattle.std.proofs.Common.{◌≡◌, ◌<◌, false, List, [], ◌∷◌, ◌++◌, length, Option, Some, None, Err, refl, sym, ◌∙◌, ap, subst, arith}
 use Rattle.sv_outside.specs.declared.text.Token.{Token}
 use Rattle.sv_tree.specs.declared.exprs.Expr.{Expr}
 use Rattle.sv_tree.specs.declared.stmts.Stmt.{Stmt}
@@ -15,14 +15,13 @@ use Rattle.sv_tree.specs.Nesting.{expr_depths}
 use Rattle.sv_tree.proofs.Framed.{frame}
 use Rattle.sv_tree.proofs.MadeStmts as made
 use Rattle.sv_cursor.specs.declared.error.ParseErr.TheVariants.{Syntax}
-use Rattle.sv_cursor.specs.declared.sort.Keyword.{Keyword}
 use Rattle.sv_cursor.specs.declared.sort.Keyword.TheVariants as k
 use Rattle.sv_cursor.specs.declared.sort.Mark.TheVariants as m
 use Rattle.sv_cursor.specs.declared.sort.Sort.{Sort}
 use Rattle.sv_cursor.specs.declared.sort.Sort.TheVariants as so
 use Rattle.sv_cursor.specs.Sorts.{mark_text, keyword_text}
 use Rattle.sv_cursor.specs.Tests.{first_sort, same_keyword, is_keyword, keyword_test}
-use Rattle.sv_cursor.specs.Parsers.{Outcome, Parser, and_then, told, branch, refuse}
+use Rattle.sv_cursor.specs.Parsers.{Outcome, and_then, told, branch, refuse}
 use Rattle.sv_cursor.proofs.Readers.{Agrees}
 use Rattle.sv_expr_parser.specs.declared.openers.Opener.{Opener}
 use Rattle.sv_expr_parser.specs.Signs.{opener, opener_test}
@@ -31,7 +30,6 @@ use Rattle.sv_expr_parser.proofs.Tokens.{Bad}
 use Rattle.sv_expr_parser.proofs.Heights.{short}
 use Rattle.sv_expr_parser.proofs.Laws.{expr_reader}
 use Rattle.sv_parser.specs.declared.openers.TargetOpener.{TargetOpener}
-use Rattle.sv_parser.specs.declared.openers.TargetOpener.TheVariants as target_by
 use Rattle.sv_parser.specs.declared.openers.StmtOpener.{StmtOpener}
 use Rattle.sv_parser.specs.declared.openers.StmtOpener.TheVariants as stmt_by
 use Rattle.sv_parser.specs.Combined.{sort_test}

@@ -1,26 +1,24 @@
 -- Blocks are read as they are spelled.
-use Rattle.std.proofs.Common.{◌≡◌, ℕ, zero, suc, ◌+◌, ◌≤◌, ◌⊎◌, inl, inr, true, false, List, [], ◌∷◌, ◌++◌, length, Option, Some, None, refl, sym, ◌∙◌, ap, subst, append_assoc, arith}
+use Rattle.std.proofs.Common.{◌≡◌, ℕ, ◌≤◌, ◌⊎◌, inl, inr, List, [], ◌++◌, length, Some, None, refl, ◌∙◌, ap, arith}
 use Rattle.sv_outside.specs.declared.refusal.Place.{Place}
 use Rattle.sv_outside.specs.declared.text.Token.{Token}
 use Rattle.sv_tree.specs.declared.word.Word.{Word}
 use Rattle.sv_tree.specs.declared.stmts.Edge.{Edge}
-use Rattle.sv_tree.specs.declared.stmts.Edge.TheVariants as edge
 use Rattle.sv_tree.specs.declared.stmts.Event.{Event}
 use Rattle.sv_tree.specs.declared.stmts.BlockKind.{BlockKind}
 use Rattle.sv_tree.specs.declared.stmts.BlockKind.TheVariants as kind_of
 use Rattle.sv_tree.specs.declared.stmts.Block.{Block}
 use Rattle.sv_tree.specs.declared.stmts.Stmt.{Stmt}
-use Rattle.sv_tree.specs.Spelling.{Spelled, never, ◌⨟◌, mark as mark_spelled, mark_at, key, key_at, name}
-use Rattle.sv_tree.specs.GrammarStmts.{edge_key, is_closed, SpellsEvent, SpellsKind, SpellsStmt, SpellsBlock}
+use Rattle.sv_tree.specs.Spelling.{Spelled, never, ◌⨟◌, mark as mark_spelled, key, key_at, name}
+use Rattle.sv_tree.specs.GrammarStmts.{edge_key, is_closed, SpellsEvent, SpellsKind, SpellsBlock}
 use Rattle.sv_tree.specs.Nesting.{Nesting, Depths, one, two, three}
-use Rattle.sv_tree.specs.NestingDesign.{event_depths, kind_depths, stmt_depths, block_depths}
+use Rattle.sv_tree.specs.NestingDesign.{event_depths, kind_depths, block_depths}
 use Rattle.sv_tree.proofs.Counted.{Counted}
 use Rattle.sv_tree.proofs.CountedDesign.{counted_kind, counted_event, counted_block}
 use Rattle.sv_cursor.specs.declared.sort.Keyword.{Keyword}
 use Rattle.sv_cursor.specs.declared.sort.Keyword.TheVariants as k
 use Rattle.sv_cursor.specs.declared.sort.Mark.{Mark as MarkName}
 use Rattle.sv_cursor.specs.declared.sort.Mark.TheVariants as m
-use Rattle.sv_cursor.specs.declared.sort.Sort.{Sort}
 use Rattle.sv_cursor.specs.declared.sort.Sort.TheVariants as so
 use Rattle.sv_cursor.specs.Sorts.{mark_text, keyword_text}
 use Rattle.sv_cursor.specs.Tests.{same_mark, mark_test}
@@ -34,11 +32,11 @@ use Rattle.sv_parser.specs.declared.openers.AlwaysWord.TheVariants as always_wor
 use Rattle.sv_parser.specs.Combined.{word_of, word_test, kept}
 use Rattle.sv_parser.specs.Words.{always_by_word}
 use Rattle.sv_parser.specs.Items.{made_event, event_inside, event, star_inside, always_inside, star, always_tail, made_always_kind, kind_for, kind, made_always, always}
-use Rattle.sv_parser.proofs.Rules.{Rule, Fixed, the_mark, the_key, placed, less, before, seq, closing, tree_reads, rule_of, Way, choose_reads, fork_reads, fork_moved, ReadBy, reader_of, name_rule, mark_begins, placed_key, some_key, IsFirst, first_of_mark, first_of_key, first_of_key_at, told_word, no_mark}
+use Rattle.sv_parser.proofs.Rules.{Rule, Fixed, the_mark, the_key, placed, less, before, seq, closing, tree_reads, rule_of, Way, choose_reads, fork_reads, fork_moved, ReadBy, reader_of, name_rule, mark_begins, placed_key, some_key, IsFirst, first_of_mark, first_of_key, told_word, no_mark}
 use Rattle.sv_parser.proofs.Words.{edge_rule, edge_first, edge_word_name}
 use Rattle.sv_parser.proofs.Limits.{Over}
 use Rattle.sv_parser.proofs.Steps.{NoColon}
-use Rattle.sv_parser.proofs.Arms.{Closed, DoneStmt, counted_done}
+use Rattle.sv_parser.proofs.Arms.{Closed, counted_done}
 use Rattle.sv_parser.proofs.StmtLevel.{stmt_reads}
 
 abbrev EventInside : Event → Spelled

@@ -3,8 +3,6 @@ use Rattle.std.proofs.Common.{◌≡◌, ◌≢◌, ℕ, zero, suc, ◌+◌, ◌
 use Rattle.std.specs.Result.{IsErrAnd}
 use Rattle.sv_outside.specs.declared.refusal.Place.{Place}
 use Rattle.sv_outside.specs.declared.text.Token.{Token}
-use Rattle.sv_tree.specs.declared.word.Word.{Word}
-use Rattle.sv_tree.specs.declared.exprs.Select.{Select}
 use Rattle.sv_tree.specs.declared.stmts.Lvalue.{Lvalue}
 use Rattle.sv_tree.specs.declared.stmts.Lvalue.TheVariants as lv
 use Rattle.sv_cursor.specs.declared.error.ParseErr.{ParseErr}
@@ -12,7 +10,7 @@ use Rattle.sv_cursor.specs.declared.error.ParseErr.TheVariants.{Memory, Syntax}
 use Rattle.sv_cursor.specs.declared.sort.Mark.{Mark as MarkName}
 use Rattle.sv_cursor.specs.declared.sort.Mark.TheVariants as m
 use Rattle.sv_cursor.specs.Tests.{mark_test, id_test, mark}
-use Rattle.sv_cursor.specs.Parsers.{Outcome, Parser, and_then, ◌>>=◌, ◌<$>◌, ◌⊗◌, pure, refuse, told, next, take_told, token, branch, by_told, cons, many_from, many}
+use Rattle.sv_cursor.specs.Parsers.{Outcome, Parser, and_then, ◌>>=◌, ◌<$>◌, ◌⊗◌, pure, refuse, told, next, take_told, token, branch, cons, many_from, many}
 use Rattle.sv_cursor.proofs.Readers.{Meets, then_meets, meets_weaker}
 use Rattle.sv_expr_parser.specs.Reading.{expr, selects}
 use Rattle.sv_parser.specs.declared.lvalues.OpenBrace.{OpenBrace}

@@ -1,5 +1,5 @@
 -- Instances, and what else begins with a name, are read as they are spelled.
-use Rattle.std.proofs.Common.{◌≡◌, ℕ, zero, suc, ◌+◌, ◌<◌, ◌≤◌, ◌⊎◌, inl, inr, true, false, List, [], ◌∷◌, ◌++◌, length, Option, Some, None, refl, sym, ◌∙◌, ap, subst, append_assoc, append-nil, length-append, arith}
+use Rattle.std.proofs.Common.{◌≡◌, ℕ, ◌≤◌, ◌⊎◌, inl, inr, List, [], ◌∷◌, ◌++◌, Option, Some, None, refl, sym, ◌∙◌, ap, subst, append_assoc, arith}
 use Rattle.sv_outside.specs.declared.refusal.Place.{Place}
 use Rattle.sv_outside.specs.declared.text.Token.{Token}
 use Rattle.sv_tree.specs.declared.word.Word.{Word}
@@ -11,11 +11,11 @@ use Rattle.sv_tree.specs.declared.design.NamedPin.{NamedPin}
 use Rattle.sv_tree.specs.declared.design.Pins.{Pins}
 use Rattle.sv_tree.specs.declared.design.Pins.TheVariants as pins_of
 use Rattle.sv_tree.specs.declared.design.One.{One}
-use Rattle.sv_tree.specs.Spelling.{Spelled, nothing, ◌⨟◌, mark as mark_spelled, name, maybe, each, commas, after_commas}
+use Rattle.sv_tree.specs.Spelling.{Spelled, ◌⨟◌, mark as mark_spelled, name, maybe, commas, after_commas}
 use Rattle.sv_tree.specs.GrammarExprs.{Spells}
 use Rattle.sv_tree.specs.GrammarForms.{SpellsRange}
 use Rattle.sv_tree.specs.GrammarDesign.{SpellsPin, SpellsNamed, SpellsPins, SpellsOne}
-use Rattle.sv_tree.specs.Nesting.{Depths, one as one_token, if_given, each_depths, commas_depths, after_commas_depths, word_depths, expr_depths}
+use Rattle.sv_tree.specs.Nesting.{Depths, one as one_token, if_given, each_depths, commas_depths, after_commas_depths, word_depths}
 use Rattle.sv_tree.specs.NestingDesign.{range_depths, pin_depths, named_depths, pins_depths, one_depths}
 use Rattle.sv_tree.proofs.MadeStmts.{some}
 use Rattle.sv_tree.proofs.CountedDesign.{counted_pin, counted_named, counted_pins, counted_one}
@@ -24,8 +24,8 @@ use Rattle.sv_cursor.specs.declared.sort.Mark.TheVariants as m
 use Rattle.sv_cursor.specs.declared.sort.Sort.{Sort}
 use Rattle.sv_cursor.specs.declared.sort.Sort.TheVariants as so
 use Rattle.sv_cursor.specs.Sorts.{mark_text}
-use Rattle.sv_cursor.specs.Tests.{first_sort, same_mark, mark_test, id_test}
-use Rattle.sv_cursor.specs.Parsers.{Parser, told, token}
+use Rattle.sv_cursor.specs.Tests.{first_sort, same_mark, mark_test}
+use Rattle.sv_cursor.specs.Parsers.{Parser, told}
 use Rattle.sv_cursor.proofs.Readers.{IsReader, IsMoved}
 use Rattle.sv_expr_parser.specs.declared.openers.Opener.{Opener}
 use Rattle.sv_expr_parser.specs.Signs.{opener, opener_test}
@@ -43,7 +43,7 @@ use Rattle.sv_parser.specs.Words.{ordered_if, pins_by_sort, tail_by_sort}
 use Rattle.sv_parser.specs.Instances.{made_pin, pin_inside, pin, made_named_pin, named_pin, pins_for, pins, pins_inside, made_one, one, more_ones, more_names, made_instances, instances, variables, plain_tail, made_overridden, overridden, made_ranged, ranged, made_plain, plain, tail_for, name_tail}
 use Rattle.sv_parser.proofs.Rules.{Rule, Fixed, the_mark, before, seq, closing, optional, tree_reads, rule_of, some_rule, list_rule, after_rule, name_rule, Way, choose_reads, choose_moved, fork_reads, fork_moved, ReadBy, reader_of, mark_begins, IsFirst, first_of_mark, first_of_name, told_sort, no_mark}
 use Rattle.sv_parser.proofs.Limits.{Over, expression_rule, first_end}
-use Rattle.sv_parser.proofs.Types.{range_first, range_begins, range_rule, names_end, NamesStops, semicolon_no_comma}
+use Rattle.sv_parser.proofs.Types.{range_first, range_begins, range_rule, names_end, semicolon_no_comma}
 use Rattle.sv_parser.proofs.Begins.{expr_begins, exprs_begin, told_opener}
 
 -- ---- first tokens

@@ -1,5 +1,5 @@
 -- What items are made of, by their first tokens.
-use Rattle.std.proofs.Common.{◌≡◌, ℕ, zero, suc, ◌+◌, ◌<◌, ◌≤◌, ◌⊎◌, inl, inr, Bool, true, false, List, [], ◌∷◌, ◌++◌, length, Option, Some, None, refl, sym, ◌∙◌, ap, subst, append_assoc, append-nil, length-append, arith}
+use Rattle.std.proofs.Common.{◌≡◌, ◌⊎◌, inl, inr, List, [], ◌∷◌, length, Option, Some, None, refl, sym, ◌∙◌, ap, subst}
 use Rattle.sv_outside.specs.declared.refusal.Place.{Place}
 use Rattle.sv_outside.specs.declared.text.Token.{Token}
 use Rattle.sv_tree.specs.declared.word.Word.{Word}
@@ -8,7 +8,6 @@ use Rattle.sv_tree.specs.declared.forms.Range.{Range}
 use Rattle.sv_tree.specs.declared.forms.TypeTree.{TypeTree}
 use Rattle.sv_tree.specs.declared.forms.TypeTree.TheVariants as ty
 use Rattle.sv_tree.specs.declared.forms.Typedef.{Typedef}
-use Rattle.sv_tree.specs.declared.stmts.Step.{Step}
 use Rattle.sv_tree.specs.declared.stmts.Block.{Block}
 use Rattle.sv_tree.specs.declared.design.AssignPair.{AssignPair}
 use Rattle.sv_tree.specs.declared.design.ParamWord.{ParamWord}
@@ -22,26 +21,24 @@ use Rattle.sv_tree.specs.declared.design.Inst.{Inst}
 use Rattle.sv_tree.specs.declared.design.Item.{Item}
 use Rattle.sv_tree.specs.declared.design.Item.TheVariants as it
 use Rattle.sv_tree.specs.declared.design.Gen.{Gen}
-use Rattle.sv_tree.specs.declared.design.Gen.TheVariants as ge
-use Rattle.sv_tree.specs.Spelling.{Spelled, nothing, ◌⨟◌, first_at, mark as mark_spelled, mark_at, key, key_at, name, maybe, each, commas, after_commas, label_of}
+use Rattle.sv_tree.specs.Spelling.{Spelled, ◌⨟◌, mark as mark_spelled, key, key_at, name, maybe, each, commas, after_commas}
 use Rattle.sv_tree.specs.GrammarExprs.{Spells}
 use Rattle.sv_tree.specs.GrammarForms.{SpellsRange, SpellsType, SpellsTypedef, SpellsParam, net_key}
-use Rattle.sv_tree.specs.GrammarStmts.{SpellsStep, block_name}
-use Rattle.sv_tree.specs.GrammarDesign.{SpellsPair, SpellsPins, SpellsOne, SpellsInst, genvar_if, is_closed, is_closed_gen, SpellsItem, SpellsGen}
-use Rattle.sv_tree.specs.Nesting.{Depths, one as one_token, if_given}
-use Rattle.sv_tree.specs.NestingDesign.{item_depths, gen_depths}
+use Rattle.sv_tree.specs.GrammarStmts.{SpellsStep}
+use Rattle.sv_tree.specs.GrammarDesign.{SpellsPair, SpellsInst, is_closed, is_closed_gen, SpellsItem, SpellsGen}
+use Rattle.sv_tree.specs.NestingDesign.{gen_depths}
 use Rattle.sv_tree.proofs.MadeStmts.{some}
 use Rattle.sv_tree.proofs.MadeForms as made_forms
 use Rattle.sv_tree.proofs.MadeDesign as made
 use Rattle.sv_tree.proofs.Counted.{Counted}
-use Rattle.sv_tree.proofs.CountedDesign.{counted_item, counted_gen}
+use Rattle.sv_tree.proofs.CountedDesign.{counted_gen}
 use Rattle.sv_cursor.specs.declared.sort.Keyword.{Keyword}
 use Rattle.sv_cursor.specs.declared.sort.Keyword.TheVariants as k
 use Rattle.sv_cursor.specs.declared.sort.Mark.TheVariants as m
 use Rattle.sv_cursor.specs.declared.sort.Sort.{Sort}
 use Rattle.sv_cursor.specs.declared.sort.Sort.TheVariants as so
 use Rattle.sv_cursor.specs.Sorts.{mark_text, keyword_text}
-use Rattle.sv_cursor.specs.Tests.{first_sort, same_mark, same_keyword, is_mark, is_keyword, keyword_test}
+use Rattle.sv_cursor.specs.Tests.{first_sort, keyword_test}
 use Rattle.sv_cursor.specs.Parsers.{told}
 use Rattle.sv_parser.specs.declared.openers.TypeOpener.{TypeOpener}
 use Rattle.sv_parser.specs.declared.openers.AlwaysWord.{AlwaysWord}
@@ -49,20 +46,17 @@ use Rattle.sv_parser.specs.declared.openers.ItemOpener.{ItemOpener}
 use Rattle.sv_parser.specs.declared.openers.ItemOpener.TheVariants as item_by
 use Rattle.sv_parser.specs.declared.tails.NameTail.{NameTail}
 use Rattle.sv_parser.specs.declared.tails.NameTail.TheVariants as name_tail
-use Rattle.sv_parser.specs.declared.tails.PlainTail.{PlainTail}
 use Rattle.sv_parser.specs.declared.tails.PlainTail.TheVariants as plain_tail
 use Rattle.sv_parser.specs.Combined.{sort_test}
 use Rattle.sv_parser.specs.Words.{type_by_word, word_type_by_sort, always_by_word, item_by_word, item_by_sort}
 use Rattle.sv_parser.specs.Params.{TypedName}
-use Rattle.sv_parser.specs.Stmts.{is_given, Turns}
+use Rattle.sv_parser.specs.Stmts.{Turns}
 use Rattle.sv_parser.specs.Instances.{made_inst, made_named_item}
-use Rattle.sv_parser.specs.Items.{made_net, made_variable, made_gen_block, made_cond, made_loop}
-use Rattle.sv_parser.proofs.Rules.{Shut, placed_key, some_key, key_begins, IsFirst, first_of_mark, first_of_key, first_of_key_at, first_of_name, told_sort, no_mark, no_key}
+use Rattle.sv_parser.specs.Items.{made_net, made_variable, made_cond, made_loop}
+use Rattle.sv_parser.proofs.Rules.{Shut, IsFirst, first_of_key, first_of_name, told_sort}
 use Rattle.sv_parser.proofs.Words.{net_first, net_word_name, param_first, param_word_name}
 use Rattle.sv_parser.proofs.Types.{type_split}
 use Rattle.sv_parser.proofs.Ports.{TypedSpelled}
-use Rattle.sv_parser.proofs.Steps.{NoColon}
-use Rattle.sv_parser.proofs.Begins.{NoElse}
 use Rattle.sv_parser.proofs.Arms.{Closed}
 use Rattle.sv_parser.proofs.Instances.{TailSpelled}
 use Rattle.sv_parser.proofs.Blocks.{DoneBlock, block_begins}

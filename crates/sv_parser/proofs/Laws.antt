@@ -1,7 +1,6 @@
 -- Whole texts are read as they are spelled.
-use Rattle.std.proofs.Common.{◌≡◌, ℕ, zero, suc, ◌+◌, ◌-◌, ◌<◌, ◌≤◌, ◌⊎◌, inl, inr, Bool, true, false, List, [], ◌∷◌, ◌++◌, length, take, drop, slice_get, Option, Some, None, Ok, Err, refl, sym, ◌∙◌, ap, subst, append_assoc, append-nil, length-append, arith}
+use Rattle.std.proofs.Common.{◌≡◌, ℕ, zero, suc, ◌+◌, ◌-◌, ◌<◌, ◌≤◌, ◌⊎◌, inl, inr, false, List, [], ◌∷◌, length, take, Some, None, Ok, Err, refl, sym, ◌∙◌, ap, length-append, arith}
 use Rattle.std.proofs.lemmas.Bool.{cases_lt}
-use Rattle.sv_outside.specs.declared.refusal.Place.{Place}
 use Rattle.sv_outside.specs.declared.text.Token.{Token}
 use Rattle.sv_tree.specs.declared.forms.Typedef.{Typedef}
 use Rattle.sv_tree.specs.declared.design.ParamWord.{ParamWord}
@@ -11,12 +10,9 @@ use Rattle.sv_tree.specs.declared.design.Module.{Module}
 use Rattle.sv_tree.specs.declared.design.SourcePart.{SourcePart}
 use Rattle.sv_tree.specs.declared.design.SourcePart.TheVariants as source_part
 use Rattle.sv_tree.specs.declared.design.Source.{Source}
-use Rattle.sv_tree.specs.Spelling.{Spelled, each}
-use Rattle.sv_tree.specs.GrammarForms.{SpellsTypedef, SpellsParam}
-use Rattle.sv_tree.specs.GrammarDesign.{SpellsModule, SpellsPart, SpellsSource}
-use Rattle.sv_tree.specs.Nesting.{Nesting, Depths, each_depths, IsOver, IsOverAt}
-use Rattle.sv_tree.specs.NestingDesign.{typedef_depths, param_depths, module_depths, part_depths, source_depths}
-use Rattle.sv_cursor.specs.declared.error.ParseErr.{ParseErr}
+use Rattle.sv_tree.specs.GrammarDesign.{SpellsPart, SpellsSource}
+use Rattle.sv_tree.specs.Nesting.{Nesting, Depths, IsOver, IsOverAt}
+use Rattle.sv_tree.specs.NestingDesign.{part_depths, source_depths}
 use Rattle.sv_cursor.specs.declared.error.ParseErr.TheVariants.{Memory, Syntax, TooDeep}
 use Rattle.sv_cursor.specs.declared.sort.Keyword.{Keyword}
 use Rattle.sv_cursor.specs.declared.sort.Keyword.TheVariants as k
@@ -26,14 +22,13 @@ use Rattle.sv_cursor.specs.Sorts.{keyword_text}
 use Rattle.sv_cursor.specs.Tests.{first_sort, is_mark}
 use Rattle.sv_cursor.specs.Parsers.{Outcome, Parser, and_then, told}
 use Rattle.sv_cursor.proofs.Readers.{IsReader, IsMoved, BadAt, Agrees, Placed, Meets, then_meets}
-use Rattle.sv_expr_parser.proofs.Tokens.{Any}
 use Rattle.sv_parser.specs.declared.openers.PartOpener.{PartOpener}
 use Rattle.sv_parser.specs.declared.openers.PartOpener.TheVariants as part_by
 use Rattle.sv_parser.specs.Combined.{word_of, word_test}
 use Rattle.sv_parser.specs.Words.{part_by_word}
 use Rattle.sv_parser.specs.Source.{part_for, part, made_source, parts, ended, source}
-use Rattle.sv_parser.specs.Answers.{IsSpelled, Decides}
-use Rattle.sv_parser.proofs.Rules.{Rule, several, tree_reads, tree_moved, rule_of, Way, choose_reads, choose_moved, ReadBy, reader_of, IsFirst, first_of_key, told_word, no_mark}
+use Rattle.sv_parser.specs.Answers.{Decides}
+use Rattle.sv_parser.proofs.Rules.{Rule, several, tree_reads, Way, choose_reads, choose_moved, ReadBy, reader_of, IsFirst, first_of_key, told_word, no_mark}
 use Rattle.sv_parser.proofs.Words.{param_first, param_word_name}
 use Rattle.sv_parser.proofs.Limits.{Over}
 use Rattle.sv_parser.proofs.Params.{typedef_rule, param_tree_rule}

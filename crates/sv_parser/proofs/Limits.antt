@@ -1,6 +1,5 @@
 -- Tokens that lie too deep by a limit for each kind of nesting, and what stops an expression.
-use Rattle.std.proofs.Common.{◌≡◌, ℕ, zero, suc, ◌+◌, ◌≤◌, ◌⊎◌, inl, inr, Bool, true, false, List, [], ◌∷◌, length, map, Option, Some, None, refl, ap, subst, sym, arith}
-use Rattle.std.proofs.lemmas.List.{length-map}
+use Rattle.std.proofs.Common.{◌≡◌, ℕ, zero, suc, ◌+◌, ◌≤◌, ◌⊎◌, inl, inr, Bool, true, false, List, [], ◌∷◌, None, refl, subst, sym, arith}
 use Rattle.sv_outside.specs.declared.text.Token.{Token}
 use Rattle.sv_tree.specs.declared.exprs.Expr.{Expr}
 use Rattle.sv_tree.specs.Spelling.{mark as mark_spelled}
@@ -12,7 +11,7 @@ use Rattle.sv_cursor.specs.declared.sort.Mark.{Mark as MarkName}
 use Rattle.sv_cursor.specs.declared.sort.Mark.TheVariants as m
 use Rattle.sv_cursor.specs.declared.sort.Sort.{Sort}
 use Rattle.sv_cursor.specs.declared.sort.Sort.TheVariants as s
-use Rattle.sv_cursor.specs.Sorts.{sort, mark_text}
+use Rattle.sv_cursor.specs.Sorts.{mark_text}
 use Rattle.sv_cursor.specs.Tests.{same_mark, is_mark}
 use Rattle.sv_cursor.proofs.Readers.{IsReader, BadAt, bad_map, nests_reader, less_reader}
 use Rattle.sv_expr_parser.specs.Signs.{select_test, joiner_test, strength_of, select_opener, joiner}

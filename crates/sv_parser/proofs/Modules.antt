@@ -1,5 +1,5 @@
 -- Modules are read as they are spelled.
-use Rattle.std.proofs.Common.{◌≡◌, ℕ, zero, suc, ◌+◌, ◌<◌, ◌≤◌, ◌⊎◌, inl, inr, Bool, true, false, List, [], ◌∷◌, ◌++◌, length, drop, Option, Some, None, refl, sym, ◌∙◌, ap, subst, append_assoc, append-nil, length-append, arith}
+use Rattle.std.proofs.Common.{◌≡◌, ℕ, ◌+◌, ◌≤◌, Bool, true, false, List, [], ◌∷◌, ◌++◌, length, drop, Option, Some, None, refl, sym, ◌∙◌, ap, subst, append_assoc, arith}
 use Rattle.sv_outside.specs.declared.refusal.Place.{Place}
 use Rattle.sv_outside.specs.declared.text.Token.{Token}
 use Rattle.sv_tree.specs.declared.word.Word.{Word}
@@ -9,35 +9,32 @@ use Rattle.sv_tree.specs.declared.design.Port.{Port}
 use Rattle.sv_tree.specs.declared.design.ParPort.{ParPort}
 use Rattle.sv_tree.specs.declared.design.Item.{Item}
 use Rattle.sv_tree.specs.declared.design.Module.{Module}
-use Rattle.sv_tree.specs.Spelling.{Spelled, nothing, ◌⨟◌, mark as mark_spelled, key, name, maybe, each, commas, after_commas, label}
-use Rattle.sv_tree.specs.GrammarForms.{SpellsParPort, way_key, net_key, SpellsPort}
-use Rattle.sv_tree.specs.GrammarDesign.{SpellsItem, SpellsParams, HasWay, port_list, SpellsPorts, SpellsModule}
-use Rattle.sv_tree.specs.Nesting.{Nesting, Depths, one, two, if_given, each_depths, commas_depths, after_commas_depths, label_depths}
-use Rattle.sv_tree.specs.NestingDesign.{par_port_depths, port_depths, item_depths, params_depths, ports_depths, module_depths}
+use Rattle.sv_tree.specs.Spelling.{Spelled, ◌⨟◌, mark as mark_spelled, key, maybe, after_commas, label}
+use Rattle.sv_tree.specs.GrammarForms.{SpellsParPort, way_key, SpellsPort}
+use Rattle.sv_tree.specs.GrammarDesign.{SpellsParams, HasWay, port_list, SpellsPorts, SpellsModule}
+use Rattle.sv_tree.specs.Nesting.{Nesting, one, if_given, each_depths, commas_depths, label_depths}
+use Rattle.sv_tree.specs.NestingDesign.{port_depths, item_depths, params_depths, ports_depths, module_depths}
 use Rattle.sv_tree.proofs.Counted.{counted_end_label}
-use Rattle.sv_cursor.specs.declared.sort.Keyword.{Keyword}
 use Rattle.sv_cursor.specs.declared.sort.Keyword.TheVariants as k
-use Rattle.sv_cursor.specs.declared.sort.Mark.{Mark as MarkName}
 use Rattle.sv_cursor.specs.declared.sort.Mark.TheVariants as m
 use Rattle.sv_cursor.specs.declared.sort.Sort.TheVariants as so
 use Rattle.sv_cursor.specs.Sorts.{mark_text, keyword_text}
 use Rattle.sv_cursor.specs.Tests.{same_mark, same_keyword, mark_test}
-use Rattle.sv_cursor.specs.Parsers.{Parser, told, token, cons}
+use Rattle.sv_cursor.specs.Parsers.{told, cons}
 use Rattle.sv_cursor.proofs.Readers.{IsReader, IsMoved, BadAt, less_reader, nests_reader}
 use Rattle.sv_expr_parser.proofs.Tokens.{Any, Stops}
 use Rattle.sv_parser.specs.Combined.{word_of, word_test}
-use Rattle.sv_parser.specs.Words.{way_by_word, net_by_word, item_by_sort}
-use Rattle.sv_parser.specs.Params.{TypedName, made_port, port}
+use Rattle.sv_parser.specs.Words.{way_by_word, net_by_word}
+use Rattle.sv_parser.specs.Params.{TypedName, made_port}
 use Rattle.sv_parser.specs.Targets.{label_behind}
-use Rattle.sv_parser.specs.Items.{items, item}
+use Rattle.sv_parser.specs.Items.{item}
 use Rattle.sv_parser.specs.Source.{list_of, made_first, first_port, more_ports, some_ports, ports_inside, ports, maybe_ports, more_par_ports, params_inside, made_params, params, ModuleRest, made_module, module_rest, modul}
-use Rattle.sv_parser.proofs.Rules.{Rule, Fixed, the_mark, the_key, before, seq, seq_by, closing, optional, tree_reads, tree_moved, list_rule, after_rule, rule_of, name_rule, moved_counted, mark_begins, IsFirst, first_of_mark, first_of_key, told_word, no_mark}
+use Rattle.sv_parser.proofs.Rules.{Rule, the_mark, the_key, before, seq, seq_by, closing, optional, tree_reads, tree_moved, after_rule, name_rule, moved_counted, mark_begins, IsFirst, first_of_mark, told_word, no_mark}
 use Rattle.sv_parser.proofs.Words.{way_rule, way_begins, net_rule, net_begins}
 use Rattle.sv_parser.proofs.Limits.{Over, first_end, end_mark}
 use Rattle.sv_parser.proofs.Params.{par_port_rule}
-use Rattle.sv_parser.proofs.Ports.{TypedSpelled, TypedStops, typed_ends, typed_no_net, typed_name_rule, port_rule}
+use Rattle.sv_parser.proofs.Ports.{TypedStops, typed_ends, typed_no_net, typed_name_rule, port_rule}
 use Rattle.sv_parser.proofs.Steps.{NoColon, label_behind_reads}
-use Rattle.sv_parser.proofs.Items.{DoneItem}
 use Rattle.sv_parser.proofs.Gens.{each_item_done, each_item, gen_key_no_else}
 use Rattle.sv_parser.proofs.GenLevel.{no_item, items_rule}
 use Rattle.sv_parser.proofs.ItemLevel.{item_reads}

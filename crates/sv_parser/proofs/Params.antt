@@ -1,5 +1,5 @@
 -- Types of parameters and parameters are read as they are spelled.
-use Rattle.std.proofs.Common.{◌≡◌, ℕ, zero, suc, ◌+◌, ◌<◌, ◌≤◌, true, false, List, [], ◌∷◌, ◌++◌, length, Option, Some, None, refl, sym, ◌∙◌, ap, subst, append_assoc, append-nil, length-append, arith}
+use Rattle.std.proofs.Common.{◌≡◌, ℕ, ◌≤◌, List, [], ◌∷◌, Option, Some, None, refl, sym, ◌∙◌, ap, subst, append_assoc, arith}
 use Rattle.sv_outside.specs.declared.text.Token.{Token}
 use Rattle.sv_tree.specs.declared.word.Word.{Word}
 use Rattle.sv_tree.specs.declared.exprs.Expr.{Expr}
@@ -10,8 +10,6 @@ use Rattle.sv_tree.specs.declared.forms.WholeWord.TheVariants as whole_word
 use Rattle.sv_tree.specs.declared.forms.Range.{Range}
 use Rattle.sv_tree.specs.declared.forms.TypeTree.{TypeTree}
 use Rattle.sv_tree.specs.declared.forms.Typedef.{Typedef}
-use Rattle.sv_tree.specs.declared.design.ParamWord.{ParamWord}
-use Rattle.sv_tree.specs.declared.design.ParamWord.TheVariants as param_word
 use Rattle.sv_tree.specs.declared.design.ParamBits.{ParamBits}
 use Rattle.sv_tree.specs.declared.design.ParamBits.TheVariants as param_bits
 use Rattle.sv_tree.specs.declared.design.ParamType.{ParamType}
@@ -19,34 +17,32 @@ use Rattle.sv_tree.specs.declared.design.ParamType.TheVariants as param_type_of
 use Rattle.sv_tree.specs.declared.design.ParPort.{ParPort}
 use Rattle.sv_tree.specs.declared.design.ParamItem.{ParamItem}
 use Rattle.sv_tree.specs.declared.design.Param.{Param}
-use Rattle.sv_tree.specs.Spelling.{Spelled, ◌⨟◌, mark as mark_spelled, key, name, maybe, each, commas}
-use Rattle.sv_tree.specs.GrammarExprs.{Spells}
-use Rattle.sv_tree.specs.GrammarForms.{sign_key, SpellsRange, given as given_spelled, SpellsType, SpellsTypedef, whole_key, param_bits_key, param_key, SpellsParamType, SpellsParPort, SpellsParamItem, SpellsParam}
-use Rattle.sv_tree.specs.Nesting.{Depths, one, two, if_given, each_depths, commas_depths, word_depths, expr_depths}
-use Rattle.sv_tree.specs.NestingDesign.{range_depths, type_depths, typedef_depths, param_type_depths, par_port_depths, param_item_depths, param_depths}
+use Rattle.sv_tree.specs.Spelling.{Spelled, ◌⨟◌, mark as mark_spelled, maybe, commas}
+use Rattle.sv_tree.specs.GrammarForms.{sign_key, SpellsRange, SpellsTypedef, whole_key, param_bits_key, SpellsParamType, SpellsParPort, SpellsParamItem, SpellsParam}
+use Rattle.sv_tree.specs.Nesting.{if_given}
+use Rattle.sv_tree.specs.NestingDesign.{typedef_depths, param_type_depths, par_port_depths, param_item_depths, param_depths}
 use Rattle.sv_tree.proofs.Counted.{counted_type}
 use Rattle.sv_tree.proofs.CountedDesign.{counted_typedef, counted_param_type, counted_par_port, counted_param_item, counted_param}
 use Rattle.sv_cursor.specs.declared.sort.Keyword.{Keyword}
 use Rattle.sv_cursor.specs.declared.sort.Keyword.TheVariants as k
-use Rattle.sv_cursor.specs.declared.sort.Mark.{Mark as MarkName}
 use Rattle.sv_cursor.specs.declared.sort.Mark.TheVariants as m
 use Rattle.sv_cursor.specs.declared.sort.Sort.{Sort}
 use Rattle.sv_cursor.specs.declared.sort.Sort.TheVariants as so
 use Rattle.sv_cursor.specs.Sorts.{mark_text, keyword_text}
-use Rattle.sv_cursor.specs.Tests.{first_sort, same_mark, mark_test, id_test}
-use Rattle.sv_cursor.specs.Parsers.{Parser, told, token}
+use Rattle.sv_cursor.specs.Tests.{first_sort, same_mark, mark_test}
+use Rattle.sv_cursor.specs.Parsers.{Parser, told}
 use Rattle.sv_cursor.proofs.Readers.{IsReader}
 use Rattle.sv_expr_parser.proofs.Tokens.{Any, Stops}
 use Rattle.sv_parser.specs.declared.openers.ParamOpener.{ParamOpener}
 use Rattle.sv_parser.specs.declared.openers.ParamOpener.TheVariants as param_by
 use Rattle.sv_parser.specs.Combined.{word_of, word_test, sort_test}
-use Rattle.sv_parser.specs.Words.{sign_by_word, param_by_word, param_type_by_word, param_type_by_sort}
-use Rattle.sv_parser.specs.Forms.{range_if, given, maybe_sign, form, made_typedef, typedef}
+use Rattle.sv_parser.specs.Words.{param_by_word, param_type_by_word, param_type_by_sort}
+use Rattle.sv_parser.specs.Forms.{range_if, maybe_sign, made_typedef, typedef}
 use Rattle.sv_parser.specs.Params.{made_whole, whole_type, made_word_bits, word_bits, made_sign_bits, sign_bits, made_range_bits, range_bits, param_type_for, param_type, maybe_param_type, made_par_port, par_port, made_param_item, param_item, made_param, param}
-use Rattle.sv_parser.proofs.Rules.{Rule, Fixed, the_mark, the_key, placed, less, before, seq, closing, optional, tree_reads, rule_of, until, list_rule, name_rule, Way, choose_reads, ReadBy, reader_of, IsFirst, first_of_mark, first_of_name, told_sort, told_word, no_mark}
-use Rattle.sv_parser.proofs.Words.{sign_rule, sign_first, sign_begins, sign_word_name, whole_rule, whole_first, whole_word_name, param_bits_rule, param_bits_first, param_bits_word_name, param_rule, param_first, param_begins, param_word_name}
-use Rattle.sv_parser.proofs.Limits.{Over, is_end, first_end, end_mark}
-use Rattle.sv_parser.proofs.Types.{NoRange, TypeStops, NamesStops, no_sign, range_first, range_begins, range_rule, given_rule, maybe_sign_rule, maybe_range_rule, sign_before_range, type_stops_name, form_reads}
+use Rattle.sv_parser.proofs.Rules.{Rule, the_mark, the_key, less, before, seq, closing, optional, tree_reads, rule_of, until, list_rule, name_rule, Way, choose_reads, ReadBy, reader_of, IsFirst, first_of_mark, first_of_name, told_sort, told_word, no_mark}
+use Rattle.sv_parser.proofs.Words.{sign_rule, sign_first, sign_word_name, whole_rule, whole_first, whole_word_name, param_bits_rule, param_bits_first, param_bits_word_name, param_rule, param_begins}
+use Rattle.sv_parser.proofs.Limits.{Over, first_end, end_mark}
+use Rattle.sv_parser.proofs.Types.{TypeStops, range_first, range_rule, given_rule, maybe_sign_rule, maybe_range_rule, sign_before_range, type_stops_name, form_reads}
 
 pub told_param_first : (i : List Token) → told (sort_test param_type_by_sort) i ≡ param_type_by_sort (first_sort i)
 told_param_first i = told_sort param_type_by_sort i refl

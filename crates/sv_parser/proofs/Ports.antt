@@ -1,16 +1,15 @@
 -- Names with types, and ports, are read as they are spelled.
-use Rattle.std.proofs.Common.{◌≡◌, ℕ, zero, suc, ◌+◌, ◌<◌, ◌≤◌, ◌⊎◌, inl, inr, true, false, List, [], ◌∷◌, ◌++◌, length, Option, Some, None, refl, sym, ◌∙◌, ap, subst, append_assoc, append-nil, length-append, arith}
+use Rattle.std.proofs.Common.{◌≡◌, ℕ, zero, suc, ◌+◌, ◌≤◌, ◌⊎◌, inl, inr, List, [], ◌∷◌, ◌++◌, length, Option, Some, None, refl, sym, ◌∙◌, ap, subst, append_assoc, length-append, arith}
 use Rattle.sv_outside.specs.declared.text.Token.{Token}
 use Rattle.sv_tree.specs.declared.word.Word.{Word}
 use Rattle.sv_tree.specs.declared.forms.Range.{Range}
 use Rattle.sv_tree.specs.declared.forms.TypeTree.{TypeTree}
 use Rattle.sv_tree.specs.declared.forms.TypeTree.TheVariants as ty
 use Rattle.sv_tree.specs.declared.design.Way.{Way as WayWord}
-use Rattle.sv_tree.specs.declared.design.Way.TheVariants as way_word
 use Rattle.sv_tree.specs.declared.design.NetWord.{NetWord}
 use Rattle.sv_tree.specs.declared.design.NetWord.TheVariants as net_word
 use Rattle.sv_tree.specs.declared.design.Port.{Port}
-use Rattle.sv_tree.specs.Spelling.{Spelled, ◌⨟◌, mark as mark_spelled, name, maybe, each}
+use Rattle.sv_tree.specs.Spelling.{Spelled, ◌⨟◌, name, maybe, each}
 use Rattle.sv_tree.specs.GrammarForms.{SpellsRange, SpellsType, way_key, net_key, SpellsPort}
 use Rattle.sv_tree.specs.Nesting.{Nesting, Depths, one, in_type, if_given, each_depths}
 use Rattle.sv_tree.specs.NestingDesign.{range_depths, type_depths, port_depths}
@@ -19,23 +18,21 @@ use Rattle.sv_tree.proofs.Counted.{length_in_type}
 use Rattle.sv_tree.proofs.CountedDesign.{counted_port}
 use Rattle.sv_cursor.specs.declared.sort.Keyword.{Keyword}
 use Rattle.sv_cursor.specs.declared.sort.Keyword.TheVariants as k
-use Rattle.sv_cursor.specs.declared.sort.Mark.TheVariants as m
 use Rattle.sv_cursor.specs.declared.sort.Sort.{Sort}
 use Rattle.sv_cursor.specs.declared.sort.Sort.TheVariants as so
-use Rattle.sv_cursor.specs.Tests.{first_sort, same_mark, mark_test, id_test}
-use Rattle.sv_cursor.specs.Parsers.{Parser, told, token}
-use Rattle.sv_cursor.proofs.Readers.{IsReader, IsMoved, BadAt, one_nest}
-use Rattle.sv_expr_parser.proofs.Tokens.{Any, outside}
+use Rattle.sv_cursor.specs.Tests.{first_sort}
+use Rattle.sv_cursor.specs.Parsers.{told}
+use Rattle.sv_cursor.proofs.Readers.{IsReader, IsMoved, BadAt}
+use Rattle.sv_expr_parser.proofs.Tokens.{Any}
 use Rattle.sv_parser.specs.declared.openers.TypeOpener.{TypeOpener}
 use Rattle.sv_parser.specs.declared.openers.TypeOpener.TheVariants as type_by
 use Rattle.sv_parser.specs.Combined.{word_of, word_test, sort_test}
 use Rattle.sv_parser.specs.Words.{type_by_word, type_by_sort, word_type_by_sort, behind_by_sort, way_by_word, net_by_word}
-use Rattle.sv_parser.specs.Forms.{ranges}
 use Rattle.sv_parser.specs.Params.{TypedName, made_typed, made_untyped, behind_type, untyped, typed, typed_name, made_port, port}
-use Rattle.sv_parser.proofs.Rules.{Rule, seq, optional, tree_reads, rule_of, until, renested, name_rule, Way, fork, fork_reads, fork_moved, ReadBy, reader_of, IsFirst, first_of_name, told_sort, told_word, no_mark}
-use Rattle.sv_parser.proofs.Words.{way_rule, way_first, way_begins, way_word_name, net_rule, net_first, net_begins, net_word_name}
+use Rattle.sv_parser.proofs.Rules.{Rule, seq, optional, tree_reads, rule_of, renested, name_rule, Way, fork_reads, fork_moved, ReadBy, IsFirst, first_of_name, told_sort, told_word}
+use Rattle.sv_parser.proofs.Words.{way_rule, way_begins, net_rule, net_first, net_begins, net_word_name}
 use Rattle.sv_parser.proofs.Limits.{Over}
-use Rattle.sv_parser.proofs.Types.{NoRange, TypeStops, range_first, ranges_rule, type_stops_name, type_split, type_begins}
+use Rattle.sv_parser.proofs.Types.{range_first, ranges_rule, type_stops_name, type_split, type_begins}
 use Rattle.sv_parser.proofs.Params.{form_rule}
 
 -- ---- one type more

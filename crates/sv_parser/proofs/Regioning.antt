@@ -1,5 +1,5 @@
 -- Generate regions, read with a list of the regions that are open.
-use Rattle.std.proofs.Common.{◌≡◌, ◌≢◌, ℕ, zero, suc, ◌+◌, ◌-◌, ◌<◌, ◌≤◌, true, false, is_some, List, [], ◌∷◌, ◌++◌, length, Option, Some, None, Result, Ok, Err, refl, sym, ◌∙◌, ap, subst, append_assoc, append-nil, length-append, arith}
+use Rattle.std.proofs.Common.{◌≡◌, ◌≢◌, ℕ, zero, suc, ◌+◌, ◌<◌, ◌≤◌, true, false, is_some, List, [], ◌∷◌, ◌++◌, length, Option, Some, None, Result, Ok, Err, refl, sym, ◌∙◌, ap, subst, append_assoc, append-nil, length-append, arith}
 use Rattle.std.specs.Result.{IsErrAnd}
 use Rattle.sv_outside.specs.declared.refusal.Place.{Place}
 use Rattle.sv_outside.specs.declared.text.Token.{Token}
@@ -15,7 +15,7 @@ use Rattle.sv_cursor.specs.Parsers.{Outcome, Parser, and_then, ◌>>=◌, ◌<$>
 use Rattle.sv_cursor.proofs.Readers.{IsReader, Meets, meets_weaker, deep_reader}
 use Rattle.sv_parser.specs.declared.openers.ItemOpener.{ItemOpener}
 use Rattle.sv_parser.specs.declared.openers.ItemOpener.TheVariants as item_by
-use Rattle.sv_parser.specs.Combined.{◌▸◌, ◌◂◌, sort_test}
+use Rattle.sv_parser.specs.Combined.{◌◂◌, sort_test}
 use Rattle.sv_parser.specs.Words.{item_by_sort}
 use Rattle.sv_parser.specs.Items.{items, region, gen_loop, gen_if, item_for, item_level, regions, whole_item, item_from, item}
 use Rattle.sv_parser.specs.Regions.{loop_of, cond_of, region_rest, region_of, is_region, Settles, Opens, Turns}

@@ -1,11 +1,11 @@
 -- Rules: a parser on lists of tokens together with what it reads, how deep that lies, and that it reads just that.
-use Rattle.std.proofs.Common.{◌≡◌, ℕ, zero, suc, true, false, ◌+◌, ◌<◌, ◌≤◌, List, [], ◌∷◌, ◌++◌, ◌⊎◌, inl, inr, length, drop, map, Option, Some, None, Ok, Err, refl, sym, ◌∙◌, ap, subst, length-append, arith}
+use Rattle.std.proofs.Common.{◌≡◌, ℕ, suc, true, false, ◌+◌, ◌<◌, ◌≤◌, List, [], ◌∷◌, ◌++◌, ◌⊎◌, inl, inr, length, drop, Option, Some, None, refl, sym, ◌∙◌, ap, subst, arith}
 use denote.Enum.Bare.{true_same}
 use Rattle.sv_outside.specs.declared.refusal.Place.{Place}
 use Rattle.sv_outside.specs.declared.text.Token.{Token}
 use Rattle.sv_outside.specs.Words.{is_id}
 use Rattle.sv_tree.specs.declared.word.Word.{Word}
-use Rattle.sv_tree.specs.Spelling.{Text, Spelled, nothing, never, ◌⨟◌, mark as mark_spelled, mark_at, key, key_at, name, maybe, each, after_commas, commas}
+use Rattle.sv_tree.specs.Spelling.{Text, Spelled, ◌⨟◌, mark as mark_spelled, mark_at, key, key_at, name, maybe, each, after_commas, commas}
 use Rattle.sv_tree.specs.Nesting.{Nesting, Depths, one, if_given, each_depths, after_commas_depths, commas_depths}
 use Rattle.sv_tree.proofs.Counted.{Counted}
 use Rattle.sv_tree.proofs.MadeStmts.{some}
@@ -17,9 +17,9 @@ use Rattle.sv_cursor.specs.declared.sort.Sort.{Sort}
 use Rattle.sv_cursor.specs.declared.sort.Sort.TheVariants as s
 use Rattle.sv_cursor.specs.Sorts.{sort, mark_text, keyword_text}
 use Rattle.sv_cursor.specs.Tests.{first_sort, same_keyword, is_mark, is_keyword, if_so, mark_test, keyword_test, id_test, mark, keyword}
-use Rattle.sv_cursor.specs.Parsers.{Parser, Outcome, ◌<$>◌, ◌▷◌, ◌⊗◌, pure, refuse, told, token, branch, by_told, maybe_read, cons, many}
-use Rattle.sv_cursor.proofs.Readers.{IsReader, IsMoved, BadAt, Meets, Placed, Agrees, Told, one_nest, token_reader, pair_reader, equal_reader, map_reader, nests_reader, less_reader, choose_reader, refuse_reader, pure_reader, maybe_reader, moved_maybe, many_reader, moved_each, moved_told, moved_pair, moved_map, moved_less, then_meets, meets_weaker}
-use Rattle.sv_cursor.proofs.Tested.{mark_here, sort_mark, mark_told, mark_tells, mark_at_of, told_of_mark_at, name_of, told_of_name, keyword_here, key_at_of, told_of_key_at, id_here}
+use Rattle.sv_cursor.specs.Parsers.{Parser, ◌<$>◌, ◌▷◌, ◌⊗◌, pure, refuse, told, token, branch, by_told, maybe_read, cons, many}
+use Rattle.sv_cursor.proofs.Readers.{IsReader, IsMoved, BadAt, Meets, Told, one_nest, token_reader, pair_reader, equal_reader, nests_reader, less_reader, choose_reader, refuse_reader, pure_reader, maybe_reader, moved_maybe, many_reader, moved_each, moved_told, moved_pair, moved_less, then_meets}
+use Rattle.sv_cursor.proofs.Tested.{mark_here, sort_mark, mark_tells, mark_at_of, told_of_mark_at, name_of, told_of_name, keyword_here, key_at_of, told_of_key_at, id_here}
 use Rattle.sv_expr_parser.proofs.Tokens.{outside, Any, placed_mark, some_mark, told_to_mark}
 use Rattle.sv_parser.specs.Combined.{◌▸◌, ◌◂◌, word_of, word_test, sign_of, sign_test, sort_test, listed, some_of}
 

@@ -1,13 +1,12 @@
 -- Parsers that agree on shorter lists of tokens make parsers that agree.
-use Rattle.std.proofs.Common.{◌≡◌, ℕ, zero, suc, ◌+◌, ◌<◌, ◌≤◌, List, [], ◌∷◌, length, Option, Some, None, Ok, Err, refl, sym, ◌∙◌, ap, arith}
+use Rattle.std.proofs.Common.{◌≡◌, ℕ, zero, suc, ◌<◌, ◌≤◌, List, [], ◌∷◌, length, Option, Some, None, Ok, Err, refl, ◌∙◌, ap, arith}
 use Rattle.sv_outside.specs.declared.text.Token.{Token}
-use Rattle.sv_tree.specs.Spelling.{Spelled}
-use Rattle.sv_tree.specs.Nesting.{Nesting, Depths}
+use Rattle.sv_tree.specs.Nesting.{Nesting}
 use Rattle.sv_cursor.specs.declared.sort.Mark.TheVariants as m
 use Rattle.sv_cursor.specs.Tests.{mark_test, mark}
-use Rattle.sv_cursor.specs.Parsers.{Outcome, Parser, and_then, ◌>>=◌, ◌<$>◌, ◌⊗◌, pure, refuse, told, next, take_told, token, branch, by_told, cons, many_from, many}
-use Rattle.sv_cursor.proofs.Readers.{IsReader, IsMoved, Meets, then_meets, meets_weaker}
-use Rattle.sv_parser.specs.Combined.{◌▸◌, ◌◂◌, listed}
+use Rattle.sv_cursor.specs.Parsers.{Outcome, Parser, and_then, ◌>>=◌, ◌<$>◌, ◌⊗◌, pure, told, take_told, token, branch, cons, many_from, many}
+use Rattle.sv_cursor.proofs.Readers.{Meets, then_meets, meets_weaker}
+use Rattle.sv_parser.specs.Combined.{◌▸◌, listed}
 use Rattle.sv_parser.proofs.Rules.{Rule}
 
 -- what is read leaves no more tokens, or fewer

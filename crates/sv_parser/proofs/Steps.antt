@@ -1,8 +1,7 @@
 -- Labels and the steps of loops are read as they are spelled.
-use Rattle.std.proofs.Common.{◌≡◌, ℕ, ◌+◌, ◌≤◌, ◌⊎◌, inl, inr, Bool, true, false, if◌then◌else◌, List, [], ◌∷◌, ◌++◌, length, Option, Some, None, refl, sym, ◌∙◌, ap, subst, append_assoc, arith}
+use Rattle.std.proofs.Common.{◌≡◌, ℕ, ◌≤◌, ◌⊎◌, inl, inr, Bool, true, false, if◌then◌else◌, List, [], ◌∷◌, ◌++◌, Option, Some, None, refl, sym, ◌∙◌, ap, arith}
 use Rattle.std.proofs.lemmas.Slice.Eq.{bytes_eq-Decides}
 use Rattle.std.specs.Str.{bytes_eq}
-use Rattle.sv_outside.specs.Words.{is_id}
 use Rattle.sv_outside.specs.declared.text.Token.{Token}
 use Rattle.sv_tree.specs.declared.word.Word.{Word}
 use Rattle.sv_tree.specs.declared.exprs.Expr.{Expr}
@@ -12,18 +11,18 @@ use Rattle.sv_tree.specs.declared.stmts.StepMark.{StepMark}
 use Rattle.sv_tree.specs.declared.stmts.StepMark.TheVariants as step_mark
 use Rattle.sv_tree.specs.declared.stmts.StepSign.{StepSign}
 use Rattle.sv_tree.specs.declared.stmts.StepSign.TheVariants as step_sign
-use Rattle.sv_tree.specs.Spelling.{Spelled, nothing, never, ◌⨟◌, when, mark as mark_spelled, name, maybe, label, label_of}
+use Rattle.sv_tree.specs.Spelling.{Spelled, ◌⨟◌, when, mark as mark_spelled, name, maybe, label, label_of}
 use Rattle.sv_tree.specs.GrammarExprs.{Spells}
 use Rattle.sv_tree.specs.GrammarStmts.{SpellsStep, step_text, step_sign_text, block_name}
-use Rattle.sv_tree.specs.Nesting.{Nesting, Depths, one, two, if_given, label_depths, expr_depths}
+use Rattle.sv_tree.specs.Nesting.{Nesting, Depths, one, if_given, label_depths, expr_depths}
 use Rattle.sv_tree.specs.NestingDesign.{step_depths}
-use Rattle.sv_tree.proofs.Counted.{Counted, counted_name, counted_when, counted_step, counted_label_of, counted_maybe, counted_block_name, counted_end_label}
+use Rattle.sv_tree.proofs.Counted.{counted_name, counted_when, counted_step, counted_label_of, counted_maybe, counted_block_name}
 use Rattle.sv_cursor.specs.declared.sort.Mark.TheVariants as m
 use Rattle.sv_cursor.specs.declared.sort.Sort.{Sort}
 use Rattle.sv_cursor.specs.declared.sort.Sort.TheVariants as so
 use Rattle.sv_cursor.specs.Sorts.{mark_text}
 use Rattle.sv_cursor.specs.Tests.{mark_test, id_test}
-use Rattle.sv_cursor.specs.Parsers.{Parser, told, token, pure}
+use Rattle.sv_cursor.specs.Parsers.{Parser, told, token}
 use Rattle.sv_cursor.proofs.Readers.{IsReader, IsMoved, Told, one_nest, token_reader, less_reader, pure_reader}
 use Rattle.sv_cursor.proofs.Sorted.{equal}
 use Rattle.sv_cursor.proofs.Tested.{name_of, told_of_name}
@@ -33,10 +32,10 @@ use Rattle.sv_parser.specs.declared.tails.StepTail.TheVariants as tail
 use Rattle.sv_parser.specs.declared.openers.StepOpener.{StepOpener}
 use Rattle.sv_parser.specs.declared.openers.StepOpener.TheVariants as step_by
 use Rattle.sv_parser.specs.Combined.{sign_of, sign_test, sort_test}
-use Rattle.sv_parser.specs.Words.{step_by_mark, step_sign_by_mark, step_opener_by_mark, step_opener_by_sort}
-use Rattle.sv_parser.specs.Targets.{repeats, repeat_test, block_label, label_behind, end_label, made_before, made_set, step_tail, made_named_step, step_before, named_step, step_for, step}
+use Rattle.sv_parser.specs.Words.{step_by_mark, step_opener_by_mark, step_opener_by_sort}
+use Rattle.sv_parser.specs.Targets.{repeat_test, block_label, label_behind, end_label, made_before, made_set, step_tail, made_named_step, step_before, named_step, step_for, step}
 use Rattle.sv_parser.proofs.Rules.{Rule, the_mark, before, seq, optional, rule_of, until, Way, choose_reads, fork_reads, fork_moved, ReadBy, reader_of, name_rule, moved_counted, mark_begins, IsFirst, first_of_name, told_sort, told_sign}
-use Rattle.sv_parser.proofs.Words.{step_rule, step_first, step_begins, step_mark_name, step_spelled, step_sign_rule, step_sign_first, step_sign_mark_name, step_sign_spelled}
+use Rattle.sv_parser.proofs.Words.{step_rule, step_first, step_begins, step_mark_name, step_sign_rule, step_sign_first, step_sign_mark_name, step_sign_spelled}
 use Rattle.sv_parser.proofs.Limits.{Over, expression_rule}
 
 -- ---- a name that repeats another

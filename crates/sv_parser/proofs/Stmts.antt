@@ -1,29 +1,19 @@
 -- Statements are read as they are spelled, at each depth.
-use Rattle.std.proofs.Common.{◌≡◌, ℕ, zero, suc, ◌+◌, ◌<◌, ◌≤◌, ◌⊎◌, inl, inr, Bool, true, false, List, [], ◌∷◌, ◌++◌, length, Option, Some, None, refl, sym, ◌∙◌, ap, subst, append_assoc, append-nil, length-append, arith}
+use Rattle.std.proofs.Common.{◌≡◌, ℕ, ◌<◌, ◌≤◌, inr, List, [], ◌∷◌, ◌++◌, length, Option, Some, None, refl, sym, ◌∙◌, ap, subst, length-append, arith}
 use Rattle.sv_outside.specs.declared.refusal.Place.{Place}
 use Rattle.sv_outside.specs.declared.text.Token.{Token}
 use Rattle.sv_tree.specs.declared.word.Word.{Word}
-use Rattle.sv_tree.specs.declared.exprs.Expr.{Expr}
-use Rattle.sv_tree.specs.declared.forms.WholeWord.{WholeWord}
-use Rattle.sv_tree.specs.declared.stmts.Lvalue.{Lvalue}
-use Rattle.sv_tree.specs.declared.stmts.Step.{Step}
-use Rattle.sv_tree.specs.declared.stmts.Uniq.{Uniq}
-use Rattle.sv_tree.specs.declared.stmts.CaseWord.{CaseWord}
-use Rattle.sv_tree.specs.declared.stmts.CaseWord.TheVariants as case_word
 use Rattle.sv_tree.specs.declared.stmts.AssignMark.{AssignMark}
 use Rattle.sv_tree.specs.declared.stmts.AssignMark.TheVariants as assign_mark
 use Rattle.sv_tree.specs.declared.stmts.Stmt.{Stmt}
-use Rattle.sv_tree.specs.declared.stmts.Stmt.TheVariants as st
 use Rattle.sv_tree.specs.declared.stmts.Arm.{Arm}
-use Rattle.sv_tree.specs.Spelling.{Spelled, nothing, ◌⨟◌, when, mark as mark_spelled, mark_at, key, key_at, name, maybe, each, label_of}
-use Rattle.sv_tree.specs.GrammarExprs.{Spells}
-use Rattle.sv_tree.specs.GrammarForms.{whole_key}
-use Rattle.sv_tree.specs.GrammarStmts.{SpellsLvalue, SpellsStep, uniq_key, case_key, assign_text, block_name, is_closed, SpellsStmt, SpellsArm}
-use Rattle.sv_tree.specs.Nesting.{Nesting, Depths, one, two, three, in_stmt, if_given, each_depths, word_depths, label_depths, expr_depths}
-use Rattle.sv_tree.specs.NestingDesign.{lvalue_depths, step_depths, turns_depths, stmt_depths, arm_depths}
+use Rattle.sv_tree.specs.Spelling.{Spelled, mark_at, key, each}
+use Rattle.sv_tree.specs.GrammarStmts.{assign_text, SpellsStmt, SpellsArm}
+use Rattle.sv_tree.specs.Nesting.{Nesting, one, expr_depths}
+use Rattle.sv_tree.specs.NestingDesign.{step_depths, stmt_depths}
 use Rattle.sv_tree.proofs.MadeStmts.{some, default_count, other_stmt_depths, is_other_closed, other_spelled}
 use Rattle.sv_tree.proofs.MadeStmts as made
-use Rattle.sv_tree.proofs.Counted.{Counted, counted_stmt, counted_token, length_in_stmt}
+use Rattle.sv_tree.proofs.Counted.{counted_token, length_in_stmt}
 use Rattle.sv_cursor.specs.declared.sort.Keyword.{Keyword}
 use Rattle.sv_cursor.specs.declared.sort.Keyword.TheVariants as k
 use Rattle.sv_cursor.specs.declared.sort.Mark.{Mark as MarkName}
@@ -31,27 +21,21 @@ use Rattle.sv_cursor.specs.declared.sort.Mark.TheVariants as m
 use Rattle.sv_cursor.specs.declared.sort.Sort.{Sort}
 use Rattle.sv_cursor.specs.declared.sort.Sort.TheVariants as so
 use Rattle.sv_cursor.specs.Sorts.{sort, mark_text, keyword_text}
-use Rattle.sv_cursor.specs.Tests.{first_sort, same_mark, same_keyword, is_mark, is_keyword, mark_test, keyword_test}
-use Rattle.sv_cursor.specs.Parsers.{Parser, told, token}
-use Rattle.sv_cursor.proofs.Readers.{IsReader, IsMoved, BadAt, Told, one_nest, token_reader, less_reader, deep_reader}
+use Rattle.sv_cursor.specs.Tests.{same_keyword}
+use Rattle.sv_cursor.specs.Parsers.{token}
+use Rattle.sv_cursor.proofs.Readers.{IsReader, Told, one_nest, token_reader, less_reader}
 use Rattle.sv_cursor.proofs.Tested.{mark_here, sort_mark}
 use Rattle.sv_expr_parser.specs.Signs.{opener, opener_test}
-use Rattle.sv_expr_parser.proofs.Tokens.{Any, Stops, outside}
-use Rattle.sv_parser.specs.declared.tails.BranchTail.{BranchTail}
-use Rattle.sv_parser.specs.declared.tails.BranchTail.TheVariants as branch_tail
-use Rattle.sv_parser.specs.declared.openers.StmtOpener.{StmtOpener}
-use Rattle.sv_parser.specs.declared.openers.StmtOpener.TheVariants as stmt_by
-use Rattle.sv_parser.specs.Combined.{word_of, word_test, sign_of, sort_test}
-use Rattle.sv_parser.specs.Words.{uniq_by_word, assign_by_mark, stmt_by_sort}
-use Rattle.sv_parser.specs.Targets.{end_label, step}
-use Rattle.sv_parser.specs.Stmts.{with_place, assign_test, made_assign, assign, empty, made_block, made_if, made_case, made_branch, Turns, made_for, turns, stmts, block_rest, block, maybe_else, conditional, choice, branched, branch, loop, stmt_for, stmt_level, stmt}
-use Rattle.sv_parser.proofs.Rules.{Rule, the_mark, the_key, placed, before, opening, seq, seq_by, seq_up, closing, optional, several, Shut, shut, tree_reads, rule_of, Way, choose_reads, fork_reads, fork_moved, ReadBy, reader_of, name_rule, moved_counted, key_begins, IsFirst, first_of_mark, first_of_key, first_of_key_at, told_sort, told_word, no_mark, no_key}
-use Rattle.sv_parser.proofs.Words.{whole_rule, uniq_rule, uniq_begins, case_rule, case_first, case_word_name}
-use Rattle.sv_parser.proofs.Limits.{Over, expression_rule, end_mark, stated}
-use Rattle.sv_parser.proofs.Targets.{NoSelect, no_select, lvalue_rule}
-use Rattle.sv_parser.proofs.Steps.{NoColon, block_label_rule, end_label_reads, end_label_moved, step_tree_rule}
-use Rattle.sv_parser.proofs.Begins.{NoElse, StmtTold, empty_told, block_told, stmt_if_told, stmt_case_told, for_told, assign_told, stmt_begins, stmt_no_else, exprs_no_else, told_opener}
-use Rattle.sv_parser.proofs.Arms.{Closed, DoneStmt, counted_done, DoneArm, is_arm_closed, ArmsEnd, DoneArms, arms_rule, stmt_told_no_colon, stmt_no_colon}
+use Rattle.sv_expr_parser.proofs.Tokens.{Any, outside}
+use Rattle.sv_parser.specs.Combined.{sign_of}
+use Rattle.sv_parser.specs.Words.{assign_by_mark}
+use Rattle.sv_parser.specs.Stmts.{with_place, assign_test, Turns, turns}
+use Rattle.sv_parser.proofs.Rules.{Rule, the_mark, before, seq, seq_by, rule_of, name_rule, first_of_key, no_mark, no_key}
+use Rattle.sv_parser.proofs.Limits.{Over, expression_rule, end_mark}
+use Rattle.sv_parser.proofs.Targets.{NoSelect, no_select}
+use Rattle.sv_parser.proofs.Steps.{NoColon, step_tree_rule}
+use Rattle.sv_parser.proofs.Begins.{NoElse, stmt_no_else, exprs_no_else}
+use Rattle.sv_parser.proofs.Arms.{DoneStmt, DoneArm}
 
 -- ---- the mark of an assignment
 

@@ -1,5 +1,5 @@
 -- Targets are read as they are spelled. They may lie in any number of braces.
-use Rattle.std.proofs.Common.{◌≡◌, ℕ, zero, suc, ◌+◌, ◌<◌, ◌≤◌, ◌⊎◌, inl, inr, true, false, List, [], ◌∷◌, ◌++◌, length, Option, Some, None, Ok, Err, refl, sym, ◌∙◌, ap, subst, append_assoc, length-append, arith}
+use Rattle.std.proofs.Common.{◌≡◌, ℕ, zero, suc, ◌+◌, ◌<◌, ◌≤◌, inl, List, [], ◌∷◌, ◌++◌, length, Option, Some, None, Err, refl, sym, ◌∙◌, ap, subst, append_assoc, length-append, arith}
 use Rattle.sv_outside.specs.declared.refusal.Place.{Place}
 use Rattle.sv_outside.specs.declared.text.Token.{Token}
 use Rattle.sv_tree.specs.declared.word.Word.{Word}
@@ -7,22 +7,22 @@ use Rattle.sv_tree.specs.declared.exprs.Select.{Select}
 use Rattle.sv_tree.specs.declared.stmts.Lvalue.{Lvalue, Name, Concat', Row_of-Lvalue, end_of-Lvalue, more_of-Lvalue}
 use Rattle.sv_tree.specs.declared.stmts.Lvalue.TheVariants as lv
 use Rattle.sv_tree.specs.declared.stmts.Lvalue.TheBlock.{shape-the_row-Lvalue-0, hidden-the_row-Lvalue-0}
-use Rattle.sv_tree.specs.Spelling.{Spelled, ◌⨟◌, when, mark as mark_spelled, mark_at, name, commas, after_commas}
+use Rattle.sv_tree.specs.Spelling.{Spelled, ◌⨟◌, when, mark as mark_spelled, mark_at, commas, after_commas}
 use Rattle.sv_tree.specs.GrammarExprs.{SpellsSelect, is_range}
 use Rattle.sv_tree.specs.GrammarStmts.{SpellsChain, SpellsLvalue}
-use Rattle.sv_tree.specs.Nesting.{Nesting, Depths, one, in_expr, each_depths, commas_depths, after_commas_depths, select_depths}
+use Rattle.sv_tree.specs.Nesting.{Depths, one, in_expr, each_depths, select_depths}
 use Rattle.sv_tree.specs.NestingDesign.{lvalue_depths, lvalues_depths, more_lvalues_depths}
 use Rattle.sv_tree.proofs.MadeStmts as made
-use Rattle.sv_tree.proofs.Counted.{Counted, counted_chain, counted_lvalue, counted_when}
+use Rattle.sv_tree.proofs.Counted.{counted_chain, counted_lvalue, counted_when}
 use Rattle.sv_tree.proofs.Framed.{length_in}
 use Rattle.sv_cursor.specs.declared.sort.Mark.TheVariants as m
 use Rattle.sv_cursor.specs.declared.error.ParseErr.TheVariants.{Syntax}
 use Rattle.sv_cursor.specs.declared.sort.Sort.{Sort}
 use Rattle.sv_cursor.specs.declared.sort.Sort.TheVariants as so
 use Rattle.sv_cursor.specs.Sorts.{mark_text}
-use Rattle.sv_cursor.specs.Tests.{same_mark, mark_test, id_test, mark}
-use Rattle.sv_cursor.specs.Parsers.{Outcome, Parser, ◌<$>◌, ◌▷◌, ◌⊗◌, ◌>>=◌, and_then, pure, told, token, branch, refuse}
-use Rattle.sv_cursor.proofs.Readers.{IsReader, IsMoved, BadAt, Meets, Agrees, Chain, meets_weaker, nests_reader, less_reader, refuse_reader}
+use Rattle.sv_cursor.specs.Tests.{same_mark, mark_test, mark}
+use Rattle.sv_cursor.specs.Parsers.{Outcome, Parser, ◌>>=◌, and_then, pure, told, branch, refuse}
+use Rattle.sv_cursor.proofs.Readers.{IsReader, BadAt, Agrees, Chain, meets_weaker, nests_reader, less_reader, refuse_reader}
 use Rattle.sv_expr_parser.specs.Signs.{select_test, select_opener}
 use Rattle.sv_expr_parser.specs.Reading.{expr, selects}
 use Rattle.sv_expr_parser.proofs.Tokens.{Bad, Any}
@@ -30,10 +30,10 @@ use Rattle.sv_expr_parser.proofs.SelectParts.{select_part, selects_reader, chain
 use Rattle.sv_expr_parser.proofs.Laws.{expr_reader}
 use Rattle.sv_parser.specs.declared.openers.TargetOpener.{TargetOpener}
 use Rattle.sv_parser.specs.declared.openers.TargetOpener.TheVariants as target_by
-use Rattle.sv_parser.specs.Combined.{◌▸◌, ◌◂◌, sort_test, listed}
+use Rattle.sv_parser.specs.Combined.{◌◂◌, sort_test, listed}
 use Rattle.sv_parser.specs.Words.{target_by_sort}
 use Rattle.sv_parser.specs.Targets.{made_target, named_target, made_targets, braced_targets, target_for, target_level, lvalue_from, lvalue}
-use Rattle.sv_parser.proofs.Rules.{Rule, the_mark, placed, less, seq, closing, rule_of, list_rule, name_rule, Way, choose_reads, ReadBy, reader_of, IsFirst, first_of_mark, first_of_mark_at, first_of_name, told_sort, no_mark, mark_begins}
+use Rattle.sv_parser.proofs.Rules.{Rule, the_mark, placed, seq, closing, rule_of, list_rule, name_rule, Way, choose_reads, ReadBy, reader_of, IsFirst, first_of_mark, first_of_mark_at, first_of_name, told_sort, no_mark}
 use Rattle.sv_parser.proofs.Limits.{Over}
 use Rattle.sv_parser.proofs.Same.{Shrinks, then_same, token_shorter, listed_same}
 

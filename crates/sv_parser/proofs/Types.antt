@@ -1,5 +1,5 @@
 -- Ranges, names and types are read as they are spelled.
-use Rattle.std.proofs.Common.{◌≡◌, ℕ, zero, suc, ◌+◌, ◌<◌, ◌≤◌, Bool, true, false, ◌⊎◌, inl, inr, List, [], ◌∷◌, ◌++◌, length, Option, Some, None, refl, sym, ◌∙◌, ap, subst, append_assoc, append-nil, length-append, arith}
+use Rattle.std.proofs.Common.{◌≡◌, ℕ, zero, suc, ◌<◌, ◌≤◌, Bool, true, false, ◌⊎◌, inl, inr, List, [], ◌∷◌, length, Option, Some, None, refl, sym, ◌∙◌, ap, subst, append_assoc, length-append, arith}
 use Rattle.sv_outside.specs.declared.refusal.Place.{Place}
 use Rattle.sv_outside.specs.declared.text.Token.{Token}
 use Rattle.sv_tree.specs.declared.word.Word.{Word}
@@ -13,17 +13,13 @@ use Rattle.sv_tree.specs.declared.forms.EnumLabel.{EnumLabel}
 use Rattle.sv_tree.specs.declared.forms.TypeTree.{TypeTree}
 use Rattle.sv_tree.specs.declared.forms.TypeTree.TheVariants as ty
 use Rattle.sv_tree.specs.declared.forms.Member.{Member}
-use Rattle.sv_tree.specs.declared.forms.Member.TheVariants as mem
-use Rattle.sv_tree.specs.declared.forms.Typedef.{Typedef}
-use Rattle.sv_tree.specs.Spelling.{Spelled, ◌⨟◌, mark as mark_spelled, mark_at, key, key_at, name, maybe, each, commas}
-use Rattle.sv_tree.specs.GrammarExprs.{Spells}
-use Rattle.sv_tree.specs.GrammarForms.{bits_key, sign_key, SpellsRange, given as given_spelled, SpellsLabel, SpellsType, SpellsMember, SpellsTypedef}
-use Rattle.sv_tree.specs.Nesting.{Depths, one, two, in_type, if_given, each_depths, commas_depths, word_depths, expr_depths}
-use Rattle.sv_tree.specs.NestingDesign.{range_depths, given_depths, enum_label_depths, type_depths, member_depths, typedef_depths}
+use Rattle.sv_tree.specs.Spelling.{Spelled, ◌⨟◌, mark as mark_spelled, key, key_at, name, maybe, each, commas}
+use Rattle.sv_tree.specs.GrammarForms.{bits_key, sign_key, SpellsRange, given as given_spelled, SpellsLabel, SpellsType, SpellsMember}
+use Rattle.sv_tree.specs.Nesting.{Depths, in_type, each_depths, commas_depths, word_depths, expr_depths}
+use Rattle.sv_tree.specs.NestingDesign.{range_depths, given_depths, enum_label_depths, type_depths, member_depths}
 use Rattle.sv_tree.proofs.MadeStmts.{some}
 use Rattle.sv_tree.proofs.MadeForms as made
-use Rattle.sv_tree.proofs.Counted.{length_in_type, counted_range, counted_given, counted_label, counted_names, counted_each, counted_type, counted_member, counted_name}
-use Rattle.sv_tree.proofs.CountedDesign.{counted_typedef}
+use Rattle.sv_tree.proofs.Counted.{length_in_type, counted_range, counted_given, counted_label, counted_names, counted_each, counted_type, counted_member}
 use Rattle.sv_cursor.specs.declared.sort.Keyword.{Keyword}
 use Rattle.sv_cursor.specs.declared.sort.Keyword.TheVariants as k
 use Rattle.sv_cursor.specs.declared.sort.Mark.{Mark as MarkName}
@@ -31,16 +27,16 @@ use Rattle.sv_cursor.specs.declared.sort.Mark.TheVariants as m
 use Rattle.sv_cursor.specs.declared.sort.Sort.{Sort}
 use Rattle.sv_cursor.specs.declared.sort.Sort.TheVariants as so
 use Rattle.sv_cursor.specs.Sorts.{mark_text, keyword_text}
-use Rattle.sv_cursor.specs.Tests.{first_sort, same_mark, same_keyword, is_mark, mark_test, id_test}
-use Rattle.sv_cursor.specs.Parsers.{Parser, told, token}
-use Rattle.sv_cursor.proofs.Readers.{IsReader, IsMoved, BadAt, deep_reader}
-use Rattle.sv_expr_parser.proofs.Tokens.{Any, Stops, outside, told_of_mark}
+use Rattle.sv_cursor.specs.Tests.{first_sort, same_mark, is_mark, mark_test}
+use Rattle.sv_cursor.specs.Parsers.{Parser, told}
+use Rattle.sv_cursor.proofs.Readers.{IsReader, BadAt, deep_reader}
+use Rattle.sv_expr_parser.proofs.Tokens.{Any, Stops, told_of_mark}
 use Rattle.sv_parser.specs.declared.openers.TypeOpener.{TypeOpener}
 use Rattle.sv_parser.specs.declared.openers.TypeOpener.TheVariants as type_by
 use Rattle.sv_parser.specs.Combined.{word_of, word_test, sort_test}
-use Rattle.sv_parser.specs.Words.{sign_by_word, bits_by_word, type_by_word, type_by_sort, word_type_by_sort}
-use Rattle.sv_parser.specs.Forms.{expression, made_range, range, ranges, given, names, maybe_sign, made_label, enum_label, made_word_vector, word_vector, made_sign_vector, sign_vector, made_range_vector, range_vector, whole, made_enum, enumeration, made_named, named, made_member, member, made_struct, members, structure, type_for, type_level, form, made_typedef, typedef}
-use Rattle.sv_parser.proofs.Rules.{Rule, Fixed, the_mark, the_key, placed, less, before, opening, seq, closing, optional, several, tree_reads, rule_of, until, some_rule, list_rule, name_rule, Way, choose, choose_reads, ReadBy, reader_of, IsFirst, first_of_mark, first_of_mark_at, first_of_key, first_of_name, placed_key, some_key, told_sort, told_word, no_mark, mark_begins, moved_counted}
+use Rattle.sv_parser.specs.Words.{sign_by_word, type_by_word, type_by_sort, word_type_by_sort}
+use Rattle.sv_parser.specs.Forms.{made_range, range, ranges, given, names, maybe_sign, made_label, enum_label, made_word_vector, word_vector, made_sign_vector, sign_vector, made_range_vector, range_vector, whole, made_enum, enumeration, made_named, named, made_member, member, made_struct, members, structure, type_for, type_level, form}
+use Rattle.sv_parser.proofs.Rules.{Rule, Fixed, the_mark, the_key, placed, before, opening, seq, closing, optional, several, tree_reads, rule_of, until, some_rule, list_rule, name_rule, Way, choose_reads, ReadBy, reader_of, IsFirst, first_of_mark, first_of_mark_at, first_of_key, first_of_name, placed_key, some_key, told_sort, told_word, no_mark, mark_begins, moved_counted}
 use Rattle.sv_parser.proofs.Words.{sign_rule, sign_first, sign_begins, bits_rule, bits_first, sign_word_name, bits_word_name}
 use Rattle.sv_parser.proofs.Limits.{Over, expression_rule, is_end, first_end, end_mark, typed}
 

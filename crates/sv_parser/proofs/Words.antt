@@ -1,5 +1,5 @@
 -- Words of the grammar: each is told by its keyword.
-use Rattle.std.proofs.Common.{◌≡◌, ℕ, List, Option, Some, None, refl, ap}
+use Rattle.std.proofs.Common.{◌≡◌, ℕ, List, Some, refl, ap}
 use Rattle.sv_outside.specs.declared.text.Token.{Token}
 use Rattle.sv_tree.specs.Spelling.{Spelled, key, mark as mark_spelled}
 use Rattle.sv_tree.specs.Nesting.{Nesting}

@@ -1,5 +1,5 @@
 -- More parts of which parsers on lists of tokens are made.
-use Rattle.std.specs.Prelude.{ℕ, List, [], ◌∷◌, Option, Some, None, Ok, Err}
+use Rattle.std.specs.Prelude.{List, Option, None}
 use Rattle.sv_outside.specs.declared.text.Token.{Token}
 use Rattle.sv_cursor.specs.declared.sort.Keyword.{Keyword}
 use Rattle.sv_cursor.specs.declared.sort.Mark.{Mark as MarkName}
@@ -8,7 +8,7 @@ use Rattle.sv_cursor.specs.declared.sort.Sort.{Sort}
 use Rattle.sv_cursor.specs.declared.sort.Sort.TheVariants as s
 use Rattle.sv_cursor.specs.Sorts.{sort}
 use Rattle.sv_cursor.specs.Tests.{mark_test, mark}
-use Rattle.sv_cursor.specs.Parsers.{Parser, ◌<$>◌, ◌▷◌, ◌⊗◌, pure, refuse, told, branch, cons, many}
+use Rattle.sv_cursor.specs.Parsers.{Parser, ◌<$>◌, ◌⊗◌, cons, many}
 
 -- one after the other, of which the second or the first is kept
 infixr 20 ◌▸◌

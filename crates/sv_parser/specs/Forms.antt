@@ -1,7 +1,6 @@
 -- Types, parameters and ports on lists of tokens.
-use Rattle.std.specs.Prelude.{ℕ, zero, suc, List, [], ◌∷◌, Option, Some, None}
+use Rattle.std.specs.Prelude.{ℕ, zero, suc, List, ◌∷◌, Option, Some, None}
 use Rattle.sv_outside.specs.declared.refusal.Place.{Place}
-use Rattle.sv_outside.specs.declared.text.Token.{Token}
 use Rattle.sv_tree.specs.declared.word.Word.{Word}
 use Rattle.sv_tree.specs.declared.exprs.Expr.{Expr}
 use Rattle.sv_tree.specs.declared.exprs.Sign.{Sign}
@@ -13,10 +12,9 @@ use Rattle.sv_tree.specs.declared.forms.TypeTree.TheVariants as ty
 use Rattle.sv_tree.specs.declared.forms.Member.{Member}
 use Rattle.sv_tree.specs.declared.forms.Member.TheVariants as mem
 use Rattle.sv_tree.specs.declared.forms.Typedef.{Typedef}
-use Rattle.sv_tree.specs.Nesting.{most_nesting}
 use Rattle.sv_cursor.specs.declared.sort.Keyword.TheVariants as key
 use Rattle.sv_cursor.specs.declared.sort.Mark.TheVariants as m
-use Rattle.sv_cursor.specs.Parsers.{Parser, ◌<$>◌, ◌⊗◌, refuse, too_deep, token, by_told, maybe_read, cons, many}
+use Rattle.sv_cursor.specs.Parsers.{Parser, ◌<$>◌, ◌⊗◌, refuse, too_deep, token, by_told, maybe_read, many}
 use Rattle.sv_cursor.specs.Tests.{mark_test, id_test, mark, keyword}
 use Rattle.sv_expr_parser.specs.Reading.{expr}
 use Rattle.sv_parser.specs.declared.openers.TypeOpener.{TypeOpener}

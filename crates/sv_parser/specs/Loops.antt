@@ -1,5 +1,4 @@
 -- Parts of loops on lists of tokens.
-use Rattle.std.specs.Prelude.{ℕ}
 use Rattle.sv_tree.specs.declared.word.Word.{Word}
 use Rattle.sv_tree.specs.declared.exprs.Expr.{Expr}
 use Rattle.sv_tree.specs.declared.stmts.Step.{Step}

@@ -1,5 +1,5 @@
 -- Parameters, ports and names with types on lists of tokens.
-use Rattle.std.specs.Prelude.{ℕ, List, [], ◌∷◌, Option, Some, None}
+use Rattle.std.specs.Prelude.{List, Option, Some, None}
 use Rattle.sv_tree.specs.declared.word.Word.{Word}
 use Rattle.sv_tree.specs.declared.exprs.Expr.{Expr}
 use Rattle.sv_tree.specs.declared.exprs.Sign.{Sign}

@@ -1,6 +1,5 @@
 -- Modules and whole texts on lists of tokens.
-use Rattle.std.specs.Prelude.{ℕ, List, [], ◌∷◌, length, Option, Some, None, Ok, Err}
-use Rattle.sv_outside.specs.declared.text.Token.{Token}
+use Rattle.std.specs.Prelude.{List, [], ◌∷◌, length, Option, Some, None, Ok, Err}
 use Rattle.sv_tree.specs.declared.word.Word.{Word}
 use Rattle.sv_tree.specs.declared.design.Way.{Way}
 use Rattle.sv_tree.specs.declared.design.NetWord.{NetWord}
@@ -14,7 +13,7 @@ use Rattle.sv_tree.specs.declared.design.Source.{Source}
 use Rattle.sv_cursor.specs.declared.error.ParseErr.TheVariants.{Syntax}
 use Rattle.sv_cursor.specs.declared.sort.Keyword.TheVariants as key
 use Rattle.sv_cursor.specs.declared.sort.Mark.TheVariants as m
-use Rattle.sv_cursor.specs.Parsers.{Outcome, Parser, and_then, ◌<$>◌, ◌▷◌, ◌⊗◌, refuse, token, by_told, maybe_read, cons, many}
+use Rattle.sv_cursor.specs.Parsers.{Parser, and_then, ◌<$>◌, ◌▷◌, ◌⊗◌, refuse, token, by_told, maybe_read, cons, many}
 use Rattle.sv_cursor.specs.Tests.{mark_test, id_test, mark, keyword}
 use Rattle.sv_parser.specs.declared.openers.PartOpener.{PartOpener}
 use Rattle.sv_parser.specs.declared.openers.PartOpener.TheVariants as part_by

@@ -10,15 +10,12 @@ use Rattle.sv_tree.specs.declared.stmts.Step.{Step}
 use Rattle.sv_tree.specs.declared.stmts.Uniq.{Uniq}
 use Rattle.sv_tree.specs.declared.stmts.CaseWord.{CaseWord}
 use Rattle.sv_tree.specs.declared.stmts.AssignMark.{AssignMark}
-use Rattle.sv_tree.specs.declared.stmts.AssignMark.TheVariants as assign_mark
 use Rattle.sv_tree.specs.declared.stmts.Stmt.{Stmt}
 use Rattle.sv_tree.specs.declared.stmts.Stmt.TheVariants as st
 use Rattle.sv_tree.specs.declared.stmts.Arm.{Arm}
 use Rattle.sv_tree.specs.declared.stmts.Arm.TheVariants as ar
 use Rattle.sv_cursor.specs.declared.sort.Keyword.TheVariants as key
-use Rattle.sv_cursor.specs.declared.sort.Mark.{Mark as MarkName}
 use Rattle.sv_cursor.specs.declared.sort.Mark.TheVariants as m
-use Rattle.sv_cursor.specs.declared.sort.Sort.{Sort}
 use Rattle.sv_cursor.specs.Sorts.{sort}
 use Rattle.sv_cursor.specs.Parsers.{Parser, ◌<$>◌, ◌▷◌, ◌⊗◌, refuse, too_deep, token, by_told, maybe_read, many}
 use Rattle.sv_cursor.specs.Tests.{mark_test, keyword_test, id_test, mark, keyword}

@@ -5,7 +5,7 @@ use Rattle.sv_outside.specs.declared.text.Kind.TheVariants as kind
 use Rattle.sv_outside.specs.declared.text.Token.{Token}
 use Rattle.sv_tree.specs.declared.design.Source.{Source}
 use Rattle.sv_cursor.specs.declared.error.ParseErr.{ParseErr}
-use Rattle.sv_cursor.specs.declared.error.ParseErr.TheVariants.{Memory, Syntax, TooDeep}
+use Rattle.sv_cursor.specs.declared.error.ParseErr.TheVariants.{Memory, Syntax}
 use Rattle.sv_cursor.specs.declared.sort.Keyword.{Keyword}
 use Rattle.sv_cursor.specs.declared.sort.Keyword.TheVariants as key
 use Rattle.sv_cursor.specs.declared.sort.Sort.{Sort}

@@ -1,4 +1,4 @@
-use Rattle.std.proofs.Common.{◌≡◌, ◌++◌, ◌∷◌, [], length, Ok, sym, ap, ◌∙◌, arith}
+use Rattle.std.proofs.Common.{◌≡◌, [], length, Ok, sym, ap, ◌∙◌, arith}
 use Rattle.std.proofs.lemmas.Grind.{common_steps}
 use Rattle.sv_parser.specs.Braces.{whole_of}
 use Rattle.sv_parser.proofs.Bracing.{close_fails, closes_handed, comma_closes, brace_closes, none_open}

@@ -1,4 +1,4 @@
-use Rattle.std.proofs.Common.{ℕ, ◌+◌, ◌≤◌, length, Ok}
+use Rattle.std.proofs.Common.{◌+◌, ◌≤◌, length, Ok}
 use Rattle.sv_parser.specs.Braces.{whole_of}
 use Rattle.sv_parser.proofs.Bracing.{Holds}
 use Rattle.sv_parser.proofs.lvalues.close.Given as goal
