@@ -1,5 +1,5 @@
 -- Sizes of layouts, which copying goes down.
-use Rattle.std.proofs.Common.{◌≡◌, ℕ, zero, suc, ◌+◌, ◌<◌, ◌≤◌, List, [], ◌∷◌, length, get_or, refl, sym, ap, ◌∙◌, subst, arith, ℤ, All}
+use Rattle.std.proofs.Common.{◌≡◌, ℕ, zero, suc, ◌+◌, ◌<◌, List, [], ◌∷◌, length, get_or, refl, sym, ap, subst, arith, ℤ, All}
 use mathlib.Core.Former.{Count}
 use Rattle.sv_const.specs.declared.layout.Layout.{Layout}
 use Rattle.sv_const.specs.declared.layout.Field.{Field}

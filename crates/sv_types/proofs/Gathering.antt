@@ -1,29 +1,23 @@
 -- Members of structures, type by type.
-use Rattle.std.proofs.Common.{◌≡◌, ℕ, zero, suc, ◌+◌, ◌≤◌, ◌<◌, Bool, List, [], ◌∷◌, ◌++◌, length, drop, get_or, map, Result, Ok, Err, IfOk, All, refl, sym, ap, ◌∙◌, subst, arith, append_assoc}
+use Rattle.std.proofs.Common.{◌≡◌, ℕ, zero, suc, ◌+◌, ◌≤◌, ◌<◌, List, [], ◌∷◌, ◌++◌, length, drop, get_or, Ok, Err, refl, sym, ap, ◌∙◌, arith, append_assoc}
 use Rattle.std.proofs.lemmas.List.{map-append, append-nil}
 use Rattle.std.proofs.Math.Seq.{drop-cons, drop-nil}
 use Rattle.sv_outside.specs.declared.refusal.TextErr.{TextErr}
-use Rattle.sv_outside.specs.declared.refusal.TextErr.TheVariants.{No, Memory}
 use Rattle.sv_tree.specs.declared.word.Word.{Word}
 use Rattle.sv_tree.specs.declared.forms.TypeTree.{TypeTree}
 use Rattle.sv_tree.specs.declared.forms.Member.{Member}
 use Rattle.sv_tree.specs.declared.forms.Member.TheVariants as member
-use Rattle.sv_meaning.specs.Faults.{Faults, Judged, provided, ◌>>=◌}
+use Rattle.sv_meaning.specs.Faults.{Judged, provided, ◌>>=◌}
 use Rattle.sv_meaning.specs.Layouts as m
 use Rattle.sv_meaning.specs.Forms as f
 use Rattle.sv_const.specs.declared.layout.Layout.{Layout}
 use Rattle.sv_const.specs.declared.layout.Field.{Field}
 use Rattle.sv_const.specs.declared.names.Names.{Names}
-use Rattle.sv_const.specs.Judging.{IsCause}
-use Rattle.sv_const.specs.Kinds.{Entry, layout_is, IsSound, FieldIsSound, members_of}
-use Rattle.sv_const.specs.Names.{names_are}
-use Rattle.sv_const.proofs.Sound.{sound_is}
+use Rattle.sv_const.specs.Kinds.{layout_is, members_of}
 use Rattle.sv_types.specs.declared.enumerators.Enumerator.{Enumerator}
-use Rattle.sv_types.specs.declared.forms.Formed.{Formed}
 use Rattle.sv_types.specs.declared.forms.Listed.{Listed}
-use Rattle.sv_types.specs.Types.{Refused, Left, IsLeft, IsAbove, pushed, declared_is, all_declared, field_names, field_of, fields_of, forms_of, joined_form, IsListed, IsJoined, JudgesJoined, AreMembers, JudgesMembers, Forms, IsForm, struct_form, AreFields, JudgesFields}
-use Rattle.sv_types.proofs.Judging.{then_ok, then_err, then_in, refused_as, provided_ok, provided_err}
-use Rattle.sv_types.proofs.Above.{above_names, above_then, left_then}
+use Rattle.sv_types.specs.Types.{Refused, declared_is, all_declared, field_names, fields_of, forms_of, joined_form, IsListed, IsJoined}
+use Rattle.sv_types.proofs.Judging.{then_err, refused_as}
 use Rattle.sv_types.proofs.Membership.{chained, members_append}
 use Rattle.sv_types.proofs.Trees.{forms_more}
 

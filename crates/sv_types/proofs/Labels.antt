@@ -1,27 +1,26 @@
 -- Constants of labels, one by one.
-use Rattle.std.proofs.Common.{◌≡◌, ℕ, zero, suc, ◌+◌, ◌≤◌, ◌<◌, Bool, true, false, not, List, [], ◌∷◌, ◌++◌, length, drop, get_or, map, Option, Some, None, ℤ, pos, ◌+ℤ◌, IsTrue, Result, Ok, Err, IfOk, refl, sym, ap, ◌∙◌, subst, arith, append_assoc}
+use Rattle.std.proofs.Common.{◌≡◌, ℕ, zero, suc, ◌≤◌, ◌<◌, Bool, true, false, not, List, [], ◌∷◌, ◌++◌, length, drop, get_or, map, Option, ℤ, pos, ◌+ℤ◌, IsTrue, Result, Ok, Err, IfOk, refl, sym, ap, ◌∙◌, subst, arith, append_assoc}
 use Rattle.std.proofs.lemmas.List.{map-append, append-nil}
 use Rattle.std.proofs.Math.Seq.{drop-cons, drop-nil}
 use Rattle.fourvec.specs.Bits.{is_known, signed_vector}
 use Rattle.sv_outside.specs.declared.refusal.TextErr.{TextErr}
-use Rattle.sv_outside.specs.declared.refusal.TextErr.TheVariants.{No, Memory}
+use Rattle.sv_outside.specs.declared.refusal.TextErr.TheVariants.{No}
 use Rattle.sv_tree.specs.declared.word.Word.{Word}
 use Rattle.sv_tree.specs.declared.exprs.Expr.{Expr}
 use Rattle.sv_tree.specs.declared.forms.EnumLabel.{EnumLabel}
-use Rattle.sv_meaning.specs.Faults.{Faults, Judged, provided, ◌>>=◌, fault_if, or_then, bad_width}
+use Rattle.sv_meaning.specs.Faults.{Faults, Judged, ◌>>=◌, fault_if, or_then, bad_width}
 use Rattle.sv_meaning.specs.Layouts as m
 use Rattle.sv_meaning.specs.Meanings.{Meaning, whole, constant_at, fixed_faults_at}
 use Rattle.sv_meaning.specs.Forms.{Declared, entry_of, entries_of, can_hold, label_value, label_number, label_entry, labels}
 use Rattle.sv_const.specs.declared.layout.Known.{Known}
 use Rattle.sv_const.specs.declared.names.Names.{Names}
-use Rattle.sv_const.specs.Names.{names_are}
 use Rattle.sv_const.specs.Sizes.{IsConstant, JudgesConstant}
 use Rattle.sv_const.proofs.Lists.{in_fault, no_fault}
 use Rattle.sv_types.specs.declared.enumerators.Enumerator.{Enumerator}
 use Rattle.sv_types.specs.declared.whole.Whole.{Whole}
-use Rattle.sv_types.specs.Types.{Refused, whole_is, JudgesWhole, JudgesEntry, declared_is, all_declared, pushed, IsAbove, Left, IsLeft, AreLabels, JudgesLabels}
-use Rattle.sv_types.proofs.Judging.{then_ok, then_err, then_in, refused_as, provided_ok, provided_err}
-use Rattle.sv_types.proofs.Above.{above_names, above_then, left_then}
+use Rattle.sv_types.specs.Types.{Refused, whole_is, JudgesWhole, JudgesEntry, declared_is, all_declared, pushed, IsAbove}
+use Rattle.sv_types.proofs.Judging.{then_err, then_in, refused_as, provided_ok, provided_err}
+use Rattle.sv_types.proofs.Above.{above_then}
 
 -- ---- the number of a label
 

@@ -3,7 +3,6 @@ use Rattle.std.proofs.Common.{◌≡◌, ℕ, zero, suc, ◌+◌, ◌≤◌, ◌
 use Rattle.std.proofs.lemmas.Bool.Decides.{nat_tests}
 use Rattle.std.proofs.lemmas.List.{map-append, append-nil, take_all}
 use Rattle.std.proofs.Math.Seq.{drop-cons, drop-nil, take-suc}
-use Rattle.std.specs.List.{Contains}
 use Rattle.sv_outside.specs.declared.refusal.TextErr.{TextErr}
 use Rattle.sv_outside.specs.declared.refusal.TextErr.TheVariants.{No, Memory}
 use Rattle.sv_tree.specs.declared.word.Word.{Word}
@@ -15,8 +14,7 @@ use Rattle.sv_const.specs.declared.layout.Layout.{Layout}
 use Rattle.sv_const.specs.declared.layout.Field.{Field}
 use Rattle.sv_const.specs.Judging.{IsCause}
 use Rattle.sv_const.specs.Kinds.{layout_is, IsSound, members_of}
-use Rattle.sv_const.proofs.Lists.{in_left, in_right, in_first, in_fault, no_fault, both_clear, then_clear, first_clear, none_in}
-use Rattle.sv_const.proofs.Judged.{cause_from}
+use Rattle.sv_const.proofs.Lists.{in_left, in_right, in_first, in_fault, no_fault, both_clear, then_clear, none_in}
 use Rattle.sv_const.proofs.Sound.{sound_is}
 use Rattle.sv_types.specs.Types.{field_names, field_of, fields_of, IsField, JudgesField, AreFields, JudgesFields}
 

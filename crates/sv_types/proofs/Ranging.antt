@@ -1,12 +1,12 @@
 -- Layouts of ranges.
-use Rattle.std.proofs.Common.{◌≡◌, ℕ, zero, suc, ◌*◌, ◌≤◌, ◌<◌, Bool, true, false, ◌&&◌, ◌==◌, not, nat_le, List, [], ◌∷◌, length, drop, get_or, Option, Some, None, ℤ, pos, IsTrue, Result, Ok, Err, IfOk, refl, sym, ap, ◌∙◌, subst, arith}
+use Rattle.std.proofs.Common.{◌≡◌, ℕ, zero, suc, ◌*◌, ◌≤◌, ◌<◌, Bool, true, false, ◌&&◌, ◌==◌, not, nat_le, List, [], ◌∷◌, length, drop, get_or, Option, Some, ℤ, IsTrue, Result, Ok, Err, IfOk, refl, sym, ap, ◌∙◌, subst, arith}
 use Rattle.std.proofs.lemmas.Bool.Decides.{nat_tests}
 use Rattle.std.proofs.Math.Seq.{drop-cons, drop-nil}
 use Rattle.sv_outside.specs.declared.refusal.Place.{Place}
 use Rattle.sv_outside.specs.declared.refusal.TextErr.{TextErr}
-use Rattle.sv_outside.specs.declared.refusal.TextErr.TheVariants.{No, Memory}
+use Rattle.sv_outside.specs.declared.refusal.TextErr.TheVariants.{No}
 use Rattle.sv_tree.specs.declared.forms.Range.{Range}
-use Rattle.sv_meaning.specs.Faults.{Faults, Judged, provided, both, ◌>>=◌, fault_if, bad_width}
+use Rattle.sv_meaning.specs.Faults.{Judged, provided, both, ◌>>=◌, fault_if, bad_width}
 use Rattle.sv_meaning.specs.Layouts as m
 use Rattle.sv_meaning.specs.Meanings.{Meaning, number_of, is_bound, is_width, whole, fixed_faults, constant_of}
 use Rattle.sv_meaning.specs.Forms.{bound_faults, bounds, ranged_layout, over_ranges, vector_layout, option_to_list}
@@ -14,7 +14,7 @@ use Rattle.sv_const.specs.declared.layout.Layout.{Layout}
 use Rattle.sv_const.specs.declared.layout.Form.TheVariants as form
 use Rattle.sv_const.specs.declared.layout.Form.TheBlock.{shape-the_row-Layout-0, hidden-the_row-Layout-0}
 use Rattle.sv_const.specs.declared.fixed.Fixed.{Fixed}
-use Rattle.sv_const.specs.Judging.{IsCause, IsFixed, Fixes}
+use Rattle.sv_const.specs.Judging.{IsCause, IsFixed}
 use Rattle.sv_const.specs.Kinds.{layout_is, form_is, IsSound, FormIsSound}
 use Rattle.sv_const.proofs.Sound.{sound_is, sound_some, sound_most, same_bound}
 use mir.Syntax.{w64}

@@ -1,5 +1,5 @@
 -- Types by their productions.
-use Rattle.std.proofs.Common.{◌≡◌, ℕ, ◌+◌, ◌≤◌, Bool, true, false, List, [], ◌∷◌, ◌++◌, map, ℤ, pos, Result, Ok, Err, Option, Some, None, IfOk, All, refl, sym, ap, ◌∙◌, subst}
+use Rattle.std.proofs.Common.{◌≡◌, ℕ, ◌≤◌, Bool, true, false, List, [], ◌∷◌, ◌++◌, map, pos, Result, Ok, Err, Option, IfOk, All, refl, sym, ap, ◌∙◌, subst}
 use Rattle.std.proofs.lemmas.List.{map-append}
 use Rattle.std.specs.List.{AllByRecursion}
 use Rattle.std.proofs.lemmas.List.Elements.{All-from_recursion, recursion_from_All}
@@ -20,15 +20,15 @@ use Rattle.sv_const.specs.declared.layout.Field.{Field}
 use Rattle.sv_const.specs.declared.layout.Form.TheVariants as form
 use Rattle.sv_const.specs.declared.layout.Form.TheBlock.{shape-the_row-Field-1, hidden-the_row-Field-1}
 use Rattle.sv_const.specs.declared.names.Names.{Names}
-use Rattle.sv_const.specs.Kinds.{Entry, layout_is, form_is, members_of, IsSound, FormIsSound, FieldIsSound, MembersAreSound}
+use Rattle.sv_const.specs.Kinds.{layout_is, form_is, members_of, IsSound, FormIsSound, FieldIsSound, MembersAreSound}
 use Rattle.sv_const.specs.Judging.{IsCause}
 use Rattle.sv_const.specs.Names.{names_are}
 use Rattle.sv_const.proofs.Sound.{sound_is, row_members}
 use Rattle.sv_types.specs.declared.enumerators.Enumerator.{Enumerator}
 use Rattle.sv_types.specs.declared.forms.Formed.{Formed}
 use Rattle.sv_types.specs.declared.forms.Listed.{Listed}
-use Rattle.sv_types.specs.Types.{Refused, Left, IsLeft, IsAbove, pushed, declared_is, all_declared, IsLayout, JudgesLayout, AreLabels, JudgesLabels, IsListed, AreMembers, JudgesMembers, AreFields, fields_of, field_names, joined_form, IsJoined, Forms, IsForm, alone_form, enum_form, struct_form, forms_of, JudgesForm, JudgesType, layout_part}
-use Rattle.sv_types.proofs.Judging.{then_ok, then_err, then_in, refused_as, provided_ok, provided_err}
+use Rattle.sv_types.specs.Types.{Refused, Left, IsLeft, IsAbove, pushed, all_declared, IsLayout, JudgesLayout, AreLabels, JudgesLabels, IsListed, AreMembers, JudgesMembers, AreFields, fields_of, field_names, joined_form, IsJoined, Forms, IsForm, alone_form, enum_form, struct_form, forms_of, JudgesForm, layout_part}
+use Rattle.sv_types.proofs.Judging.{then_ok, then_err, refused_as, provided_ok, provided_err}
 use Rattle.sv_types.proofs.Above.{above_names, above_then, left_then}
 use Rattle.sv_types.proofs.Trees.{form_vector, form_integer, form_named, form_enum, form_struct}
 

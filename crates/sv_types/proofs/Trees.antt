@@ -10,7 +10,7 @@ use Rattle.sv_tree.specs.declared.forms.TypeTree.TheVariants as t
 use Rattle.sv_tree.specs.declared.forms.Member.{Member, Of', end_of-TypeTree, more_of-TypeTree}
 use Rattle.sv_tree.specs.declared.forms.Member.TheVariants as member
 use Rattle.sv_tree.specs.declared.forms.Member.TheBlock.{shape-the_row-TypeTree-0, hidden-the_row-TypeTree-0, shape-the_row-Member-1, hidden-the_row-Member-1}
-use Rattle.sv_meaning.specs.Faults.{Judged, provided, ◌>>=◌}
+use Rattle.sv_meaning.specs.Faults.{provided, ◌>>=◌}
 use Rattle.sv_meaning.specs.Layouts as m
 use Rattle.sv_meaning.specs.Forms as f
 use Rattle.sv_types.specs.Types.{forms_of, enum_form, struct_form}

@@ -1,13 +1,13 @@
 -- Values of parameters.
-use Rattle.std.proofs.Common.{◌≡◌, ℕ, suc, ◌≤◌, max, Bool, true, false, not, List, take, drop, ℤ, pos, nat_abs, Result, Ok, Err, Option, Some, None, IfOk, refl, sym, ap, ◌∙◌, subst, arith}
+use Rattle.std.proofs.Common.{◌≡◌, ℕ, max, Bool, true, false, not, List, take, drop, Result, Ok, Err, Option, Some, None, refl, sym, ap, ◌∙◌, subst}
 use Rattle.fourvec.specs.declared.Bit.{Bit}
 use Rattle.fourvec.specs.Bits.{is_known}
 use Rattle.sv_outside.specs.declared.refusal.Place.{Place}
 use Rattle.sv_outside.specs.declared.refusal.TextErr.{TextErr}
-use Rattle.sv_outside.specs.declared.refusal.TextErr.TheVariants.{No, Memory}
-use Rattle.sv_meaning.specs.Faults.{Faults, Judged, provided, ◌>>=◌, fault_if, not_constant, bad_width}
+use Rattle.sv_outside.specs.declared.refusal.TextErr.TheVariants.{No}
+use Rattle.sv_meaning.specs.Faults.{Judged, provided, ◌>>=◌, not_constant}
 use Rattle.sv_meaning.specs.Layouts as m
-use Rattle.sv_meaning.specs.Meanings.{Meaning, nowhere, assigned, constant_at, constant_of, fixed_faults}
+use Rattle.sv_meaning.specs.Meanings.{Meaning, nowhere, assigned, constant_of, fixed_faults}
 use Rattle.sv_meaning.specs.Params as params
 use Rattle.sv_meaning.specs.Forms.{has_sign}
 use Rattle.sv_meaning.specs.Values.{is_signed_word}
@@ -20,13 +20,13 @@ use Rattle.sv_typed.specs.declared.tree.Typed.{Typed}
 use Rattle.sv_typed.specs.Typed.{worth}
 use Rattle.sv_const.specs.declared.fixed.Fixed.{Fixed}
 use Rattle.sv_const.specs.declared.layout.Known.{Known}
-use Rattle.sv_const.specs.Judging.{IsCause, IsTyped, IsFixed, Fixes}
+use Rattle.sv_const.specs.Judging.{IsCause, IsTyped, IsFixed}
 use Rattle.sv_const.proofs.Lists.{in_second, in_fault, no_fault, then_clear}
 use Rattle.sv_const.proofs.OfRules.{cause_first}
 use Rattle.sv_const.proofs.Valued.{value_is}
 use Rattle.sv_types.specs.Types.{Refused}
-use Rattle.sv_types.specs.Values.{JudgesValue, IsWidth, JudgesWidth, width_in, converted_in}
-use Rattle.sv_types.proofs.Judging.{then_ok, then_err, then_in, provided_ok, provided_err, refused_as}
+use Rattle.sv_types.specs.Values.{JudgesValue, IsWidth, JudgesWidth, converted_in}
+use Rattle.sv_types.proofs.Judging.{then_err, provided_ok, provided_err}
 
 pub untyped_ok : (x : Meaning) (f : Fixed) → IsFixed x f → params.untyped x ≡ Ok (m.number_is f.known.value f.known.signed)
 untyped_ok x f h = provided_ok (fixed_faults x) (m.number_is (constant_of x) x.sign) h.clear ∙ ap Ok (ap (λ v. m.number_is v x.sign) h.value ∙ ap (m.number_is f.known.value) h.signed)

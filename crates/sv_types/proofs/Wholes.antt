@@ -1,8 +1,7 @@
 -- Whole numbers that so many bits hold.
-use Rattle.std.proofs.Common.{◌≡◌, ℕ, ◌-◌, ◌*◌, ◌/◌, ◌%◌, ◌^◌, ◌<◌, ◌≤◌, Bool, true, false, ◌&&◌, nat_lt, nat_le, nat_eq, refl, sym, ap, ◌∙◌, arith, ℤ, pos, negsuc, int_lt, int_le, subst}
+use Rattle.std.proofs.Common.{◌≡◌, ℕ, ◌-◌, ◌/◌, ◌^◌, ◌<◌, ◌≤◌, Bool, true, false, ◌&&◌, nat_lt, nat_eq, refl, sym, ap, ◌∙◌, arith, ℤ, pos, negsuc, int_lt, int_le}
 use Rattle.std.proofs.lemmas.Bool.{false≢true}
 use Rattle.std.proofs.lemmas.Bool.Decides.{nat_tests}
-use Rattle.std.proofs.lemmas.Int.{ints}
 use Rattle.std.proofs.lemmas.Nat.{pow_pos}
 use Rattle.std.proofs.Math.Nat.{pow-le-pow_right, le-div_iff_mul-le, mod-eq_of_lt}
 use Rattle.fourvec.specs.Bits.{vector, signed_vector}

@@ -1,13 +1,11 @@
 -- Types as code finds them: layouts, and the constants that they declare.
 use Rattle.std.specs.Prelude.{◌≡◌, ℕ, ◌+◌, ◌≤◌, ◌^◌, Bool, IsTrue, List, [], ◌∷◌, ◌++◌, map, Option, ℤ, pos, negsuc, Result, Ok, Err}
 use Rattle.std.specs.List.{All}
-use mathlib.Core.Former.{Count}
 use Rattle.sv_outside.specs.declared.refusal.Place.{Place}
 use Rattle.sv_outside.specs.declared.refusal.TextErr.{TextErr}
 use Rattle.sv_tree.specs.declared.word.Word.{Word}
 use Rattle.sv_tree.specs.declared.forms.Range.{Range}
 use Rattle.sv_tree.specs.declared.forms.EnumLabel.{EnumLabel}
-use Rattle.sv_tree.specs.declared.forms.TypeTree.{TypeTree}
 use Rattle.sv_tree.specs.declared.forms.Member.{Member, Of', end_of-TypeTree, more_of-TypeTree}
 use Rattle.sv_meaning.specs.Faults.{Judged, faults_of, provided, both, ◌>>=◌}
 use Rattle.sv_meaning.specs.Layouts as m

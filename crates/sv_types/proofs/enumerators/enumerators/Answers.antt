@@ -1,11 +1,11 @@
-use Rattle.std.proofs.Common.{ℕ, ◌+◌, suc, List, [], ◌∷◌, ◌++◌, map, pos, ◌+ℤ◌, drop, sym, subst, ap, ◌∙◌, arith, ℤ}
+use Rattle.std.proofs.Common.{◌+◌, List, [], ◌∷◌, ◌++◌, map, drop, sym, subst, arith, ℤ}
 use Rattle.std.specs.Option.{option_copied}
 use Rattle.std.proofs.lemmas.Result.{err_from_is_err_and}
-use Rattle.sv_meaning.specs.Forms.{entries_of, label_number, label_entry}
+use Rattle.sv_meaning.specs.Forms.{entries_of, label_entry}
 use Rattle.sv_const.specs.Names.{names_are}
 use Rattle.sv_types.specs.declared.enumerators.Enumerator.{Enumerator}
 use Rattle.sv_types.specs.Types.{whole_is, all_declared, pushed}
-use Rattle.sv_types.proofs.Above.{above_names, left_then}
+use Rattle.sv_types.proofs.Above.{above_names}
 use Rattle.sv_types.proofs.Labels.{Counts, counts_go, counts_end, counts_number, counts_entry, number_ok, number_err, entry_of_result, entry_refused, above_more}
 use Rattle.sv_types.proofs.enumerators.enumerators.Goals as goal
 

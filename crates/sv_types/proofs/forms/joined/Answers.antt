@@ -1,7 +1,6 @@
-use Rattle.std.proofs.Common.{◌++◌, refl}
 use Rattle.std.proofs.lemmas.Result.{err_from_is_err_and}
 use Rattle.sv_types.proofs.Membership.{fields_of_result, fields_refused}
-use Rattle.sv_types.proofs.Shapes.{form_of_result, form_refused, joined_ok, joined_cause, joined_left}
+use Rattle.sv_types.proofs.Shapes.{form_of_result, joined_ok, joined_cause}
 use Rattle.sv_types.proofs.forms.joined.Goals as goal
 
 pub returns-in_err-bits : goal.returns-in_err-bits

@@ -1,10 +1,9 @@
-use Rattle.std.proofs.Common.{◌≡◌, ℕ, ◌++◌, [], ◌∷◌, ◌<◌, ◌+◌, ◌∙◌, Bool, true, false, sym, subst, ap, arith}
+use Rattle.std.proofs.Common.{◌≡◌, ◌++◌, [], ◌∷◌, ◌+◌, ◌∙◌, true, false, sym, subst, arith}
 use Rattle.std.specs.List.{Contains}
 use Rattle.sv_meaning.specs.Forms.{member_faults}
 use Rattle.sv_meaning.specs.Layouts.{width_all}
 use Rattle.sv_meaning.specs.Names.{has_name}
 use Rattle.sv_const.specs.Kinds.{members_of}
-use Rattle.sv_const.proofs.Sound.{sound_most}
 use Rattle.sv_types.specs.Types.{field_names}
 use Rattle.sv_types.proofs.Membership.{name_twice, bits_above, field_ok}
 use Rattle.sv_types.proofs.members.add_field.Goals as goal

@@ -1,4 +1,4 @@
-use Rattle.std.proofs.Common.{◌≡◌, ℕ, ◌+◌, List, Bool, true, false, bytes_eq, sym, ap, ◌∙◌, arith}
+use Rattle.std.proofs.Common.{◌≡◌, ℕ, ◌+◌, List, true, false, bytes_eq, sym, ap, ◌∙◌, arith}
 use Rattle.sv_meaning.specs.Names.{has_name}
 use Rattle.sv_types.specs.Types.{field_names}
 use Rattle.sv_types.proofs.Membership.{name_here, name_behind, no_name}

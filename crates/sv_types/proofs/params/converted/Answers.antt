@@ -1,11 +1,9 @@
 use Rattle.std.proofs.Common.{ℕ, ◌∙◌, sym, subst, ap, true}
-use Rattle.sv_outside.specs.declared.refusal.TextErr.{TextErr}
 use Rattle.std.specs.List.{Contains}
 use Rattle.sv_meaning.specs.Faults.{faults_of}
 use Rattle.sv_meaning.specs.Meanings.{nowhere}
 use Rattle.sv_meaning.specs.Params as params
-use Rattle.sv_typed.specs.declared.tree.Typed.{Typed}
-use Rattle.sv_typed.specs.Typed.{worth, IsSound}
+use Rattle.sv_typed.specs.Typed.{worth}
 use Rattle.sv_const.proofs.Judged as judged
 use Rattle.sv_types.proofs.Valuing.{typed_ok, typed_unknown}
 use Rattle.sv_types.proofs.params.converted.Goals as goal

@@ -1,4 +1,4 @@
-use Rattle.std.proofs.Common.{◌≡◌, ℕ, ◌-◌, ◌/◌, ◌^◌, true, sym, subst, ap, ◌∙◌, refl, arith, negsuc, IsTrue}
+use Rattle.std.proofs.Common.{ℕ, ◌-◌, ◌/◌, ◌^◌, sym, subst, ap, ◌∙◌, refl, arith, IsTrue}
 use Rattle.std.proofs.lemmas.Nat.{pow_pos}
 use Rattle.fourvec.specs.Bits.{vector, signed_vector}
 use Rattle.fourvec.proofs.Planes.{mask_is}
