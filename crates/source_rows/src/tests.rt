@@ -224,6 +224,10 @@ fn nested(alloc: Global, parts: [&[u8]; 5], times: usize) -> Result<(u8, usize),
     Ok((number, line))
 }
 
+fn is_without_memory(told: Result<(u8, usize), TextErr>) -> bool {
+    matches!(told, Err(TextErr::Memory))
+}
+
 #[test]
 fn two_hundred_of_a_kind_may_hold_a_token(rt: HostRuntime) -> Result<(), TextErr> {
     let block: [&[u8]; 5] = [
@@ -249,7 +253,9 @@ fn two_hundred_of_a_kind_may_hold_a_token(rt: HostRuntime) -> Result<(), TextErr
         assert!(rt; nested(rt.alloc(), parts, 300)? == (9, 2));
     }
     for parts in [target, region] {
-        assert!(rt; nested(rt.alloc(), parts, 2000)? == (0, 0));
+        assert!(rt; nested(rt.alloc(), parts, 1000)? == (0, 0));
+        assert!(rt; is_without_memory(nested(rt.alloc(), parts, 1001)));
+        assert!(rt; is_without_memory(nested(rt.alloc(), parts, 30_000)));
     }
     Ok(())
 }

@@ -6,7 +6,7 @@ ghost use Rattle.sv_parser.specs.Braces as brace;
 ghost use Rattle.sv_parser.specs.Targets as spec;
 ghost use Rattle.sv_parser.specs.Words as words;
 
-use crate::lists::MOST_NESTING;
+use crate::lists::{MOST_NESTING, MOST_OPEN};
 use crate::openers::TargetOpener;
 use crate::told::sees;
 use items::Items;
@@ -118,13 +118,17 @@ fn turn(
 ) -> Result<Option<Lvalue>, ParseErr>
     ensures { brace.Turns stack.old tokens.old result stack.new tokens.new }
 {
+    if stack.len() > MOST_OPEN {
+        return Err(ParseErr::Memory);
+    }
     match target_next(tokens) {
         Some(opener) => turn_for(alloc, tokens, stack, opener),
         None => Err(tokens.refuse()),
     }
 }
 
-/// A target (A.8.5, variable_lvalue and net_lvalue). The cursor stands behind it then.
+/// A target (A.8.5, variable_lvalue and net_lvalue). The cursor stands behind it then. `Memory` also where over 1,000
+/// braces are open.
 pub fn lvalue(alloc: Global, tokens: &mut Cursor<'_>) -> Result<Lvalue, ParseErr>
     ensures { Reads (spec.lvalue tokens.old) result tokens.new }
 {

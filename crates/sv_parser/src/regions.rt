@@ -9,6 +9,7 @@ ghost use Rattle.sv_parser.specs.Words as words;
 
 use crate::forms::typedef;
 use crate::instantiations::named_item;
+use crate::lists::MOST_OPEN;
 use crate::module_items::{
     Generates, always, assigns, genvar, item_next, net, sees_item, variable,
 };
@@ -213,6 +214,9 @@ impl<F: Copy + Fn(Global, &mut Cursor<'_>, u8) -> Result<Item, ParseErr>> Region
         requires small { self.now.depth ≤ 200 }
         ensures { region.Turns self.now.depth stack.old tokens.old result stack.new tokens.new }
     {
+        if stack.len() > MOST_OPEN {
+            return Err(ParseErr::Memory);
+        }
         match item_next(tokens) {
             Some(opener) => self.turn_for(tokens, stack, opener),
             None => Err(tokens.refuse()),
@@ -236,7 +240,7 @@ impl<F: Copy + Fn(Global, &mut Cursor<'_>, u8) -> Result<Item, ParseErr>> Region
 }
 
 /// An item of a module (A.1.4, module_or_generate_item), of which at most `depth` generate loops and conditions hold a
-/// token. The cursor stands behind it then.
+/// token. The cursor stands behind it then. `Memory` also where over 1,000 regions are open.
 pub fn item(alloc: Global, tokens: &mut Cursor<'_>, depth: u8) -> Result<Item, ParseErr>
     requires { depth ≤ 200 }
     ensures { Reads (spec.item depth tokens.old) result tokens.new }
