@@ -1,3 +1,5 @@
+ghost use Rattle.sv_const.specs.Kinds.{WhatIsSound};
+
 use fourvec::Four;
 use std::alloc::Global;
 use sv_const::{Known, Names, Scope, What};
@@ -91,7 +93,9 @@ fn step(alloc: Global, text: &str) -> Result<Step, TextErr> {
 }
 
 // A constant of 32 bits with a sign.
-fn number(value: u32) -> What {
+fn number(value: u32) -> What
+    ensures { WhatIsSound result }
+{
     What::Number(Known {
         value: Four::new(32, u128::from(value), u128::from(value)),
         signed: true,

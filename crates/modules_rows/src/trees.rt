@@ -39,48 +39,55 @@ fn alone(alloc: Global, item: Item) -> Result<Items<Item>, TextErr> {
     Ok(items)
 }
 
+fn block(alloc: Global, items: Items<Item>) -> Result<Boxed<Gen>, TextErr> {
+    Ok(Boxed::new(alloc, Gen::Block(place(1), None, items, None))?)
+}
+
+fn in_loop(alloc: Global, body: Boxed<Gen>) -> Result<Item, TextErr> {
+    let variable = word(alloc, "i", 1)?;
+    let step = Step::After(word(alloc, "i", 1)?, StepMark::Inc);
+    let start = name(alloc, "n", 1)?;
+    let test = name(alloc, "n", 1)?;
+    Ok(Item::For(place(1), true, variable, start, test, step, body))
+}
+
+fn behind_else(alloc: Global, other: Boxed<Gen>) -> Result<Item, TextErr> {
+    let condition = name(alloc, "n", 1)?;
+    let body = block(alloc, Items::new(alloc))?;
+    Ok(Item::If(place(1), condition, body, Some(other)))
+}
+
 // Of a module, `~` in a generate region, `^` in a generate loop, and `!` behind the `else` of a generate conditional.
 fn item(alloc: Global, text: &str) -> Result<Item, TextErr> {
     if let Some(rest) = text.strip_prefix("~") {
-        Ok(Item::Generate(alone(alloc, instance(alloc, rest)?)?))
-    } else if let Some(rest) = text.strip_prefix("^") {
-        let items = alone(alloc, instance(alloc, rest)?)?;
-        Ok(Item::For(
-            place(1),
-            true,
-            word(alloc, "i", 1)?,
-            name(alloc, "n", 1)?,
-            name(alloc, "n", 1)?,
-            Step::After(word(alloc, "i", 1)?, StepMark::Inc),
-            Boxed::new(alloc, Gen::Block(place(1), None, items, None))?,
-        ))
-    } else if let Some(rest) = text.strip_prefix("!") {
-        let other = Boxed::new(alloc, instance(alloc, rest)?)?;
-        let empty = Gen::Block(place(1), None, Items::new(alloc), None);
-        Ok(Item::If(
-            place(1),
-            name(alloc, "n", 1)?,
-            Boxed::new(alloc, empty)?,
-            Some(Boxed::new(alloc, Gen::Single(place(1), other))?),
-        ))
-    } else {
-        instance(alloc, text)
+        return Ok(Item::Generate(alone(alloc, instance(alloc, rest)?)?));
     }
+    if let Some(rest) = text.strip_prefix("^") {
+        return in_loop(alloc, block(alloc, alone(alloc, instance(alloc, rest)?)?)?);
+    }
+    if let Some(rest) = text.strip_prefix("!") {
+        return behind_else(alloc, block(alloc, alone(alloc, instance(alloc, rest)?)?)?);
+    }
+    instance(alloc, text)
 }
 
-fn module(alloc: Global, text: &str, column: usize) -> Result<Module, TextErr> {
+fn items_of(alloc: Global, text: &str) -> Result<Items<Item>, TextErr> {
     let mut items = Items::new(alloc);
-    let mut of_name = text;
-    if let Some((before, all)) = text.split_once(":") {
-        of_name = before;
-        for part in all.split(',') {
-            if !part.is_empty() {
-                items.push(item(alloc, part)?)?;
-            }
+    for part in text.split(',') {
+        if !part.is_empty() {
+            items.push(item(alloc, part)?)?;
         }
     }
+    Ok(items)
+}
+
+// `NAME:ITEM,ITEM`
+fn module(alloc: Global, text: &str, column: usize) -> Result<Module, TextErr> {
+    let (of_name, all) = text.split_once(":").unwrap_or((text, ""));
+    let name = word(alloc, of_name, column)?;
+    let items = items_of(alloc, all)?;
     Ok(Module {
-        name: word(alloc, of_name, column)?,
+        name,
         params: Items::new(alloc),
         ports: None,
         items,
