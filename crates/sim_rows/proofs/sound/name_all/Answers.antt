@@ -1,4 +1,4 @@
-use Rattle.std.proofs.Common.{◌≡◌, ◌<◌, false, length, get_or, sym, ap, ◌∙◌, subst, arith, length-set}
+use Rattle.std.proofs.Common.{◌<◌, false, length, get_or, ap, ◌∙◌, arith, length-set}
 use Rattle.svex_arena.specs.Shapes.{shape_at}
 use Rattle.svex_arena.specs.Values.{each_variable_of}
 use Rattle.driver_resolve.specs.Drivers.{is_of_wires}

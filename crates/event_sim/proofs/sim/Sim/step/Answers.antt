@@ -1,4 +1,4 @@
-use Rattle.std.proofs.Common.{◌≡◌, get_or, ap, ◌∙◌}
+use Rattle.std.proofs.Common.{get_or, ap, ◌∙◌}
 use Rattle.lhs_alias.specs.Segs.{bit}
 use Rattle.flat_net.specs.Flats.{given_in}
 use Rattle.event_sim.specs.Nets.{nets_of}
