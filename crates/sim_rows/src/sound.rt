@@ -190,7 +190,7 @@ fn are_joins(alloc: Global, widths: &[u8], joins: &[Join]) -> Result<bool, Alloc
     Ok(true)
 }
 
-/// Whether a flat design is well formed.
+/// True only of a flat design that is well formed.
 pub fn is_sound(alloc: Global, flat: &Flat) -> Result<bool, AllocError>
     ensures { IfOk result (λ sound. IsTrue sound → IsFlat flat.now) }
 {
@@ -213,7 +213,7 @@ fn is_wide(wire: &Signal, value: &Four) -> bool
     value.width() == wire.width
 }
 
-/// Whether there is a vector for each wire, of its width.
+/// True only where there is a vector for each wire, of its width.
 pub fn is_valuation(wires: &[Signal], values: &[Four]) -> bool
     ensures { IsTrue result → IsValuation (widths_of wires.now) values.now }
 {
