@@ -1,12 +1,11 @@
 -- One pass of a simulation that fits its flat design.
-use Rattle.std.proofs.Common.{◌≡◌, ℕ, suc, ◌+◌, ◌<◌, ◌≤◌, List, [], ◌∷◌, ◌++◌, length, get_or, map, take, drop, sum, refl, sym, ap, ◌∙◌, subst, arith, drop-cons}
+use Rattle.std.proofs.Common.{◌≡◌, ℕ, suc, ◌+◌, ◌<◌, ◌≤◌, List, [], ◌∷◌, ◌++◌, length, get_or, map, drop, sum, sym, ap, ◌∙◌, subst, arith, drop-cons}
 use Rattle.std.specs.Prelude.{All, Option}
 use Rattle.std.proofs.lemmas.List.{length-map}
 use Rattle.std.proofs.lemmas.List.Sums.{sum_by-take-drop, sum_by-cons}
 use Rattle.fourvec.specs.declared.Bit.{Bit}
-use Rattle.lhs_alias.specs.Segs.{bit}
 use Rattle.lhs_alias.specs.Joined.{all_bits, starts_of, place_of}
-use Rattle.lhs_alias.proofs.Row.{length-all_bits, length-starts_of, place_in-starts_of}
+use Rattle.lhs_alias.proofs.Row.{length-all_bits, length-starts_of}
 use Rattle.settling.specs.Events.{event}
 use Rattle.svex_arena.specs.Arenas.{IsArena}
 use Rattle.svex_arena.specs.Values.{Vector, read}

@@ -1,6 +1,6 @@
 -- What holds beside a flat design: what its drivers read, and what its classes are told.
-use Rattle.std.proofs.Common.{◌≡◌, ℕ, zero, suc, ◌+◌, ◌<◌, ◌≤◌, Bool, true, false, cond, eqb, List, [], ◌∷◌, ◌++◌, length, get_or, map, refl, sym, ap, ◌∙◌, subst, arith, zero-add, add-zero}
-use Rattle.std.specs.Prelude.{All, IsTrue, Option, None}
+use Rattle.std.proofs.Common.{◌≡◌, ℕ, suc, ◌+◌, ◌<◌, ◌≤◌, Bool, true, false, cond, List, [], ◌∷◌, ◌++◌, length, get_or, map, sym, ap, ◌∙◌, arith, zero-add, add-zero}
+use Rattle.std.specs.Prelude.{All, Option, None}
 use Rattle.std.specs.List.{range_with_len}
 use Rattle.std.proofs.lemmas.Bool.{eqb-true, eq-eqb, ltb-true}
 use Rattle.std.proofs.lemmas.List.{get_or-map, ext_get_or, length-map}
@@ -19,7 +19,6 @@ use Rattle.lhs_alias.proofs.Lying.{lhs_bits-lie}
 use Rattle.lhs_alias.proofs.Row.{place-below}
 use Rattle.settling.specs.Settling.{Link, first_bit, given_to}
 use Rattle.settling.specs.Events.{resolved}
-use Rattle.svex_arena.specs.declared.shape.VarName.{VarName}
 use Rattle.svex_arena.specs.declared.shape.VarName.TheVariants.{Now, Prev, Stim, Chosen, Sampled}
 use Rattle.svex_arena.specs.declared.shape.Shape.{Shape}
 use Rattle.svex_arena.specs.Arenas.{IsArena}
@@ -31,7 +30,6 @@ use Rattle.driver_resolve.specs.declared.driver.Driver.{Driver}
 use Rattle.driver_resolve.specs.Drivers.{Phase, reading, drivers_give, stimuli_from, wire_bits, widths_of, is_wire, is_of_wires, IsDriver}
 use Rattle.flat_net.specs.declared.flat.Flat.{Flat}
 use Rattle.flat_net.specs.Flats.{IsFlat, links_of, given}
-use Rattle.event_sim.specs.declared.gift.Gift.{Gift}
 use Rattle.event_sim.specs.declared.gift.Source.{Source}
 use Rattle.event_sim.specs.declared.gift.Source.TheVariants.{Value, Stimulus}
 use Rattle.event_sim.specs.Gifts.{source_in, told_of, told_bit, given_at, IsGift, IsTold, gifts_at, gifts_to, driver_gifts, stimulus_gifts}
@@ -40,7 +38,7 @@ use Rattle.event_sim.specs.Sims.{store_of, IsValuation, home_of}
 use Rattle.event_sim.proofs.Homes.{IsInside, links-inside, first-inside}
 use Rattle.event_sim.proofs.Telling.{told-resolved}
 use Rattle.event_sim.proofs.Giving.{AreInside, inside-append, given_at-append, given_to-append, HasDriverValues, drivers-give, drivers-inside, AreWires, wires-rest, wire-lies, stimuli-give, stimuli-inside}
-use Rattle.event_sim.proofs.Passing.{width-at, as-many}
+use Rattle.event_sim.proofs.Passing.{width-at}
 
 -- ---- what drivers read
 

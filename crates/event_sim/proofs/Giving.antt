@@ -3,17 +3,15 @@ use Rattle.std.proofs.Common.{◌≡◌, ℕ, zero, suc, ◌+◌, ◌<◌, Bool,
 use Rattle.std.specs.Prelude.{All, filter}
 use Rattle.std.specs.List.{zip, range_with_len}
 use Rattle.std.proofs.lemmas.List.{map-append}
-use Rattle.std.proofs.lemmas.List.Elements.{filter-append, All-head, All-tail, All-nil, All-map}
+use Rattle.std.proofs.lemmas.List.Elements.{filter-append, All-head, All-tail, All-map}
 use Rattle.std.proofs.lemmas.List.FromFn.{length-range_with_len, get_or-range_with_len}
-use Rattle.fourvec.specs.declared.Bit.{Bit}
 use Rattle.fourvec.specs.declared.Bit.TheVariants.{Unknown}
 use Rattle.sv_outside.specs.declared.text.Signal.{Signal}
 use Rattle.lhs_alias.specs.declared.segs.WireBit.{WireBit}
 use Rattle.lhs_alias.specs.Segs.{bit, lhs_bits}
 use Rattle.lhs_alias.specs.Lies.{IsBitOf}
-use Rattle.lhs_alias.specs.Joined.{place_of}
 use Rattle.lhs_alias.proofs.Lying.{lhs_bits-lie}
-use Rattle.settling.specs.Settling.{Store, value_at as value_in_store, Link, Contribution, first_bit, same_bit, is_one_class, given_to}
+use Rattle.settling.specs.Settling.{value_at as value_in_store, Link, Contribution, first_bit, is_one_class, given_to}
 use Rattle.settling.proofs.Classes.{joined-exactly, same-name}
 use Rattle.svex_arena.specs.declared.shape.Shape.{Shape}
 use Rattle.svex_arena.specs.Values.{Vector, value_at}

@@ -1,6 +1,6 @@
 -- The places of the first bits of classes.
-use Rattle.std.proofs.Common.{◌≡◌, ℕ, zero, suc, ◌+◌, ◌<◌, Bool, true, false, eqb, ◌&&◌, List, [], ◌∷◌, ◌++◌, length, get_or, map, take, sum, refl, sym, ap, ◌∙◌, subst, arith}
-use Rattle.std.specs.Prelude.{All, Contains}
+use Rattle.std.proofs.Common.{◌≡◌, ℕ, zero, suc, ◌+◌, ◌<◌, Bool, true, false, eqb, List, [], ◌∷◌, length, get_or, map, refl, sym, ap, ◌∙◌, subst, arith}
+use Rattle.std.specs.Prelude.{All}
 use Rattle.std.specs.List.{zip}
 use Rattle.std.proofs.lemmas.Bool.{eqb-true, eq-eqb}
 use Rattle.std.proofs.lemmas.List.{get_or-map}
@@ -9,7 +9,7 @@ use Rattle.fourvec.proofs.Order.{both}
 use Rattle.lhs_alias.specs.declared.segs.WireBit.{WireBit}
 use Rattle.lhs_alias.specs.Segs.{bit, lhs_bits}
 use Rattle.lhs_alias.specs.Lies.{IsBitOf}
-use Rattle.lhs_alias.specs.Pairs.{Linked, FallTo}
+use Rattle.lhs_alias.specs.Pairs.{Linked}
 use Rattle.lhs_alias.specs.Joined.{all_bits, starts_of, place_of, place_in}
 use Rattle.lhs_alias.proofs.Chains.{linked-keeps}
 use Rattle.lhs_alias.proofs.Lying.{lhs_bits-lie}

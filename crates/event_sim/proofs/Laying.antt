@@ -1,7 +1,7 @@
 -- The tables of a flat design, made step by step.
 use Rattle.std.specs.Prelude.{All}
-use Rattle.std.proofs.Common.{◌≡◌, ℕ, zero, suc, ◌+◌, ◌<◌, ◌≤◌, Bool, true, false, cond, leb, ◌||◌, List, [], ◌∷◌, ◌++◌, length, get_or, map, take, refl, sym, ap, ◌∙◌, subst, arith, append_assoc, add-zero}
-use Rattle.std.specs.List.{zip, range_with_len, AllZip}
+use Rattle.std.proofs.Common.{◌≡◌, ℕ, suc, ◌+◌, ◌<◌, ◌≤◌, Bool, true, false, cond, leb, ◌||◌, List, [], ◌∷◌, ◌++◌, length, get_or, map, take, refl, sym, ap, ◌∙◌, subst, arith, append_assoc, add-zero}
+use Rattle.std.specs.List.{zip, AllZip}
 use Rattle.std.proofs.lemmas.Bool.{leb-true, leb-false}
 use Rattle.std.proofs.lemmas.List.{take_more, get_or-map, ext_get_or, length-map, length-take}
 use Rattle.std.proofs.lemmas.List.Elements.{AllZip-get_or}
@@ -11,10 +11,9 @@ use Rattle.lhs_alias.specs.declared.segs.Seg.{Seg}
 use Rattle.lhs_alias.specs.declared.segs.WireBit.{WireBit}
 use Rattle.lhs_alias.specs.Segs.{bit, seg_bits, lhs_bits}
 use Rattle.lhs_alias.specs.Lies.{IsBitOf, LieIn}
-use Rattle.lhs_alias.specs.Pairs.{Linked, IsFirst, Falls, HaveOwnChildren}
-use Rattle.lhs_alias.specs.Joined.{Kept, Stands, HasPlace, place_in, place_of, all_bits, starts_of}
-use Rattle.lhs_alias.proofs.Chains.{first-unique, linked-sym}
-use Rattle.lhs_alias.proofs.Lying.{lhs_bits-lie}
+use Rattle.lhs_alias.specs.Pairs.{IsFirst}
+use Rattle.lhs_alias.specs.Joined.{Kept, Stands, HasPlace, place_in, place_of, starts_of}
+use Rattle.lhs_alias.proofs.Chains.{first-unique}
 use Rattle.lhs_alias.proofs.Row.{place_in-starts_of}
 use Rattle.lhs_alias.proofs.SegBits.{get_or-seg_bits, length-seg_bits}
 use Rattle.settling.specs.Settling.{Link, first_bit, same_bit, lesser}

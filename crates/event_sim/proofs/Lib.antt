@@ -14,5 +14,6 @@ pub mod FlatNets
 pub mod Stepping
 pub mod Making
 pub mod Resting
+pub mod After
 mod Rows
 pub mod Falling

@@ -1,7 +1,6 @@
 -- A pass is an event.
-use Rattle.std.proofs.Common.{◌≡◌, ℕ, ◌+◌, ◌-◌, ◌<◌, ◌≤◌, Bool, true, false, cond, List, [], ◌∷◌, length, get_or, map, sym, refl, ap, ◌∙◌, subst, inl, inr, arith, zero-add}
-use Rattle.std.specs.Prelude.{Option, None, Some}
-use Rattle.std.specs.List.{range_with_len}
+use Rattle.std.proofs.Common.{◌≡◌, ℕ, ◌+◌, ◌<◌, Bool, true, false, cond, List, [], length, get_or, map, sym, refl, ap, ◌∙◌, inl, inr, arith, zero-add}
+use Rattle.std.specs.Prelude.{Option, None}
 use Rattle.std.proofs.lemmas.Bool.{cases_lt}
 use Rattle.std.proofs.lemmas.List.{get_or_past, get_or-map, ext_get_or, length-map}
 use Rattle.std.proofs.lemmas.List.FromFn.{get_or-map-range_with_len, length-map-range_with_len}
@@ -11,12 +10,12 @@ use Rattle.lhs_alias.specs.declared.segs.WireBit.{WireBit}
 use Rattle.lhs_alias.specs.Segs.{bit}
 use Rattle.lhs_alias.specs.Lies.{IsBitOf}
 use Rattle.lhs_alias.specs.Joined.{all_bits, starts_of, place_of}
-use Rattle.settling.specs.Settling.{Link, Contribution, given_to}
+use Rattle.settling.specs.Settling.{Link, given_to}
 use Rattle.settling.specs.Least.{Giving}
 use Rattle.settling.specs.Events.{resolved, event}
 use Rattle.svex_arena.specs.Values.{Vector}
 use Rattle.event_sim.specs.Gifts.{told_bit}
-use Rattle.event_sim.specs.Rows.{takes, passed_bit, passed_row, Passed}
+use Rattle.event_sim.specs.Rows.{takes, passed_bit, Passed}
 use Rattle.event_sim.specs.Sims.{store_of, IsValuation, home_of, picked}
 use Rattle.event_sim.proofs.Homes.{home-at, start-at}
 

@@ -7,7 +7,6 @@ use Rattle.std.proofs.lemmas.Bool.{cases_lt}
 use Rattle.std.proofs.lemmas.List.{get_or_default}
 use Rattle.std.proofs.lemmas.List.Elements.{All-nil, All-cons}
 use Rattle.std.proofs.lemmas.List.Folds.{list_any-append}
-use Rattle.fourvec.proofs.Tables.{left_of, right_of}
 use Rattle.fourvec.proofs.Order.{both}
 use Rattle.fourvec.specs.declared.Bit.{Bit}
 use Rattle.fourvec.specs.declared.Bit.TheVariants.{Unknown}
@@ -19,15 +18,15 @@ use Rattle.lhs_alias.specs.Joined.{all_bits, place_of}
 use Rattle.lhs_alias.proofs.Row.{place-below, bit-at_place}
 use Rattle.settling.specs.Settling.{Store, value_at, Link, Contribution, first_bit, same_bit, is_one_class, given_to}
 use Rattle.settling.specs.Least.{Under}
-use Rattle.settling.specs.Events.{Net, resolved, step, event, after_events}
-use Rattle.settling.proofs.Classes.{joined-first, first-joined, same-name}
+use Rattle.settling.specs.Events.{Net, resolved, step, after_events}
+use Rattle.settling.proofs.Classes.{joined-first, first-joined}
 use Rattle.settling.proofs.Events.{events_stay_below, events_raise, rest_is_least}
 use Rattle.svex_arena.specs.Arenas.{IsArena}
 use Rattle.driver_resolve.specs.declared.driver.Driver.{Driver}
 use Rattle.driver_resolve.specs.Drivers.{Phase, driver_gives, drivers_give, wire_bits, stimuli_from, widths_of}
 use Rattle.flat_net.specs.declared.flat.Flat.{Flat}
-use Rattle.flat_net.specs.Flats.{IsFlat, links_of, given, given_in, IsLeastSettling}
-use Rattle.event_sim.specs.Nets.{target_bits, input_bits, is_driven, is_net_bit, lowest, run_of, nets_of, net_bits}
+use Rattle.flat_net.specs.Flats.{IsFlat, links_of, given, given_in}
+use Rattle.event_sim.specs.Nets.{target_bits, input_bits, is_driven, is_net_bit, lowest, run_of, nets_of}
 use Rattle.event_sim.specs.Steps.{net_of, after_steps, StepsStayBelow, StepsRaise, RestIsLeast, FewChange, Changed, none, stayed, rose}
 use Rattle.event_sim.proofs.Homes.{links-inside, first-inside, same-itself}
 use Rattle.event_sim.proofs.Stepping.{outside-undriven}

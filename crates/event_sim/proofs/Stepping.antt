@@ -1,12 +1,10 @@
 -- A pass over one net is the event of that net.
-use Rattle.std.proofs.Common.{◌≡◌, ℕ, zero, suc, ◌+◌, ◌<◌, Bool, true, false, cond, eqb, ◌&&◌, List, [], ◌∷◌, ◌++◌, length, get_or, map, refl, sym, ap, ◌∙◌, subst, inl, inr, arith}
-use Rattle.std.specs.Prelude.{All, Option, None, Some, filter}
-use Rattle.std.specs.List.{list_any}
+use Rattle.std.proofs.Common.{◌≡◌, ℕ, suc, ◌<◌, Bool, true, false, cond, ◌&&◌, List, [], ◌∷◌, ◌++◌, length, get_or, map, refl, sym, ap, ◌∙◌, inl, inr, arith}
+use Rattle.std.specs.Prelude.{All, Option, None, Some}
 use Rattle.std.proofs.lemmas.Bool.{cases_lt}
 use Rattle.std.proofs.lemmas.List.{get_or-map}
 use Rattle.std.proofs.lemmas.List.Elements.{All-head, All-tail, All-nil, All-append, All-weaker, All-filter}
 use Rattle.std.proofs.lemmas.List.Folds.{list_any_none}
-use Rattle.fourvec.specs.declared.Bit.TheVariants.{Unknown}
 use Rattle.sv_outside.specs.declared.text.Signal.{Signal}
 use Rattle.lhs_alias.specs.declared.segs.WireBit.{WireBit}
 use Rattle.lhs_alias.specs.Segs.{bit, lhs_bits}
@@ -15,7 +13,7 @@ use Rattle.lhs_alias.specs.Joined.{all_bits, place_of}
 use Rattle.lhs_alias.proofs.Lying.{lhs_bits-lie}
 use Rattle.lhs_alias.proofs.Row.{all_bits-lie}
 use Rattle.lhs_alias.proofs.Chains.{linked-sym}
-use Rattle.settling.specs.Settling.{Store, Link, first_bit, same_bit, is_one_class}
+use Rattle.settling.specs.Settling.{first_bit, same_bit, is_one_class}
 use Rattle.settling.specs.Least.{Giving}
 use Rattle.settling.specs.Events.{event, step}
 use Rattle.settling.proofs.Classes.{joined-first, joined-exactly, same-name}
@@ -26,8 +24,8 @@ use Rattle.flat_net.specs.declared.flat.Flat.{Flat}
 use Rattle.flat_net.specs.Flats.{IsFlat, links_of}
 use Rattle.event_sim.specs.Nets.{target_bits, input_bits, is_driven, is_net_bit, run_of, nets_of, net_bits, low_of}
 use Rattle.event_sim.specs.Rows.{takes}
-use Rattle.event_sim.specs.Sims.{store_of, IsValuation, home_of, picked}
-use Rattle.event_sim.proofs.Homes.{IsInside, links-inside, first-inside, linked-inside, place-test, mapped-at}
+use Rattle.event_sim.specs.Sims.{store_of, IsValuation, picked}
+use Rattle.event_sim.proofs.Homes.{links-inside, first-inside, linked-inside, place-test, mapped-at}
 use Rattle.event_sim.proofs.Giving.{AreWires, wires-rest, wire-lies}
 use Rattle.event_sim.proofs.Flats.{wires-are}
 use Rattle.event_sim.proofs.Passing.{store-outside}

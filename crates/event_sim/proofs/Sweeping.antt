@@ -1,9 +1,8 @@
 -- A pass by the valuations that a simulation holds.
-use Rattle.std.proofs.Common.{◌≡◌, ℕ, ◌<◌, List, [], length, get_or, map, sym, refl, ap, ◌∙◌, subst, inl, inr, arith}
-use Rattle.std.specs.Prelude.{Option, None}
+use Rattle.std.proofs.Common.{◌≡◌, ℕ, List, [], length, get_or, sym, ap, ◌∙◌, inl, inr, arith}
+use Rattle.std.specs.Prelude.{Option}
 use Rattle.std.proofs.lemmas.Bool.{cases_lt}
 use Rattle.std.proofs.lemmas.List.{get_or_past}
-use Rattle.settling.specs.Settling.{Store}
 use Rattle.settling.specs.Events.{event}
 use Rattle.svex_arena.specs.Values.{Vector}
 use Rattle.driver_resolve.specs.Drivers.{widths_of}

@@ -1,5 +1,5 @@
 -- The nets of a flat design: the maximal driven runs of first bits.
-use Rattle.std.specs.Prelude.{◌≡◌, ◌&&◌, ◌==◌, ℕ, zero, suc, Bool, true, false, List, [], ◌∷◌, ◌++◌, map, filter, Option, None, Some, slice_index_or, if◌then◌else◌}
+use Rattle.std.specs.Prelude.{◌&&◌, ℕ, zero, suc, Bool, List, [], ◌∷◌, ◌++◌, filter, Option, None, Some, if◌then◌else◌}
 use Rattle.std.specs.List.{list_any}
 use Rattle.sv_outside.specs.declared.text.Signal.{Signal}
 use Rattle.lhs_alias.specs.declared.segs.WireBit.{WireBit}

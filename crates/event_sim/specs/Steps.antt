@@ -8,7 +8,9 @@ use Rattle.settling.specs.Events.{Net, event, after_events}
 use Rattle.driver_resolve.specs.Drivers.{widths_of}
 use Rattle.flat_net.specs.declared.flat.Flat.{Flat}
 use Rattle.flat_net.specs.Flats.{links_of, given_in, Settles, IsLeastSettling}
+use Rattle.event_sim.specs.declared.sim.Sim.{Sim}
 use Rattle.event_sim.specs.Nets.{nets_of, net_bits}
+use Rattle.event_sim.specs.Sims.{now_of, prev_of, stim_of}
 
 -- the bits of the net of a number
 abbrev pub net_of : Flat → ℕ → Net
@@ -21,6 +23,10 @@ stepped flat stim prev k now = event (links_of flat.joins) (given_in flat stim p
 -- the valuation after steps, the latest first
 abbrev pub after_steps : Flat → Store → Store → List ℕ → Store
 after_steps flat stim prev steps = after_events (links_of flat.joins) (given_in flat stim prev) (map (net_of flat) steps)
+
+-- the simulation has the valuation after these steps, over the stimulus and the previous valuation that it holds
+abbrev pub IsAfter : Flat → Sim → List ℕ → Type 0
+IsAfter flat sim steps = (n at : ℕ) → now_of sim n at ≡ after_steps flat (stim_of sim) (prev_of sim) steps n at
 
 -- it stays below every settling
 abbrev pub StepsStayBelow : Flat → Type 0

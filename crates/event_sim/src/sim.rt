@@ -1,6 +1,6 @@
 //! A simulation.
 
-ghost use Rattle.std.specs.Prelude.{◌≡◌, ◌≢◌, ℕ, ◌<◌, ◌≤◌, true, false, [], length, map, slice_index_or, None, IfOk};
+ghost use Rattle.std.specs.Prelude.{◌≡◌, ◌≢◌, ℕ, ◌<◌, ◌≤◌, true, false, List, [], ◌∷◌, length, map, slice_index_or, None, IfOk};
 ghost use Rattle.fourvec.specs.declared.Bit.TheVariants.{Unknown};
 ghost use Rattle.svex_arena.specs.Arenas.{IsArena};
 ghost use Rattle.settling.specs.Events.{event};
@@ -8,6 +8,7 @@ ghost use Rattle.driver_resolve.specs.Drivers.{widths_of};
 ghost use Rattle.flat_net.specs.Flats.{IsFlat, links_of, given_in, IsLeastSettling};
 ghost use Rattle.event_sim.specs.Sims.{store_of, IsValuation, now_values, prev_values, stim_values, now_of, prev_of, stim_of, Fits, picked};
 ghost use Rattle.event_sim.specs.Nets.{nets_of, net_bits};
+ghost use Rattle.event_sim.specs.Steps.{IsAfter};
 ghost use Rattle.flat_net.specs.declared.flat.Flat.{Flat};
 ghost use Rattle.lhs_alias.specs.Segs.{bit};
 
@@ -67,6 +68,7 @@ impl Sim {
         ensures previous { prev_values self.new ≡ prev.now.values }
         ensures stim { stim_values self.new ≡ stim.now.values }
         ensures unknown { (n k : ℕ) → now_of self.new n k ≡ Unknown }
+        ensures after { IsAfter flat.now self.new [] }
     {
         let _ = flat;
         hold(&mut self.env, &prev.values, &stim.values);
@@ -103,6 +105,7 @@ impl Sim {
         ensures now { (n k : ℕ) → now_of self.new n k
             ≡ event (links_of flat.now.joins) (given_in flat.now (stim_of self.old) (prev_of self.old))
             (net_bits flat.now (slice_index_or (nets_of flat.now) net (bit 0 0))) (now_of self.old) n k }
+        ensures after { (steps : List ℕ) → IsAfter flat.now self.old steps → IsAfter flat.now self.new (net ∷ steps) }
     {
         let low = low_of(&self.tables.nets, net);
         let _ = self.pass(flat, Some(low));

@@ -1,7 +1,7 @@
-use Rattle.std.proofs.Common.{◌≡◌, ◌<◌, ◌++◌, ◌∷◌, [], List, length, get_or, map, take, sym, ap, ◌∙◌, arith}
+use Rattle.std.proofs.Common.{◌++◌, get_or, map, take, sym, ap, ◌∙◌, arith}
 use Rattle.std.proofs.lemmas.List.{map-append}
 use Rattle.lhs_alias.specs.Segs.{seg_bits, lhs_bits}
-use Rattle.lhs_alias.specs.Joined.{Stands, all_bits, bits_from}
+use Rattle.lhs_alias.specs.Joined.{all_bits, bits_from}
 use Rattle.lhs_alias.proofs.Row.{all_bits-take_more}
 use Rattle.event_sim.specs.Sims.{home_of}
 use Rattle.event_sim.proofs.lay.all_homes.Goals as goal

@@ -1,4 +1,4 @@
-use Rattle.std.proofs.Common.{◌≡◌, ◌<◌, ◌++◌, [], length, map, take, sym, ap, ◌∙◌, arith, append_assoc}
+use Rattle.std.proofs.Common.{◌++◌, take, sym, ap, ◌∙◌, arith, append_assoc}
 use Rattle.lhs_alias.specs.Segs.{lhs_bits}
 use Rattle.lhs_alias.specs.Joined.{widths_of}
 use Rattle.event_sim.specs.declared.gift.Source.TheVariants.{Value}

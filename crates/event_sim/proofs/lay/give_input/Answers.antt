@@ -1,10 +1,10 @@
-use Rattle.std.proofs.Common.{◌≡◌, ◌++◌, ◌∷◌, [], true, cond, length, map, sym, ap, ◌∙◌, arith}
+use Rattle.std.proofs.Common.{◌++◌, [], cond, length, sym, ap, ◌∙◌, arith}
 use Rattle.std.proofs.lemmas.Result.{on_ok_weaker}
 use Rattle.lhs_alias.specs.Segs.{lhs_bits}
 use Rattle.lhs_alias.specs.Joined.{widths_of}
 use Rattle.driver_resolve.specs.Drivers.{wire_bits}
 use Rattle.event_sim.specs.declared.gift.Source.TheVariants.{Stimulus}
-use Rattle.event_sim.specs.Gifts.{gifts_at, gifts_to}
+use Rattle.event_sim.specs.Gifts.{gifts_to}
 use Rattle.event_sim.specs.Sims.{home_of}
 use Rattle.event_sim.proofs.Laying.{whole-bits, length-whole, whole-narrow}
 use Rattle.event_sim.proofs.lay.give_input.Goals as goal

@@ -1,4 +1,4 @@
-use Rattle.std.proofs.Common.{◌≡◌, ◌<◌, ◌++◌, [], length, take, cond, sym, ap, ◌∙◌, arith, append_assoc}
+use Rattle.std.proofs.Common.{◌++◌, [], take, cond, sym, ap, ◌∙◌, arith, append_assoc}
 use Rattle.lhs_alias.specs.Joined.{widths_of}
 use Rattle.driver_resolve.specs.Drivers.{wire_bits}
 use Rattle.event_sim.specs.declared.gift.Source.TheVariants.{Stimulus}

@@ -1,4 +1,4 @@
-use Rattle.std.proofs.Common.{◌≡◌, ◌<◌, List, length, take, sym, ◌∙◌, subst, arith}
+use Rattle.std.proofs.Common.{◌<◌, List, length, take, sym, ◌∙◌, subst, arith}
 use Rattle.settling.specs.Settling.{Link}
 use Rattle.lhs_alias.specs.Joined.{Stands}
 use Rattle.flat_net.specs.Flats.{links_of}

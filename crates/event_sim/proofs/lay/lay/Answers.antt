@@ -1,4 +1,4 @@
-use Rattle.std.proofs.Common.{◌≡◌, ◌+◌, ◌<◌, ◌++◌, ◌∷◌, [], length, get_or, take, sym, ap, ◌∙◌, arith, length-append}
+use Rattle.std.proofs.Common.{◌<◌, ◌++◌, ◌∷◌, [], length, get_or, take, sym, ap, ◌∙◌, arith, length-append}
 use Rattle.lhs_alias.specs.Segs.{seg_bits}
 use Rattle.lhs_alias.specs.Joined.{starts_of, starts_from, all_bits, bits_from}
 use Rattle.lhs_alias.proofs.Row.{all_bits-take_more, starts_of-take_more}

@@ -1,4 +1,4 @@
-use Rattle.std.proofs.Common.{◌≡◌, ◌<◌, ◌++◌, ◌∷◌, [], length, get_or, take, sym, ap, ◌∙◌, arith, append_assoc}
+use Rattle.std.proofs.Common.{◌<◌, ◌++◌, ◌∷◌, [], length, get_or, take, sym, ap, ◌∙◌, arith, append_assoc}
 use Rattle.event_sim.specs.declared.gift.Gift.{Gift}
 use Rattle.event_sim.specs.Gifts.{gifts_at}
 use Rattle.event_sim.proofs.Laying.{append-none, gifts_at-more}

@@ -1,15 +1,13 @@
-use Rattle.std.proofs.Common.{◌≡◌, ◌+◌, ◌<◌, ◌^◌, ◌++◌, List, length, map, refl, sym, ap, ◌∙◌, subst, arith, length-append}
+use Rattle.std.proofs.Common.{◌^◌, ◌++◌, List, length, map, refl, sym, ap, ◌∙◌, subst, arith, length-append}
 use Rattle.std.specs.Prelude.{All}
 use Rattle.std.proofs.lemmas.Result.{on_ok_weaker}
 use Rattle.std.proofs.lemmas.List.{length-map}
 use Rattle.std.proofs.lemmas.List.Elements.{All-weaker}
-use Rattle.settling.specs.Settling.{Link}
 use Rattle.lhs_alias.specs.declared.segs.Seg.{Seg}
 use Rattle.lhs_alias.specs.Segs.{lhs_bits}
-use Rattle.lhs_alias.specs.Joined.{HasPlace, Stands, place_in, all_bits, widths_of, first_of}
+use Rattle.lhs_alias.specs.Joined.{HasPlace, place_in, all_bits, widths_of, first_of}
 use Rattle.lhs_alias.proofs.Lying.{lhs_bits-lie}
 use Rattle.lhs_alias.proofs.Row.{places-of_bits}
-use Rattle.event_sim.specs.Sims.{home_of}
 use Rattle.event_sim.proofs.Laying.{homes-are}
 use Rattle.event_sim.proofs.lay.put_homes.Goals as goal
 

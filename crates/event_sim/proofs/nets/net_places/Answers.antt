@@ -1,4 +1,4 @@
-use Rattle.std.proofs.Common.{◌≡◌, ◌++◌, ◌∷◌, [], cond, sym, ap, ◌∙◌}
+use Rattle.std.proofs.Common.{◌++◌, ◌∷◌, [], cond, sym, ap, ◌∙◌}
 use Rattle.event_sim.specs.Runs.{begins}
 use Rattle.event_sim.proofs.NetPlaces.{filter-range_more}
 use Rattle.event_sim.proofs.nets.net_places.Goals as goal

@@ -1,4 +1,4 @@
-use Rattle.std.proofs.Common.{◌≡◌, ◌<◌, length, sym, ap, ◌∙◌, subst, arith, length-set}
+use Rattle.std.proofs.Common.{◌<◌, length, sym, ap, ◌∙◌, subst, arith, length-set}
 use Rattle.svex_arena.specs.Shapes.{FitsWidths, shape_at}
 use Rattle.svex_arena.specs.Values.{read, value_of}
 use Rattle.svex_arena.specs.Evaluated.{value_in, width_in}

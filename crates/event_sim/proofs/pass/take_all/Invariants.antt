@@ -1,4 +1,4 @@
-use Rattle.std.proofs.Common.{◌≡◌, ◌≢◌, ℕ, ◌<◌, ◌≤◌, true, false, [], length, get_or}
+use Rattle.std.proofs.Common.{◌≡◌, ◌≢◌, ℕ, ◌<◌, ◌≤◌, true, false, [], get_or}
 use Rattle.event_sim.specs.Rows.{passed_row}
 use Rattle.event_sim.proofs.pass.take_all.Given as goal
 

@@ -1,4 +1,4 @@
-use Rattle.std.proofs.Common.{◌≡◌, ℕ, ◌<◌, [], length, get_or, map}
+use Rattle.std.proofs.Common.{◌≡◌, ℕ, ◌<◌, length, map}
 use Rattle.fourvec.specs.declared.Bit.TheVariants.{Unknown}
 use Rattle.event_sim.specs.Sims.{store_of}
 use Rattle.event_sim.proofs.values.make_unknown.Given as goal

@@ -1,7 +1,6 @@
-use Rattle.std.proofs.Common.{◌≡◌, List, length, sym, ap, ◌∙◌, subst}
-use Rattle.svex_arena.specs.Values.{Vector, read}
+use Rattle.std.proofs.Common.{List, length, sym, ap, ◌∙◌, subst}
+use Rattle.svex_arena.specs.Values.{Vector}
 use Rattle.driver_resolve.specs.Drivers.{widths_of}
-use Rattle.event_sim.specs.Gifts.{IsTold}
 use Rattle.event_sim.specs.Sims.{IsValuation}
 use Rattle.event_sim.proofs.Fitting.{gifts-fit, rows-fit, starts-fit, homes-fit, lows-fit, pass-now}
 use Rattle.event_sim.proofs.Passing.{passed-widths}

@@ -1,13 +1,10 @@
-use Rattle.std.proofs.Common.{◌≡◌, ◌≢◌, ℕ, ◌<◌, List, length, get_or, sym, ap, ◌∙◌, subst}
+use Rattle.std.proofs.Common.{◌≡◌, sym, ap, ◌∙◌, subst}
 use Rattle.std.specs.Prelude.{None}
-use Rattle.fourvec.specs.Bits.{bit_below}
-use Rattle.settling.specs.Settling.{Store}
-use Rattle.settling.specs.Events.{Net, event, step}
 use Rattle.driver_resolve.specs.Drivers.{widths_of}
-use Rattle.flat_net.specs.Flats.{links_of, given_in, IsLeastSettling}
-use Rattle.event_sim.specs.Sims.{store_of, now_of, prev_of, stim_of, now_values, prev_values, stim_values, picked, Fits}
+use Rattle.flat_net.specs.Flats.{links_of, IsLeastSettling}
+use Rattle.event_sim.specs.Sims.{store_of, now_of, now_values, picked}
 use Rattle.event_sim.proofs.Falling.{unknowns-fall}
-use Rattle.event_sim.proofs.Settled.{Reached, reached-none, reached-more, reached-raises, reached-rest}
+use Rattle.event_sim.proofs.Settled.{reached-none, reached-more, reached-raises, reached-rest}
 use Rattle.event_sim.proofs.Sweeping.{swept, lengths-same}
 use Rattle.event_sim.proofs.sim.Sim.settle.Goals as goal
 

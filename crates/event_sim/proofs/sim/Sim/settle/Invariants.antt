@@ -1,4 +1,4 @@
-use Rattle.std.proofs.Common.{◌≡◌, ℕ}
+use Rattle.std.proofs.Common.{◌≡◌}
 use Rattle.event_sim.specs.Sims.{store_of, prev_values, stim_values, now_of, Fits}
 use Rattle.event_sim.proofs.Falling.{unknowns}
 use Rattle.event_sim.proofs.Settled.{Reached}

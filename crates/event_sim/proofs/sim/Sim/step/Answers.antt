@@ -1,8 +1,9 @@
-use Rattle.std.proofs.Common.{◌≡◌, get_or, ap, ◌∙◌}
+use Rattle.std.proofs.Common.{get_or, ap, ◌∙◌}
 use Rattle.lhs_alias.specs.Segs.{bit}
 use Rattle.flat_net.specs.Flats.{given_in}
 use Rattle.event_sim.specs.Nets.{nets_of}
 use Rattle.event_sim.specs.Sims.{prev_of, stim_of, now_values}
+use Rattle.event_sim.proofs.After.{after-more}
 use Rattle.event_sim.proofs.Stepping.{step-event, net-inside, net-low}
 use Rattle.event_sim.proofs.sim.Sim.step.Goals as goal
 
@@ -16,3 +17,16 @@ returns-clause-now c =
     net (net-inside flat c.args.net (bit 0 0) c.requires.net) c.low_of-low.result
     (c.low_of-low.ensures ∙ ap (λ l. get_or l c.args.net 0) c.deref.ensures.value ∙ net-low flat sim.tables.nets.items fits.tables.nets c.args.net (bit 0 0) c.requires.net)
     (given_in flat (stim_of sim) (prev_of sim)) c.pass.ensures.now
+
+pub returns-clause-after : goal.returns-clause-after
+returns-clause-after c = λ steps h.
+    let flat = c.args.flat.now in
+    let sim = c.args.self.now in
+    let fits = c.requires.fits in
+    let net = get_or (nets_of flat) c.args.net (bit 0 0) in
+    after-more flat sim c.pass.new.self c.args.net steps c.pass.ensures.stim c.pass.ensures.previous
+    (step-event flat c.requires.flat (now_values sim) (now_values c.pass.new.self) fits.present c.pass.ensures.fits.present sim.tables.lows.items fits.tables.lows
+    net (net-inside flat c.args.net (bit 0 0) c.requires.net) c.low_of-low.result
+    (c.low_of-low.ensures ∙ ap (λ l. get_or l c.args.net 0) c.deref.ensures.value ∙ net-low flat sim.tables.nets.items fits.tables.nets c.args.net (bit 0 0) c.requires.net)
+    (given_in flat (stim_of sim) (prev_of sim)) c.pass.ensures.now)
+    h

@@ -1,0 +1,8 @@
+use Rattle.event_sim.specs.declared.sim.Sim.{Sim}
+use Rattle.event_sim.proofs.After.{after-none}
+use Rattle.event_sim.proofs.sim.Sim.start.Goals as goal
+
+pub returns-clause-after : goal.returns-clause-after
+returns-clause-after c =
+    let sim : Sim = record { tables = c.args.self.now.tables; env = c.hold.new.env; work = c.args.self.now.work } in
+    after-none c.args.flat.now sim c.hold.ensures.unknown
