@@ -1,5 +1,5 @@
 // Targets whose selects are constant as parts of wires (IEEE 1800-2017, 10.3.2 and 23.3.3).
-ghost use Rattle.std.specs.Prelude.{◌≡◌, ◌≤◌, ◌<◌, All, IfOk, List, [], length};
+ghost use Rattle.std.specs.Prelude.{◌≡◌, ◌≤◌, ◌<◌, All, IfOk, List, [], length, slice_index_or, ◌+◌};
 ghost use Rattle.sv_const.specs.Names.{names_are};
 ghost use Rattle.lhs_alias.specs.Segs.{lhs_bits, AreSegs};
 ghost use Rattle.sv_meaning.specs.Designs.{as_targets, actual_faults};
@@ -40,16 +40,14 @@ fn united(alloc: Global, run: &[WireBit]) -> Result<Lhs, AllocError>
     ensures segs { IfOk result (λ to. AreSegs to) }
 {
     let mut segs = Vec::new(alloc);
-    let mut at = run.len();
-    'downward: while at > 0 {
-        at -= 1;
-        let bit = run[at];
+    'bits: for bit in run {
         segs.push(Seg {
             wire: bit.wire,
             lo: bit.at,
             width: 1,
         })?;
     }
+    segs.reverse();
     Lhs::from_vec(segs).normal()
 }
 
@@ -64,15 +62,43 @@ fn closed(
     requires near { All (λ b. b.at < 128) run.now }
     ensures { (all : Slots) → Runs all end parts run.now → IfOk result (λ next. Runs all end next []) }
 {
-    let mut parts = parts;
-    if !run.is_empty() {
-        let to = united(alloc, run)?;
-        parts.push(Part {
-            lo: end - run.len(),
-            to,
-        })?;
+    if run.is_empty() {
+        return Ok(parts);
     }
+    let to = united(alloc, run)?;
+    let mut parts = parts;
+    parts.push(Part {
+        lo: end - run.len(),
+        to,
+    })?;
     Ok(parts)
+}
+
+// The parts and the open run behind one slot more.
+fn behind_slot(
+    alloc: Global,
+    parts: Items<Part>,
+    run: &mut Vec<WireBit>,
+    at: usize,
+    slot: Option<WireBit>,
+) -> Result<Items<Part>, AllocError>
+    requires within { length run.old.items ≤ at }
+    requires near { All (λ b. b.at < 128) run.old.items }
+    requires slot { IsNear slot }
+    ensures runs { (all : Slots) → at < length all → slot ≡ slice_index_or all at slot → Runs all at parts run.old.items → IfOk result (λ next. Runs all (at + 1) next run.new.items) }
+    ensures near { IfOk result (λ next. All (λ b. b.at < 128) run.new.items) }
+{
+    match slot {
+        Some(bit) => {
+            run.push(bit)?;
+            Ok(parts)
+        }
+        None => {
+            let next = closed(alloc, parts, run, at)?;
+            run.clear();
+            Ok(next)
+        }
+    }
 }
 
 // The runs of bits that are there.
@@ -83,14 +109,7 @@ fn parts_of(alloc: Global, all: &[Option<WireBit>]) -> Result<Items<Part>, Alloc
     let mut parts = Items::new(alloc);
     let mut run = Vec::new(alloc);
     'slots: for at in 0..all.len() {
-        match all[at] {
-            Some(bit) => run.push(bit)?,
-            None => {
-                let next = closed(alloc, parts, &run, at)?;
-                parts = next;
-                run.clear();
-            }
-        }
+        parts = behind_slot(alloc, parts, &mut run, at, all[at])?;
     }
     closed(alloc, parts, &run, all.len())
 }

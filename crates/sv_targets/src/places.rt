@@ -106,11 +106,11 @@ fn reach_of(index: &Four, spot: &Spot) -> Option<Reach>
 }
 
 // A place that is known.
-fn fixed_reach(place: i64) -> Reach
-    ensures { reached result.below result.far ≡ place }
+fn fixed_reach(place: &i64) -> Reach
+    ensures { reached result.below result.far ≡ place.now }
 {
     Reach {
-        below: place < 0,
+        below: *place < 0,
         far: place.unsigned_abs() as u128,
     }
 }
@@ -137,7 +137,7 @@ pub(crate) fn spot_of(pick: &Pick) -> Spotted
         return Spotted::Moving;
     }
     match &pick.place {
-        PickPlace::Fixed(place) => Spotted::At(fixed_reach(*place)),
+        PickPlace::Fixed(place) => Spotted::At(fixed_reach(place)),
         PickPlace::Moving { index, spot } => spot_at(&index.get().own(), spot),
     }
 }

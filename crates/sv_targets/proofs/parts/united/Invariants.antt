@@ -1,13 +1,9 @@
-use Rattle.std.proofs.Common.{◌≡◌, ◌≤◌, length, drop}
+use Rattle.std.proofs.Common.{◌≡◌, take, reverse}
 use Rattle.lhs_alias.specs.Segs.{lhs_bits, AreSegs}
 use Rattle.sv_targets.proofs.parts.united.Given as goal
 
-abbrev pub invariant-downward : goal.invariant-downward
-invariant-downward l = record {
-  within : l.at ≤ length l.run;
-  bits : lhs_bits l.segs.items ≡ drop l.at l.run;
-  segs : AreSegs l.segs.items;
+abbrev pub invariant-bits : goal.invariant-bits
+invariant-bits l = record {
+  bits : lhs_bits (reverse l.segs.items) ≡ take l.bit-index l.run;
+  segs : AreSegs (reverse l.segs.items);
 }
-
-abbrev pub decreases-downward : goal.decreases-downward
-decreases-downward l = l.at
