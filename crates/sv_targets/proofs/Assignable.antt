@@ -1,11 +1,10 @@
 -- Actuals as targets, and lists of them.
-use Rattle.std.proofs.Common.{◌≡◌, ℕ, zero, suc, ◌≤◌, ◌<◌, List, [], ◌∷◌, ◌++◌, length, take, drop, get_or, map, Result, Ok, Err, refl, sym, ap, ◌∙◌, subst, arith, append_assoc}
+use Rattle.std.proofs.Common.{◌≡◌, ℕ, zero, suc, ◌≤◌, ◌<◌, List, [], ◌∷◌, ◌++◌, length, take, drop, get_or, map, Result, refl, sym, ap, ◌∙◌, subst, arith, append_assoc}
 use Rattle.std.proofs.lemmas.List.{append-nil, take_all}
 use Rattle.std.proofs.Math.Seq.{take-suc}
 use Rattle.std.specs.List.{Contains}
 use Rattle.sv_outside.specs.declared.refusal.Place.{Place}
 use Rattle.sv_outside.specs.declared.refusal.TextErr.{TextErr}
-use Rattle.sv_outside.specs.declared.refusal.TextErr.TheVariants.{No, Memory}
 use Rattle.sv_tree.specs.declared.word.Word.{Word}
 use Rattle.sv_tree.specs.declared.exprs.Sign.{Sign}
 use Rattle.sv_tree.specs.declared.exprs.SystemName.{SystemName}
@@ -14,15 +13,14 @@ use Rattle.sv_tree.specs.declared.exprs.BinaryOp.{BinaryOp}
 use Rattle.sv_tree.specs.declared.exprs.Select.{Select}
 use Rattle.sv_tree.specs.declared.exprs.Expr.{Expr}
 use Rattle.sv_tree.specs.declared.exprs.Expr.TheVariants as e
-use Rattle.sv_tree.specs.declared.exprs.Expr.TheBlock.{shape-the_row-Select-0, hidden-the_row-Select-0, shape-the_row-Expr-1, hidden-the_row-Expr-1, shape-the_row-Expr-2, hidden-the_row-Expr-2}
+use Rattle.sv_tree.specs.declared.exprs.Expr.TheBlock.{shape-the_row-Select-0, hidden-the_row-Select-0, shape-the_row-Expr-2, hidden-the_row-Expr-2}
 use Rattle.sv_meaning.specs.Faults.{Faults, or_then, fault, bad_target}
 use Rattle.sv_meaning.specs.Layouts as m
 use Rattle.sv_meaning.specs.Meanings.{Meaning, fixed_faults}
-use Rattle.sv_meaning.specs.Values.{mean, step, steps}
-use Rattle.sv_meaning.specs.Targets.{Target, target_of, target_faults, wide_target}
+use Rattle.sv_meaning.specs.Values.{mean, step}
+use Rattle.sv_meaning.specs.Targets.{target_of, target_faults, wide_target}
 use Rattle.sv_meaning.specs.Designs.{as_targets, all_as_targets, actual_faults, all_actual_faults}
 use Rattle.sv_const.specs.Judging.{IsCause}
-use Rattle.sv_const.proofs.Judged.{cause_from}
 use Rattle.sv_const.proofs.OfRules.{cause_left}
 use Rattle.sv_const.proofs.Made.{steps_list}
 use Rattle.sv_targets.specs.declared.targets.TypedTarget.{TypedTarget}

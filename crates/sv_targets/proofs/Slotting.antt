@@ -1,8 +1,7 @@
 -- The bits that constant selects name.
-use Rattle.std.proofs.Common.{◌≡◌, ℕ, zero, suc, ◌+◌, ◌-◌, ◌≤◌, ◌<◌, Bool, true, false, List, [], ◌∷◌, ◌++◌, length, take, drop, get_or, map, replicate, Option, Some, None, Result, Ok, Err, IfOk, All, refl, sym, ap, ◌∙◌, subst, arith, append_assoc, cond}
+use Rattle.std.proofs.Common.{◌≡◌, ℕ, zero, suc, ◌+◌, ◌-◌, ◌≤◌, ◌<◌, Bool, true, false, List, [], ◌∷◌, ◌++◌, length, drop, get_or, replicate, Option, Some, None, Result, Ok, Err, IfOk, All, refl, sym, ap, ◌∙◌, subst, arith}
 use Rattle.std.specs.Prelude.{ℤ, pos, negsuc, neg_ℤ, ◌+ℤ◌, unsigned_abs, slice_get, int_lt}
 use Rattle.std.proofs.lemmas.Int.{ints}
-use Rattle.std.proofs.lemmas.List.{append-nil, at_drop_more, at_drop_all}
 use Rattle.std.proofs.Math.Seq.{drop-cons, drop-nil}
 use Rattle.std.specs.List.{AllZip, AllByRecursion}
 use Rattle.std.specs.Prelude.{min, if◌then◌else◌}
@@ -18,7 +17,7 @@ use Rattle.lhs_alias.specs.Segs.{bit}
 use Rattle.sv_meaning.specs.Faults.{Faults}
 use Rattle.sv_meaning.specs.Layouts as m
 use Rattle.sv_meaning.specs.Meanings.{Meaning}
-use Rattle.sv_meaning.specs.Targets.{Target, bit_names, flat, slot_at, slots_from, slots, with_place, chain_slots, widths}
+use Rattle.sv_meaning.specs.Targets.{Target, bit_names, flat, slot_at, slots_from, slots, with_place, chain_slots}
 use Rattle.sv_typed.specs.declared.tree.Pick.{Pick}
 use Rattle.sv_const.specs.Picks.{fixed_pick, picked_slots}
 use Rattle.sv_targets.specs.declared.targets.TypedTarget.{TypedTarget}

@@ -1,19 +1,19 @@
 -- Targets, and lists of targets.
-use Rattle.std.proofs.Common.{◌≡◌, ℕ, zero, suc, ◌+◌, ◌≤◌, ◌<◌, Bool, true, false, not, min, List, [], ◌∷◌, ◌++◌, length, take, drop, get_or, map, Option, Some, None, Result, Ok, Err, IfOk, refl, sym, ap, ◌∙◌, subst, arith, append_assoc}
+use Rattle.std.proofs.Common.{◌≡◌, ℕ, zero, suc, ◌+◌, ◌≤◌, ◌<◌, true, false, not, min, List, [], ◌∷◌, ◌++◌, length, take, drop, get_or, map, Some, Result, Ok, Err, refl, sym, ap, ◌∙◌, subst, arith, append_assoc}
 use Rattle.std.proofs.lemmas.Bool.Decides.{nat_tests}
 use Rattle.std.proofs.lemmas.List.{append-nil, take_all, at_drop_more, at_drop_all}
-use Rattle.std.proofs.Math.Seq.{drop-cons, take-suc}
-use Rattle.std.specs.List.{All, AllZip, AllByRecursion, Contains}
+use Rattle.std.proofs.Math.Seq.{take-suc}
+use Rattle.std.specs.List.{All, AllZip, AllByRecursion}
 use Rattle.std.proofs.lemmas.List.Elements.{recursion_from_All}
 use Rattle.sv_outside.specs.declared.refusal.Place.{Place}
 use Rattle.sv_outside.specs.declared.refusal.TextErr.{TextErr}
-use Rattle.sv_outside.specs.declared.refusal.TextErr.TheVariants.{No, Memory}
+use Rattle.sv_outside.specs.declared.refusal.TextErr.TheVariants.{No}
 use Rattle.sv_tree.specs.declared.word.Word.{Word}
 use Rattle.sv_tree.specs.declared.exprs.Select.{Select}
 use Rattle.sv_tree.specs.declared.stmts.Lvalue.{Lvalue}
 use Rattle.sv_tree.specs.declared.stmts.Lvalue.TheVariants as lv
 use Rattle.sv_tree.specs.declared.stmts.Lvalue.TheBlock.{shape-the_row-Lvalue-0, hidden-the_row-Lvalue-0}
-use Rattle.sv_meaning.specs.Faults.{Faults, or_then, fault_if, bad_width}
+use Rattle.sv_meaning.specs.Faults.{Faults, or_then, bad_width}
 use Rattle.sv_meaning.specs.Layouts as m
 use Rattle.sv_meaning.specs.Meanings.{Meaning, Step, is_width, chain_layout, chain_faults}
 use Rattle.sv_const.specs.declared.layout.Layout.{Layout}
@@ -27,9 +27,8 @@ use Rattle.sv_typed.specs.Typed.{PickIsSound, picked_width}
 use Rattle.sv_const.specs.declared.chain.Chain.{Chain}
 use Rattle.sv_const.specs.Judging.{IsCause}
 use Rattle.sv_const.specs.Picks.{Follows}
-use Rattle.sv_const.specs.Roots.{IsChain, JudgesChain}
-use Rattle.sv_const.proofs.Judged.{cause_from}
-use Rattle.sv_const.proofs.OfRules.{cause_left, cause_right, cause_first}
+use Rattle.sv_const.specs.Roots.{IsChain}
+use Rattle.sv_const.proofs.OfRules.{cause_left}
 use Rattle.sv_const.proofs.Lists.{in_second, in_fault, no_fault, both_clear, then_clear}
 use Rattle.sv_targets.specs.declared.targets.TypedTarget.{TypedTarget}
 use Rattle.sv_targets.specs.Targets.{StandsFor, IsTarget, JudgesTarget, AreTargets, JudgesTargets, width_of_all, all_faults, all_targets}

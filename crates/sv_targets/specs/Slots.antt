@@ -1,5 +1,5 @@
 -- The bits that constant selects name, by their places.
-use Rattle.std.specs.Prelude.{◌≡◌, ℕ, ◌+◌, ◌-◌, ◌<◌, ◌≤◌, List, [], ◌∷◌, ◌++◌, length, take, map, replicate, Option, Some, None, Result, Ok, Err, ℤ, unsigned_abs, if◌then◌else◌}
+use Rattle.std.specs.Prelude.{◌≡◌, ℕ, ◌+◌, ◌-◌, ◌<◌, ◌≤◌, List, [], ◌∷◌, ◌++◌, length, take, map, replicate, Option, Some, None, Result, Ok, Err, ℤ, unsigned_abs}
 use Rattle.std.specs.List.{All}
 use Rattle.fourvec.specs.Spots.{reached}
 use Rattle.lhs_alias.specs.declared.segs.WireBit.{WireBit}

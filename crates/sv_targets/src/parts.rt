@@ -115,10 +115,7 @@ fn parts_of(alloc: Global, all: &[Option<WireBit>]) -> Result<Items<Part>, Alloc
 }
 
 // Targets as parts of wires.
-fn lowered(
-    alloc: Global,
-    targets: Result<Items<TypedTarget>, TextErr>,
-) -> Result<Target, TextErr>
+fn lowered(alloc: Global, targets: Result<Items<TypedTarget>, TextErr>) -> Result<Target, TextErr>
     requires narrow { AreNarrow targets }
     requires sound { IfOk targets (λ all. All TargetIsSound all) }
     ensures { (f : Faults) (ts : List t.Target) → JudgesTargets fixed_faults f ts targets → JudgesParts f ts result }
@@ -142,11 +139,7 @@ pub fn target_of(alloc: Global, target: &Lvalue, names: &Names<'_>) -> Result<Ta
 }
 
 /// An actual of a port as a target, as `target_of` has it (23.3.3).
-pub fn target_of_actual(
-    alloc: Global,
-    actual: &Expr,
-    names: &Names<'_>,
-) -> Result<Target, TextErr>
+pub fn target_of_actual(alloc: Global, actual: &Expr, names: &Names<'_>) -> Result<Target, TextErr>
     ensures { JudgesParts (actual_faults (names_are names.now) actual.now) (as_targets (names_are names.now) actual.now) result }
 {
     lowered(alloc, typed_actual(alloc, actual, names))

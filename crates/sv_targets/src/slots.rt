@@ -14,11 +14,7 @@ use std::alloc::{AllocError, Global};
 use sv_typed::Pick;
 
 // The bits of a wire.
-fn wire_slots(
-    alloc: Global,
-    wire: usize,
-    width: u8,
-) -> Result<Items<Option<WireBit>>, AllocError>
+fn wire_slots(alloc: Global, wire: usize, width: u8) -> Result<Items<Option<WireBit>>, AllocError>
     requires { width ≤ 128 }
     ensures is { IfOk result (λ all. all ≡ t.bit_names wire 0 width) }
     ensures near { IfOk result (λ all. All IsNear all) }
@@ -122,10 +118,7 @@ fn picked(
 }
 
 // The slots that a target names.
-fn target_slots(
-    alloc: Global,
-    target: &TypedTarget,
-) -> Result<Items<Option<WireBit>>, AllocError>
+fn target_slots(alloc: Global, target: &TypedTarget) -> Result<Items<Option<WireBit>>, AllocError>
     requires { TargetIsSound target.now }
     ensures is { IfOk result (λ all. all ≡ target_slots target.now) }
     ensures near { IfOk result (λ all. All IsNear all) }

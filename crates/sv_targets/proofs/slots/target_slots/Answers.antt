@@ -1,4 +1,4 @@
-use Rattle.std.proofs.Common.{◌≡◌, ◌≤◌, ◌<◌, ◌∙◌, List, length, get_or, sym, subst, ap}
+use Rattle.std.proofs.Common.{◌≡◌, ◌≤◌, ◌<◌, ◌∙◌, List, length, get_or, subst, ap}
 use Rattle.sv_meaning.specs.Targets.{slots_from}
 use Rattle.sv_typed.specs.declared.tree.Pick.{Pick}
 use Rattle.sv_targets.specs.Slots.{Slots, Picked, target_slots}

@@ -21,6 +21,6 @@ returns-else-width-ge1-clause-is c = λ judge f xs h.
     let a = targets_ok judge f xs c.args.all c.in-Ok.all c.in-Ok.is h in
     subst (Contains (or_then f (wide_target c.args.place xs))) (sym c.refusal.ensures)
     (elim c.else-width-ge1.branch [
-      else-width-ge1-via-then-width-ge1+else-width-le128 v ↦ let k = v.if-width-le128.false in braced_many judge f xs c.in-Ok.all c.args.place c.width_of_all-width.result a w (omega arith)
-    | else-width-ge1-via-else-width-ge1 v ↦ let k = v.if-width-ge1.false in braced_none judge f xs c.in-Ok.all c.args.place c.width_of_all-width.result a w (omega arith)
+      | else-width-ge1-via-then-width-ge1+else-width-le128 v ↦ let k = v.if-width-le128.false in braced_many judge f xs c.in-Ok.all c.args.place c.width_of_all-width.result a w (omega arith)
+      | else-width-ge1-via-else-width-ge1 v ↦ let k = v.if-width-ge1.false in braced_none judge f xs c.in-Ok.all c.args.place c.width_of_all-width.result a w (omega arith)
     ])
