@@ -1,12 +1,13 @@
 // Types in postfix notation: parts first, then what is made of them, with a blank between two words.
 //
 //     7  A  neg              a literal, a name, and the last expression below 0
-//     v  vs  integer  @T     a vector without and with a sign, `integer`, and a named type
-//     range                  puts a range of the last two expressions behind the last type
-//     enum  :A  =A  end      begins an enumeration with the last type as its base; a label, one with the last expression; its end
-//     {  {s  .a  }           begins a structure without and with a sign; a member of the last type; its end
+//     range                  a range of the last two expressions, for the type that comes next
+//     v  vs  integer  @T     a vector without and with a sign, `integer`, and a named type, with the ranges before it
+//     :A  =A  enum  enums    a label, one with the last expression, and an enumeration of the labels, its base without and with a sign
+//     {  .a  }  }s           begins a structure; a member of the last type; its end without and with a sign, with the ranges before it
 use items::{Boxed, Items};
 use std::alloc::Global;
+use std::mem;
 use sv_outside::{Name, Place, Refusal, TextErr};
 use sv_tree::{BitsWord, EnumLabel, Expr, Member, Range, Sign, TypeTree, UnaryOp, Word};
 
@@ -23,13 +24,16 @@ const BAD_ROW: TextErr = TextErr::No(Refusal {
     count: 0,
 });
 
-// What is written, or begun.
+// What is written so far.
 #[derive(Drop)]
-enum Part {
-    Value(Expr),
-    Type(TypeTree),
-    Labels(Option<Sign>, Option<Range>, Items<EnumLabel>),
-    Members(Option<Sign>, Items<Member>),
+pub struct Written {
+    alloc: Global,
+    values: Vec<Expr>,
+    ranges: Vec<Range>,
+    labels: Vec<EnumLabel>,
+    members: Vec<Member>,
+    outer: Vec<Vec<Member>>,
+    types: Vec<TypeTree>,
 }
 
 fn word(alloc: Global, text: &[u8]) -> Result<Word, TextErr> {
@@ -39,185 +43,206 @@ fn word(alloc: Global, text: &[u8]) -> Result<Word, TextErr> {
     })
 }
 
+// Whether a word is a literal.
+fn is_literal(text: &[u8]) -> bool {
+    match text.first() {
+        Some(first) => first.is_ascii_digit() || *first == b'\'',
+        None => false,
+    }
+}
+
 // A literal, or a name.
 fn leaf(alloc: Global, text: &[u8]) -> Result<Expr, TextErr> {
     let word = word(alloc, text)?;
-    let is_literal = match text.first() {
-        Some(first) => first.is_ascii_digit() || *first == b'\'',
-        None => false,
-    };
-    if is_literal {
+    if is_literal(text) {
         Ok(Expr::Literal(word))
     } else {
         Ok(Expr::Name(word, Items::new(alloc)))
     }
 }
 
-fn pop_value(stack: &mut Vec<Part>) -> Result<Expr, TextErr> {
-    match stack.pop() {
-        Some(Part::Value(value)) => Ok(value),
-        _ => Err(BAD_ROW),
+impl Written {
+    fn new(alloc: Global) -> Written {
+        Written {
+            alloc,
+            values: Vec::new(alloc),
+            ranges: Vec::new(alloc),
+            labels: Vec::new(alloc),
+            members: Vec::new(alloc),
+            outer: Vec::new(alloc),
+            types: Vec::new(alloc),
+        }
+    }
+
+    fn value(&mut self) -> Result<Expr, TextErr> {
+        match self.values.pop() {
+            Some(value) => Ok(value),
+            None => Err(BAD_ROW),
+        }
+    }
+
+    fn tree(&mut self) -> Result<TypeTree, TextErr> {
+        match self.types.pop() {
+            Some(tree) => Ok(tree),
+            None => Err(BAD_ROW),
+        }
+    }
+
+    fn range(&mut self) -> Result<Range, TextErr> {
+        match self.ranges.pop() {
+            Some(range) => Ok(range),
+            None => Err(BAD_ROW),
+        }
+    }
+
+    fn take_ranges(&mut self) -> Items<Range> {
+        Items::from_vec(mem::replace(&mut self.ranges, Vec::new(self.alloc)))
+    }
+
+    fn add_value(&mut self, text: &[u8]) -> Result<(), TextErr> {
+        let value = leaf(self.alloc, text)?;
+        self.values.push(value)?;
+        Ok(())
+    }
+
+    fn negate(&mut self) -> Result<(), TextErr> {
+        let inner = Boxed::new(self.alloc, self.value()?)?;
+        self.values.push(Expr::Unary(UnaryOp::Minus, HERE, inner))?;
+        Ok(())
+    }
+
+    fn add_range(&mut self) -> Result<(), TextErr> {
+        let right = self.value()?;
+        let left = self.value()?;
+        self.ranges.push(Range {
+            place: HERE,
+            left,
+            right,
+        })?;
+        Ok(())
+    }
+
+    fn add_vector(&mut self, sign: Option<Sign>) -> Result<(), TextErr> {
+        let ranges = self.take_ranges();
+        self.types
+            .push(TypeTree::Vector(Some(BitsWord::Logic), sign, ranges))?;
+        Ok(())
+    }
+
+    fn add_named(&mut self, name: &[u8]) -> Result<(), TextErr> {
+        let name = word(self.alloc, name)?;
+        let ranges = self.take_ranges();
+        self.types.push(TypeTree::Named(name, ranges))?;
+        Ok(())
+    }
+
+    fn add_label(&mut self, name: &[u8], value: Option<Expr>) -> Result<(), TextErr> {
+        let name = word(self.alloc, name)?;
+        self.labels.push(EnumLabel { name, value })?;
+        Ok(())
+    }
+
+    fn add_enumeration(&mut self, sign: Option<Sign>) -> Result<(), TextErr> {
+        let labels = Items::from_vec(mem::replace(&mut self.labels, Vec::new(self.alloc)));
+        let range = self.ranges.pop();
+        self.types
+            .push(TypeTree::Enum(BitsWord::Logic, sign, range, labels))?;
+        Ok(())
+    }
+
+    fn open(&mut self) -> Result<(), TextErr> {
+        let members = mem::replace(&mut self.members, Vec::new(self.alloc));
+        self.outer.push(members)?;
+        Ok(())
+    }
+
+    fn add_member(&mut self, name: &[u8]) -> Result<(), TextErr> {
+        let name = word(self.alloc, name)?;
+        let mut names = Items::new(self.alloc);
+        names.push(name)?;
+        let tree = Boxed::new(self.alloc, self.tree()?)?;
+        self.members.push(Member::Of(tree, names))?;
+        Ok(())
+    }
+
+    fn close(&mut self, sign: Option<Sign>) -> Result<(), TextErr> {
+        let outer = match self.outer.pop() {
+            Some(outer) => outer,
+            None => Vec::new(self.alloc),
+        };
+        let members = Items::from_vec(mem::replace(&mut self.members, outer));
+        let ranges = self.take_ranges();
+        self.types.push(TypeTree::Struct(sign, members, ranges))?;
+        Ok(())
+    }
+
+    // A word with a mark before it, if it has one.
+    fn add_marked(&mut self, mark: u8, name: &[u8]) -> Result<bool, TextErr> {
+        match mark {
+            b':' => self.add_label(name, None)?,
+            b'=' => {
+                let value = self.value()?;
+                self.add_label(name, Some(value))?;
+            }
+            b'.' => self.add_member(name)?,
+            b'@' => self.add_named(name)?,
+            _ => return Ok(false),
+        }
+        Ok(true)
+    }
+
+    fn add_plain(&mut self, text: &[u8]) -> Result<(), TextErr> {
+        match text {
+            b"v" => self.add_vector(None),
+            b"vs" => self.add_vector(Some(Sign::Signed)),
+            b"integer" => {
+                self.types.push(TypeTree::Integer)?;
+                Ok(())
+            }
+            b"range" => self.add_range(),
+            b"enum" => self.add_enumeration(None),
+            b"enums" => self.add_enumeration(Some(Sign::Signed)),
+            b"{" => self.open(),
+            b"}" => self.close(None),
+            b"}s" => self.close(Some(Sign::Signed)),
+            b"neg" => self.negate(),
+            _ => self.add_value(text),
+        }
+    }
+
+    fn add(&mut self, text: &[u8]) -> Result<(), TextErr> {
+        match text.split_first() {
+            Some((mark, name)) => {
+                if self.add_marked(*mark, name)? {
+                    Ok(())
+                } else {
+                    self.add_plain(text)
+                }
+            }
+            None => Ok(()),
+        }
     }
 }
 
-fn pop_type(stack: &mut Vec<Part>) -> Result<TypeTree, TextErr> {
-    match stack.pop() {
-        Some(Part::Type(tree)) => Ok(tree),
-        _ => Err(BAD_ROW),
-    }
-}
-
-fn pop_range(stack: &mut Vec<Part>) -> Result<Range, TextErr> {
-    let right = pop_value(stack)?;
-    let left = pop_value(stack)?;
-    Ok(Range {
-        place: HERE,
-        left,
-        right,
-    })
-}
-
-// A type with a range behind it.
-fn ranged(tree: TypeTree, range: Range) -> Result<TypeTree, TextErr> {
-    match tree {
-        TypeTree::Vector(word, sign, mut ranges) => {
-            ranges.push(range)?;
-            Ok(TypeTree::Vector(word, sign, ranges))
-        }
-        TypeTree::Struct(sign, members, mut ranges) => {
-            ranges.push(range)?;
-            Ok(TypeTree::Struct(sign, members, ranges))
-        }
-        TypeTree::Named(word, mut ranges) => {
-            ranges.push(range)?;
-            Ok(TypeTree::Named(word, ranges))
-        }
-        _ => Err(BAD_ROW),
-    }
-}
-
-// An enumeration over a base.
-fn enumeration(alloc: Global, base: TypeTree) -> Result<Part, TextErr> {
-    match base {
-        TypeTree::Vector(_, sign, mut ranges) => {
-            Ok(Part::Labels(sign, ranges.pop(), Items::new(alloc)))
-        }
-        _ => Err(BAD_ROW),
-    }
-}
-
-fn label(
-    alloc: Global,
-    name: &[u8],
-    value: Option<Expr>,
-    stack: &mut Vec<Part>,
-) -> Result<Part, TextErr> {
-    match stack.pop() {
-        Some(Part::Labels(sign, range, mut labels)) => {
-            let name = word(alloc, name)?;
-            labels.push(EnumLabel { name, value })?;
-            Ok(Part::Labels(sign, range, labels))
-        }
-        _ => Err(BAD_ROW),
-    }
-}
-
-fn member(alloc: Global, name: &[u8], stack: &mut Vec<Part>) -> Result<Part, TextErr> {
-    let tree = Boxed::new(alloc, pop_type(stack)?)?;
-    match stack.pop() {
-        Some(Part::Members(sign, mut members)) => {
-            let mut names = Items::new(alloc);
-            names.push(word(alloc, name)?)?;
-            members.push(Member::Of(tree, names))?;
-            Ok(Part::Members(sign, members))
-        }
-        _ => Err(BAD_ROW),
-    }
-}
-
-// What is begun comes to its end.
-fn ended(alloc: Global, part: Option<Part>) -> Result<TypeTree, TextErr> {
-    match part {
-        Some(Part::Labels(sign, range, labels)) => {
-            Ok(TypeTree::Enum(BitsWord::Logic, sign, range, labels))
-        }
-        Some(Part::Members(sign, members)) => {
-            Ok(TypeTree::Struct(sign, members, Items::new(alloc)))
-        }
-        _ => Err(BAD_ROW),
-    }
-}
-
-fn vector(alloc: Global, sign: Option<Sign>) -> Part {
-    Part::Type(TypeTree::Vector(Some(BitsWord::Logic), sign, Items::new(alloc)))
-}
-
-// What a word with a mark before it makes.
-fn marked(
-    alloc: Global,
-    mark: u8,
-    name: &[u8],
-    stack: &mut Vec<Part>,
-) -> Result<Option<Part>, TextErr> {
-    Ok(match mark {
-        b':' => Some(label(alloc, name, None, stack)?),
-        b'=' => {
-            let value = pop_value(stack)?;
-            Some(label(alloc, name, Some(value), stack)?)
-        }
-        b'.' => Some(member(alloc, name, stack)?),
-        b'@' => Some(Part::Type(TypeTree::Named(word(alloc, name)?, Items::new(alloc)))),
-        _ => None,
-    })
-}
-
-// What a word makes of the parts before it.
-fn made(alloc: Global, text: &[u8], stack: &mut Vec<Part>) -> Result<Part, TextErr> {
-    if let Some((mark, name)) = text.split_first() {
-        if let Some(part) = marked(alloc, *mark, name, stack)? {
-            return Ok(part);
-        }
-    }
-    match text {
-        b"v" => Ok(vector(alloc, None)),
-        b"vs" => Ok(vector(alloc, Some(Sign::Signed))),
-        b"integer" => Ok(Part::Type(TypeTree::Integer)),
-        b"range" => {
-            let range = pop_range(stack)?;
-            Ok(Part::Type(ranged(pop_type(stack)?, range)?))
-        }
-        b"enum" => enumeration(alloc, pop_type(stack)?),
-        b"{" => Ok(Part::Members(None, Items::new(alloc))),
-        b"{s" => Ok(Part::Members(Some(Sign::Signed), Items::new(alloc))),
-        b"}" | b"end" => Ok(Part::Type(ended(alloc, stack.pop())?)),
-        b"neg" => {
-            let inner = Boxed::new(alloc, pop_value(stack)?)?;
-            Ok(Part::Value(Expr::Unary(UnaryOp::Minus, HERE, inner)))
-        }
-        _ => Ok(Part::Value(leaf(alloc, text)?)),
-    }
-}
-
-fn read(alloc: Global, text: &[u8]) -> Result<Vec<Part>, TextErr> {
-    let mut stack = Vec::new(alloc);
+fn read(alloc: Global, text: &[u8]) -> Result<Written, TextErr> {
+    let mut written = Written::new(alloc);
     for word in text.split(|c| *c == b' ') {
-        let next = made(alloc, word, &mut stack)?;
-        stack.push(next)?;
+        written.add(word)?;
     }
-    Ok(stack)
+    Ok(written)
 }
 
 /// The type of a row.
 pub fn tree(alloc: Global, text: &[u8]) -> Result<TypeTree, TextErr> {
-    pop_type(&mut read(alloc, text)?)
+    read(alloc, text)?.tree()
 }
 
 /// The expression of a row.
 pub fn expr(alloc: Global, text: &[u8]) -> Result<Expr, TextErr> {
-    pop_value(&mut read(alloc, text)?)
+    read(alloc, text)?.value()
 }
 
-/// The range of a row, which has two expressions.
+/// The range of a row.
 pub fn range(alloc: Global, text: &[u8]) -> Result<Range, TextErr> {
-    pop_range(&mut read(alloc, text)?)
+    read(alloc, text)?.range()
 }

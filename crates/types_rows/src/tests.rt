@@ -21,7 +21,7 @@ fn scope(alloc: Global) -> Result<Scope, TextErr> {
     };
     scope.push(Name::new(alloc, b"X")?, What::Number(unknown))?;
     let mut names = Names::new(alloc);
-    let layout = layout_of(alloc, &tree(alloc, b"vs 3 0 range")?, &mut names)?;
+    let layout = layout_of(alloc, &tree(alloc, b"3 0 range vs")?, &mut names)?;
     scope.push(Name::new(alloc, b"T")?, What::Kind(layout))?;
     Ok(scope)
 }
@@ -164,35 +164,35 @@ static TYPES: &[u8] = b"\
 v;1'd0
 vs;1'sd0
 integer;32'sd0
-v 7 0 range;8'd0
-vs 0 P range;6'sd0
-v 1 0 range 3 0 range;8'd0
-vs 0 0 range 127 0 range;128'sd0
-v 128 0 range;E14
-v 63 0 range 2 0 range;E14
-v X 0 range;E15
-v N 0 range;E15
-v 3 2147483648 range;E16
-v 34'd8589934592 0 range;E14
-v 2 neg 1 range;4'd0
+7 0 range v;8'd0
+0 P range vs;6'sd0
+1 0 range 3 0 range v;8'd0
+0 0 range 127 0 range vs;128'sd0
+128 0 range v;E14
+63 0 range 2 0 range v;E14
+X 0 range v;E15
+N 0 range v;E15
+3 2147483648 range v;E16
+34'd8589934592 0 range v;E14
+2 neg 1 range v;4'd0
 @T;4'sd0
-@T 1 0 range;8'd0
+1 0 range @T;8'd0
 @P;E12
 @U;E12
-v 1 0 range enum :A :B 3 =C end;2'd0;2'd0 2'd1 2'd3
-vs 2 0 range enum 2 neg =A :B :C end;3'sd0;3'sb110 3'sb111 3'sd0
-v enum :A :B :C end;E14
-v 1 0 range enum 3 =A :B end;E14
-vs 1 0 range enum 2 =A end;E14
-v 1 0 range enum X =A end;E15
-v 3 0 range enum 4 =A A =B end;4'd0;4'd4 4'd4
-{ v 3 0 range .a vs 1 0 range .b };6'd0
-{s @T .a integer .b };36'sd0
-{s v .a } 3 0 range;4'sd0
+:A :B 3 =C 1 0 range enum;2'd0;2'd0 2'd1 2'd3
+2 neg =A :B :C 2 0 range enums;3'sd0;3'sb110 3'sb111 3'sd0
+:A :B :C enum;E14
+3 =A :B 1 0 range enum;E14
+2 =A 1 0 range enums;E14
+X =A 1 0 range enum;E15
+4 =A A =B 3 0 range enum;4'd0;4'd4 4'd4
+{ 3 0 range v .a 1 0 range vs .b };6'd0
+{ @T .a integer .b }s;36'sd0
+{ v .a 3 0 range }s;4'sd0
 { v .a v .a };E13
-{ v 127 0 range .a v .b };E14
-{ v 1 0 range enum :A 3 =B end .a v B 0 range .b };6'd0;2'd0 2'd3
-{ v 1 0 range enum 2 =A end .a } A 0 range;6'd0;2'd2
+{ 127 0 range v .a v .b };E14
+{ :A 3 =B 1 0 range enum .a B 0 range v .b };6'd0;2'd0 2'd3
+{ 2 =A 1 0 range enum .a A 0 range };6'd0;2'd2
 { { v .a v .b } .x v .y };3'd0
 ";
 
@@ -205,14 +205,14 @@ int;P;5
 int;9'h1ff;511
 int unsigned;5;32'd5
 bit;P;1'd1
-7 0;4'd9;8'sd9
-1 0;P;2'sd1
-0 7;P;E14
-7 1;P;E14
-128 0;P;E14
+7 0 range;4'd9;8'sd9
+1 0 range;P;2'sd1
+0 7 range;P;E14
+7 1 range;P;E14
+128 0 range;P;E14
 ;X;E15
-3 0;X;E15
-0 0;X;1'sd1
+3 0 range;X;E15
+0 0 range;X;1'sd1
 ;N;E15
 ";
 
