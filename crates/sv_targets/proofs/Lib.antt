@@ -1,0 +1,4 @@
+pub mod Targeting
+pub mod Assignable
+pub mod Slotting
+pub mod Spreading

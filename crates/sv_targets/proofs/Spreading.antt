@@ -1,0 +1,159 @@
+-- Runs of bits as parts.
+use Rattle.std.proofs.Common.{◌≡◌, ℕ, zero, suc, ◌+◌, ◌-◌, ◌≤◌, ◌<◌, List, [], ◌∷◌, ◌++◌, length, take, get_or, map, replicate, Option, Some, None, Result, Ok, Err, IfOk, All, reverse, refl, sym, ap, ◌∙◌, subst, arith, append_assoc}
+use Rattle.std.proofs.lemmas.List.{append-nil, map-append, take_all, reverse-append}
+use Rattle.std.proofs.lemmas.List.Elements.{All-from_recursion, recursion_from_All}
+use Rattle.std.proofs.Math.Seq.{take-suc}
+use Rattle.std.specs.List.{AllByRecursion}
+use Rattle.lhs_alias.specs.declared.segs.Seg.{Seg}
+use Rattle.lhs_alias.specs.declared.segs.WireBit.{WireBit}
+use Rattle.lhs_alias.specs.Segs.{lhs_bits, seg_bits, IsSeg, AreSegs}
+use Rattle.sv_targets.specs.declared.parts.Part.{Part}
+use Rattle.sv_targets.specs.Slots.{Slots, spread, Ascend, end_of, Runs, AreParts}
+
+next : (i : ℕ) → i + 1 ≡ suc i
+next i = omega arith
+
+spread_more : (at : ℕ) (parts : List Part) (p : Part) → spread at (parts ++ p ∷ []) ≡ (spread at parts ++ replicate (p.lo - end_of at parts) None) ++ map Some (lhs_bits p.to)
+unfolding spread end_of
+spread_more at [] p = append-nil (replicate (p.lo - at) None ++ map Some (lhs_bits p.to))
+spread_more at (q ∷ parts) p =
+    let here : Slots = replicate (q.lo - at) None ++ map Some (lhs_bits q.to) in
+    let next : ℕ = q.lo + length (lhs_bits q.to) in
+    let gap : Slots = replicate (p.lo - end_of next parts) None in
+    ap (λ (z : Slots). here ++ z) (spread_more next parts p)
+    ∙ sym (append_assoc here (spread next parts ++ gap) (map Some (lhs_bits p.to)))
+    ∙ ap (λ (z : Slots). z ++ map Some (lhs_bits p.to)) (sym (append_assoc here (spread next parts) gap))
+
+end_more : (at : ℕ) (parts : List Part) (p : Part) → end_of at (parts ++ p ∷ []) ≡ p.lo + length (lhs_bits p.to)
+unfolding end_of
+end_more at [] p = refl
+end_more at (q ∷ parts) p = end_more (q.lo + length (lhs_bits q.to)) parts p
+
+ascend_more : (at : ℕ) (parts : List Part) (p : Part) → Ascend at parts → end_of at parts ≤ p.lo → Ascend at (parts ++ p ∷ [])
+unfolding Ascend end_of
+ascend_more at [] p h k = (k, tt)
+ascend_more at (q ∷ parts) p h k = (h.0, ascend_more (q.lo + length (lhs_bits q.to)) parts p h.1 k)
+
+segs_more : (parts : List Part) (p : Part) → AllByRecursion (λ x. AreSegs x.to) parts → AreSegs p.to → AllByRecursion (λ x. AreSegs x.to) (parts ++ p ∷ [])
+segs_more [] p h k = (k, h)
+segs_more (q ∷ parts) p h k = (h.0, segs_more parts p h.1 k)
+
+none_more : (n : ℕ) (s : Slots) → s ≡ None ∷ [] → replicate (suc n) None ≡ replicate n None ++ s
+none_more zero s e = sym e
+none_more (suc n) s e = ap (λ (z : Slots). None ∷ z) (none_more n s e)
+
+take_more : (all : Slots) (i : ℕ) (x : Option WireBit) → i < length all → x ≡ get_or all i x → take (i + 1) all ≡ take i all ++ x ∷ []
+take_more all i x h e = ap (λ (k : ℕ). take k all) (next i) ∙ take-suc all i x h ∙ ap (λ (z : Option WireBit). take i all ++ z ∷ []) (sym e)
+
+pub runs_begin : (all : Slots) (parts : List Part) (run : List WireBit) → parts ≡ [] → run ≡ [] → Runs all 0 parts run
+unfolding spread end_of Ascend
+runs_begin all parts run p r =
+    let R : List Part → List WireBit → Type 0 = λ x y. Runs all 0 x y in
+    subst (λ (x : List Part). R x run) (sym p) (subst (λ (y : List WireBit). R [] y) (sym r) (record { gap = 0; is = refl; place = omega arith; ascend = tt; segs = λ k d lt. absurd (omega arith) }))
+
+pub runs_bit : (all : Slots) (i : ℕ) (parts : List Part) (run now : List WireBit) (b : WireBit) → i < length all → Some b ≡ get_or all i (Some b) → now ≡ run ++ b ∷ [] → Runs all i parts run → Runs all (i + 1) parts now
+runs_bit all i parts run now b lt e g h =
+    subst (λ (z : List WireBit). Runs all (i + 1) parts z) (sym g) (record {
+      gap = h.gap;
+      is =
+          take_more all i (Some b) lt e ∙ ap (λ (z : Slots). z ++ Some b ∷ []) h.is
+          ∙ append_assoc (spread 0 parts ++ replicate h.gap None) (map Some run) (Some b ∷ [])
+          ∙ ap (λ (z : Slots). (spread 0 parts ++ replicate h.gap None) ++ z) (sym (map-append Some run (b ∷ [])));
+      place = let l = length_more run b in let p = h.place in omega arith;
+      ascend = h.ascend;
+      segs = h.segs;
+    })
+  where
+    length_more : (xs : List WireBit) (x : WireBit) → length (xs ++ x ∷ []) ≡ length xs + 1
+    length_more [] x = refl
+    length_more (y ∷ xs) x = let e = length_more xs x in omega arith
+
+pub runs_none : (all : Slots) (i : ℕ) (parts : List Part) (now : List WireBit) → i < length all → None ≡ get_or all i None → now ≡ [] → Runs all i parts [] → Runs all (i + 1) parts now
+runs_none all i parts now lt e g h =
+    subst (λ (z : List WireBit). Runs all (i + 1) parts z) (sym g) (record {
+      gap = suc h.gap;
+      is =
+          take_more all i None lt e ∙ ap (λ (z : Slots). z ++ None ∷ []) (h.is ∙ append-nil (spread 0 parts ++ replicate h.gap None))
+          ∙ append_assoc (spread 0 parts) (replicate h.gap None) (None ∷ [])
+          ∙ ap (λ (z : Slots). spread 0 parts ++ z) (sym (none_more h.gap (None ∷ []) refl)) ∙ sym (append-nil (spread 0 parts ++ replicate (suc h.gap) None));
+      place = let p = h.place in omega arith;
+      ascend = h.ascend;
+      segs = h.segs;
+    })
+
+pub runs_closed : (all : Slots) (end : ℕ) (parts now : List Part) (run : List WireBit) (segs : List Seg) → Runs all end parts run → lhs_bits segs ≡ run → AreSegs segs → now ≡ parts ++ record { lo = end - length run; to = segs } ∷ [] → Runs all end now []
+runs_closed all end parts now run segs h e s g =
+    let p : Part = record { lo = end - length run; to = segs } in
+    let l : length (lhs_bits segs) ≡ length run = ap length e in
+    let pl = h.place in
+    let d : (end - length run) - end_of 0 parts ≡ h.gap = omega arith in
+    let m : end_of 0 (parts ++ p ∷ []) ≡ (end - length run) + length (lhs_bits segs) = end_more 0 parts p in
+    let made : Runs all end (parts ++ p ∷ []) [] = record {
+      gap = 0;
+      is =
+          h.is ∙ (λ i. (spread 0 parts ++ replicate (sym d i) None) ++ map Some (sym e i)) ∙ sym (spread_more 0 parts p)
+          ∙ sym (append-nil (spread 0 (parts ++ p ∷ []))) ∙ sym (append-nil (spread 0 (parts ++ p ∷ []) ++ []));
+      place = omega arith;
+      ascend = ascend_more 0 parts p h.ascend (omega arith);
+      segs = All-from_recursion (λ x. AreSegs x.to) (parts ++ p ∷ []) (segs_more parts p (recursion_from_All (λ x. AreSegs x.to) parts h.segs) s);
+    } in
+    subst (λ (z : List Part). Runs all end z []) (sym g) made
+
+pub runs_as : (all : Slots) (end : ℕ) (parts : List Part) (run : List WireBit) → run ≡ [] → Runs all end parts run → Runs all end parts []
+runs_as all end parts run e h = subst (λ (z : List WireBit). Runs all end parts z) e h
+
+pub runs_end : (all : Slots) (end : ℕ) (parts : List Part) → length all ≤ end → Runs all end parts [] → AreParts all parts
+runs_end all end parts lt h = record {
+  gap = h.gap;
+  is = sym (take_all end all lt) ∙ h.is ∙ append-nil (spread 0 parts ++ replicate h.gap None);
+  ascend = h.ascend;
+  segs = h.segs;
+}
+
+-- ---- bits as segments
+
+one_bit : (wire at : ℕ) → seg_bits (record { wire = wire; lo = at; width = 1 }) ≡ record { wire = wire; at = at } ∷ []
+unfolding seg_bits
+one_bit wire at = refl
+
+reverse_push : (a : List Seg) (s : Seg) → reverse (a ++ s ∷ []) ≡ s ∷ reverse a
+reverse_push a s = reverse-append a (s ∷ [])
+
+take_bit : (run : List WireBit) (i : ℕ) (b : WireBit) → i < length run → b ≡ get_or run i b → take (i + 1) run ≡ take i run ++ b ∷ []
+take_bit run i b h e = ap (λ (k : ℕ). take k run) (next i) ∙ take-suc run i b h ∙ ap (λ (z : WireBit). take i run ++ z ∷ []) (sym e)
+
+pub bits_more : (run : List WireBit) (i : ℕ) (b : WireBit) (segs now : List Seg) → i < length run → b ≡ get_or run i b → lhs_bits (reverse segs) ≡ take i run → now ≡ segs ++ record { wire = b.wire; lo = b.at; width = 1 } ∷ [] → lhs_bits (reverse now) ≡ take (i + 1) run
+bits_more run i b segs now h e a c =
+    let s : Seg = record { wire = b.wire; lo = b.at; width = 1 } in
+    ap (λ (z : List Seg). lhs_bits (reverse z)) c ∙ ap lhs_bits (reverse_push segs s) ∙ (λ i. a i ++ one_bit b.wire b.at i) ∙ sym (take_bit run i b h e)
+
+pub segs_more_reversed : (segs now : List Seg) (b : WireBit) → now ≡ segs ++ record { wire = b.wire; lo = b.at; width = 1 } ∷ [] → AreSegs (reverse segs) → b.at < 128 → AreSegs (reverse now)
+segs_more_reversed segs now b e h k =
+    let s : Seg = record { wire = b.wire; lo = b.at; width = 1 } in
+    let i : IsSeg s = record { some = omega arith; ends = omega arith } in
+    subst AreSegs (sym (ap reverse e ∙ reverse_push segs s)) (All-from_recursion IsSeg (s ∷ reverse segs) (i, recursion_from_All IsSeg (reverse segs) h))
+
+pub bits_begin : (run : List WireBit) (segs : List Seg) → segs ≡ [] → lhs_bits (reverse segs) ≡ take 0 run
+bits_begin run segs e = ap (λ (z : List Seg). lhs_bits (reverse z)) e
+
+pub segs_none : (segs : List Seg) → segs ≡ [] → AreSegs (reverse segs)
+segs_none segs e = subst (λ (z : List Seg). AreSegs (reverse z)) (sym e) (λ k d lt. absurd (omega arith))
+
+pub bits_end : (run : List WireBit) (i : ℕ) (segs now : List Seg) (to : List Seg) → length run ≤ i → lhs_bits (reverse segs) ≡ take i run → now ≡ reverse segs → lhs_bits to ≡ lhs_bits now → lhs_bits to ≡ run
+bits_end run i segs now to h a e t = t ∙ ap lhs_bits e ∙ a ∙ take_all i run h
+
+pub parts_final : {E : Type 0} (all : Slots) (end : ℕ) (r : Result (List Part) E) → length all ≤ end → IfOk r (λ parts. Runs all end parts []) → IfOk r (λ parts. AreParts all parts)
+parts_final all end (Ok parts) h k = runs_end all end parts h k
+parts_final all end (Err e) h k = tt
+
+near_by : (run : List WireBit) (b : WireBit) → AllByRecursion (λ x. x.at < 128) run → b.at < 128 → AllByRecursion (λ x. x.at < 128) (run ++ b ∷ [])
+near_by [] b h k = (k, h)
+near_by (x ∷ run) b h k = (h.0, near_by run b h.1 k)
+
+pub near_more : (run now : List WireBit) (b : WireBit) → now ≡ run ++ b ∷ [] → All (λ x. x.at < 128) run → b.at < 128 → All (λ x. x.at < 128) now
+near_more run now b e h k = subst (All (λ x. x.at < 128)) (sym e) (All-from_recursion (λ x. x.at < 128) (run ++ b ∷ []) (near_by run b (recursion_from_All (λ x. x.at < 128) run h) k))
+
+pub same_or : (run : List WireBit) (i : ℕ) (d e : WireBit) → i < length run → get_or run i d ≡ get_or run i e
+same_or [] i d e h = absurd (omega arith)
+same_or (x ∷ run) zero d e h = refl
+same_or (x ∷ run) (suc i) d e h = same_or run i d e (omega arith)

@@ -1,0 +1,226 @@
+-- Targets, and lists of targets.
+use Rattle.std.proofs.Common.{◌≡◌, ℕ, zero, suc, ◌+◌, ◌≤◌, ◌<◌, true, false, not, min, List, [], ◌∷◌, ◌++◌, length, take, drop, get_or, map, Some, Result, Ok, Err, refl, sym, ap, ◌∙◌, subst, arith, append_assoc}
+use Rattle.std.proofs.lemmas.Bool.Decides.{nat_tests}
+use Rattle.std.proofs.lemmas.List.{append-nil, take_all, at_drop_more, at_drop_all}
+use Rattle.std.proofs.Math.Seq.{take-suc}
+use Rattle.std.specs.List.{All, AllZip, AllByRecursion}
+use Rattle.std.proofs.lemmas.List.Elements.{recursion_from_All}
+use Rattle.sv_outside.specs.declared.refusal.Place.{Place}
+use Rattle.sv_outside.specs.declared.refusal.TextErr.{TextErr}
+use Rattle.sv_outside.specs.declared.refusal.TextErr.TheVariants.{No}
+use Rattle.sv_tree.specs.declared.word.Word.{Word}
+use Rattle.sv_tree.specs.declared.exprs.Select.{Select}
+use Rattle.sv_tree.specs.declared.stmts.Lvalue.{Lvalue}
+use Rattle.sv_tree.specs.declared.stmts.Lvalue.TheVariants as lv
+use Rattle.sv_tree.specs.declared.stmts.Lvalue.TheBlock.{shape-the_row-Lvalue-0, hidden-the_row-Lvalue-0}
+use Rattle.sv_meaning.specs.Faults.{Faults, or_then, bad_width}
+use Rattle.sv_meaning.specs.Layouts as m
+use Rattle.sv_meaning.specs.Meanings.{Meaning, Step, is_width, chain_layout, chain_faults}
+use Rattle.sv_const.specs.declared.layout.Layout.{Layout}
+use Rattle.sv_const.specs.declared.layout.What.{What}
+use Rattle.sv_const.specs.declared.layout.What.TheVariants.{Wire}
+use Rattle.sv_const.specs.Kinds.{layout_is, what_is}
+use Rattle.sv_meaning.specs.Values.{step}
+use Rattle.sv_meaning.specs.Targets.{Target, target_of, target_faults, targets, targets_of, widths, width_or_none, wide_target, lvalue_faults, all_lvalue_faults}
+use Rattle.sv_typed.specs.declared.tree.Pick.{Pick}
+use Rattle.sv_typed.specs.Typed.{PickIsSound, picked_width}
+use Rattle.sv_const.specs.declared.chain.Chain.{Chain}
+use Rattle.sv_const.specs.Judging.{IsCause}
+use Rattle.sv_const.specs.Picks.{Follows}
+use Rattle.sv_const.specs.Roots.{IsChain}
+use Rattle.sv_const.proofs.OfRules.{cause_left}
+use Rattle.sv_const.proofs.Lists.{in_second, in_fault, no_fault, both_clear, then_clear}
+use Rattle.sv_targets.specs.declared.targets.TypedTarget.{TypedTarget}
+use Rattle.sv_targets.specs.Targets.{StandsFor, IsTarget, JudgesTarget, AreTargets, JudgesTargets, width_of_all, all_faults, all_targets}
+
+-- ---- targets as code makes them
+
+pub targets_name : (at : m.Scope) (w : Word) (all : List Select) → targets at (lv.Name w all) ≡ target_of (m.find w.text at) (map (step at) all) ∷ []
+unfolding targets
+targets_name at w all = refl
+
+pub faults_name : (judge : Meaning → Faults) (at : m.Scope) (w : Word) (all : List Select) → lvalue_faults judge at (lv.Name w all) ≡ target_faults judge w (m.find w.text at) (map (step at) all)
+unfolding lvalue_faults
+faults_name judge at w all = refl
+
+targets_row : (at : m.Scope) (all : List Lvalue) → targets_of at (hidden-the_row-Lvalue-0 all) ≡ all_targets at all
+unfolding targets all_targets shape-the_row-Lvalue-0 hidden-the_row-Lvalue-0 denote.Hole.Carrier.hidden
+targets_row at [] = refl
+targets_row at (x ∷ all) = ap (λ z. targets at x ++ z) (targets_row at all)
+
+faults_row : (judge : Meaning → Faults) (at : m.Scope) (all : List Lvalue) → all_lvalue_faults judge at (hidden-the_row-Lvalue-0 all) ≡ all_faults judge at all
+unfolding lvalue_faults all_faults shape-the_row-Lvalue-0 hidden-the_row-Lvalue-0 denote.Hole.Carrier.hidden
+faults_row judge at [] = refl
+faults_row judge at (x ∷ all) = ap (λ z. lvalue_faults judge at x ++ z) (faults_row judge at all)
+
+pub targets_concat : (at : m.Scope) (p : Place) (all : List Lvalue) → targets at (lv.Concat p all) ≡ all_targets at all
+unfolding targets shape-the_row-Lvalue-0 hidden-the_row-Lvalue-0 denote.Hole.Carrier.hidden
+targets_concat at p all = targets_row at all
+
+pub faults_concat : (judge : Meaning → Faults) (at : m.Scope) (p : Place) (all : List Lvalue) → lvalue_faults judge at (lv.Concat p all) ≡ or_then (all_faults judge at all) (wide_target p (all_targets at all))
+unfolding lvalue_faults shape-the_row-Lvalue-0 hidden-the_row-Lvalue-0 denote.Hole.Carrier.hidden
+faults_concat judge at p all = ap (λ z. or_then z (wide_target p (targets_of at (hidden-the_row-Lvalue-0 all)))) (faults_row judge at all) ∙ ap (λ z. or_then (all_faults judge at all) (wide_target p z)) (targets_row at all)
+
+pub targets_as : (judge : Meaning → Faults) (f g : Faults) (xs ys : List Target) (r : Result (List TypedTarget) TextErr) → f ≡ g → xs ≡ ys → JudgesTargets judge g ys r → JudgesTargets judge f xs r
+targets_as judge f g xs ys r h k j = subst (λ z. JudgesTargets judge z xs r) (sym h) (subst (λ (z : List Target). JudgesTargets judge g z r) (sym k) j)
+
+-- ---- one target
+
+narrow_by : (picks : List Pick) (w : ℕ) → AllByRecursion PickIsSound picks → w ≤ 128 → picked_width picks w ≤ 128
+unfolding picked_width PickIsSound
+narrow_by [] w h k = k
+narrow_by (p ∷ more) w h k = narrow_by more p.width h.1 h.0.0.1
+
+narrow_picks : (picks : List Pick) (w : ℕ) → All PickIsSound picks → w ≤ 128 → picked_width picks w ≤ 128
+narrow_picks picks w h k = narrow_by picks w (recursion_from_All PickIsSound picks h) k
+
+pub chain_stands : (judge : Meaning → Faults) (x : TypedTarget) (t : Target) (c : Chain) → IsChain judge t.layout t.steps c → t.wire ≡ x.wire → x.picks ≡ c.picks → x.width ≡ c.width → m.width t.layout ≡ x.wire_width → 1 ≤ x.wire_width → x.wire_width ≤ 128 → StandsFor judge x t
+chain_stands judge x t c h w p v whole some most = record {
+  wire = w;
+  layout = h.layout;
+  follows = subst (λ q. Follows judge t.layout t.steps q h.layout) (sym p) h.follows;
+  whole = whole;
+  some = some;
+  most = most;
+  width = h.width ∙ sym v;
+  narrow = let w = narrow_picks c.picks (m.width t.layout) h.follows.sound (subst (λ (n : ℕ). n ≤ 128) (sym whole) most) in subst (λ (n : ℕ). n ≤ 128) (h.follows.width ∙ h.width ∙ sym v) w;
+}
+
+pub target_ok : (judge : Meaning → Faults) (f : Faults) (t : Target) (r : Result TypedTarget TextErr) (x : TypedTarget) → r ≡ Ok x → JudgesTarget judge f t r → IsTarget judge f t x
+target_ok judge f t r x e h = subst (JudgesTarget judge f t) e h
+
+pub target_err : (judge : Meaning → Faults) (f : Faults) (t : Target) (r : Result TypedTarget TextErr) (x : TextErr) → r ≡ Err x → JudgesTarget judge f t r → IsCause f x
+target_err judge f t r x e h = subst (JudgesTarget judge f t) e h
+
+pub one_stands : (judge : Meaning → Faults) (f : Faults) (t : Target) (x : TypedTarget) (all : List TypedTarget) → all ≡ x ∷ [] → IsTarget judge f t x → AreTargets judge f (t ∷ []) all
+one_stands judge f t x all e h = subst (λ (z : List TypedTarget). AreTargets judge f (t ∷ []) z) (sym e) (record { clear = h.clear; stand = (h.stands, tt) })
+
+-- ---- braces
+
+pub targets_ok : (judge : Meaning → Faults) (f : Faults) (ts : List Target) (r : Result (List TypedTarget) TextErr) (all : List TypedTarget) → r ≡ Ok all → JudgesTargets judge f ts r → AreTargets judge f ts all
+targets_ok judge f ts r all e h = subst (JudgesTargets judge f ts) e h
+
+pub targets_err : (judge : Meaning → Faults) (f : Faults) (ts : List Target) (r : Result (List TypedTarget) TextErr) (x : TextErr) → r ≡ Err x → JudgesTargets judge f ts r → IsCause f x
+targets_err judge f ts r x e h = subst (JudgesTargets judge f ts) e h
+
+pub widths_are : (judge : Meaning → Faults) (all : List TypedTarget) (ts : List Target) → AllZip (StandsFor judge) all ts → widths ts ≡ width_of_all all
+unfolding widths width_of_all
+widths_are judge [] [] h = refl
+widths_are judge [] (t ∷ ts) h = absurd h
+widths_are judge (x ∷ all) [] h = absurd h
+widths_are judge (x ∷ all) (t ∷ ts) h = let s = h.0 in let r = widths_are judge all ts h.1 in let w : width_or_none (chain_layout t.layout t.steps) ≡ x.width = ap width_or_none s.follows.layout ∙ s.width in omega arith
+
+width_true : (n w : ℕ) → w ≡ min 255 n → 1 ≤ w → w ≤ 128 → is_width n ≡ true
+width_true n w e h k = grind (arith, nat_tests)
+
+width_small : (n w : ℕ) → w ≡ min 255 n → w < 1 → is_width n ≡ false
+width_small n w e h = grind (arith, nat_tests)
+
+width_large : (n w : ℕ) → w ≡ min 255 n → 128 < w → is_width n ≡ false
+width_large n w e h = grind (arith, nat_tests)
+
+pub braced_ok : (judge : Meaning → Faults) (f : Faults) (ts : List Target) (all : List TypedTarget) (p : Place) (w : ℕ) → AreTargets judge f ts all → w ≡ min 255 (width_of_all all) → 1 ≤ w → w ≤ 128 → AreTargets judge (or_then f (wide_target p ts)) ts all
+braced_ok judge f ts all p w h e some most = record {
+  clear = then_clear f _ h.clear (no_fault _ bad_width p (ap not (ap is_width (widths_are judge all ts h.stand) ∙ width_true _ w e some most)));
+  stand = h.stand;
+}
+
+braced_wide : (judge : Meaning → Faults) (f : Faults) (ts : List Target) (all : List TypedTarget) (p : Place) → AreTargets judge f ts all → is_width (width_of_all all) ≡ false → IsCause (or_then f (wide_target p ts)) (No (record { number = bad_width; place = p; count = 0 }))
+braced_wide judge f ts all p h e = in_second f _ _ h.clear (in_fault _ bad_width p (ap not (ap is_width (widths_are judge all ts h.stand) ∙ e)))
+
+pub braced_none : (judge : Meaning → Faults) (f : Faults) (ts : List Target) (all : List TypedTarget) (p : Place) (w : ℕ) → AreTargets judge f ts all → w ≡ min 255 (width_of_all all) → w < 1 → IsCause (or_then f (wide_target p ts)) (No (record { number = bad_width; place = p; count = 0 }))
+braced_none judge f ts all p w h e k = braced_wide judge f ts all p h (width_small _ w e k)
+
+pub braced_many : (judge : Meaning → Faults) (f : Faults) (ts : List Target) (all : List TypedTarget) (p : Place) (w : ℕ) → AreTargets judge f ts all → w ≡ min 255 (width_of_all all) → 128 < w → IsCause (or_then f (wide_target p ts)) (No (record { number = bad_width; place = p; count = 0 }))
+braced_many judge f ts all p w h e k = braced_wide judge f ts all p h (width_large _ w e k)
+
+-- ---- targets behind others
+
+zip_append : (judge : Meaning → Faults) (xs : List TypedTarget) (ts : List Target) (ys : List TypedTarget) (us : List Target) → AllZip (StandsFor judge) xs ts → AllZip (StandsFor judge) ys us → AllZip (StandsFor judge) (xs ++ ys) (ts ++ us)
+zip_append judge [] [] ys us h k = k
+zip_append judge [] (t ∷ ts) ys us h k = absurd h
+zip_append judge (x ∷ xs) [] ys us h k = absurd h
+zip_append judge (x ∷ xs) (t ∷ ts) ys us h k = (h.0, zip_append judge xs ts ys us h.1 k)
+
+pub targets_both : (judge : Meaning → Faults) (f g : Faults) (xs ys : List Target) (all more both : List TypedTarget) → both ≡ all ++ more → AreTargets judge f xs all → AreTargets judge g ys more → AreTargets judge (f ++ g) (xs ++ ys) both
+targets_both judge f g xs ys all more both e h k = subst (λ (z : List TypedTarget). AreTargets judge (f ++ g) (xs ++ ys) z) (sym e) (record { clear = both_clear f g h.clear k.clear; stand = zip_append judge all xs more ys h.stand k.stand })
+
+take_next : (xs : List Lvalue) (i j : ℕ) (x : Lvalue) → i < length xs → j ≡ suc i → x ≡ get_or xs i x → take j xs ≡ take i xs ++ x ∷ []
+take_next xs i j x h k e = ap (λ (z : ℕ). take z xs) k ∙ take-suc xs i x h ∙ ap (λ (z : Lvalue). take i xs ++ z ∷ []) (sym e)
+
+split_at : (xs : List Lvalue) (i : ℕ) (x : Lvalue) → i < length xs → x ≡ get_or xs i x → xs ≡ take i xs ++ x ∷ drop (suc i) xs
+split_at [] i x h e = absurd (omega arith)
+split_at (y ∷ xs) zero x h e = ap (λ (z : Lvalue). z ∷ xs) (sym e)
+split_at (y ∷ xs) (suc i) x h e = ap (λ (z : List Lvalue). y ∷ z) (split_at xs i x (omega arith) e)
+
+faults_join : (judge : Meaning → Faults) (at : m.Scope) (a b : List Lvalue) → all_faults judge at (a ++ b) ≡ all_faults judge at a ++ all_faults judge at b
+unfolding all_faults
+faults_join judge at [] b = refl
+faults_join judge at (x ∷ a) b = ap (λ z. lvalue_faults judge at x ++ z) (faults_join judge at a b) ∙ sym (append_assoc (lvalue_faults judge at x) (all_faults judge at a) (all_faults judge at b))
+
+targets_join : (at : m.Scope) (a b : List Lvalue) → all_targets at (a ++ b) ≡ all_targets at a ++ all_targets at b
+unfolding all_targets
+targets_join at [] b = refl
+targets_join at (x ∷ a) b = ap (λ z. targets at x ++ z) (targets_join at a b) ∙ sym (append_assoc (targets at x) (all_targets at a) (all_targets at b))
+
+faults_one : (judge : Meaning → Faults) (at : m.Scope) (x : Lvalue) → all_faults judge at (x ∷ []) ≡ lvalue_faults judge at x
+unfolding all_faults
+faults_one judge at x = append-nil (lvalue_faults judge at x)
+
+targets_one : (at : m.Scope) (x : Lvalue) → all_targets at (x ∷ []) ≡ targets at x
+unfolding all_targets
+targets_one at x = append-nil (targets at x)
+
+pub targets_begin : (judge : Meaning → Faults) (at : m.Scope) → AreTargets judge (all_faults judge at []) (all_targets at []) []
+unfolding all_faults all_targets
+targets_begin judge at = record { clear = refl; stand = tt }
+
+pub targets_go : (judge : Meaning → Faults) (at : m.Scope) (all : List Lvalue) (i j : ℕ) (x : Lvalue) (r : Result (List TypedTarget) TextErr) → i < length all → j ≡ suc i → x ≡ get_or all i x →
+    JudgesTargets judge (all_faults judge at (take i all) ++ lvalue_faults judge at x) (all_targets at (take i all) ++ targets at x) r → JudgesTargets judge (all_faults judge at (take j all)) (all_targets at (take j all)) r
+targets_go judge at all i j x r lt ji e h =
+    targets_as judge _ _ _ _ r
+    (ap (all_faults judge at) (take_next all i j x lt ji e) ∙ faults_join judge at (take i all) (x ∷ []) ∙ ap (λ z. all_faults judge at (take i all) ++ z) (faults_one judge at x))
+    (ap (all_targets at) (take_next all i j x lt ji e) ∙ targets_join at (take i all) (x ∷ []) ∙ ap (λ z. all_targets at (take i all) ++ z) (targets_one at x)) h
+
+pub targets_cause : (judge : Meaning → Faults) (at : m.Scope) (all : List Lvalue) (i : ℕ) (x : Lvalue) (e : TextErr) → i < length all → x ≡ get_or all i x → IsCause (all_faults judge at (take i all) ++ lvalue_faults judge at x) e → IsCause (all_faults judge at all) e
+unfolding all_faults
+targets_cause judge at all i x e lt g h =
+    let s = ap (all_faults judge at) (split_at all i x lt g) ∙ faults_join judge at (take i all) (x ∷ drop (suc i) all) ∙ sym (append_assoc (all_faults judge at (take i all)) (lvalue_faults judge at x) (all_faults judge at (drop (suc i) all))) in
+    subst (λ (z : Faults). IsCause z e) (sym s) (cause_left (all_faults judge at (take i all) ++ lvalue_faults judge at x) (all_faults judge at (drop (suc i) all)) e h)
+
+pub targets_end : (judge : Meaning → Faults) (at : m.Scope) (all : List Lvalue) (i : ℕ) (found : List TypedTarget) → length all ≤ i → AreTargets judge (all_faults judge at (take i all)) (all_targets at (take i all)) found → AreTargets judge (all_faults judge at all) (all_targets at all) found
+targets_end judge at all i found lt h = subst (λ (z : List Lvalue). AreTargets judge (all_faults judge at z) (all_targets at z) found) (take_all i all lt) h
+
+-- ---- the bits of all
+
+pub width_more : (all : List TypedTarget) (i : ℕ) (x : TypedTarget) → i < length all → x ≡ get_or all i x → width_of_all (drop i all) ≡ x.width + width_of_all (drop (i + 1) all)
+unfolding width_of_all
+width_more all i x h e = at_drop_more width_of_all all i x h ∙ ap (λ y. y.width + width_of_all (drop (i + 1) all)) (sym e)
+
+pub width_end : (all : List TypedTarget) (i : ℕ) → length all ≤ i → width_of_all (drop i all) ≡ 0
+unfolding width_of_all
+width_end all i h = at_drop_all width_of_all all i h
+
+pub narrow_one : (x : TypedTarget) (all now : List TypedTarget) → all ≡ [] → now ≡ all ++ x ∷ [] → x.width ≤ 128 → width_of_all now ≤ 128
+unfolding width_of_all
+narrow_one x all now e h k = let w : width_of_all now ≡ x.width + 0 = ap width_of_all h ∙ ap (λ (z : List TypedTarget). width_of_all (z ++ x ∷ [])) e in omega arith
+
+-- ---- productions
+
+pub arm_name : (judge : Meaning → Faults) (at : m.Scope) (tree : Lvalue) (w : Word) (all given : List Select) (r : Result (List TypedTarget) TextErr) → tree ≡ lv.Name w all → given ≡ all →
+    JudgesTargets judge (target_faults judge w (m.find w.text at) (map (step at) given)) (target_of (m.find w.text at) (map (step at) given) ∷ []) r → JudgesTargets judge (lvalue_faults judge at tree) (targets at tree) r
+arm_name judge at tree w all given r e g h =
+    targets_as judge _ (target_faults judge w (m.find w.text at) (map (step at) given)) _ (target_of (m.find w.text at) (map (step at) given) ∷ []) r
+    (ap (lvalue_faults judge at) e ∙ faults_name judge at w all ∙ ap (λ (z : List Select). target_faults judge w (m.find w.text at) (map (step at) z)) (sym g))
+    (ap (targets at) e ∙ targets_name at w all ∙ ap (λ (z : List Select). target_of (m.find w.text at) (map (step at) z) ∷ []) (sym g)) h
+
+pub arm_concat : (judge : Meaning → Faults) (at : m.Scope) (tree : Lvalue) (p : Place) (all given : List Lvalue) (r : Result (List TypedTarget) TextErr) → tree ≡ lv.Concat p all → given ≡ all →
+    JudgesTargets judge (or_then (all_faults judge at given) (wide_target p (all_targets at given))) (all_targets at given) r → JudgesTargets judge (lvalue_faults judge at tree) (targets at tree) r
+arm_concat judge at tree p all given r e g h =
+    targets_as judge _ (or_then (all_faults judge at given) (wide_target p (all_targets at given))) _ (all_targets at given) r
+    (ap (lvalue_faults judge at) e ∙ faults_concat judge at p all ∙ ap (λ (z : List Lvalue). or_then (all_faults judge at z) (wide_target p (all_targets at z))) (sym g))
+    (ap (targets at) e ∙ targets_concat at p all ∙ ap (all_targets at) (sym g)) h
+
+pub what_wire : (judge : Meaning → Faults) (w : Word) (what : What) (n : ℕ) (x : Layout) (steps : List Step) (r : Result TypedTarget TextErr) → what ≡ Wire n x →
+    JudgesTarget judge (chain_faults judge (layout_is x) steps) (record { wire = n; layout = layout_is x; steps = steps }) r → JudgesTarget judge (target_faults judge w (Some (what_is what)) steps) (target_of (Some (what_is what)) steps) r
+what_wire judge w what n x steps r e h = subst (λ (z : What). JudgesTarget judge (target_faults judge w (Some (what_is z)) steps) (target_of (Some (what_is z)) steps) r) (sym e) h

@@ -1,0 +1,15 @@
+use Rattle.sv_meaning.specs.Meanings.{fixed_faults}
+use Rattle.sv_meaning.specs.Targets.{targets, lvalue_faults}
+use Rattle.sv_const.specs.Names.{names_are}
+use Rattle.sv_targets.proofs.Slotting.{sound_targets}
+use Rattle.sv_targets.proofs.parts.target_of.Goals as goal
+
+pub lowered-requires-clause-sound : goal.lowered-requires-clause-sound
+lowered-requires-clause-sound c =
+    let at = names_are c.args.names.now in
+    sound_targets fixed_faults (lvalue_faults fixed_faults at c.args.target.now) (targets at c.args.target.now) c.typed_targets.result c.typed_targets.ensures.is
+
+pub returns : goal.returns
+returns c =
+    let at = names_are c.args.names.now in
+    c.lowered.ensures (lvalue_faults fixed_faults at c.args.target.now) (targets at c.args.target.now) c.typed_targets.ensures.is

@@ -1,0 +1,146 @@
+// Targets whose selects are constant as parts of wires (IEEE 1800-2017, 10.3.2 and 23.3.3).
+ghost use Rattle.std.specs.Prelude.{◌≡◌, ◌≤◌, ◌<◌, All, IfOk, List, [], length, slice_index_or, ◌+◌};
+ghost use Rattle.sv_const.specs.Names.{names_are};
+ghost use Rattle.lhs_alias.specs.Segs.{lhs_bits, AreSegs};
+ghost use Rattle.sv_meaning.specs.Designs.{as_targets, actual_faults};
+ghost use Rattle.sv_meaning.specs.Faults.{Faults};
+ghost use Rattle.sv_meaning.specs.Meanings.{fixed_faults};
+ghost use Rattle.sv_meaning.specs.Targets as t;
+ghost use Rattle.sv_targets.specs.Slots.{Slots, IsNear, Runs, AreParts, JudgesParts};
+ghost use Rattle.sv_targets.specs.Targets.{JudgesTargets, AreNarrow, TargetIsSound};
+
+use crate::actuals::typed_actual;
+use crate::slots::all_slots;
+use crate::targets::{TypedTarget, typed_targets, width_of_all};
+use items::Items;
+use lhs_alias::{Lhs, Seg, WireBit};
+use std::alloc::{AllocError, Global};
+use sv_const::{IndexRule, Names};
+use sv_outside::TextErr;
+use sv_tree::{Expr, Lvalue};
+
+/// Bits of a target that are there, and the place of the lowest of them in the target.
+#[derive(Drop)]
+pub struct Part {
+    pub lo: usize,
+    pub to: Lhs,
+}
+
+/// A target: how many bits it has, and its bits that are in range, from the least significant on.
+#[derive(Drop)]
+pub struct Target {
+    pub width: usize,
+    pub parts: Items<Part>,
+}
+
+// Bits from the least significant on as segments, neighbours as one.
+fn united(alloc: Global, run: &[WireBit]) -> Result<Lhs, AllocError>
+    requires { All (λ b. b.at < 128) run.now }
+    ensures bits { IfOk result (λ to. lhs_bits to ≡ run.now) }
+    ensures segs { IfOk result (λ to. AreSegs to) }
+{
+    let mut segs = Vec::new(alloc);
+    'bits: for bit in run {
+        segs.push(Seg {
+            wire: bit.wire,
+            lo: bit.at,
+            width: 1,
+        })?;
+    }
+    segs.reverse();
+    Lhs::from_vec(segs).normal()
+}
+
+// A run of bits that ends at a place as a part of its own.
+fn closed(
+    alloc: Global,
+    parts: Items<Part>,
+    run: &[WireBit],
+    end: usize,
+) -> Result<Items<Part>, AllocError>
+    requires within { length run.now ≤ end }
+    requires near { All (λ b. b.at < 128) run.now }
+    ensures { (all : Slots) → Runs all end parts run.now → IfOk result (λ next. Runs all end next []) }
+{
+    if run.is_empty() {
+        return Ok(parts);
+    }
+    let to = united(alloc, run)?;
+    let mut parts = parts;
+    parts.push(Part {
+        lo: end - run.len(),
+        to,
+    })?;
+    Ok(parts)
+}
+
+// The parts and the open run behind one slot more.
+fn behind_slot(
+    alloc: Global,
+    parts: Items<Part>,
+    run: &mut Vec<WireBit>,
+    at: usize,
+    slot: Option<WireBit>,
+) -> Result<Items<Part>, AllocError>
+    requires within { length run.old.items ≤ at }
+    requires near { All (λ b. b.at < 128) run.old.items }
+    requires slot { IsNear slot }
+    ensures runs { (all : Slots) → at < length all → slot ≡ slice_index_or all at slot → Runs all at parts run.old.items → IfOk result (λ next. Runs all (at + 1) next run.new.items) }
+    ensures near { IfOk result (λ next. All (λ b. b.at < 128) run.new.items) }
+{
+    match slot {
+        Some(bit) => {
+            run.push(bit)?;
+            Ok(parts)
+        }
+        None => {
+            let next = closed(alloc, parts, run, at)?;
+            run.clear();
+            Ok(next)
+        }
+    }
+}
+
+// The runs of bits that are there.
+fn parts_of(alloc: Global, all: &[Option<WireBit>]) -> Result<Items<Part>, AllocError>
+    requires { All IsNear all.now }
+    ensures { IfOk result (λ parts. AreParts all.now parts) }
+{
+    let mut parts = Items::new(alloc);
+    let mut run = Vec::new(alloc);
+    'slots: for at in 0..all.len() {
+        parts = behind_slot(alloc, parts, &mut run, at, all[at])?;
+    }
+    closed(alloc, parts, &run, all.len())
+}
+
+// Targets as parts of wires.
+fn lowered(alloc: Global, targets: Result<Items<TypedTarget>, TextErr>) -> Result<Target, TextErr>
+    requires narrow { AreNarrow targets }
+    requires sound { IfOk targets (λ all. All TargetIsSound all) }
+    ensures { (f : Faults) (ts : List t.Target) → JudgesTargets fixed_faults f ts targets → JudgesParts f ts result }
+{
+    match targets {
+        Ok(targets) => {
+            let width = width_of_all(targets.as_slice()) as usize;
+            let all = all_slots(alloc, targets.as_slice())?;
+            let parts = parts_of(alloc, all.as_slice())?;
+            Ok(Target { width, parts })
+        }
+        Err(why) => Err(why),
+    }
+}
+
+/// A target whose indices are constant and wholly 0 and 1; or why it is refused: E12, E14, E15, E16, E19 or E23.
+pub fn target_of(alloc: Global, target: &Lvalue, names: &Names<'_>) -> Result<Target, TextErr>
+    ensures { JudgesParts (t.lvalue_faults fixed_faults (names_are names.now) target.now) (t.targets (names_are names.now) target.now) result }
+{
+    lowered(alloc, typed_targets(alloc, target, names, IndexRule::Fixed))
+}
+
+/// An actual of a port as a target, as `target_of` has it (23.3.3).
+pub fn target_of_actual(alloc: Global, actual: &Expr, names: &Names<'_>) -> Result<Target, TextErr>
+    ensures { JudgesParts (actual_faults (names_are names.now) actual.now) (as_targets (names_are names.now) actual.now) result }
+{
+    lowered(alloc, typed_actual(alloc, actual, names))
+}
