@@ -10,8 +10,7 @@ ghost use Rattle.sv_targets.specs.Targets.{JudgesTargets, AreNarrow, actual_list
 use crate::targets::{TypedTarget, appended, braced, named_target, one_target};
 use items::Items;
 use std::alloc::Global;
-use sv_const::start;
-use sv_const::{IndexRule, Names, refusal};
+use sv_const::{IndexRule, Names, refusal, start};
 use sv_outside::TextErr;
 use sv_tree::Expr;
 
