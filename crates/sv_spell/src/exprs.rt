@@ -106,7 +106,6 @@ fn cast_to(alloc: Global, out: &mut Lexemes, x: &Expr) -> Result<(), AllocError>
     Ok(())
 }
 
-#[tactic(auto, using(crate::proofs::Loops::left_first, crate::proofs::Loops::left_next, crate::proofs::Loops::left_last))]
 #[cycle(expr)]
 pub fn exprs(alloc: Global, out: &mut Lexemes, all: &[Expr]) -> Result<(), AllocError>
     ensures { IfOk result (λ _. out.new ≡ writing.commas spec.write_expr all.now out.old) }
@@ -124,7 +123,6 @@ pub fn exprs(alloc: Global, out: &mut Lexemes, all: &[Expr]) -> Result<(), Alloc
     }
 }
 
-#[tactic(auto, using(crate::proofs::Loops::left_first, crate::proofs::Loops::left_next, crate::proofs::Loops::left_last))]
 #[cycle(expr)]
 pub fn selects(alloc: Global, out: &mut Lexemes, all: &[Select]) -> Result<(), AllocError>
     ensures { IfOk result (λ _. out.new ≡ writing.each spec.write_select all.now out.old) }

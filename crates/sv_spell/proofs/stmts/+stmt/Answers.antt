@@ -1,0 +1,19 @@
+use Rattle.std.proofs.Common.{ap, ◌∙◌}
+use Rattle.sv_spell.specs.Stmts.{write_arm, write_stmt}
+use Rattle.sv_spell.specs.Writing.{each, commas}
+use Rattle.sv_spell.proofs.Loops.{left_next, left_last}
+use Rattle.sv_spell.proofs.stmts.+stmt.Goals as goal
+
+pub stmts-parts-preserved : goal.stmts-parts-preserved
+stmts-parts-preserved t c =
+    left_next write_stmt c.args.all.now c.parts.part-index c.part-item.result (each write_stmt c.args.all.now c.args.out.now) c.parts.out c.stmt.new.out c.parts-test.true c.part-item.is c.parts.invariant c.in_ok-stmt.ensures
+
+pub stmts-returns : goal.stmts-returns
+stmts-returns t c = left_last write_stmt c.args.all.now c.parts.part-index (each write_stmt c.args.all.now c.args.out.now) c.parts.out c.parts-test.false c.parts.invariant
+
+pub arms-parts-preserved : goal.arms-parts-preserved
+arms-parts-preserved t c =
+    left_next write_arm c.args.all.now c.parts.part-index c.part-item.result (each write_arm c.args.all.now c.args.out.now) c.parts.out c.arm.new.out c.parts-test.true c.part-item.is c.parts.invariant c.in_ok-arm.ensures
+
+pub arms-returns : goal.arms-returns
+arms-returns t c = left_last write_arm c.args.all.now c.parts.part-index (each write_arm c.args.all.now c.args.out.now) c.parts.out c.parts-test.false c.parts.invariant
