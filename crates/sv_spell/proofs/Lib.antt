@@ -1,3 +1,4 @@
+pub mod Chosen
 pub mod DesignLaws
 pub mod DesignMade
 pub mod ExprsLaws
@@ -8,3 +9,4 @@ pub mod Lawful
 pub mod Loops
 pub mod StmtsLaws
 pub mod StmtsMade
+pub mod Whole

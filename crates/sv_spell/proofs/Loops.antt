@@ -2,6 +2,9 @@
 use Rattle.std.proofs.Common.{◌≡◌, ℕ, ◌+◌, ◌-◌, ◌<◌, ◌≤◌, List, [], ◌∷◌, length, take, drop, get_or, codes, refl, sym, ap, ◌∙◌, arith}
 use Rattle.std.proofs.lemmas.List.{take_all, drop_all, drop_more}
 use Rattle.sv_spell.specs.declared.lexeme.Lexeme.{Lexeme}
+use Rattle.sv_tree.specs.declared.design.ParPort.{ParPort}
+use Rattle.sv_spell.specs.Forms.{write_par_port}
+use Rattle.sv_spell.specs.Design.{write_params}
 use Rattle.sv_spell.specs.Writing.{Write, ◌⨾◌, mark, each, commas}
 
 -- what stands there once the parts that are left are written
@@ -39,3 +42,10 @@ pub commas_first : {A : Type 0} (f : A → Write) (all : List A) (x : A) (old no
 commas_first f [] x old now le at e = absurd (omega arith)
 commas_first f (a ∷ all) x old now le at e =
     record { same = ap (λ (l : List _). each (behind_comma f) l now) (take_all (length (a ∷ all) - 1) all (omega arith)) ∙ ap (each (behind_comma f) all) (e ∙ ap (λ x. f x old) at) }
+
+-- ---- parameters
+
+pub some_params : (all : List ParPort) (l : List Lexeme) → 1 ≤ length all → write_params all l ≡ (mark (codes "#") ⨾ mark (codes "(") ⨾ commas write_par_port all ⨾ mark (codes ")")) l
+unfolding write_params
+some_params [] l le = absurd (omega arith)
+some_params (p ∷ all) l le = refl

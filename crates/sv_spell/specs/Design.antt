@@ -114,6 +114,3 @@ net w t all = write_net_key w ⨾ maybe write_type t ⨾ commas name all ⨾ mar
 
 abbrev pub variable : TypeTree → List Word → Write
 variable t all = write_type t ⨾ commas name all ⨾ mark (codes ";")
-
-abbrev pub if_item : Expr → Gen → Option Gen → Write
-if_item c x y = key (codes "if") ⨾ mark (codes "(") ⨾ write_expr c ⨾ mark (codes ")") ⨾ write_gen x ⨾ maybe write_else_part y

@@ -128,12 +128,3 @@ condition x = mark (codes "(") ⨾ write_expr x ⨾ mark (codes ")")
 -- what stands behind the `(` of a loop and its word
 abbrev pub turns : Word → Expr → Expr → Step → Write
 turns v start test next = name v ⨾ mark (codes "=") ⨾ write_expr start ⨾ mark (codes ";") ⨾ write_expr test ⨾ mark (codes ";") ⨾ write_step v next ⨾ mark (codes ")")
-
-abbrev pub block_stmt : Option Word → List Stmt → Option Word → Write
-block_stmt first all last = key (codes "begin") ⨾ maybe write_block_name first ⨾ each write_stmt all ⨾ key (codes "end") ⨾ label last
-
-abbrev pub if_stmt : Option Uniq → Expr → Stmt → Option Stmt → Write
-if_stmt u c x y = maybe write_uniq_key u ⨾ key (codes "if") ⨾ condition c ⨾ write_stmt x ⨾ maybe write_else_part y
-
-abbrev pub case_stmt : Option Uniq → CaseWord → Expr → List Arm → Write
-case_stmt u w x all = maybe write_uniq_key u ⨾ write_case_key w ⨾ condition x ⨾ each write_arm all ⨾ key (codes "endcase")

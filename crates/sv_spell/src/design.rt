@@ -248,17 +248,6 @@ fn body(alloc: Global, out: &mut Lexemes, x: &Gen) -> Result<(), AllocError>
     }
 }
 
-#[cycle(item)]
-fn if_item(alloc: Global, out: &mut Lexemes, test: &Expr, inner: &Gen, other: &Option<Boxed<Gen>>) -> Result<(), AllocError>
-    ensures { IfOk result (λ _. out.new ≡ spec.if_item test.now inner.now other.now out.old) }
-{
-    key(alloc, out, b"if")?;
-    condition(alloc, out, test)?;
-    body(alloc, out, inner)?;
-    maybe_else(alloc, out, other)?;
-    Ok(())
-}
-
 /// Writes an item of a module.
 #[tactic(auto, using(crate::proofs::DesignMade::made_design))]
 #[cycle(item)]
@@ -292,7 +281,13 @@ pub fn item(alloc: Global, out: &mut Lexemes, x: &Item) -> Result<(), AllocError
             body(alloc, out, inner.get())?;
             Ok(())
         }
-        Item::If(_, test, inner, other) => if_item(alloc, out, test, inner.get(), other),
+        Item::If(_, test, inner, other) => {
+            key(alloc, out, b"if")?;
+            condition(alloc, out, test)?;
+            body(alloc, out, inner.get())?;
+            maybe_else(alloc, out, other)?;
+            Ok(())
+        }
         Item::Generate(all) => {
             key(alloc, out, b"generate")?;
             items(alloc, out, all.as_slice())?;
@@ -304,7 +299,7 @@ pub fn item(alloc: Global, out: &mut Lexemes, x: &Item) -> Result<(), AllocError
 
 // ---- modules
 
-#[tactic(auto, unfolding(crate::specs::Design::write_params))]
+#[tactic(auto, using(crate::proofs::Loops::some_params), unfolding(crate::specs::Design::write_params))]
 fn params(alloc: Global, out: &mut Lexemes, all: &[ParPort]) -> Result<(), AllocError>
     ensures { IfOk result (λ _. out.new ≡ spec.write_params all.now out.old) }
 {

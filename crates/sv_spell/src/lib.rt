@@ -5,8 +5,8 @@ mod design;
 mod exprs;
 mod forms;
 mod lexeme;
+mod spelling;
 mod stmts;
 
-pub use design::item;
-pub use exprs::expr;
 pub use lexeme::Lexeme;
+pub use spelling::spell;

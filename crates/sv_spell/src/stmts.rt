@@ -268,42 +268,6 @@ pub fn turns(alloc: Global, out: &mut Lexemes, variable: &Word, start: &Expr, te
     Ok(())
 }
 
-#[cycle(stmt)]
-fn block_stmt(alloc: Global, out: &mut Lexemes, first: &Option<Word>, all: &[Stmt], last: &Option<Word>) -> Result<(), AllocError>
-    ensures { IfOk result (λ _. out.new ≡ spec.block_stmt first.now all.now last.now out.old) }
-{
-    key(alloc, out, b"begin")?;
-    maybe_block_name(alloc, out, first)?;
-    stmts(alloc, out, all)?;
-    key(alloc, out, b"end")?;
-    label(alloc, out, last)?;
-    Ok(())
-}
-
-#[cycle(stmt)]
-fn if_stmt(alloc: Global, out: &mut Lexemes, word: Option<Uniq>, test: &Expr, body: &Stmt, other: &Option<Boxed<Stmt>>) -> Result<(), AllocError>
-    ensures { IfOk result (λ _. out.new ≡ spec.if_stmt word test.now body.now other.now out.old) }
-{
-    maybe_uniq(alloc, out, word)?;
-    key(alloc, out, b"if")?;
-    condition(alloc, out, test)?;
-    stmt(alloc, out, body)?;
-    maybe_else(alloc, out, other)?;
-    Ok(())
-}
-
-#[cycle(stmt)]
-fn case_stmt(alloc: Global, out: &mut Lexemes, uniq: Option<Uniq>, word: CaseWord, value: &Expr, all: &[Arm]) -> Result<(), AllocError>
-    ensures { IfOk result (λ _. out.new ≡ spec.case_stmt uniq word value.now all.now out.old) }
-{
-    maybe_uniq(alloc, out, uniq)?;
-    case_word(alloc, out, word)?;
-    condition(alloc, out, value)?;
-    arms(alloc, out, all)?;
-    key(alloc, out, b"endcase")?;
-    Ok(())
-}
-
 /// Writes a statement.
 #[tactic(auto, using(crate::proofs::StmtsMade::made_stmts))]
 #[cycle(stmt)]
@@ -312,10 +276,29 @@ pub fn stmt(alloc: Global, out: &mut Lexemes, x: &Stmt) -> Result<(), AllocError
 {
     match x {
         Stmt::Empty => mark(alloc, out, b";"),
-        Stmt::Block(_, first, all, last) => block_stmt(alloc, out, first, all.as_slice(), last),
-        Stmt::If(word, test, body, other) => if_stmt(alloc, out, *word, test, body.get(), other),
+        Stmt::Block(_, first, all, last) => {
+            key(alloc, out, b"begin")?;
+            maybe_block_name(alloc, out, first)?;
+            stmts(alloc, out, all.as_slice())?;
+            key(alloc, out, b"end")?;
+            label(alloc, out, last)?;
+            Ok(())
+        }
+        Stmt::If(word, test, body, other) => {
+            maybe_uniq(alloc, out, *word)?;
+            key(alloc, out, b"if")?;
+            condition(alloc, out, test)?;
+            stmt(alloc, out, body.get())?;
+            maybe_else(alloc, out, other)?;
+            Ok(())
+        }
         Stmt::Case(uniq, word, value, all) => {
-            case_stmt(alloc, out, *uniq, *word, value, all.as_slice())
+            maybe_uniq(alloc, out, *uniq)?;
+            case_word(alloc, out, *word)?;
+            condition(alloc, out, value)?;
+            arms(alloc, out, all.as_slice())?;
+            key(alloc, out, b"endcase")?;
+            Ok(())
         }
         Stmt::For(_, word, variable, start, test, next, body) => {
             key(alloc, out, b"for")?;
