@@ -1,5 +1,5 @@
 -- Modules and their items: what is written are the kinds and texts of whatever tokens spell them.
-use Rattle.std.specs.Prelude.{◌≡◌, Bool, true, false, List, [], ◌∷◌, codes, Option, Some, None}
+use Rattle.std.specs.Prelude.{Bool, true, false, List, [], ◌∷◌, codes, Option}
 use mathlib.Core.Former.{Count}
 use Rattle.sv_tree.specs.declared.design.AssignPair.{AssignPair}
 use Rattle.sv_tree.specs.declared.design.ParPort.{ParPort}
@@ -17,15 +17,12 @@ use Rattle.sv_tree.specs.declared.design.Module.{Module}
 use Rattle.sv_tree.specs.declared.design.SourcePart.{SourcePart}
 use Rattle.sv_tree.specs.declared.design.SourcePart.TheVariants as source_part
 use Rattle.sv_tree.specs.declared.design.Source.{Source}
-use Rattle.sv_tree.specs.Spelling.{Text, Spelled, nothing, never, ◌⨟◌, first_at, when, mark, mark_at, key, key_at, system_at, literal, name, maybe, each, commas, label, label_of}
-use Rattle.sv_tree.specs.GrammarDesign.{SpellsPair, SpellsPin, SpellsNamed, SpellsPins, SpellsOne, SpellsGiven, SpellsInst, genvar_if, SpellsItem, SpellsGen, SpellsElse, SpellsItems, SpellsParams, port_list, SpellsPorts, SpellsModule, SpellsPart, SpellsSource, is_closed, is_closed_gen, is_closed_else, HasWay}
+use Rattle.sv_tree.specs.GrammarDesign.{SpellsPair, SpellsPin, SpellsNamed, SpellsPins, SpellsOne, SpellsGiven, SpellsInst, genvar_if, SpellsItem, SpellsGen, SpellsElse, SpellsItems, SpellsParams, port_list, SpellsPorts, SpellsModule, SpellsPart, SpellsSource, is_closed_gen}
 use Rattle.sv_spell.specs.Design.{write_pair, write_pin, write_named, write_pins, write_one, write_override, write_inst, write_genvar_if, write_item, write_gen, write_else, write_items, write_params, write_port_list, write_ports, write_module, write_part, write_source}
-use Rattle.sv_spell.specs.Writing as w
-use Rattle.sv_spell.proofs.Lawful.{Law, ◌▹◌, law_mark, law_mark_at, law_key, law_key_at, law_system_at, law_literal, law_name, law_nothing, law_never, law_when, law_maybe, law_each, law_commas, law_label, law_label_of, law_first}
-use Rattle.sv_tree.specs.GrammarExprs.{sign_word}
-use Rattle.sv_spell.proofs.ExprsLaws.{law_expr, law_exprs, law_more_exprs, law_select, law_select_row}
-use Rattle.sv_spell.proofs.FormsLaws.{law_bits_key, law_sign_key, law_range, law_given, law_enum_label, law_type, law_members, law_more_members, law_member, law_typedef, law_whole_key, law_param_bits_key, law_param_key, law_param_type, law_par_port, law_param_item, law_param, law_way_key, law_net_key, law_port}
-use Rattle.sv_spell.proofs.StmtsLaws.{law_chain, law_lvalue, law_lvalues, law_more_lvalues, law_step, law_uniq_key, law_case_key, law_block_name, law_colon_if, law_stmt, law_stmts, law_arms, law_more_arms, law_arm, law_edge_key, law_event, law_kind, law_block}
+use Rattle.sv_spell.proofs.Lawful.{Law, ◌▹◌, law_mark, law_key, law_key_at, law_name, law_nothing, law_when, law_maybe, law_each, law_commas, law_label, law_label_of, law_first}
+use Rattle.sv_spell.proofs.ExprsLaws.{law_expr}
+use Rattle.sv_spell.proofs.FormsLaws.{law_given, law_type, law_typedef, law_par_port, law_param, law_net_key, law_port}
+use Rattle.sv_spell.proofs.StmtsLaws.{law_lvalue, law_step, law_block_name, law_block}
 
 pub law_pair : (x : AssignPair) → Law (SpellsPair x) (write_pair x)
 unfolding write_pair

@@ -1,7 +1,6 @@
 -- Items as code makes them, with lists of parts: what is written of them.
-use Rattle.std.proofs.Common.{◌≡◌, ℕ, ◌≤◌, Bool, true, false, List, [], ◌∷◌, codes, Option, Some, None, refl, sym, ap, ◌∙◌, subst}
+use Rattle.std.proofs.Common.{◌≡◌, Bool, List, [], ◌∷◌, codes, Option, Some, None, refl, ap}
 use Rattle.sv_outside.specs.declared.refusal.Place.{Place}
-use Rattle.sv_outside.specs.declared.text.Token.{Token}
 use Rattle.sv_tree.specs.declared.word.Word.{Word}
 use Rattle.sv_tree.specs.declared.exprs.Expr.{Expr}
 use Rattle.sv_tree.specs.declared.forms.TypeTree.{TypeTree}
@@ -12,17 +11,17 @@ use Rattle.sv_tree.specs.declared.design.AssignPair.{AssignPair}
 use Rattle.sv_tree.specs.declared.design.Param.{Param as ParamTree}
 use Rattle.sv_tree.specs.declared.design.NetWord.{NetWord}
 use Rattle.sv_tree.specs.declared.design.Inst.{Inst as InstTree}
-use Rattle.sv_tree.specs.declared.design.Item.{Item, Net, Variable, Typedef, Param, Genvar, Assign, Always, Inst, For', If', Generate', Row_of-Item, end_of-Item, more_of-Item, end_of-Gen, more_of-Gen, Held-Item-If-3, None', Some', roll-Item, out-Item, roll-out-Item}
+use Rattle.sv_tree.specs.declared.design.Item.{Item, Net, Variable, Typedef, Param, Genvar, Assign, Always, Inst}
 use Rattle.sv_tree.specs.declared.design.Item.TheVariants as it
-use Rattle.sv_tree.specs.declared.design.Gen.TheBlock.{shape-the_row-Item-0, hidden-the_row-Item-0, shown-the_row-Item-0, shape-the_row-Item-1, hidden-the_row-Item-1, shown-the_row-Item-1, shape-the_row-Gen-2, hidden-the_row-Gen-2, shown-the_row-Gen-2}
-use Rattle.sv_tree.specs.declared.design.Gen.{Gen, Block', Single', roll-Gen, out-Gen, roll-out-Gen}
+use Rattle.sv_tree.specs.declared.design.Gen.TheBlock.{shape-the_row-Item-0, hidden-the_row-Item-0, shape-the_row-Item-1, hidden-the_row-Item-1, shape-the_row-Gen-2, hidden-the_row-Gen-2}
+use Rattle.sv_tree.specs.declared.design.Gen.{Gen}
 use Rattle.sv_tree.specs.declared.design.Gen.TheVariants as ge
 use Rattle.sv_spell.specs.declared.lexeme.Lexeme.{Lexeme}
-use Rattle.sv_spell.specs.Writing.{Write, ◌⨾◌, nothing, mark, key, system, literal, name, maybe, each, after_commas, commas, label}
+use Rattle.sv_spell.specs.Writing.{Write, ◌⨾◌, mark, key, name, maybe, each, commas, label}
 use Rattle.sv_spell.specs.Exprs.{write_expr}
-use Rattle.sv_spell.specs.Forms.{write_type, write_typedef, write_param, write_net_key, write_given}
-use Rattle.sv_spell.specs.Stmts.{write_lvalue, write_step, write_block, write_block_name}
-use Rattle.sv_spell.specs.Design.{write_pair, write_pin, write_named, write_pins, write_one, write_override, write_inst, write_genvar_if, write_item, write_gen, write_else, write_items, write_params, write_port_list, write_ports, write_module, write_part, write_source, write_else_part}
+use Rattle.sv_spell.specs.Forms.{write_type, write_typedef, write_param, write_net_key}
+use Rattle.sv_spell.specs.Stmts.{write_step, write_block, write_block_name}
+use Rattle.sv_spell.specs.Design.{write_pair, write_inst, write_genvar_if, write_item, write_gen, write_else, write_items, write_else_part}
 
 -- ---- lists of parts
 

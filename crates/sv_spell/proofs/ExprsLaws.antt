@@ -1,23 +1,12 @@
 -- Expressions: what is written are the kinds and texts of whatever tokens spell them.
-use Rattle.std.specs.Prelude.{◌≡◌, ℕ, ◌+◌, ◌≤◌, Bool, true, false, codes, [], ◌∷◌, Some, None}
+use Rattle.std.specs.Prelude.{ℕ, codes}
 use mathlib.Core.Former.{Count}
-use Rattle.sv_tree.specs.declared.exprs.Sign.{Sign}
-use Rattle.sv_tree.specs.declared.exprs.Sign.TheVariants as sign
-use Rattle.sv_tree.specs.declared.exprs.SystemName.{SystemName}
-use Rattle.sv_tree.specs.declared.exprs.SystemName.TheVariants as system_name
-use Rattle.sv_tree.specs.declared.exprs.UnaryOp.{UnaryOp}
-use Rattle.sv_tree.specs.declared.exprs.UnaryOp.TheVariants as one
-use Rattle.sv_tree.specs.declared.exprs.BinaryOp.{BinaryOp}
-use Rattle.sv_tree.specs.declared.exprs.BinaryOp.TheVariants as two
-use Rattle.sv_tree.specs.declared.exprs.RangeMark.{RangeMark}
-use Rattle.sv_tree.specs.declared.exprs.RangeMark.TheVariants as range_mark
 use Rattle.sv_tree.specs.declared.exprs.Expr.{Expr, Literal, Name', Paren', Concat', Repeat', CastLiteral', CastName', CastParen', CastSign', System', Unary', Binary', Choose', Row_of-Expr, end_of-Expr, more_of-Expr, Row_of-Select, end_of-Select, more_of-Select}
 use Rattle.sv_tree.specs.declared.exprs.Select.{Select, Member, Index', Range'}
-use Rattle.sv_tree.specs.Spelling.{Text, Spelled, nothing, never, ◌⨟◌, first_at, when, mark, mark_at, key, key_at, system_at, literal, name, maybe, each, commas, label, label_of}
-use Rattle.sv_tree.specs.GrammarExprs.{Spells, SpellsCommas, SpellsMore, SpellsSelect, SpellsSelects, sign_word, system_word, unary_mark, binary_mark, range_text, left_level, right_level, binds, is_range}
+use Rattle.sv_tree.specs.GrammarExprs.{Spells, SpellsCommas, SpellsMore, SpellsSelect, SpellsSelects, sign_word, system_word, unary_mark, binary_mark, range_text, left_level, right_level}
 use Rattle.sv_spell.specs.Exprs.{write_expr, write_exprs, write_more_exprs, write_select, write_select_row}
 use Rattle.sv_spell.specs.Writing as w
-use Rattle.sv_spell.proofs.Lawful.{Law, ◌▹◌, law_mark, law_mark_at, law_key, law_key_at, law_system_at, law_literal, law_name, law_nothing, law_never, law_when, law_maybe, law_each, law_commas, law_label, law_label_of, law_first}
+use Rattle.sv_spell.proofs.Lawful.{Law, ◌▹◌, law_mark, law_mark_at, law_key_at, law_system_at, law_literal, law_name, law_nothing, law_never, law_when}
 
 mutual
   unfolding write_expr write_exprs write_more_exprs write_select write_select_row

@@ -1,20 +1,19 @@
 -- Expressions as code makes them, with lists of parts: what is written of them.
-use Rattle.std.proofs.Common.{◌≡◌, ℕ, ◌≤◌, Bool, true, false, List, [], ◌∷◌, codes, Option, Some, None, refl, sym, ap, ◌∙◌, subst}
+use Rattle.std.proofs.Common.{◌≡◌, List, [], ◌∷◌, codes, refl, ap}
 use Rattle.sv_outside.specs.declared.refusal.Place.{Place}
-use Rattle.sv_outside.specs.declared.text.Token.{Token}
 use Rattle.sv_tree.specs.declared.word.Word.{Word}
 use Rattle.sv_tree.specs.declared.exprs.Sign.{Sign}
 use Rattle.sv_tree.specs.declared.exprs.SystemName.{SystemName}
 use Rattle.sv_tree.specs.declared.exprs.UnaryOp.{UnaryOp}
 use Rattle.sv_tree.specs.declared.exprs.BinaryOp.{BinaryOp}
 use Rattle.sv_tree.specs.declared.exprs.RangeMark.{RangeMark}
-use Rattle.sv_tree.specs.declared.exprs.Expr.{Expr, Literal, Name', Paren', Concat', Repeat', CastLiteral', CastName', CastParen', CastSign', System', Unary', Binary', Choose', Row_of-Expr, end_of-Expr, more_of-Expr, Row_of-Select, end_of-Select, more_of-Select, roll-Expr, out-Expr, roll-out-Expr}
+use Rattle.sv_tree.specs.declared.exprs.Expr.{Expr, Literal}
 use Rattle.sv_tree.specs.declared.exprs.Expr.TheVariants as e
-use Rattle.sv_tree.specs.declared.exprs.Expr.TheBlock.{shape-the_row-Select-0, hidden-the_row-Select-0, shown-the_row-Select-0, shape-the_row-Expr-1, hidden-the_row-Expr-1, shown-the_row-Expr-1, shape-the_row-Expr-2, hidden-the_row-Expr-2, shown-the_row-Expr-2}
-use Rattle.sv_tree.specs.declared.exprs.Select.{Select, Member, Index', Range'}
+use Rattle.sv_tree.specs.declared.exprs.Expr.TheBlock.{shape-the_row-Select-0, hidden-the_row-Select-0, shape-the_row-Expr-1, hidden-the_row-Expr-1, shape-the_row-Expr-2, hidden-the_row-Expr-2}
+use Rattle.sv_tree.specs.declared.exprs.Select.{Select, Member}
 use Rattle.sv_tree.specs.declared.exprs.Select.TheVariants as s
 use Rattle.sv_spell.specs.declared.lexeme.Lexeme.{Lexeme}
-use Rattle.sv_spell.specs.Writing.{Write, ◌⨾◌, nothing, mark, key, system, literal, name, maybe, each, after_commas, commas, label}
+use Rattle.sv_spell.specs.Writing.{Write, ◌⨾◌, mark, key, system, literal, name, each, after_commas, commas}
 use Rattle.sv_tree.specs.GrammarExprs.{sign_word, system_word, unary_mark, binary_mark, range_text}
 use Rattle.sv_spell.specs.Exprs.{write_expr, write_exprs, write_more_exprs, write_select, write_select_row}
 

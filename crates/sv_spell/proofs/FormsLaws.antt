@@ -1,10 +1,9 @@
 -- Types, parameters and ports: what is written are the kinds and texts of whatever tokens spell them.
-use Rattle.std.specs.Prelude.{[], codes, None, ◌≡◌, ◌∷◌, Some, true, false}
+use Rattle.std.specs.Prelude.{[], codes, None, ◌∷◌, Some}
 use mathlib.Core.Former.{Count}
 use Rattle.sv_tree.specs.declared.exprs.Expr.{Expr}
 use Rattle.sv_tree.specs.declared.exprs.Sign.{Sign}
 use Rattle.sv_tree.specs.declared.forms.BitsWord.{BitsWord}
-use Rattle.sv_tree.specs.declared.forms.BitsWord.TheVariants as bits_word
 use Rattle.sv_tree.specs.declared.forms.WholeWord.{WholeWord}
 use Rattle.sv_tree.specs.declared.forms.WholeWord.TheVariants as whole_word
 use Rattle.sv_tree.specs.declared.forms.Range.{Range}
@@ -26,13 +25,12 @@ use Rattle.sv_tree.specs.declared.design.Way.TheVariants as way
 use Rattle.sv_tree.specs.declared.design.NetWord.{NetWord}
 use Rattle.sv_tree.specs.declared.design.NetWord.TheVariants as net_word
 use Rattle.sv_tree.specs.declared.design.Port.{Port}
-use Rattle.sv_tree.specs.Spelling.{Text, Spelled, nothing, never, ◌⨟◌, first_at, when, mark, mark_at, key, key_at, system_at, literal, name, maybe, each, commas, label, label_of}
 use Rattle.sv_tree.specs.GrammarForms.{bits_key, sign_key, SpellsRange, given, SpellsLabel, SpellsType, SpellsMembers, MoreMembers, SpellsMember, SpellsTypedef, whole_key, param_bits_key, param_key, SpellsParamType, SpellsParPort, SpellsParamItem, SpellsParam, way_key, net_key, SpellsPort, bits_text}
 use Rattle.sv_spell.specs.Forms.{write_bits_key, write_sign_key, write_range, write_given, write_enum_label, write_type, write_members, write_more_members, write_member, write_typedef, write_whole_key, write_param_bits_key, write_param_key, write_param_type, write_par_port, write_param_item, write_param, write_way_key, write_net_key, write_port}
 use Rattle.sv_spell.specs.Writing as w
-use Rattle.sv_spell.proofs.Lawful.{Law, ◌▹◌, law_mark, law_mark_at, law_key, law_key_at, law_system_at, law_literal, law_name, law_nothing, law_never, law_when, law_maybe, law_each, law_commas, law_label, law_label_of, law_first}
+use Rattle.sv_spell.proofs.Lawful.{Law, ◌▹◌, law_mark, law_mark_at, law_key, law_name, law_nothing, law_never, law_maybe, law_each, law_commas}
 use Rattle.sv_tree.specs.GrammarExprs.{sign_word}
-use Rattle.sv_spell.proofs.ExprsLaws.{law_expr, law_exprs, law_more_exprs, law_select, law_select_row}
+use Rattle.sv_spell.proofs.ExprsLaws.{law_expr}
 
 pub law_bits_key : (x : BitsWord) → Law (bits_key x) (write_bits_key x)
 unfolding write_bits_key

@@ -1,21 +1,18 @@
 -- Types as code makes them, with lists of parts: what is written of them.
-use Rattle.std.proofs.Common.{◌≡◌, ℕ, ◌≤◌, Bool, true, false, List, [], ◌∷◌, codes, Option, Some, None, refl, sym, ap, ◌∙◌, subst}
-use Rattle.sv_outside.specs.declared.refusal.Place.{Place}
-use Rattle.sv_outside.specs.declared.text.Token.{Token}
+use Rattle.std.proofs.Common.{◌≡◌, List, [], ◌∷◌, codes, Option, refl, ap}
 use Rattle.sv_tree.specs.declared.word.Word.{Word}
 use Rattle.sv_tree.specs.declared.exprs.Sign.{Sign}
 use Rattle.sv_tree.specs.declared.forms.BitsWord.{BitsWord}
 use Rattle.sv_tree.specs.declared.forms.Range.{Range}
 use Rattle.sv_tree.specs.declared.forms.EnumLabel.{EnumLabel}
-use Rattle.sv_tree.specs.declared.forms.TypeTree.{TypeTree, Vector, Integer, Struct', Enum, Named, Row_of-Member, end_of-Member, more_of-Member, roll-TypeTree, out-TypeTree, roll-out-TypeTree}
+use Rattle.sv_tree.specs.declared.forms.TypeTree.{TypeTree, Vector, Integer, Enum, Named}
 use Rattle.sv_tree.specs.declared.forms.TypeTree.TheVariants as ty
-use Rattle.sv_tree.specs.declared.forms.Member.TheBlock.{shape-the_row-TypeTree-0, hidden-the_row-TypeTree-0, shown-the_row-TypeTree-0, shape-the_row-Member-1, hidden-the_row-Member-1, shown-the_row-Member-1}
-use Rattle.sv_tree.specs.declared.forms.Member.{Member, Of', end_of-TypeTree, more_of-TypeTree}
+use Rattle.sv_tree.specs.declared.forms.Member.TheBlock.{shape-the_row-TypeTree-0, hidden-the_row-TypeTree-0, shape-the_row-Member-1, hidden-the_row-Member-1}
+use Rattle.sv_tree.specs.declared.forms.Member.{Member}
 use Rattle.sv_tree.specs.declared.forms.Member.TheVariants as mem
 use Rattle.sv_spell.specs.declared.lexeme.Lexeme.{Lexeme}
-use Rattle.sv_spell.specs.Writing.{Write, ◌⨾◌, nothing, mark, key, system, literal, name, maybe, each, after_commas, commas, label}
-use Rattle.sv_spell.specs.Exprs.{write_expr}
-use Rattle.sv_spell.specs.Forms.{write_bits_key, write_sign_key, write_range, write_given, write_enum_label, write_type, write_members, write_more_members, write_member, write_typedef, write_whole_key, write_param_bits_key, write_param_key, write_param_type, write_par_port, write_param_item, write_param, write_way_key, write_net_key, write_port}
+use Rattle.sv_spell.specs.Writing.{Write, ◌⨾◌, mark, key, name, maybe, each, commas}
+use Rattle.sv_spell.specs.Forms.{write_bits_key, write_sign_key, write_range, write_enum_label, write_type, write_members, write_more_members, write_member}
 
 -- ---- lists of parts
 

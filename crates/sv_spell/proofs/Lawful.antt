@@ -1,5 +1,5 @@
 -- Parts that are written one behind the other.
-use Rattle.std.proofs.Common.{◌≡◌, ℕ, List, [], ◌∷◌, ◌++◌, map, codes, IsTrue, Option, Some, None, refl, sym, ap, ◌∙◌, append_assoc}
+use Rattle.std.proofs.Common.{◌≡◌, List, [], ◌∷◌, ◌++◌, codes, IsTrue, Option, Some, None, sym, ap, ◌∙◌, append_assoc}
 use Rattle.sv_outside.specs.Words.{is_id}
 use Rattle.sv_outside.specs.declared.refusal.Place.{Place}
 use Rattle.sv_outside.specs.declared.text.Kind.{Kind}

@@ -1,21 +1,15 @@
 -- Targets, statements and blocks: what is written are the kinds and texts of whatever tokens spell them.
-use Rattle.std.specs.Prelude.{◌≡◌, ℕ, ◌≤◌, ◌+◌, Bool, true, false, List, [], ◌∷◌, codes, Some, None}
+use Rattle.std.specs.Prelude.{Bool, true, false, List, [], ◌∷◌, codes}
 use mathlib.Core.Former.{Count}
 use Rattle.sv_tree.specs.declared.word.Word.{Word}
 use Rattle.sv_tree.specs.declared.exprs.Select.{Select}
 use Rattle.sv_tree.specs.declared.stmts.Lvalue.{Lvalue, Name, Concat', Row_of-Lvalue, end_of-Lvalue, more_of-Lvalue}
 use Rattle.sv_tree.specs.declared.stmts.Step.{Step}
 use Rattle.sv_tree.specs.declared.stmts.Step.TheVariants as step
-use Rattle.sv_tree.specs.declared.stmts.StepMark.{StepMark}
-use Rattle.sv_tree.specs.declared.stmts.StepMark.TheVariants as step_mark
-use Rattle.sv_tree.specs.declared.stmts.StepSign.{StepSign}
-use Rattle.sv_tree.specs.declared.stmts.StepSign.TheVariants as step_sign
 use Rattle.sv_tree.specs.declared.stmts.Uniq.{Uniq}
 use Rattle.sv_tree.specs.declared.stmts.Uniq.TheVariants as uniq
 use Rattle.sv_tree.specs.declared.stmts.CaseWord.{CaseWord}
 use Rattle.sv_tree.specs.declared.stmts.CaseWord.TheVariants as case_word
-use Rattle.sv_tree.specs.declared.stmts.AssignMark.{AssignMark}
-use Rattle.sv_tree.specs.declared.stmts.AssignMark.TheVariants as assign_mark
 use Rattle.sv_tree.specs.declared.stmts.Edge.{Edge}
 use Rattle.sv_tree.specs.declared.stmts.Edge.TheVariants as edge
 use Rattle.sv_tree.specs.declared.stmts.Event.{Event}
@@ -24,14 +18,12 @@ use Rattle.sv_tree.specs.declared.stmts.BlockKind.TheVariants as kind
 use Rattle.sv_tree.specs.declared.stmts.Block.{Block}
 use Rattle.sv_tree.specs.declared.stmts.Stmt.{Stmt, Empty, Block', If', Case', For', Assign, Row_of-Stmt, end_of-Stmt, more_of-Stmt, Row_of-Arm, end_of-Arm, more_of-Arm, Held-Stmt-If-3, None', Some'}
 use Rattle.sv_tree.specs.declared.stmts.Arm.{Arm, Labels', Default'}
-use Rattle.sv_tree.specs.Spelling.{Text, Spelled, nothing, never, ◌⨟◌, first_at, when, mark, mark_at, key, key_at, system_at, literal, name, maybe, each, commas, label, label_of}
-use Rattle.sv_tree.specs.GrammarStmts.{SpellsChain, SpellsLvalue, SpellsLvalues, MoreLvalues, SpellsStep, uniq_key, case_key, block_name, colon_if, SpellsStmt, SpellsElse, SpellsStmts, SpellsArms, MoreArms, SpellsArm, edge_key, SpellsEvent, SpellsKind, SpellsBlock, step_text, step_sign_text, assign_text, is_closed, is_closed_else, defaults}
+use Rattle.sv_tree.specs.GrammarStmts.{SpellsChain, SpellsLvalue, SpellsLvalues, MoreLvalues, SpellsStep, uniq_key, case_key, block_name, colon_if, SpellsStmt, SpellsElse, SpellsStmts, SpellsArms, MoreArms, SpellsArm, edge_key, SpellsEvent, SpellsKind, SpellsBlock, step_text, step_sign_text, assign_text, is_closed}
 use Rattle.sv_spell.specs.Stmts.{write_chain, write_lvalue, write_lvalues, write_more_lvalues, write_step, write_uniq_key, write_case_key, write_block_name, write_colon_if, write_stmt, write_else, write_stmts, write_arms, write_more_arms, write_arm, write_edge_key, write_event, write_kind, write_block}
 use Rattle.sv_spell.specs.Writing as w
-use Rattle.sv_spell.proofs.Lawful.{Law, ◌▹◌, law_mark, law_mark_at, law_key, law_key_at, law_system_at, law_literal, law_name, law_nothing, law_never, law_when, law_maybe, law_each, law_commas, law_label, law_label_of, law_first}
-use Rattle.sv_tree.specs.GrammarExprs.{sign_word}
-use Rattle.sv_spell.proofs.ExprsLaws.{law_expr, law_exprs, law_more_exprs, law_select, law_select_row}
-use Rattle.sv_spell.proofs.FormsLaws.{law_bits_key, law_sign_key, law_range, law_given, law_enum_label, law_type, law_members, law_more_members, law_member, law_typedef, law_whole_key, law_param_bits_key, law_param_key, law_param_type, law_par_port, law_param_item, law_param, law_way_key, law_net_key, law_port}
+use Rattle.sv_spell.proofs.Lawful.{Law, ◌▹◌, law_mark, law_mark_at, law_key, law_key_at, law_name, law_nothing, law_never, law_when, law_maybe, law_commas, law_label_of}
+use Rattle.sv_spell.proofs.ExprsLaws.{law_expr, law_select}
+use Rattle.sv_spell.proofs.FormsLaws.{law_whole_key}
 
 pub law_chain : (x : List Select) → Law (SpellsChain x) (write_chain x)
 unfolding write_chain

@@ -1,29 +1,28 @@
 -- Targets and statements as code makes them, with lists of parts: what is written of them.
-use Rattle.std.proofs.Common.{◌≡◌, ℕ, ◌≤◌, Bool, true, false, List, [], ◌∷◌, codes, Option, Some, None, refl, sym, ap, ◌∙◌, subst}
+use Rattle.std.proofs.Common.{◌≡◌, Bool, List, [], ◌∷◌, codes, Option, Some, None, refl, ap}
 use Rattle.sv_outside.specs.declared.refusal.Place.{Place}
-use Rattle.sv_outside.specs.declared.text.Token.{Token}
 use Rattle.sv_tree.specs.declared.word.Word.{Word}
 use Rattle.sv_tree.specs.declared.exprs.Expr.{Expr}
 use Rattle.sv_tree.specs.declared.exprs.Select.{Select}
 use Rattle.sv_tree.specs.declared.forms.WholeWord.{WholeWord}
-use Rattle.sv_tree.specs.declared.stmts.Lvalue.{Lvalue, Name, Concat', Row_of-Lvalue, end_of-Lvalue, more_of-Lvalue, roll-Lvalue, out-Lvalue, roll-out-Lvalue}
+use Rattle.sv_tree.specs.declared.stmts.Lvalue.{Lvalue, Name}
 use Rattle.sv_tree.specs.declared.stmts.Lvalue.TheVariants as lv
-use Rattle.sv_tree.specs.declared.stmts.Lvalue.TheBlock.{shape-the_row-Lvalue-0, hidden-the_row-Lvalue-0, shown-the_row-Lvalue-0}
+use Rattle.sv_tree.specs.declared.stmts.Lvalue.TheBlock.{shape-the_row-Lvalue-0, hidden-the_row-Lvalue-0}
 use Rattle.sv_tree.specs.declared.stmts.Uniq.{Uniq}
 use Rattle.sv_tree.specs.declared.stmts.CaseWord.{CaseWord}
 use Rattle.sv_tree.specs.declared.stmts.AssignMark.{AssignMark}
 use Rattle.sv_tree.specs.declared.stmts.Step.{Step}
-use Rattle.sv_tree.specs.declared.stmts.Stmt.{Stmt, Empty, Block', If', Case', For', Assign, Row_of-Stmt, end_of-Stmt, more_of-Stmt, Row_of-Arm, end_of-Arm, more_of-Arm, Held-Stmt-If-3, None', Some', roll-Stmt, out-Stmt, roll-out-Stmt}
+use Rattle.sv_tree.specs.declared.stmts.Stmt.{Stmt, Empty, Assign}
 use Rattle.sv_tree.specs.declared.stmts.Stmt.TheVariants as st
-use Rattle.sv_tree.specs.declared.stmts.Arm.TheBlock.{shape-the_row-Stmt-0, hidden-the_row-Stmt-0, shown-the_row-Stmt-0, shape-the_row-Stmt-1, hidden-the_row-Stmt-1, shown-the_row-Stmt-1, shape-the_row-Arm-2, hidden-the_row-Arm-2, shown-the_row-Arm-2}
-use Rattle.sv_tree.specs.declared.stmts.Arm.{Arm, Labels', Default', roll-Arm, out-Arm, roll-out-Arm}
+use Rattle.sv_tree.specs.declared.stmts.Arm.TheBlock.{shape-the_row-Stmt-0, hidden-the_row-Stmt-0, shape-the_row-Stmt-1, hidden-the_row-Stmt-1, shape-the_row-Arm-2, hidden-the_row-Arm-2}
+use Rattle.sv_tree.specs.declared.stmts.Arm.{Arm}
 use Rattle.sv_tree.specs.declared.stmts.Arm.TheVariants as ar
 use Rattle.sv_spell.specs.declared.lexeme.Lexeme.{Lexeme}
-use Rattle.sv_spell.specs.Writing.{Write, ◌⨾◌, nothing, mark, key, system, literal, name, maybe, each, after_commas, commas, label}
-use Rattle.sv_tree.specs.GrammarStmts.{step_text, step_sign_text, assign_text}
+use Rattle.sv_spell.specs.Writing.{Write, ◌⨾◌, mark, key, name, maybe, each, after_commas, commas, label}
+use Rattle.sv_tree.specs.GrammarStmts.{assign_text}
 use Rattle.sv_spell.specs.Exprs.{write_expr, write_select}
 use Rattle.sv_spell.specs.Forms.{write_whole_key}
-use Rattle.sv_spell.specs.Stmts.{write_chain, write_lvalue, write_lvalues, write_more_lvalues, write_step, write_uniq_key, write_case_key, write_block_name, write_colon_if, write_stmt, write_else, write_stmts, write_arms, write_more_arms, write_arm, write_edge_key, write_event, write_kind, write_block, write_else_part}
+use Rattle.sv_spell.specs.Stmts.{write_chain, write_lvalue, write_lvalues, write_more_lvalues, write_step, write_uniq_key, write_case_key, write_block_name, write_colon_if, write_stmt, write_else, write_stmts, write_arms, write_more_arms, write_arm, write_else_part}
 
 -- ---- lists of parts
 

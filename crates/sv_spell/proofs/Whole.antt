@@ -1,10 +1,7 @@
 -- Whole texts are written as they are spelled.
 use Rattle.std.proofs.Common.{◌≡◌, List, [], sym, ap, ◌∙◌, append-nil}
-use Rattle.sv_outside.specs.declared.text.Token.{Token}
 use Rattle.sv_tree.specs.declared.design.Source.{Source}
-use Rattle.sv_tree.specs.GrammarDesign.{SpellsSource}
 use Rattle.sv_spell.specs.declared.lexeme.Lexeme.{Lexeme}
-use Rattle.sv_spell.specs.Writing.{lexemes}
 use Rattle.sv_spell.specs.Design.{write_source}
 use Rattle.sv_spell.specs.Spelt.{AreLexemesOf}
 use Rattle.sv_spell.proofs.DesignLaws.{law_source}

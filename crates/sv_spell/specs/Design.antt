@@ -1,5 +1,5 @@
 -- Modules and their items as they are written: the kinds and texts of their tokens.
-use Rattle.std.specs.Prelude.{◌≡◌, Bool, true, false, List, [], ◌∷◌, codes, Option, Some, None}
+use Rattle.std.specs.Prelude.{Bool, true, false, List, [], codes, Option}
 use mathlib.Core.Former.{Count}
 use Rattle.sv_tree.specs.declared.design.AssignPair.{AssignPair}
 use Rattle.sv_tree.specs.declared.design.ParPort.{ParPort}
@@ -17,15 +17,13 @@ use Rattle.sv_tree.specs.declared.design.Module.{Module}
 use Rattle.sv_tree.specs.declared.design.SourcePart.{SourcePart}
 use Rattle.sv_tree.specs.declared.design.SourcePart.TheVariants as source_part
 use Rattle.sv_tree.specs.declared.design.Source.{Source}
-use Rattle.sv_spell.specs.Writing.{Write, ◌⨾◌, nothing, mark, key, system, literal, name, maybe, each, commas, label}
-use Rattle.sv_tree.specs.GrammarExprs.{sign_word}
-use Rattle.sv_spell.specs.Exprs.{write_expr, write_exprs, write_more_exprs, write_select, write_select_row}
-use Rattle.sv_spell.specs.Forms.{write_bits_key, write_sign_key, write_range, write_given, write_enum_label, write_type, write_members, write_more_members, write_member, write_typedef, write_whole_key, write_param_bits_key, write_param_key, write_param_type, write_par_port, write_param_item, write_param, write_way_key, write_net_key, write_port}
-use Rattle.sv_spell.specs.Stmts.{write_chain, write_lvalue, write_lvalues, write_more_lvalues, write_step, write_uniq_key, write_case_key, write_block_name, write_colon_if, write_stmt, write_stmts, write_arms, write_more_arms, write_arm, write_edge_key, write_event, write_kind, write_block}
+use Rattle.sv_spell.specs.Writing.{Write, ◌⨾◌, nothing, mark, key, name, maybe, each, commas, label}
+use Rattle.sv_spell.specs.Exprs.{write_expr}
+use Rattle.sv_spell.specs.Forms.{write_given, write_type, write_typedef, write_par_port, write_param, write_net_key, write_port}
+use Rattle.sv_spell.specs.Stmts.{write_lvalue, write_step, write_block_name, write_block}
 use Rattle.sv_tree.specs.declared.forms.TypeTree.{TypeTree}
 use Rattle.sv_tree.specs.declared.design.NetWord.{NetWord}
 use Rattle.sv_tree.specs.declared.word.Word.{Word}
-use Rattle.sv_tree.specs.declared.exprs.Expr.{Expr}
 
 unfoldable pub write_pair : AssignPair → Write
 write_pair p = write_lvalue p.target ⨾ write_given p.value

@@ -1,19 +1,9 @@
 -- Expressions as they are written: the kinds and texts of their tokens.
-use Rattle.std.specs.Prelude.{◌≡◌, ℕ, ◌+◌, ◌≤◌, Bool, true, false, List, codes}
+use Rattle.std.specs.Prelude.{codes}
 use mathlib.Core.Former.{Count}
-use Rattle.sv_tree.specs.declared.exprs.Sign.{Sign}
-use Rattle.sv_tree.specs.declared.exprs.Sign.TheVariants as sign
-use Rattle.sv_tree.specs.declared.exprs.SystemName.{SystemName}
-use Rattle.sv_tree.specs.declared.exprs.SystemName.TheVariants as system_name
-use Rattle.sv_tree.specs.declared.exprs.UnaryOp.{UnaryOp}
-use Rattle.sv_tree.specs.declared.exprs.UnaryOp.TheVariants as one
-use Rattle.sv_tree.specs.declared.exprs.BinaryOp.{BinaryOp}
-use Rattle.sv_tree.specs.declared.exprs.BinaryOp.TheVariants as two
-use Rattle.sv_tree.specs.declared.exprs.RangeMark.{RangeMark}
-use Rattle.sv_tree.specs.declared.exprs.RangeMark.TheVariants as range_mark
 use Rattle.sv_tree.specs.declared.exprs.Expr.{Expr, Literal, Name', Paren', Concat', Repeat', CastLiteral', CastName', CastParen', CastSign', System', Unary', Binary', Choose', Row_of-Expr, end_of-Expr, more_of-Expr, Row_of-Select, end_of-Select, more_of-Select}
 use Rattle.sv_tree.specs.declared.exprs.Select.{Select, Member, Index', Range'}
-use Rattle.sv_spell.specs.Writing.{Write, ◌⨾◌, nothing, mark, key, system, literal, name, maybe, each, commas, label}
+use Rattle.sv_spell.specs.Writing.{Write, ◌⨾◌, nothing, mark, key, system, literal, name}
 use Rattle.sv_tree.specs.GrammarExprs.{sign_word, system_word, unary_mark, binary_mark, range_text}
 
 unfoldable mutual

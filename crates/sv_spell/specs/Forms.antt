@@ -1,10 +1,9 @@
 -- Types, parameters and ports as they are written: the kinds and texts of their tokens.
-use Rattle.std.specs.Prelude.{[], codes, None, List, Option}
+use Rattle.std.specs.Prelude.{codes, List, Option}
 use mathlib.Core.Former.{Count}
 use Rattle.sv_tree.specs.declared.exprs.Expr.{Expr}
 use Rattle.sv_tree.specs.declared.exprs.Sign.{Sign}
 use Rattle.sv_tree.specs.declared.forms.BitsWord.{BitsWord}
-use Rattle.sv_tree.specs.declared.forms.BitsWord.TheVariants as bits_word
 use Rattle.sv_tree.specs.declared.forms.WholeWord.{WholeWord}
 use Rattle.sv_tree.specs.declared.forms.WholeWord.TheVariants as whole_word
 use Rattle.sv_tree.specs.declared.forms.Range.{Range}
@@ -26,10 +25,10 @@ use Rattle.sv_tree.specs.declared.design.Way.TheVariants as way
 use Rattle.sv_tree.specs.declared.design.NetWord.{NetWord}
 use Rattle.sv_tree.specs.declared.design.NetWord.TheVariants as net_word
 use Rattle.sv_tree.specs.declared.design.Port.{Port}
-use Rattle.sv_spell.specs.Writing.{Write, ◌⨾◌, nothing, mark, key, system, literal, name, maybe, each, commas, label}
+use Rattle.sv_spell.specs.Writing.{Write, ◌⨾◌, nothing, mark, key, name, maybe, each, commas}
 use Rattle.sv_tree.specs.GrammarForms.{bits_text}
 use Rattle.sv_tree.specs.GrammarExprs.{sign_word}
-use Rattle.sv_spell.specs.Exprs.{write_expr, write_exprs, write_more_exprs, write_select, write_select_row}
+use Rattle.sv_spell.specs.Exprs.{write_expr}
 
 unfoldable pub write_bits_key : BitsWord → Write
 write_bits_key w = key (bits_text w)

@@ -1,21 +1,15 @@
 -- Targets, statements and blocks as they are written: the kinds and texts of their tokens.
-use Rattle.std.specs.Prelude.{◌≡◌, ℕ, ◌≤◌, ◌+◌, Bool, true, false, List, [], ◌∷◌, codes, Option}
+use Rattle.std.specs.Prelude.{Bool, true, false, List, [], ◌∷◌, codes}
 use mathlib.Core.Former.{Count}
 use Rattle.sv_tree.specs.declared.word.Word.{Word}
 use Rattle.sv_tree.specs.declared.exprs.Select.{Select}
 use Rattle.sv_tree.specs.declared.stmts.Lvalue.{Lvalue, Name, Concat', Row_of-Lvalue, end_of-Lvalue, more_of-Lvalue}
 use Rattle.sv_tree.specs.declared.stmts.Step.{Step}
 use Rattle.sv_tree.specs.declared.stmts.Step.TheVariants as step
-use Rattle.sv_tree.specs.declared.stmts.StepMark.{StepMark}
-use Rattle.sv_tree.specs.declared.stmts.StepMark.TheVariants as step_mark
-use Rattle.sv_tree.specs.declared.stmts.StepSign.{StepSign}
-use Rattle.sv_tree.specs.declared.stmts.StepSign.TheVariants as step_sign
 use Rattle.sv_tree.specs.declared.stmts.Uniq.{Uniq}
 use Rattle.sv_tree.specs.declared.stmts.Uniq.TheVariants as uniq
 use Rattle.sv_tree.specs.declared.stmts.CaseWord.{CaseWord}
 use Rattle.sv_tree.specs.declared.stmts.CaseWord.TheVariants as case_word
-use Rattle.sv_tree.specs.declared.stmts.AssignMark.{AssignMark}
-use Rattle.sv_tree.specs.declared.stmts.AssignMark.TheVariants as assign_mark
 use Rattle.sv_tree.specs.declared.stmts.Edge.{Edge}
 use Rattle.sv_tree.specs.declared.stmts.Edge.TheVariants as edge
 use Rattle.sv_tree.specs.declared.stmts.Event.{Event}
@@ -24,11 +18,10 @@ use Rattle.sv_tree.specs.declared.stmts.BlockKind.TheVariants as kind
 use Rattle.sv_tree.specs.declared.stmts.Block.{Block}
 use Rattle.sv_tree.specs.declared.stmts.Stmt.{Stmt, Empty, Block', If', Case', For', Assign, Row_of-Stmt, end_of-Stmt, more_of-Stmt, Row_of-Arm, end_of-Arm, more_of-Arm, Held-Stmt-If-3, None', Some'}
 use Rattle.sv_tree.specs.declared.stmts.Arm.{Arm, Labels', Default'}
-use Rattle.sv_spell.specs.Writing.{Write, ◌⨾◌, nothing, mark, key, system, literal, name, maybe, each, commas, label}
+use Rattle.sv_spell.specs.Writing.{Write, ◌⨾◌, nothing, mark, key, name, maybe, commas, label}
 use Rattle.sv_tree.specs.GrammarStmts.{step_text, step_sign_text, assign_text}
-use Rattle.sv_tree.specs.GrammarExprs.{sign_word}
-use Rattle.sv_spell.specs.Exprs.{write_expr, write_exprs, write_more_exprs, write_select, write_select_row}
-use Rattle.sv_spell.specs.Forms.{write_bits_key, write_sign_key, write_range, write_given, write_enum_label, write_type, write_members, write_more_members, write_member, write_typedef, write_whole_key, write_param_bits_key, write_param_key, write_param_type, write_par_port, write_param_item, write_param, write_way_key, write_net_key, write_port}
+use Rattle.sv_spell.specs.Exprs.{write_expr, write_select}
+use Rattle.sv_spell.specs.Forms.{write_whole_key}
 use Rattle.sv_tree.specs.declared.exprs.Expr.{Expr}
 
 unfoldable pub write_chain : List Select → Write

@@ -7,9 +7,7 @@ ghost use Rattle.sv_spell.specs.Stmts as stmts_spec;
 ghost use Rattle.sv_spell.specs.Writing as writing;
 
 use crate::exprs::{expr, exprs};
-use crate::forms::{
-    form, given, maybe_form, names, net_word, par_ports, param, ports, typedef,
-};
+use crate::forms::{form, given, maybe_form, names, net_word, par_ports, param, ports, typedef};
 use crate::lexeme::{Lexemes, key, mark, name};
 use crate::stmts::{block, condition, label, lvalue, maybe_block_name, turns};
 use items::{Boxed, Items};
@@ -149,7 +147,11 @@ fn overridden(alloc: Global, out: &mut Lexemes, x: &Option<Pins>) -> Result<(), 
     Ok(())
 }
 
-fn maybe_overridden(alloc: Global, out: &mut Lexemes, option: &Option<Option<Pins>>) -> Result<(), AllocError>
+fn maybe_overridden(
+    alloc: Global,
+    out: &mut Lexemes,
+    option: &Option<Option<Pins>>,
+) -> Result<(), AllocError>
     ensures { IfOk result (λ _. out.new ≡ writing.maybe spec.write_override option.now out.old) }
 {
     match option {
@@ -182,7 +184,13 @@ fn genvar_if(alloc: Global, out: &mut Lexemes, header: bool) -> Result<(), Alloc
     }
 }
 
-fn net(alloc: Global, out: &mut Lexemes, word: NetWord, of: &Option<TypeTree>, all: &[Word]) -> Result<(), AllocError>
+fn net(
+    alloc: Global,
+    out: &mut Lexemes,
+    word: NetWord,
+    of: &Option<TypeTree>,
+    all: &[Word],
+) -> Result<(), AllocError>
     ensures { IfOk result (λ _. out.new ≡ spec.net word of.now all.now out.old) }
 {
     net_word(alloc, out, word)?;
@@ -221,7 +229,11 @@ fn else_part(alloc: Global, out: &mut Lexemes, x: &Gen) -> Result<(), AllocError
 }
 
 #[cycle(item)]
-fn maybe_else(alloc: Global, out: &mut Lexemes, given: &Option<Boxed<Gen>>) -> Result<(), AllocError>
+fn maybe_else(
+    alloc: Global,
+    out: &mut Lexemes,
+    given: &Option<Boxed<Gen>>,
+) -> Result<(), AllocError>
     ensures { IfOk result (λ _. out.new ≡ writing.maybe spec.write_else_part given.now out.old) }
 {
     match given {
@@ -335,7 +347,11 @@ fn header(alloc: Global, out: &mut Lexemes, all: &[Port]) -> Result<(), AllocErr
     Ok(())
 }
 
-fn maybe_header(alloc: Global, out: &mut Lexemes, given: &Option<Items<Port>>) -> Result<(), AllocError>
+fn maybe_header(
+    alloc: Global,
+    out: &mut Lexemes,
+    given: &Option<Items<Port>>,
+) -> Result<(), AllocError>
     ensures { IfOk result (λ _. out.new ≡ writing.maybe spec.write_ports given.now out.old) }
 {
     match given {

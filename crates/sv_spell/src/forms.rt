@@ -138,7 +138,13 @@ fn enum_labels(alloc: Global, out: &mut Lexemes, all: &[EnumLabel]) -> Result<()
 
 // ---- types
 
-fn vector(alloc: Global, out: &mut Lexemes, word: Option<BitsWord>, sign: Option<Sign>, all: &[Range]) -> Result<(), AllocError>
+fn vector(
+    alloc: Global,
+    out: &mut Lexemes,
+    word: Option<BitsWord>,
+    sign: Option<Sign>,
+    all: &[Range],
+) -> Result<(), AllocError>
     ensures { IfOk result (λ _. out.new ≡ spec.vector word sign all.now out.old) }
 {
     maybe_bits(alloc, out, word)?;
@@ -147,7 +153,14 @@ fn vector(alloc: Global, out: &mut Lexemes, word: Option<BitsWord>, sign: Option
     Ok(())
 }
 
-fn enumeration(alloc: Global, out: &mut Lexemes, word: BitsWord, sign: Option<Sign>, of: &Option<Range>, all: &[EnumLabel]) -> Result<(), AllocError>
+fn enumeration(
+    alloc: Global,
+    out: &mut Lexemes,
+    word: BitsWord,
+    sign: Option<Sign>,
+    of: &Option<Range>,
+    all: &[EnumLabel],
+) -> Result<(), AllocError>
     ensures { IfOk result (λ _. out.new ≡ spec.enumeration word sign of.now all.now out.old) }
 {
     key(alloc, out, b"enum")?;
@@ -161,7 +174,13 @@ fn enumeration(alloc: Global, out: &mut Lexemes, word: BitsWord, sign: Option<Si
 }
 
 #[cycle(form)]
-fn structure(alloc: Global, out: &mut Lexemes, sign: Option<Sign>, members: &[Member], all: &[Range]) -> Result<(), AllocError>
+fn structure(
+    alloc: Global,
+    out: &mut Lexemes,
+    sign: Option<Sign>,
+    members: &[Member],
+    all: &[Range],
+) -> Result<(), AllocError>
     ensures { IfOk result (λ _. out.new ≡ spec.structure sign members.now all.now out.old) }
 {
     key(alloc, out, b"struct")?;
@@ -222,7 +241,11 @@ pub fn form(alloc: Global, out: &mut Lexemes, x: &TypeTree) -> Result<(), AllocE
     }
 }
 
-pub fn maybe_form(alloc: Global, out: &mut Lexemes, option: &Option<TypeTree>) -> Result<(), AllocError>
+pub fn maybe_form(
+    alloc: Global,
+    out: &mut Lexemes,
+    option: &Option<TypeTree>,
+) -> Result<(), AllocError>
     ensures { IfOk result (λ _. out.new ≡ writing.maybe spec.write_type option.now out.old) }
 {
     match option {
@@ -265,7 +288,11 @@ fn param_bits(alloc: Global, out: &mut Lexemes, word: ParamBits) -> Result<(), A
     }
 }
 
-fn maybe_param_bits(alloc: Global, out: &mut Lexemes, option: Option<ParamBits>) -> Result<(), AllocError>
+fn maybe_param_bits(
+    alloc: Global,
+    out: &mut Lexemes,
+    option: Option<ParamBits>,
+) -> Result<(), AllocError>
     ensures { IfOk result (λ _. out.new ≡ writing.maybe spec.write_param_bits_key option out.old) }
 {
     match option {
@@ -284,7 +311,11 @@ fn param_word(alloc: Global, out: &mut Lexemes, word: ParamWord) -> Result<(), A
     }
 }
 
-fn maybe_param_word(alloc: Global, out: &mut Lexemes, option: Option<ParamWord>) -> Result<(), AllocError>
+fn maybe_param_word(
+    alloc: Global,
+    out: &mut Lexemes,
+    option: Option<ParamWord>,
+) -> Result<(), AllocError>
     ensures { IfOk result (λ _. out.new ≡ writing.maybe spec.write_param_key option out.old) }
 {
     match option {
@@ -312,7 +343,11 @@ fn param_type(alloc: Global, out: &mut Lexemes, x: &ParamType) -> Result<(), All
     }
 }
 
-fn maybe_param_type(alloc: Global, out: &mut Lexemes, option: &Option<ParamType>) -> Result<(), AllocError>
+fn maybe_param_type(
+    alloc: Global,
+    out: &mut Lexemes,
+    option: &Option<ParamType>,
+) -> Result<(), AllocError>
     ensures { IfOk result (λ _. out.new ≡ writing.maybe spec.write_param_type option.now out.old) }
 {
     match option {

@@ -149,7 +149,11 @@ fn block_name(alloc: Global, out: &mut Lexemes, word: &Word) -> Result<(), Alloc
     Ok(())
 }
 
-pub fn maybe_block_name(alloc: Global, out: &mut Lexemes, option: &Option<Word>) -> Result<(), AllocError>
+pub fn maybe_block_name(
+    alloc: Global,
+    out: &mut Lexemes,
+    option: &Option<Word>,
+) -> Result<(), AllocError>
     ensures { IfOk result (λ _. out.new ≡ writing.maybe spec.write_block_name option.now out.old) }
 {
     match option {
@@ -236,7 +240,11 @@ fn else_part(alloc: Global, out: &mut Lexemes, x: &Stmt) -> Result<(), AllocErro
 }
 
 #[cycle(stmt)]
-fn maybe_else(alloc: Global, out: &mut Lexemes, given: &Option<Boxed<Stmt>>) -> Result<(), AllocError>
+fn maybe_else(
+    alloc: Global,
+    out: &mut Lexemes,
+    given: &Option<Boxed<Stmt>>,
+) -> Result<(), AllocError>
     ensures { IfOk result (λ _. out.new ≡ writing.maybe spec.write_else_part given.now out.old) }
 {
     match given {
@@ -254,7 +262,14 @@ pub fn condition(alloc: Global, out: &mut Lexemes, x: &Expr) -> Result<(), Alloc
     Ok(())
 }
 
-pub fn turns(alloc: Global, out: &mut Lexemes, variable: &Word, start: &Expr, test: &Expr, next: &Step) -> Result<(), AllocError>
+pub fn turns(
+    alloc: Global,
+    out: &mut Lexemes,
+    variable: &Word,
+    start: &Expr,
+    test: &Expr,
+    next: &Step,
+) -> Result<(), AllocError>
     ensures { IfOk result (λ _. out.new ≡ spec.turns variable.now start.now test.now next.now out.old) }
 {
     name(alloc, out, variable)?;

@@ -1,6 +1,5 @@
-use Rattle.std.proofs.Common.{ap, ◌∙◌}
 use Rattle.sv_spell.specs.Design.{write_item}
-use Rattle.sv_spell.specs.Writing.{each, commas}
+use Rattle.sv_spell.specs.Writing.{each}
 use Rattle.sv_spell.proofs.Chosen.{if_item_written}
 use Rattle.sv_spell.proofs.Loops.{left_next, left_last}
 use Rattle.sv_spell.proofs.design.+item.Goals as goal

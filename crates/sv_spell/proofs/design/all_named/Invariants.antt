@@ -1,5 +1,5 @@
 use Rattle.sv_spell.specs.Design.{write_named}
-use Rattle.sv_spell.specs.Writing.{each, commas}
+use Rattle.sv_spell.specs.Writing.{commas}
 use Rattle.sv_spell.proofs.Loops.{Left, behind_comma}
 use Rattle.sv_spell.proofs.design.all_named.Given as goal
 

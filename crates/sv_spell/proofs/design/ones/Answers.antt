@@ -1,6 +1,6 @@
 use Rattle.std.proofs.Common.{ap, ◌∙◌}
 use Rattle.sv_spell.specs.Design.{write_one}
-use Rattle.sv_spell.specs.Writing.{each, commas}
+use Rattle.sv_spell.specs.Writing.{commas}
 use Rattle.sv_spell.proofs.Loops.{left_next, left_last, behind_comma, others, commas_first}
 use Rattle.sv_spell.proofs.design.ones.Goals as goal
 

@@ -1,6 +1,5 @@
-use Rattle.std.proofs.Common.{ap, ◌∙◌}
 use Rattle.sv_spell.specs.Design.{write_part}
-use Rattle.sv_spell.specs.Writing.{each, commas}
+use Rattle.sv_spell.specs.Writing.{each}
 use Rattle.sv_spell.proofs.Loops.{left_next, left_last}
 use Rattle.sv_spell.proofs.design.parts.Goals as goal
 

@@ -1,5 +1,5 @@
 use Rattle.sv_spell.specs.Design.{write_part}
-use Rattle.sv_spell.specs.Writing.{each, commas}
+use Rattle.sv_spell.specs.Writing.{each}
 use Rattle.sv_spell.proofs.Loops.{Left}
 use Rattle.sv_spell.proofs.design.parts.Given as goal
 

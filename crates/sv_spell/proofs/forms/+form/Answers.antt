@@ -1,6 +1,5 @@
-use Rattle.std.proofs.Common.{ap, ◌∙◌}
 use Rattle.sv_spell.specs.Forms.{write_member}
-use Rattle.sv_spell.specs.Writing.{each, commas}
+use Rattle.sv_spell.specs.Writing.{each}
 use Rattle.sv_spell.proofs.Chosen.{member_written}
 use Rattle.sv_spell.proofs.Loops.{left_next, left_last}
 use Rattle.sv_spell.proofs.forms.+form.Goals as goal

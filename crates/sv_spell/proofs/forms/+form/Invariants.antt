@@ -1,5 +1,5 @@
 use Rattle.sv_spell.specs.Forms.{write_member}
-use Rattle.sv_spell.specs.Writing.{each, commas}
+use Rattle.sv_spell.specs.Writing.{each}
 use Rattle.sv_spell.proofs.Loops.{Left}
 use Rattle.sv_spell.proofs.forms.+form.Given as goal
 

@@ -1,5 +1,5 @@
 use Rattle.sv_spell.specs.Forms.{write_enum_label}
-use Rattle.sv_spell.specs.Writing.{each, commas}
+use Rattle.sv_spell.specs.Writing.{commas}
 use Rattle.sv_spell.proofs.Loops.{Left, behind_comma}
 use Rattle.sv_spell.proofs.forms.enum_labels.Given as goal
 

@@ -1,5 +1,5 @@
 use Rattle.std.proofs.Common.{ap, ◌∙◌}
-use Rattle.sv_spell.specs.Writing.{each, commas, name}
+use Rattle.sv_spell.specs.Writing.{commas, name}
 use Rattle.sv_spell.proofs.Loops.{left_next, left_last, behind_comma, others, commas_first}
 use Rattle.sv_spell.proofs.forms.names.Goals as goal
 

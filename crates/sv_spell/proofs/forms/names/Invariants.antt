@@ -1,4 +1,4 @@
-use Rattle.sv_spell.specs.Writing.{each, commas, name}
+use Rattle.sv_spell.specs.Writing.{commas, name}
 use Rattle.sv_spell.proofs.Loops.{Left, behind_comma}
 use Rattle.sv_spell.proofs.forms.names.Given as goal
 

@@ -1,6 +1,6 @@
 use Rattle.std.proofs.Common.{ap, ◌∙◌}
 use Rattle.sv_spell.specs.Forms.{write_port}
-use Rattle.sv_spell.specs.Writing.{each, commas}
+use Rattle.sv_spell.specs.Writing.{commas}
 use Rattle.sv_spell.proofs.Loops.{left_next, left_last, behind_comma, others, commas_first}
 use Rattle.sv_spell.proofs.forms.ports.Goals as goal
 

@@ -1,6 +1,5 @@
-use Rattle.std.proofs.Common.{ap, ◌∙◌}
 use Rattle.sv_spell.specs.Stmts.{write_arm, write_stmt}
-use Rattle.sv_spell.specs.Writing.{each, commas}
+use Rattle.sv_spell.specs.Writing.{each}
 use Rattle.sv_spell.proofs.Chosen.{if_written}
 use Rattle.sv_spell.proofs.Loops.{left_next, left_last}
 use Rattle.sv_spell.proofs.stmts.+stmt.Goals as goal

@@ -1,5 +1,5 @@
 use Rattle.sv_spell.specs.Stmts.{write_arm, write_stmt}
-use Rattle.sv_spell.specs.Writing.{each, commas}
+use Rattle.sv_spell.specs.Writing.{each}
 use Rattle.sv_spell.proofs.Loops.{Left}
 use Rattle.sv_spell.proofs.stmts.+stmt.Given as goal
 
