@@ -1,0 +1,5 @@
+//! Texts that are read and written again.
+#![tactic(auto)]
+
+#[cfg(test)]
+mod tests;

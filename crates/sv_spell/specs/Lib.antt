@@ -1,0 +1,6 @@
+pub mod Design
+pub mod Exprs
+pub mod Forms
+pub mod Spelt
+pub mod Stmts
+pub mod Writing
