@@ -254,7 +254,7 @@ fn two_hundred_of_a_kind_may_hold_a_token(rt: HostRuntime) -> Result<(), TextErr
     }
     for parts in [target, region] {
         assert!(rt; nested(rt.alloc(), parts, 1000)? == (0, 0));
-        assert!(rt; is_without_memory(nested(rt.alloc(), parts, 1001)));
+        assert!(rt; is_without_memory(nested(rt.alloc(), parts, 1002)));
         assert!(rt; is_without_memory(nested(rt.alloc(), parts, 30_000)));
     }
     Ok(())
