@@ -34,7 +34,9 @@ module m ; assign a = ~& b & ~| c | ~^ d ^ ^~ e + + f ; endmodule
 module m ; assign a = b ? c : d ? e : f ; endmodule
 module m ; assign a = { b , { 2 { c , d } } , ( e ) , f [ 1 ] [ 3 : 0 ] , g [ i +: 2 ] , h . j [ i -: 2 ] } ; endmodule
 module m ; assign a = 8 ' ( b ) + t ' ( c ) + ( 2 ) ' ( d ) + signed ' ( e ) + unsigned ' ( f ) ; endmodule
-module m ; assign a = $signed ( b ) + $unsigned ( c ) + $clog2 ( 8 ) + 4'b10x? + 'h1f + '0 ; endmodule";
+module m ; assign a = $signed ( b ) + $unsigned ( c ) + $clog2 ( 8 ) + 4'b10x? + 'h1f + '0 ; endmodule
+typedef struct packed { logic [3:0] hi; logic [0:3] lo; } pair_t; module leaf #(parameter int K = 0) (input pair_t p, output logic [7:0] q); assign q = {p.lo[0], p.hi, 3'b000} + K; endmodule module top (input pair_t a); for (genvar i = 0; i < 3; i++) begin : g leaf #(.K(i)) u (.p(a), .q()); end endmodule
+typedef enum logic [2:0] {ADD, SUB, AND, OR, SLL} op_t; typedef struct packed { logic valid; op_t op; logic [31:0] a, b; } req_t; typedef struct packed { logic valid; logic [31:0] value; } res_t; module alu (input wire logic clk, input wire logic rst, input req_t req, output res_t res); req_t r; logic [31:0] v; always_comb begin v = '0; unique casez (r.op) 3'b00?: v = r.op[0] ? r.a - r.b : r.a + r.b; AND: v = r.a & r.b; OR: v = r.a | r.b; SLL: v = r.a << r.b[4:0]; default: ; endcase end always_ff @(posedge clk) if (rst) begin r <= '0; res <= '0; end else begin r <= req; res.valid <= r.valid; res.value <= v; end endmodule";
 
 fn tokens_of(alloc: Global, text: &[u8]) -> Result<Tokens, TextErr> {
     let list = lex(alloc, 0, text)?;
@@ -89,6 +91,6 @@ fn a_text_is_written_as_it_was_read(rt: HostRuntime) -> Result<(), TextErr> {
         assert!(rt; are_same(tokens.list.as_slice(), again.as_slice()), "{row}");
         count = count.saturating_add(1);
     }
-    assert_eq!(rt; count, 30);
+    assert_eq!(rt; count, 32);
     Ok(())
 }
