@@ -5,17 +5,17 @@ use Rattle.settling.specs.Least.{Under, More, Rises}
 use Rattle.settling.proofs.Least.{least_exists, least_rises, more-refl}
 use Rattle.settling.proofs.More.{more-append, more-store}
 use Rattle.settling.proofs.Rounds.{under-refl}
-use Rattle.sv_meaning.specs.Layouts.{width}
-use Rattle.sv_meaning.specs.Designs.{Design, Wire, links_of, given_in, stimuli_from, bits_of_wire}
+use Rattle.sv_outside.specs.declared.text.Signal.{Signal}
+use Rattle.sv_meaning.specs.Designs.{Design, links_of, given_in, stimuli_from, bits_of_wire}
 use Rattle.sv_meaning.specs.Laws.{LeastSettlingExists, LeastSettlingRises}
 use Rattle.sv_meaning.proofs.Contributions.{contributions-rise}
 
-stimulus-rises : (n : ℕ) (w : Wire) (b : Bool) (stim more : Store) → Under stim more
-    → More (cond b (map (λ c. (c, value_at stim c)) (bits_of_wire n 0 (width w.layout))) []) (cond b (map (λ c. (c, value_at more c)) (bits_of_wire n 0 (width w.layout))) [])
-stimulus-rises n w true stim more h = more-store (bits_of_wire n 0 (width w.layout)) stim more h
+stimulus-rises : (n : ℕ) (w : Signal) (b : Bool) (stim more : Store) → Under stim more
+    → More (cond b (map (λ c. (c, value_at stim c)) (bits_of_wire n 0 w.width)) []) (cond b (map (λ c. (c, value_at more c)) (bits_of_wire n 0 w.width)) [])
+stimulus-rises n w true stim more h = more-store (bits_of_wire n 0 w.width) stim more h
 stimulus-rises n w false stim more h = tt
 
-stimuli-rise : (n : ℕ) (all : List Wire) (stim more : Store) → Under stim more → More (stimuli_from n all stim) (stimuli_from n all more)
+stimuli-rise : (n : ℕ) (all : List Signal) (stim more : Store) → Under stim more → More (stimuli_from n all stim) (stimuli_from n all more)
 unfolding stimuli_from
 stimuli-rise n [] stim more h = tt
 stimuli-rise n (w ∷ all) stim more h = more-append _ _ _ _ (stimulus-rises n w w.input stim more h) (stimuli-rise (suc n) all stim more h)

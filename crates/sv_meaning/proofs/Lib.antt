@@ -9,4 +9,3 @@ pub mod OnTrees
 pub mod Trees
 mod ExprRows
 mod FormRows
-mod DesignRows

@@ -1,22 +1,14 @@
 -- What an answer unfolds to compute the meaning of a tree that is written out.
 use Rattle.std.specs.Prelude.{⊤}
-use Rattle.std.specs.Fmt as fmt
 use Rattle.fourvec.specs.Bits as bits
 use Rattle.fourvec.specs.Spots as spots
 use Rattle.sv_literal.specs.Meaning as literals
 use Rattle.sv_literal.specs.Value as values_of_literals
-use Rattle.settling.specs.Settling as settling
 use Rattle.sv_meaning.specs.Layouts as layouts
 use Rattle.sv_meaning.specs.Names as names
 use Rattle.sv_meaning.specs.Meanings as meanings
 use Rattle.sv_meaning.specs.Values as values
 use Rattle.sv_meaning.specs.Forms as forms
-use Rattle.sv_meaning.specs.Params as params
-use Rattle.sv_meaning.specs.Targets as targets
-use Rattle.sv_meaning.specs.Deeds as deeds
-use Rattle.sv_meaning.specs.Blocks as blocks
-use Rattle.sv_meaning.specs.Designs as designs
-use Rattle.sv_meaning.specs.Scopes as scopes
 
 unfoldable pub vectors : ⊤
 unfolding bits.each bits.each_pair bits.over bits.some_one bits.all_zero bits.truth_of bits.is_known bits.some_clash bits.eq_of bits.number bits.vector bits.add_of bits.sub_of bits.mul_of bits.div_of bits.rem_of bits.neg_of bits.lt_of bits.slt_of bits.sdiv_of bits.srem_of bits.shl_of bits.shr_of bits.sar_of bits.cond_of spots.window spots.overlaid spots.all_are spots.kept_bit literals.is_wide literals.is_large_number literals.is_large_value literals.number_of literals.based_of literals.fill_of literals.meaning_of values_of_literals.decimal values_of_literals.digit_bits values_of_literals.bits_of values_of_literals.given_bits values_of_literals.fitted values_of_literals.vector_of values_of_literals.exceeds_word
@@ -25,7 +17,3 @@ vectors = tt
 unfoldable pub expressions : ⊤
 unfolding vectors layouts.member_in layouts.find names.has_name meanings.all_loose meanings.parts meanings.copies meanings.log_from meanings.chain_bits meanings.chain_layout meanings.chain_faults meanings.all_indices meanings.bits_from values.mean forms.over_ranges forms.labels forms.member_faults forms.members_of forms.bits_of forms.form
 expressions = tt
-
-unfoldable pub designs_on_trees : ⊤
-unfolding expressions settling.first_bit fmt.digits params.by_name params.in_order params.overrides params.given_or targets.targets targets.widths targets.lvalue_faults targets.bit_names targets.slots_from targets.chain_slots targets.slots targets.present targets.chain_fixed targets.are_fixed targets.put targets.write_all deeds.turns_on deeds.target_names deeds.longest deeds.all_signed deeds.all_faults deeds.all_names deeds.matches deeds.case_chain deeds.labels_of deeds.in_turn deeds.deed blocks.has_bit blocks.distinct blocks.marks designs.as_targets designs.actual_faults designs.are_present designs.bits_of_wire designs.pairs designs.links_of designs.driven designs.contributions_of designs.faults_from designs.stimuli_from scopes.walk_all scopes.act scopes.header_params scopes.header_ports scopes.list_params scopes.item_names scopes.body_params scopes.params_of_items scopes.module_named scopes.port_named scopes.port_names scopes.port_works scopes.children_from scopes.child scopes.library scopes.instantiated scopes.instantiated_by scopes.all_used scopes.unused scopes.scopes
-designs_on_trees = tt

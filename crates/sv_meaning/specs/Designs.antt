@@ -8,6 +8,7 @@ use Rattle.sv_tree.specs.declared.stmts.Block.{Block}
 use Rattle.sv_tree.specs.declared.design.Way.{Way}
 use Rattle.sv_tree.specs.declared.design.Way.TheVariants as way
 use Rattle.sv_tree.specs.declared.word.Word.{Word}
+use Rattle.sv_outside.specs.declared.text.Signal.{Signal}
 use Rattle.sv_meaning.specs.Faults.{Faults, fault, or_then, is_clear, bad_target}
 use Rattle.sv_meaning.specs.Layouts.{Name, Layout, width, Scope, signal_is, of_wires, Origin, NamedSignal, find}
 use Rattle.sv_meaning.specs.Meanings.{Meaning, fixed_faults, free_faults, assigned, named}
@@ -22,12 +23,6 @@ use Rattle.sv_meaning.specs.Blocks.{has_bit, distinct, reads, Manner, comb, cloc
 
 -- ---- what the scopes give
 
-pub record Wire : Type 0 where
-  pub path : Name
-  pub layout : Layout
-  -- an input or inout of the top
-  pub input : Bool
-
 -- What contributes or joins, with the names that it sees.
 pub data Work : Type 0 where
   assignment : Scope → Lvalue → Expr → Work
@@ -36,7 +31,7 @@ pub data Work : Type 0 where
   port : Scope → Way → ℕ → Layout → Expr → Work
 
 pub record Design : Type 0 where
-  pub wires : List Wire
+  pub wires : List Signal
   pub works : List Work
   -- the turns of its generate loops
   pub turns : ℕ
@@ -158,10 +153,10 @@ abbrev pub design_faults : Design → Faults
 design_faults d = faults_from d.turns d.works
 
 -- the stimulus of each input or inout of the top
-unfoldable pub stimuli_from : ℕ → List Wire → Store → List Contribution
+unfoldable pub stimuli_from : ℕ → List Signal → Store → List Contribution
 stimuli_from n [] stim = []
 stimuli_from n (w ∷ more) stim =
-    (if w.input then map (λ b. (b, value_at stim b)) (bits_of_wire n 0 (width w.layout)) else []) ++ stimuli_from (suc n) more stim
+    (if w.input then map (λ b. (b, value_at stim b)) (bits_of_wire n 0 w.width) else []) ++ stimuli_from (suc n) more stim
 
 -- ---- settlings
 
@@ -184,20 +179,20 @@ unfoldable pub wires_named : List NamedSignal → List ℕ
 wires_named [] = []
 wires_named (s ∷ more) = wire_before s.owner s.number (wires_named more)
 
-abbrev pub width_of_wire : Option Wire → ℕ
+abbrev pub width_of_wire : Option Signal → ℕ
 width_of_wire None = 0
-width_of_wire (Some w) = width w.layout
+width_of_wire (Some w) = w.width
 
 unfoldable pub has_all : List WireBit → List WireBit → Bool
 has_all [] all = true
 has_all (b ∷ more) all = has_bit b all && has_all more all
 
 -- some bit of the wire is no target
-abbrev pub is_read_now : List Wire → List WireBit → ℕ → Bool
+abbrev pub is_read_now : List Signal → List WireBit → ℕ → Bool
 is_read_now wires all n = not (has_all (bits_of_wire n 0 (width_of_wire (slice_get wires n))) all)
 
 -- the wires that it names in the present
-abbrev pub block_names : List Wire → Manner → Deed → List ℕ
+abbrev pub block_names : List Signal → Manner → Deed → List ℕ
 block_names wires comb a = filter (is_read_now wires a.targets) (wires_named a.names)
 block_names wires (clocked e n) a = n ∷ []
 block_names wires no_manner a = []
@@ -206,7 +201,7 @@ abbrev pub port_names : Way → Scope → ℕ → Expr → List ℕ
 port_names way.Output at n actual = n ∷ []
 port_names w at n actual = wires_named (mean at actual).names
 
-abbrev pub names_now : List Wire → Work → List ℕ
+abbrev pub names_now : List Signal → Work → List ℕ
 names_now wires (assignment at to x) = wires_named (mean at x).names
 names_now wires (block at b) = block_names wires (manner at b.kind) (deed b.body at)
 names_now wires (port at w n x actual) = if is_joined at x actual then [] else port_names w at n actual

@@ -10,5 +10,4 @@ pub mod Targets
 pub mod Deeds
 pub mod Blocks
 pub mod Designs
-pub mod Scopes
 pub mod Laws

@@ -97,17 +97,6 @@ connections at names None = Ok []
 connections at names (Some (pins.Named all)) = by_name names [] all
 connections at names (Some (pins.Ordered all)) = in_order at names all
 
--- the parameters that an instance gives, with what their expressions mean above
-unfoldable pub overrides : Scope → List Connection → List (Name × Meaning)
-overrides at [] = []
-overrides at ((n, None) ∷ more) = overrides at more
-overrides at ((n, Some x) ∷ more) = (n, mean at x) ∷ overrides at more
-
--- what an instance gives, or the expression of the declaration
-unfoldable pub given_or : Name → List (Name × Meaning) → Meaning → Meaning
-given_or n [] m = m
-given_or n (e ∷ more) m = if bytes_eq e.0 n then e.1 else given_or n more m
-
 abbrev pub is_parameter : ParamWord → Bool
 is_parameter param_word.Parameter = true
 is_parameter param_word.Localparam = false

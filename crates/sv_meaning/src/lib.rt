@@ -1,6 +1,6 @@
 //! What a design means, and why it has no meaning: definitions, and the laws over them.
 //!
-//! A source has instances, wires, and what contributes to them (`Scopes`, `Designs`). Each expression has a length, a sign and a
+//! A design has wires, and what contributes to them (`Designs`). Each expression has a length, a sign and a
 //! value (`Meanings`, `Values`), each statement changes a store (`Deeds`, `Blocks`), and a valuation settles where each class of
 //! joined bits has the resolution of what is contributed to it. Where the rules give no meaning, faults say why (`Faults`).
 #![tactic(auto)]

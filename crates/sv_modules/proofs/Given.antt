@@ -22,7 +22,7 @@ use Rattle.sv_tree.specs.declared.design.Item.TheVariants as it
 use Rattle.sv_tree.specs.declared.design.Gen.TheBlock.{shape-the_row-Item-0, hidden-the_row-Item-0, shape-the_row-Item-1, hidden-the_row-Item-1, shape-the_row-Gen-2, hidden-the_row-Gen-2}
 use Rattle.sv_meaning.specs.Layouts.{Name}
 use Rattle.sv_meaning.specs.Params.{is_parameter}
-use Rattle.sv_meaning.specs.Scopes.{body_params, all_body_params, params_of_items, params_from, item_names, list_params}
+use Rattle.sv_hierarchy.specs.Scopes.{body_params, all_body_params, params_of_items, params_from, item_names, list_params}
 use Rattle.sv_modules.specs.Naming.{texts_of}
 use Rattle.sv_modules.proofs.Turns.{take_next, drop_next}
 

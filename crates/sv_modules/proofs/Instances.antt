@@ -18,7 +18,7 @@ use Rattle.sv_tree.specs.declared.design.Item.TheVariants as it
 use Rattle.sv_tree.specs.declared.design.Gen.{Gen}
 use Rattle.sv_tree.specs.declared.design.Gen.TheVariants as ge
 use Rattle.sv_tree.specs.declared.design.Gen.TheBlock.{shape-the_row-Item-0, hidden-the_row-Item-0, shape-the_row-Item-1, hidden-the_row-Item-1, shape-the_row-Gen-2, hidden-the_row-Gen-2}
-use Rattle.sv_meaning.specs.Scopes.{instantiated, all_instantiated, instantiated_by, instantiated_under}
+use Rattle.sv_hierarchy.specs.Scopes.{instantiated, all_instantiated, instantiated_by, instantiated_under}
 use Rattle.sv_modules.specs.Libraries.{used_in, trees_of}
 use Rattle.sv_modules.proofs.Turns.{take_next, map_next}
 

@@ -5,4 +5,3 @@ pub mod Libraries
 pub mod Instances
 pub mod Given
 pub mod Pinned
-pub mod Found

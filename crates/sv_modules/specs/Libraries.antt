@@ -8,22 +8,11 @@ use Rattle.sv_tree.specs.declared.design.SourcePart.TheVariants as part
 use Rattle.sv_meaning.specs.Faults.{Faults, fault_if, or_then, Judged, provided, twice}
 use Rattle.sv_meaning.specs.Layouts.{Name}
 use Rattle.sv_meaning.specs.Names.{has_name}
-use Rattle.sv_meaning.specs.Scopes.{Library, instantiated_by, unclear}
-
--- in the order of the text
-unfoldable pub modules_in : List SourcePart → List Module
-modules_in [] = []
-modules_in (part.Module m ∷ more) = m ∷ modules_in more
-modules_in (part.Typedef d ∷ more) = modules_in more
-modules_in (part.Param p ∷ more) = modules_in more
+use Rattle.sv_hierarchy.specs.Libraries.{modules_in, repeated}
+use Rattle.sv_hierarchy.specs.Scopes.{instantiated_by, unclear}
 
 abbrev pub module_name : Module → Name
 module_name m = m.name.text
-
--- a module whose name stands before it
-unfoldable pub repeated : List Name → List Module → Faults
-repeated before [] = []
-repeated before (m ∷ more) = or_then (fault_if (has_name m.name.text before) twice m.name.place) (repeated (before ++ m.name.text ∷ []) more)
 
 -- the modules of a text, of which each name comes once
 abbrev pub modules_once : List SourcePart → Judged (List Module)
@@ -31,11 +20,6 @@ modules_once parts = provided (repeated [] (modules_in parts)) (modules_in parts
 
 abbrev pub trees_of : List (Bor Module) → List Module
 trees_of all = map (λ (m : Bor Module). m.now) all
-
--- A library has these modules, numbered by their places in the text.
-pub record IsLibraryOf (modules : List Module) (all : Library) : Type 0 where
-  pub trees : map (λ m. m.tree) all ≡ modules
-  pub numbers : map (λ m. m.number) all ≡ range_with_len 0 (length modules)
 
 -- ---- the top
 

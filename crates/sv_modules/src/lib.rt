@@ -5,7 +5,6 @@
 #![tactic(auto)]
 
 mod connect;
-mod laws;
 mod library;
 mod name_index;
 mod name_set;
@@ -15,7 +14,6 @@ mod roots;
 mod used;
 
 pub use connect::{Connection, Joined, connections};
-pub use laws::libraries_have_the_modules_in_order;
 pub use numbered::Modules;
 pub use parameters::open_params;
 pub use roots::top_of;

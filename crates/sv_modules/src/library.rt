@@ -1,10 +1,11 @@
 // The modules of a text.
 ghost use Rattle.std.specs.Prelude.{◌≡◌, ◌<◌, [], length, map, IfOk, IfErr, IfSome, option_map};
-ghost use Rattle.sv_meaning.specs.Scopes.{Library, module_named};
+ghost use Rattle.sv_hierarchy.specs.Scopes.{Library, module_named};
 ghost use Rattle.sv_const.specs.Judging.{IsCause};
 ghost use Rattle.sv_loops.specs.Answers.{Answers};
 ghost use Rattle.sv_modules.specs.Naming.{Indexes};
-ghost use Rattle.sv_modules.specs.Libraries.{modules_in, repeated, module_name, modules_once, trees_of, IsLibraryOf};
+ghost use Rattle.sv_hierarchy.specs.Libraries.{modules_in, repeated, IsLibraryOf};
+ghost use Rattle.sv_modules.specs.Libraries.{module_name, modules_once, trees_of};
 ghost use Rattle.sv_modules.specs.Listed.{modules_of};
 
 use crate::name_index::NameIndex;

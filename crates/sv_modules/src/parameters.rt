@@ -1,6 +1,6 @@
 // The parameters that an instance may give.
 ghost use Rattle.std.specs.Prelude.{◌≡◌, ◌++◌, [], OnOk, IfOk};
-ghost use Rattle.sv_meaning.specs.Scopes.{open_params, params_from, params_of_items, body_params, item_names, list_params};
+ghost use Rattle.sv_hierarchy.specs.Scopes.{open_params, params_from, params_of_items, body_params, item_names, list_params};
 ghost use Rattle.sv_tree.specs.declared.design.ParamWord.TheVariants.{Parameter};
 ghost use Rattle.sv_meaning.specs.Params.{is_parameter};
 ghost use Rattle.sv_modules.specs.Naming.{texts_of};

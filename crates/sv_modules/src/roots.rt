@@ -3,11 +3,12 @@ ghost use Rattle.std.specs.Prelude.{◌≡◌, List, None, IfOk};
 ghost use Rattle.std.specs.Option.{option_copied};
 ghost use Rattle.sv_outside.specs.declared.refusal.TextErr.TheVariants.{No};
 ghost use Rattle.sv_meaning.specs.Faults.{top_unclear, unknown_module};
-ghost use Rattle.sv_meaning.specs.Scopes.{Library, top_module, design_start};
+ghost use Rattle.sv_hierarchy.specs.Scopes.{Library, top_module, design_start};
 ghost use Rattle.sv_loops.specs.Answers.{Answers, Gives};
 ghost use Rattle.sv_meaning.specs.Layouts.{Name as Bytes};
 ghost use Rattle.sv_modules.specs.Naming.{Holds};
-ghost use Rattle.sv_modules.specs.Libraries.{trees_of, unused_from, only_one, IsLibraryOf};
+ghost use Rattle.sv_hierarchy.specs.Libraries.{IsLibraryOf};
+ghost use Rattle.sv_modules.specs.Libraries.{trees_of, unused_from, only_one};
 ghost use Rattle.sv_modules.specs.Listed.{modules_of};
 
 use crate::name_set::NameSet;

@@ -1,6 +1,6 @@
 // The names of the modules that items instantiate.
 ghost use Rattle.std.specs.Prelude.{◌≡◌, [], OnOk, IfOk};
-ghost use Rattle.sv_meaning.specs.Scopes.{instantiated, instantiated_by, instantiated_under};
+ghost use Rattle.sv_hierarchy.specs.Scopes.{instantiated, instantiated_by, instantiated_under};
 ghost use Rattle.sv_modules.specs.Libraries.{trees_of, used_in};
 ghost use Rattle.sv_modules.specs.Naming.{Adds, Holds};
 

@@ -5,7 +5,8 @@ use Rattle.sv_tree.specs.declared.design.Module.{Module}
 use Rattle.sv_meaning.specs.Faults.{twice}
 use Rattle.sv_meaning.specs.Layouts.{Name}
 use Rattle.sv_modules.specs.Naming.{Indexes, number_under}
-use Rattle.sv_modules.specs.Libraries.{trees_of, module_name, repeated}
+use Rattle.sv_hierarchy.specs.Libraries.{repeated}
+use Rattle.sv_modules.specs.Libraries.{trees_of, module_name}
 use Rattle.sv_modules.proofs.Indexes.{is_noted}
 use Rattle.sv_modules.proofs.Libraries.{no_repeated, repeated_at, repeated_front, trees_next, trees_split, trees_len}
 use Rattle.sv_modules.proofs.library.index_of.Goals as goal

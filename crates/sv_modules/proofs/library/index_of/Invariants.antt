@@ -1,6 +1,7 @@
 use Rattle.std.proofs.Common.{◌≡◌, [], take, map}
 use Rattle.sv_modules.specs.Naming.{Indexes}
-use Rattle.sv_modules.specs.Libraries.{trees_of, repeated, module_name}
+use Rattle.sv_hierarchy.specs.Libraries.{repeated}
+use Rattle.sv_modules.specs.Libraries.{trees_of, module_name}
 use Rattle.sv_modules.proofs.library.index_of.Given as goal
 
 abbrev pub invariant-modules : goal.invariant-modules

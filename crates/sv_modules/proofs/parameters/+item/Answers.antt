@@ -1,7 +1,7 @@
 use Rattle.std.proofs.Common.{◌≡◌, ◌∙◌, ◌++◌, List, [], sym, ap, subst, append_assoc}
 use Rattle.std.specs.Result.{OnOk}
 use Rattle.sv_meaning.specs.Layouts.{Name}
-use Rattle.sv_meaning.specs.Scopes.{body_params, item_names, params_of_items}
+use Rattle.sv_hierarchy.specs.Scopes.{body_params, item_names, params_of_items}
 use Rattle.sv_modules.specs.Naming.{texts_of}
 use Rattle.sv_modules.proofs.Given.{given_param, given_local, given_generate, given_net, given_variable, given_typedef, given_genvar, given_assign, given_always, given_inst, given_for, given_if, no_items, nothing_more, items_next}
 use Rattle.sv_modules.proofs.parameters.+item.Goals as goal

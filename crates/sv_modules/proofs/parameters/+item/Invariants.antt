@@ -1,5 +1,5 @@
 use Rattle.std.proofs.Common.{◌≡◌, ◌++◌, take}
-use Rattle.sv_meaning.specs.Scopes.{params_of_items}
+use Rattle.sv_hierarchy.specs.Scopes.{params_of_items}
 use Rattle.sv_modules.specs.Naming.{texts_of}
 use Rattle.sv_modules.proofs.parameters.+item.Given as goal
 

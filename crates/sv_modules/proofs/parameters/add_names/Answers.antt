@@ -1,6 +1,6 @@
 use Rattle.std.proofs.Common.{◌∙◌, ◌++◌, List, [], take, sym, ap, refl}
 use Rattle.sv_meaning.specs.Layouts.{Name}
-use Rattle.sv_meaning.specs.Scopes.{item_names}
+use Rattle.sv_hierarchy.specs.Scopes.{item_names}
 use Rattle.sv_modules.specs.Naming.{texts_of}
 use Rattle.sv_modules.proofs.Given.{no_names, nothing_more, names_next, one_text}
 use Rattle.sv_modules.proofs.parameters.add_names.Goals as goal

@@ -1,5 +1,5 @@
 use Rattle.std.proofs.Common.{◌≡◌, ◌++◌, take}
-use Rattle.sv_meaning.specs.Scopes.{item_names}
+use Rattle.sv_hierarchy.specs.Scopes.{item_names}
 use Rattle.sv_modules.specs.Naming.{texts_of}
 use Rattle.sv_modules.proofs.parameters.add_names.Given as goal
 

@@ -2,7 +2,7 @@ use Rattle.std.proofs.Common.{◌∙◌, ◌+◌, ◌++◌, List, drop, sym, ap,
 use Rattle.std.proofs.lemmas.List.{append-nil}
 use Rattle.sv_tree.specs.declared.word.Word.{Word}
 use Rattle.sv_meaning.specs.Layouts.{Name}
-use Rattle.sv_meaning.specs.Scopes.{list_params}
+use Rattle.sv_hierarchy.specs.Scopes.{list_params}
 use Rattle.sv_modules.specs.Naming.{texts_of}
 use Rattle.sv_modules.proofs.Turns.{drop_none}
 use Rattle.sv_modules.proofs.Given.{texts_push, list_then, list_else, no_ports}

@@ -1,6 +1,6 @@
 use Rattle.std.proofs.Common.{◌≡◌, ◌++◌, drop}
 use Rattle.sv_tree.specs.declared.design.ParamWord.TheVariants.{Parameter}
-use Rattle.sv_meaning.specs.Scopes.{list_params}
+use Rattle.sv_hierarchy.specs.Scopes.{list_params}
 use Rattle.sv_modules.specs.Naming.{texts_of}
 use Rattle.sv_modules.proofs.parameters.add_of_list.Given as goal
 

@@ -3,7 +3,7 @@ use Rattle.std.specs.Result.{OnOk}
 use Rattle.sv_tree.specs.declared.design.Gen.{Gen}
 use Rattle.sv_tree.specs.declared.design.Item.TheVariants as it
 use Rattle.sv_meaning.specs.Layouts.{Name}
-use Rattle.sv_meaning.specs.Scopes.{instantiated, instantiated_by, instantiated_under}
+use Rattle.sv_hierarchy.specs.Scopes.{instantiated, instantiated_by, instantiated_under}
 use Rattle.sv_modules.specs.Naming.{Adds}
 use Rattle.sv_modules.proofs.Sets.{adds_none, adds_more, adds_then}
 use Rattle.sv_modules.proofs.Instances.{used_inst, used_generate, used_for, used_if, used_if_else, used_block, used_single, used_net, used_variable, used_typedef, used_param, used_genvar, used_assign, used_always, by_none, by_next}

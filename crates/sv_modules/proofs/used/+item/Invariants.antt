@@ -1,5 +1,5 @@
 use Rattle.std.proofs.Common.{take}
-use Rattle.sv_meaning.specs.Scopes.{instantiated_by}
+use Rattle.sv_hierarchy.specs.Scopes.{instantiated_by}
 use Rattle.sv_modules.specs.Naming.{Adds}
 use Rattle.sv_modules.proofs.used.+item.Given as goal
 

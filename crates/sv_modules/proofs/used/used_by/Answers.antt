@@ -2,7 +2,7 @@ use Rattle.std.proofs.Common.{List, take, sym, subst, arith, Bor}
 use Rattle.std.proofs.lemmas.List.{take_all}
 use Rattle.sv_tree.specs.declared.design.Item.{Item}
 use Rattle.sv_tree.specs.declared.design.Module.{Module}
-use Rattle.sv_meaning.specs.Scopes.{instantiated_by}
+use Rattle.sv_hierarchy.specs.Scopes.{instantiated_by}
 use Rattle.sv_modules.specs.Naming.{Holds, Adds}
 use Rattle.sv_modules.specs.Libraries.{trees_of, used_in}
 use Rattle.sv_modules.proofs.Sets.{holds_more}

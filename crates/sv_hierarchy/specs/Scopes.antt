@@ -1,5 +1,5 @@
 -- The scopes of a design: its instances and generate blocks, their names, its wires, and all that contributes.
-use Rattle.std.specs.Prelude.{ℕ, zero, suc, ◌+◌, Bool, true, false, ◌&&◌, nat_lt, List, [], ◌∷◌, ◌++◌, length, bytes_eq, Option, Some, None, Ok, Err, decimal, codes, if◌then◌else◌}
+use Rattle.std.specs.Prelude.{ℕ, zero, suc, ◌+◌, Bool, true, false, ◌&&◌, nat_lt, List, [], ◌∷◌, ◌++◌, length, map, take, bytes_eq, Option, Some, None, Ok, Err, decimal, codes, if◌then◌else◌}
 use Rattle.std.specs.Fmt.{signed_decimal}
 use mathlib.Core.Former.{Count}
 use Rattle.fourvec.specs.declared.Bit.{Bit}
@@ -8,6 +8,8 @@ use Rattle.sv_tree.specs.declared.word.Word.{Word}
 use Rattle.sv_tree.specs.declared.exprs.Expr.{Expr}
 use Rattle.sv_tree.specs.declared.forms.TypeTree.{TypeTree}
 use Rattle.sv_tree.specs.declared.forms.Typedef.{Typedef as TypedefTree}
+use Rattle.sv_tree.specs.declared.stmts.Lvalue.{Lvalue}
+use Rattle.sv_tree.specs.declared.stmts.Block.{Block}
 use Rattle.sv_tree.specs.declared.design.ParamWord.{ParamWord}
 use Rattle.sv_tree.specs.declared.design.ParamWord.TheVariants as param_word
 use Rattle.sv_tree.specs.declared.design.ParamType.{ParamType}
@@ -28,6 +30,7 @@ use Rattle.sv_tree.specs.declared.design.SourcePart.TheVariants as source_part
 use Rattle.sv_tree.specs.declared.design.Item.{Item, Net, Variable, Typedef, Param, Genvar, Assign, Always, Inst, For', If', Generate', Row_of-Item, end_of-Item, more_of-Item, end_of-Gen, more_of-Gen, Held-Item-If-3, None', Some'}
 use Rattle.sv_tree.specs.declared.design.Gen.{Gen, Block', Single'}
 use Rattle.sv_outside.specs.declared.refusal.Place.{Place}
+use Rattle.sv_outside.specs.declared.text.Signal.{Signal}
 use Rattle.sv_meaning.specs.Faults.{Faults, fault, fault_if, Judged, provided, faults_of, ◌>>=◌, unknown_module, unknown_name, twice, instance_deep, too_many_bits, top_unclear}
 use Rattle.sv_meaning.specs.Layouts.{Name, Layout, scalar, width, Scope, What, type_is, signal_is, genvar_is, of_wires, find}
 use Rattle.sv_meaning.specs.Names.{has_name}
@@ -35,55 +38,110 @@ use Rattle.sv_meaning.specs.Meanings.{Meaning}
 use Rattle.sv_meaning.specs.Values.{mean}
 use Rattle.sv_meaning.specs.Forms.{Entry, Declared, entry_of, form}
 use Rattle.sv_meaning.specs.Deeds.{index_entry, turns, turn_faults, fixed_truth}
-use Rattle.sv_meaning.specs.Designs.{Wire, Work, assignment, block, port, Design, design_faults}
-use Rattle.sv_meaning.specs.Params.{param_value, Connection, connections, overrides, given_or, is_parameter}
+use Rattle.sv_meaning.specs.Designs.{Work, assignment, block, port, Design, design_faults}
+use Rattle.sv_meaning.specs.Params.{param_value, Connection, connections, is_parameter}
+
+-- ---- scopes, IEEE 1800-2017 section 23.9
+
+-- A place in a scope: so many of its nets and variables, and so many of its constants and types, are declared above.
+pub record Front : Type 0 where
+  pub level : ℕ
+  pub nets : ℕ
+  pub consts : ℕ
+
+-- A scope with names of its own. The file level is the first; the instances and generate blocks come after it, in the order in which
+-- they begin.
+pub record Level : Type 0 where
+  pub path : Name
+  -- its module, by the number in the text
+  pub module_number : ℕ
+  -- the scope that it stands in: that of the instantiation, where it is an instance
+  pub parent : ℕ
+  -- the places in the scopes whose names it sees, the outermost first
+  pub around : List Front
+  -- its nets and variables, behind the variable of the loop that it is a turn of
+  pub nets : List Entry
+  -- its constants, types and genvars
+  pub consts : List Entry
+
+abbrev pub no_level : Level
+no_level = record { path = []; module_number = 0; parent = 0; around = []; nets = []; consts = [] }
+
+unfoldable pub level_at : List Level → ℕ → Level
+level_at [] n = no_level
+level_at (x ∷ more) zero = x
+level_at (x ∷ more) (suc n) = level_at more n
+
+-- the levels with another in the place of one
+unfoldable pub with_level : ℕ → (Level → Level) → List Level → List Level
+with_level n f [] = []
+with_level zero f (x ∷ more) = f x ∷ more
+with_level (suc n) f (x ∷ more) = x ∷ with_level n f more
+
+-- A constant expression sees what is declared above it. In one scope a name is declared once, and hides the variable of the loop.
+unfoldable pub seen_along : List Level → List Front → Scope
+seen_along all [] = []
+seen_along all (f ∷ more) = (take f.nets (level_at all f.level).nets ++ take f.consts (level_at all f.level).consts) ++ seen_along all more
+
+-- All else sees the constants and types declared above it, and all nets and variables of the scopes around it.
+unfoldable pub live_along : List Level → List Front → Scope
+live_along all [] = []
+live_along all (f ∷ more) = ((level_at all f.level).nets ++ take f.consts (level_at all f.level).consts) ++ live_along all more
+
+abbrev pub fronts_at : List Level → Front → List Front
+fronts_at all f = (level_at all f.level).around ++ f ∷ []
+
+abbrev pub seen_at : List Level → Front → Scope
+seen_at all f = seen_along all (fronts_at all f)
+
+abbrev pub live_at : List Level → Front → Scope
+live_at all f = live_along all (fronts_at all f)
 
 -- ---- what is found
 
--- an instance or a generate block, with all names that it sees; its module by the number in the text
-pub record Instance : Type 0 where
-  pub path : Name
-  pub module_number : ℕ
-  pub parent : Option ℕ
-  pub scope : Scope
+-- what contributes or joins
+pub data Task : Type 0 where
+  assigning : Lvalue → Expr → Task
+  running : Block → Task
+  -- a connected port: its direction, wire and layout, and the actual in the scope of the instantiation
+  connecting : Way → ℕ → Layout → Expr → Task
 
--- an instance that is still to be opened, and what its pins see
+pub record Standing : Type 0 where
+  pub at : Front
+  pub task : Task
+
+-- an expression that is given to a parameter, and where it is read
+pub record Given : Type 0 where
+  pub name : Name
+  pub at : Front
+  pub value : Expr
+
+-- an instance that is still to be opened
 pub record Child : Type 0 where
+  pub at : Front
   pub of_module : Word
   pub name : Word
   pub path : Name
   pub params : Option Pins
   pub pins : Option Pins
-  pub seen : Scope
-  pub live : Scope
-  pub parent : ℕ
-
--- how many there are so far: wires, instances with generate blocks, bits of wires with instances below the top, and turns of generate loops
-pub record Counts : Type 0 where
-  pub wires : ℕ
-  pub instances : ℕ
-  pub bits : ℕ
-  pub turns : ℕ
 
 -- Where a walk through the items of a scope stands.
--- Constants see `seen`, which has what is declared above them.
--- All else sees `live`, which has the constants and types declared above it and all nets and variables of the scopes around it.
 pub record State : Type 0 where
-  pub prefix : Name
-  pub module_number : ℕ
+  -- all scopes so far, and the number of the one that is read
+  pub levels : List Level
   pub me : ℕ
-  pub seen : Scope
-  pub live : Scope
-  -- the nets and variables declared in this scope, and all its names
-  pub own : List Entry
+  -- all names of that one, and how many generate constructs it has
   pub taken : List Name
   pub constructs : ℕ
-  pub overridden : List (Name × Meaning)
-  pub counts : Counts
-  pub wires : List Wire
-  pub works : List Work
+  -- what its parameters are given
+  pub overridden : List Given
+  -- the bits of all wires with the instances below the top, and the turns of generate loops
+  pub bits : ℕ
+  pub turns : ℕ
+  pub wires : List Signal
+  pub works : List Standing
+  -- the instances below this one
   pub children : List Child
-  pub instances : List Instance
 
 abbrev pub Walk : Type 0
 Walk = State → Judged State
@@ -98,7 +156,16 @@ unfoldable pub walk_all : {A : Type 0} → (A → Walk) → List A → Walk
 walk_all f [] st = Ok st
 walk_all f (x ∷ more) st = f x st >>= walk_all f more
 
--- ---- declarations, IEEE 1800-2017 sections 6.5, 6.18 and 6.20
+abbrev pub mine : State → Level
+mine st = level_at st.levels st.me
+
+abbrev pub here : State → Front
+here st = record { level = st.me; nets = length (mine st).nets; consts = length (mine st).consts }
+
+abbrev pub seen : State → Scope
+seen st = seen_at st.levels (here st)
+
+-- ---- declarations, sections 6.5, 6.18 and 6.20
 
 -- a name is declared once in its scope
 abbrev pub declare_at : Place → Name → Walk
@@ -107,12 +174,18 @@ declare_at p n st = provided (fault_if (has_name n st.taken) twice p) (record st
 abbrev pub declare : Word → Walk
 declare w st = declare_at w.place w.text st
 
-abbrev pub see : Entry → State → State
-see e st = record st { seen = st.seen ++ e ∷ []; live = st.live ++ e ∷ [] }
+abbrev pub with_const : Entry → Level → Level
+with_const e x = record x { consts = x.consts ++ e ∷ [] }
+
+abbrev pub with_net : Entry → Level → Level
+with_net e x = record x { nets = x.nets ++ e ∷ [] }
+
+abbrev pub see_const : Entry → State → State
+see_const e st = record st { levels = with_level st.me (with_const e) st.levels }
 
 -- a constant, a type or a genvar
 abbrev pub add_constant : Declared → Walk
-add_constant d st = declare d.0 st >>= λ s. Ok (see (entry_of d) s)
+add_constant d st = declare d.0 st >>= λ s. Ok (see_const (entry_of d) s)
 
 abbrev pub add_constants : List Declared → Walk
 add_constants all st = walk_all add_constant all st
@@ -124,21 +197,31 @@ most_bits = 1048576
 abbrev pub size_faults : Place → ℕ → Faults
 size_faults p bits = fault_if (nat_lt most_bits bits) too_many_bits p
 
+abbrev pub dot : Name
+dot = codes "."
+
+-- what stands before the names of a scope in paths; the top has no name there
+abbrev pub prefix_of : Name → Name
+prefix_of [] = []
+prefix_of (c ∷ more) = (c ∷ more) ++ dot
+
+abbrev pub path_of : State → Name → Name
+path_of st n = prefix_of (mine st).path ++ n
+
 abbrev pub with_wire : Bool → Layout → Name → State → State
 with_wire input x n s = record s {
-  seen = s.seen ++ (n, signal_is of_wires s.counts.wires x) ∷ [];
-  own = s.own ++ (n, signal_is of_wires s.counts.wires x) ∷ [];
-  counts = record s.counts { wires = suc s.counts.wires; bits = s.counts.bits + width x };
-  wires = s.wires ++ record { path = s.prefix ++ n; layout = x; input = input } ∷ [];
+  levels = with_level s.me (with_net (n, signal_is of_wires (length s.wires) x)) s.levels;
+  bits = s.bits + width x;
+  wires = s.wires ++ record { path = path_of s n; width = width x; input = input } ∷ [];
 }
 
 abbrev pub add_wire : Bool → Layout → Word → Walk
 add_wire input x w st =
-    declare w st >>= λ s. provided (size_faults w.place (s.counts.bits + width x)) (with_wire input x w.text s)
+    declare w st >>= λ s. provided (size_faults w.place (s.bits + width x)) (with_wire input x w.text s)
 
 -- the layout of a type, whose enumerators become names here
 abbrev pub with_form : TypeTree → (Layout → Walk) → Walk
-with_form t f st = form st.seen t >>= λ x. (add_constants x.1 st >>= f x.0)
+with_form t f st = form (seen st) t >>= λ x. (add_constants x.1 st >>= f x.0)
 
 abbrev pub with_form_or_bit : Option TypeTree → (Layout → Walk) → Walk
 with_form_or_bit None f st = f (scalar false) st
@@ -147,13 +230,23 @@ with_form_or_bit (Some t) f st = with_form t f st
 abbrev pub add_typedef : TypedefTree → Walk
 add_typedef d st = with_form d.form (λ x. add_constant (d.name, type_is x)) st
 
-abbrev pub overriding : ParamWord → List (Name × Meaning) → List (Name × Meaning)
+-- what an instance gives, or the expression of the declaration
+unfoldable pub given_or : Name → List Given → Given → Given
+given_or n [] other = other
+given_or n (g ∷ more) other = if bytes_eq g.name n then g else given_or n more other
+
+abbrev pub overriding : ParamWord → List Given → List Given
 overriding param_word.Parameter all = all
 overriding param_word.Localparam all = []
 
+abbrev pub meant : List Level → Given → Meaning
+meant levels g = mean (seen_at levels g.at) g.value
+
+abbrev pub given_to : ParamWord → Word → Expr → State → Given
+given_to word w x st = given_or w.text (overriding word st.overridden) (record { name = w.text; at = here st; value = x })
+
 abbrev pub add_param : ParamWord → Option ParamType → Word → Expr → Walk
-add_param word t w x st =
-    param_value st.seen t (given_or w.text (overriding word st.overridden) (mean st.seen x)) >>= λ v. add_constant (w, v) st
+add_param word t w x st = param_value (seen st) t (meant st.levels (given_to word w x st)) >>= λ v. add_constant (w, v) st
 
 abbrev pub add_param_item : ParamTree → ParamItem → Walk
 add_param_item p i st = add_param p.word p.form i.name i.value st
@@ -164,11 +257,11 @@ add_params p st = walk_all (add_param_item p) p.list st
 abbrev pub add_genvar : Word → Walk
 add_genvar w st = add_constant (w, genvar_is) st
 
-abbrev pub add_work : Work → Walk
-add_work w st = Ok (record st { works = st.works ++ w ∷ [] })
+abbrev pub add_work : Task → Walk
+add_work t st = Ok (record st { works = st.works ++ record { at = here st; task = t } ∷ [] })
 
 abbrev pub add_assignment : AssignPair → Walk
-add_assignment p st = add_work (assignment st.live p.target p.value) st
+add_assignment p st = add_work (assigning p.target p.value) st
 
 -- ---- instances, section 23.3
 
@@ -177,59 +270,36 @@ flat_pins None = None
 flat_pins (Some x) = x
 
 abbrev pub child_of : InstTree → One → State → Child
-child_of i o s = record {
-  of_module = i.of_module;
-  name = o.name;
-  path = s.prefix ++ o.name.text;
-  params = flat_pins i.params;
-  pins = o.pins;
-  seen = s.seen;
-  live = s.live;
-  parent = s.me;
-}
+child_of i o s = record { at = here s; of_module = i.of_module; name = o.name; path = path_of s o.name.text; params = flat_pins i.params; pins = o.pins }
 
 abbrev pub add_child : InstTree → One → Walk
 add_child i o st = declare o.name st >>= λ s. Ok (record s { children = s.children ++ child_of i o s ∷ [] })
 
 -- ---- generate blocks, section 27
 
-abbrev pub dot : Name
-dot = codes "."
-
-abbrev pub inner : Name → List Entry → State → List Entry → State
-inner part more st own = record st {
-  prefix = st.prefix ++ (part ++ dot);
-  me = st.counts.instances;
-  seen = st.seen ++ more;
-  live = st.live ++ (more ++ own);
-  own = [];
+-- a block of that name in a path is begun, with the variable of the loop that it is a turn of
+abbrev pub inner : Name → List Entry → State → State
+inner part more st = record st {
+  levels = st.levels ++ record {
+    path = path_of st part;
+    module_number = (mine st).module_number;
+    parent = st.me;
+    around = fronts_at st.levels (here st);
+    nets = more;
+    consts = [];
+  } ∷ [];
+  me = length st.levels;
   taken = [];
   constructs = 0;
   overridden = [];
-  counts = record st.counts { instances = suc st.counts.instances };
-  instances = [];
 }
 
-abbrev pub outer : Name → State → State → State
-outer part st last = record last {
-  prefix = st.prefix;
-  me = st.me;
-  seen = st.seen;
-  live = st.live;
-  own = st.own;
-  taken = st.taken;
-  constructs = st.constructs;
-  overridden = st.overridden;
-  instances = st.instances ++ record { path = st.prefix ++ part; module_number = st.module_number; parent = Some st.me; scope = last.live } ∷ last.instances;
-}
+-- back in the scope around the block
+abbrev pub outer : State → State → State
+outer st last = record last { me = st.me; taken = st.taken; constructs = st.constructs; overridden = st.overridden }
 
--- A scope is walked through once for its nets and variables, and once more where all of these are seen.
-abbrev pub scoped : (List Entry → State) → Walk → Judged State
-scoped start body = body (start []) >>= λ first. body (start first.own)
-
--- a block of that name in a path, with names of its own
 abbrev pub enclosed : Name → List Entry → Walk → Walk
-enclosed part more body st = scoped (inner part more st) body >>= λ last. Ok (outer part st last)
+enclosed part more body st = body (inner part more st) >>= λ last. Ok (outer st last)
 
 -- A block without a label is named by the number of its construct (27.6; here all constructs of the scope count).
 abbrev pub block_name : Option Word → ℕ → Name
@@ -249,7 +319,7 @@ abbrev pub turn_name : Name → List Bit → Name
 turn_name g bits = g ++ (codes "[" ++ (signed_decimal (signed bits) ++ codes "]"))
 
 abbrev pub count_turn : Place → Walk
-count_turn p st = provided (turn_faults p st.counts.turns) (record st { counts = record st.counts { turns = suc st.counts.turns } })
+count_turn p st = provided (turn_faults p st.turns) (record st { turns = suc st.turns })
 
 abbrev pub turn_walk : Place → Name → Name → Walk → List Bit → Walk
 turn_walk p g v body bits st = count_turn p st >>= enclosed (turn_name g bits) (index_entry v bits ∷ []) body
@@ -296,7 +366,7 @@ chosen_branch true x other n st = x.branch n st
 chosen_branch false x other n st = other n st
 
 abbrev pub conditional : Expr → Branch → (ℕ → Walk) → ℕ → Walk
-conditional c x other n st = fixed_truth (mean st.seen c) >>= λ b. chosen_branch b x other n st
+conditional c x other n st = fixed_truth (mean (seen st) c) >>= λ b. chosen_branch b x other n st
 
 abbrev pub numbered : (ℕ → Walk) → Walk
 numbered f st = next_construct st >>= λ s. f s.constructs s
@@ -306,7 +376,7 @@ body_of p x = record { loop = p; label = x.label; start = x.start; items = x.bod
 
 abbrev pub loop_walk : Bool → Word → Body → (Scope → Judged (List (List Bit))) → ℕ → Walk
 loop_walk header v b values n st =
-    provided (genvar_faults header v (find v.text st.seen)) st.seen >>= values >>= λ all. turns_walk b v.text n all st
+    provided (genvar_faults header v (find v.text (seen st))) (seen st) >>= values >>= λ all. turns_walk b v.text n all st
 
 unfoldable mutual
   pub act : Item → Act
@@ -316,7 +386,7 @@ unfoldable mutual
   act (Param p) = act_of (add_params p)
   act (Genvar names) = act_of (walk_all add_genvar names)
   act (Assign all) = act_of (walk_all add_assignment all)
-  act (Always b) = act_of (λ st. add_work (block st.live b) st)
+  act (Always b) = act_of (add_work (running b))
   act (Inst i) = act_of (walk_all (add_child i) i.list)
   act (Generate' s all) = act_of (acts all)
   act (For' p header v start test next r (more_of-Gen x end_of-Gen)) =
@@ -379,7 +449,7 @@ is_bare p = is_nothing p.way && (is_nothing p.kind && is_nothing p.form)
 
 abbrev pub add_port : Bool → Way → Layout → Word → State → Judged (OpenPort × State)
 add_port top d x w st =
-    add_wire (top && is_input d) x w st >>= λ s. Ok (record { name = w.text; way = d; wire = st.counts.wires; layout = x }, s)
+    add_wire (top && is_input d) x w st >>= λ s. Ok (record { name = w.text; way = d; wire = length st.wires; layout = x }, s)
 
 -- The direction and layout of the port before stand for those that are left out. With a kind or a direction and no type it is one bit.
 abbrev pub port_form : Port → Layout → State → Judged (Layout × State)
@@ -387,7 +457,7 @@ port_form p before st = if is_bare p then Ok (before, st) else form_of p.form
   where
     form_of : Option TypeTree → Judged (Layout × State)
     form_of None = Ok (scalar false, st)
-    form_of (Some t) = form st.seen t >>= λ y. (add_constants y.1 st >>= λ s. Ok (y.0, s))
+    form_of (Some t) = form (seen st) t >>= λ y. (add_constants y.1 st >>= λ s. Ok (y.0, s))
 
 -- The first port has a direction, so what stands before it does not count.
 unfoldable pub header_ports : Bool → Way → Layout → List Port → State → Judged (List OpenPort × State)
@@ -442,11 +512,11 @@ open_params m = params_from m.params m.items
 
 -- ---- modules and instances
 
--- a module with its number in the text and the names of the file level that are declared above it
+-- a module with its number in the text, and how many names of the file level are declared above it
 pub record Known : Type 0 where
   pub tree : Module
   pub number : ℕ
-  pub above : Scope
+  pub above : ℕ
 
 abbrev pub Library : Type 0
 Library = List Known
@@ -455,78 +525,53 @@ unfoldable pub module_named : Name → Library → Option Known
 module_named n [] = None
 module_named n (m ∷ more) = if bytes_eq m.tree.name.text n then Some m else module_named n more
 
--- the ports of a module and all that its items declare
-abbrev pub module_walk : Bool → Module → State → Judged (List OpenPort × State)
-module_walk top m st = do
-  s ← header_params (param_word.Parameter, None) m.params st
-  found ← header_ports top way.Input (scalar false) (ports_of m) s
-  last ← walk_all (λ x. (act x).item) m.items found.1
-  Ok (found.0, last)
-
--- where a module's walk starts, its own nets and variables being seen
-abbrev pub start_of : Known → Name → List (Name × Meaning) → Counts → List Entry → State
-start_of m prefix params counts own = record {
-  prefix = prefix;
-  module_number = m.number;
-  me = counts.instances;
-  seen = m.above;
-  live = m.above ++ own;
-  own = [];
+-- an instance is begun; it sees the names of the file level that are declared above its module
+abbrev pub begun : Known → Name → ℕ → List Given → State → State
+begun m path parent params st = record st {
+  levels = st.levels ++ record {
+    path = path;
+    module_number = m.number;
+    parent = parent;
+    around = record { level = 0; nets = 0; consts = m.above } ∷ [];
+    nets = [];
+    consts = [];
+  } ∷ [];
+  me = length st.levels;
   taken = [];
   constructs = 0;
   overridden = params;
-  counts = record counts { instances = suc counts.instances };
-  wires = [];
-  works = [];
   children = [];
-  instances = [];
 }
 
--- what is found in an instance and below it
-pub record Found : Type 0 where
-  pub wires : List Wire
-  pub works : List Work
-  pub instances : List Instance
-
-abbrev pub beside : Found → Found → Found
-beside a b = record { wires = a.wires ++ b.wires; works = a.works ++ b.works; instances = a.instances ++ b.instances }
-
-abbrev pub nothing_found : Found
-nothing_found = record { wires = []; works = []; instances = [] }
+-- What an instance has without its children: its ports, what these are connected to, and its declarations in text order with generate
+-- blocks in their place.
+abbrev pub instance_walk : Bool → Module → (List OpenPort → List Standing) → Walk
+instance_walk top m joined st = do
+  s ← header_params (param_word.Parameter, None) m.params st
+  found ← header_ports top way.Input (scalar false) (ports_of m) s
+  walk_all (λ x. (act x).item) m.items (record found.1 { works = found.1.works ++ joined found.0 })
 
 unfoldable pub port_named : Name → List OpenPort → Option OpenPort
 port_named n [] = None
 port_named n (p ∷ more) = if bytes_eq p.name n then Some p else port_named n more
 
-unfoldable pub port_names : List OpenPort → List Name
-port_names [] = []
-port_names (p ∷ more) = p.name ∷ port_names more
+unfoldable pub port_texts : List Port → List Name
+port_texts [] = []
+port_texts (p ∷ more) = p.name.text ∷ port_texts more
 
-abbrev pub connected : Scope → Option OpenPort → Option Expr → List Work
-connected at (Some p) (Some x) = port at p.way p.wire p.layout x ∷ []
+abbrev pub connected : Front → Option OpenPort → Option Expr → List Standing
+connected at (Some p) (Some x) = record { at = at; task = connecting p.way p.wire p.layout x } ∷ []
 connected at p x = []
 
-unfoldable pub port_works : Scope → List OpenPort → List Connection → List Work
-port_works at ports [] = []
-port_works at ports (c ∷ more) = connected at (port_named c.0 ports) c.1 ++ port_works at ports more
+unfoldable pub port_works : Front → List Connection → List OpenPort → List Standing
+port_works at [] ports = []
+port_works at (c ∷ more) ports = connected at (port_named c.0 ports) c.1 ++ port_works at more ports
 
--- an instance that was opened: its ports, what it has, and how much there is then
-pub record Opened : Type 0 where
-  pub ports : List OpenPort
-  pub found : Found
-  pub counts : Counts
-
-abbrev pub all_of : Found × Counts → Opened → List Connection → Scope → Found × Counts
-all_of rest x pins at = (beside (record nothing_found { works = port_works at x.ports pins }) (beside x.found rest.0), rest.1)
-
--- each child whole, in order
-unfoldable pub children_from : (Child → Counts → Judged Opened) → List Child → Counts → Judged (Found × Counts)
-children_from f [] counts = Ok (nothing_found, counts)
-children_from f (c ∷ more) counts = do
-  x ← f c counts
-  pins ← connections c.live (port_names x.ports) c.pins
-  rest ← children_from f more x.counts
-  Ok (all_of rest x pins c.live)
+-- the parameters that an instance gives
+unfoldable pub given_by : Front → List Connection → List Given
+given_by at [] = []
+given_by at ((n, None) ∷ more) = given_by at more
+given_by at ((n, Some x) ∷ more) = record { name = n; at = at; value = x } ∷ given_by at more
 
 abbrev pub module_of : Library → Child → Judged Known
 module_of all c = known (module_named c.of_module.text all)
@@ -536,74 +581,45 @@ module_of all c = known (module_named c.of_module.text all)
     known (Some m) = Ok m
 
 -- one instance more
-abbrev pub count_instance : Child → Counts → Judged Counts
-count_instance c counts = provided (size_faults c.name.place (suc counts.bits)) (record counts { bits = suc counts.bits })
+abbrev pub count_instance : Child → Walk
+count_instance c st = provided (size_faults c.name.place (suc st.bits)) (record st { bits = suc st.bits })
 
--- what an instance has: its ports, its declarations in text order with generate blocks in their place, and its children to be opened
-abbrev pub instance_walk : Known → Bool → Name → List (Name × Meaning) → Counts → Judged (List OpenPort × State)
-instance_walk m top prefix params counts =
-    module_walk top m.tree (start_of m prefix params counts []) >>= λ first. module_walk top m.tree (start_of m prefix params counts first.1.own)
-
-abbrev pub opened : Known → Name → Option ℕ → List OpenPort × State → Found × Counts → Opened
-opened m path parent own below = record {
-  ports = own.0;
-  found = beside (record {
-    wires = own.1.wires;
-    works = own.1.works;
-    instances = record { path = path; module_number = m.number; parent = parent; scope = own.1.live } ∷ own.1.instances;
-  }) below.0;
-  counts = below.1;
-}
-
--- An instance of a module: what it has itself, and then its child instances in text order, each whole.
-abbrev pub instance_over : (Child → Counts → Judged Opened) → Known → Bool → Name → Name → Option ℕ → List (Name × Meaning) → Counts → Judged Opened
-instance_over below m top path prefix parent params counts = do
-  own ← instance_walk m top prefix params counts
-  rest ← children_from below own.1.children own.1.counts
-  Ok (opened m path parent own rest)
-
--- an instance below another: no more than so many levels
-unfoldable pub child : ℕ → Library → Child → Counts → Judged Opened
-child zero all c counts = Err (fault instance_deep c.name.place)
-child (suc deep) all c counts = do
+-- An instance below another: what it has itself, and then its child instances in text order, each whole. No more than so many levels.
+unfoldable pub child : ℕ → Library → Child → Walk
+child zero all c st = Err (fault instance_deep c.name.place)
+child (suc deep) all c st = do
   m ← module_of all c
-  pins ← connections c.seen (open_params m.tree) c.params
-  more ← count_instance c counts
-  instance_over (child deep all) m false c.path (c.path ++ dot) (Some c.parent) (overrides c.seen pins) more
+  params ← connections (seen_at st.levels c.at) (open_params m.tree) c.params
+  pins ← connections (seen_at st.levels c.at) (port_texts (ports_of m.tree)) c.pins
+  more ← count_instance c st
+  last ← instance_walk false m.tree (port_works c.at pins) (begun m c.path c.at.level (given_by c.at params) more)
+  walk_all (child deep all) last.children last
 
 -- ---- the file level
 
-abbrev pub no_counts : Counts
-no_counts = record { wires = 0; instances = 0; bits = 0; turns = 0 }
-
--- The names of the file level stand above the modules that come after them.
 abbrev pub file_state : State
 file_state = record {
-  prefix = [];
-  module_number = 0;
+  levels = no_level ∷ [];
   me = 0;
-  seen = [];
-  live = [];
-  own = [];
   taken = [];
   constructs = 0;
   overridden = [];
-  counts = no_counts;
+  bits = 0;
+  turns = 0;
   wires = [];
   works = [];
   children = [];
-  instances = [];
 }
 
 abbrev pub is_there : Option Known → Bool
 is_there None = false
 is_there (Some m) = true
 
--- the modules, numbered in the order of the text, with what they see of the file level; modules have names of their own space (3.13)
-unfoldable pub library : List SourcePart → Library → State → Judged Library
-library [] all st = Ok all
+-- the modules, numbered in the order of the text, and the file level; modules have names of their own space (3.13)
+unfoldable pub library : List SourcePart → Library → State → Judged (Library × State)
+library [] all st = Ok (all, st)
 library (source_part.Module m ∷ more) all st =
-    provided (fault_if (is_there (module_named m.name.text all)) twice m.name.place) (record { tree = m; number = length all; above = st.seen })
+    provided (fault_if (is_there (module_named m.name.text all)) twice m.name.place) (record { tree = m; number = length all; above = (here st).consts })
     >>= λ k. library more (all ++ k ∷ []) st
 library (source_part.Typedef d ∷ more) all st = add_typedef d st >>= library more all
 library (source_part.Param p ∷ more) all st = add_params p st >>= library more all
@@ -668,19 +684,63 @@ top_module all (Some n) = top_named (module_named n all)
 abbrev pub deepest : ℕ
 deepest = 32
 
--- The instances and generate blocks, the wires, and all that contributes or joins
-unfoldable pub scopes : Source → Option Name → Judged Opened
-scopes source top = do
-  all ← library source.parts [] file_state
-  m ← top_module all top
-  instance_over (child deepest all) m true [] [] None [] no_counts
+abbrev pub no_works : List OpenPort → List Standing
+no_works ports = []
 
-abbrev pub design_of : Opened → Design
-design_of x = record { wires = x.found.wires; works = x.found.works; turns = x.counts.turns }
+-- the top with all that is below it
+abbrev pub from_top : Library → Known → State → Judged State
+from_top all m st = instance_walk true m.tree no_works (begun m [] 0 [] st) >>= λ last. walk_all (child deepest all) last.children last
+
+-- The scopes, the wires, and all that contributes or joins
+abbrev pub scopes : Source → Option Name → Judged State
+scopes source top = do
+  file ← library source.parts [] file_state
+  m ← top_module file.0 top
+  from_top file.0 m file.1
+
+-- an instance or a generate block, with all names that it sees
+pub record Instance : Type 0 where
+  pub path : Name
+  pub module_number : ℕ
+  pub parent : Option ℕ
+  pub scope : Scope
+
+-- the number of an instance or block; the file level is none
+abbrev pub instance_number : ℕ → Option ℕ
+instance_number zero = None
+instance_number (suc n) = Some n
+
+abbrev pub end_of_level : ℕ → Level → Front
+end_of_level n x = record { level = n; nets = length x.nets; consts = length x.consts }
+
+unfoldable pub instances_from : ℕ → List Level → List Level → List Instance
+instances_from n all [] = []
+instances_from n all (x ∷ more) =
+    record { path = x.path; module_number = x.module_number; parent = instance_number x.parent; scope = live_at all (end_of_level n x) }
+    ∷ instances_from (suc n) all more
+
+abbrev pub behind : List Level → List Level
+behind [] = []
+behind (x ∷ more) = more
+
+-- Each instance comes before its generate blocks, and these before the instances below it.
+abbrev pub instances : State → List Instance
+instances st = instances_from 1 st.levels (behind st.levels)
+
+abbrev pub work_of : Scope → Task → Work
+work_of at (assigning to x) = assignment at to x
+work_of at (running b) = block at b
+work_of at (connecting w n x actual) = port at w n x actual
+
+abbrev pub work_at : List Level → Standing → Work
+work_at levels s = work_of (live_at levels s.at) s.task
+
+abbrev pub design_of : State → Design
+design_of st = record { wires = st.wires; works = map (work_at st.levels) st.works; turns = st.turns }
 
 -- the design that a source means, where its scopes are sound
 abbrev pub design : Source → Option Name → Judged Design
-design source top = scopes source top >>= λ x. Ok (design_of x)
+design source top = scopes source top >>= λ st. Ok (design_of st)
 
 -- what stands against a source with such a top
 abbrev pub source_faults : Source → Option Name → Faults

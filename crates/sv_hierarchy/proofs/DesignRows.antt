@@ -32,8 +32,8 @@ use Rattle.lhs_alias.specs.declared.segs.WireBit.{WireBit}
 use Rattle.lhs_alias.specs.Segs.{bit as wire_bit}
 use Rattle.settling.specs.Settling.{Store, Contribution, given_to}
 use Rattle.sv_meaning.specs.Designs.{Design, contributions, links_of}
-use Rattle.sv_meaning.specs.Scopes.{design, source_faults}
-use Rattle.sv_meaning.proofs.OnTrees.{designs_on_trees}
+use Rattle.sv_hierarchy.specs.Scopes.{design, source_faults}
+use Rattle.sv_hierarchy.proofs.OnTrees.{designs_on_trees}
 use Rattle.sv_meaning.proofs.Trees.{at, word, lit, name, op}
 
 -- ---- parts of designs

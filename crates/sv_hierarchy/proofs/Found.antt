@@ -8,12 +8,11 @@ use Rattle.sv_outside.specs.declared.refusal.Place.{Place}
 use Rattle.sv_tree.specs.declared.design.Module.{Module}
 use Rattle.sv_tree.specs.declared.design.SourcePart.{SourcePart}
 use Rattle.sv_tree.specs.declared.design.SourcePart.TheVariants as part
-use Rattle.sv_meaning.specs.Faults.{fault_if, twice, Judged, provided, ◌>>=◌}
+use Rattle.sv_meaning.specs.Faults.{Faults, fault_if, or_then, twice, Judged, provided, ◌>>=◌}
 use Rattle.sv_meaning.specs.Layouts.{Name}
 use Rattle.sv_meaning.specs.Names.{has_name}
-use Rattle.sv_meaning.specs.Scopes.{Known, Library, State, library, module_named, is_there, add_typedef, add_params}
-use Rattle.sv_const.proofs.Lists.{no_fault, then_clear}
-use Rattle.sv_modules.specs.Libraries.{modules_in, repeated, IsLibraryOf}
+use Rattle.sv_hierarchy.specs.Scopes.{Known, Library, State, here, library, module_named, is_there, add_typedef, add_params}
+use Rattle.sv_hierarchy.specs.Libraries.{modules_in, repeated, IsLibraryOf}
 
 abbrev tree_of : Known → Module
 tree_of k = k.tree
@@ -24,18 +23,31 @@ number_of k = k.number
 abbrev name_of : Known → Name
 name_of k = k.tree.name.text
 
+-- ---- no fault
+
+then_clear : (a b : Faults) → a ≡ [] → b ≡ [] → or_then a b ≡ []
+then_clear [] b p q = q
+then_clear (x ∷ a) b p q = cc
+
+no_fault : (b : Bool) (n : ℕ) (p : Place) → b ≡ false → fault_if b n p ≡ []
+no_fault false n p h = refl
+no_fault true n p h = cc
+
 -- ---- steps
 
-one_more : (b : Bool) (p : Place) (k : Known) (f : Known → Judged Library) (all : Library) → (provided (fault_if b twice p) k >>= f) ≡ Ok all → (b ≡ false) × (f k ≡ Ok all)
+abbrev Outcome : Type 0
+Outcome = Library × State
+
+one_more : (b : Bool) (p : Place) (k : Known) (f : Known → Judged Outcome) (all : Outcome) → (provided (fault_if b twice p) k >>= f) ≡ Ok all → (b ≡ false) × (f k ≡ Ok all)
 one_more true p k f all h = cc
 one_more false p k f all h = (refl, h)
 
-goes_on : (j : Judged State) (f : State → Judged Library) (all : Library) → (j >>= f) ≡ Ok all → (s : State) × (f s ≡ Ok all)
+goes_on : (j : Judged State) (f : State → Judged Outcome) (all : Outcome) → (j >>= f) ≡ Ok all → (s : State) × (f s ≡ Ok all)
 goes_on (Ok s) f all h = (s, h)
 goes_on (Err why) f all h = cc
 
 unfoldable known_at : Module → Library → State → Known
-known_at m all st = record { tree = m; number = length all; above = st.seen }
+known_at m all st = record { tree = m; number = length all; above = (here st).consts }
 
 there_if : (b : Bool) (m : Known) (o : Option Known) → is_there (if b then Some m else o) ≡ (b || is_there o)
 there_if true m o = refl
@@ -48,9 +60,9 @@ there_is name (m ∷ all) = there_if (bytes_eq m.tree.name.text name) m (module_
 
 -- ---- trees
 
-trees_from : (parts : List SourcePart) (acc : Library) (st : State) (all : Library) → library parts acc st ≡ Ok all → map tree_of all ≡ map tree_of acc ++ modules_in parts
+trees_from : (parts : List SourcePart) (acc : Library) (st : State) (all : Outcome) → library parts acc st ≡ Ok all → map tree_of all.0 ≡ map tree_of acc ++ modules_in parts
 unfolding library modules_in known_at
-trees_from [] acc st all h = let e : acc ≡ all = cc in sym (ap (map tree_of) e) ∙ sym (append-nil (map tree_of acc))
+trees_from [] acc st all h = let e : acc ≡ all.0 = cc in sym (ap (map tree_of) e) ∙ sym (append-nil (map tree_of acc))
 trees_from (part.Module m ∷ more) acc st all h =
     let g = one_more (is_there (module_named m.name.text acc)) m.name.place (known_at m acc st) (λ k. library more (acc ++ k ∷ []) st) all h in
     trees_from more (acc ++ known_at m acc st ∷ []) st all g.1
@@ -70,9 +82,9 @@ length_more : (acc : Library) (k : Known) → length (acc ++ k ∷ []) ≡ suc (
 length_more [] k = refl
 length_more (x ∷ acc) k = ap suc (length_more acc k)
 
-numbers_from : (parts : List SourcePart) (acc : Library) (st : State) (all : Library) → map number_of acc ≡ range_with_len 0 (length acc) → library parts acc st ≡ Ok all → map number_of all ≡ range_with_len 0 (length all)
+numbers_from : (parts : List SourcePart) (acc : Library) (st : State) (all : Outcome) → map number_of acc ≡ range_with_len 0 (length acc) → library parts acc st ≡ Ok all → map number_of all.0 ≡ range_with_len 0 (length all.0)
 unfolding library known_at
-numbers_from [] acc st all n h = let e : acc ≡ all = cc in subst (λ (x : Library). map number_of x ≡ range_with_len 0 (length x)) e n
+numbers_from [] acc st all n h = let e : acc ≡ all.0 = cc in subst (λ (x : Library). map number_of x ≡ range_with_len 0 (length x)) e n
 numbers_from (part.Module m ∷ more) acc st all n h =
     let k = known_at m acc st in
     let g = one_more (is_there (module_named m.name.text acc)) m.name.place k (λ x. library more (acc ++ x ∷ []) st) all h in
@@ -83,17 +95,17 @@ numbers_from (part.Module m ∷ more) acc st all n h =
 numbers_from (part.Typedef d ∷ more) acc st all n h = let g = goes_on (add_typedef d st) (library more acc) all h in numbers_from more acc g.0 all n g.1
 numbers_from (part.Param p ∷ more) acc st all n h = let g = goes_on (add_params p st) (library more acc) all h in numbers_from more acc g.0 all n g.1
 
-pub library_is : (parts : List SourcePart) (st : State) (all : Library) → library parts [] st ≡ Ok all → IsLibraryOf (modules_in parts) all
-library_is parts st all h =
-    let t = trees_from parts [] st all h in
+pub library_is : (parts : List SourcePart) (st last : State) (all : Library) → library parts [] st ≡ Ok (all, last) → IsLibraryOf (modules_in parts) all
+library_is parts st last all h =
+    let t = trees_from parts [] st (all, last) h in
     record {
       trees = t;
-      numbers = numbers_from parts [] st all refl h ∙ ap (λ (i : ℕ). range_with_len 0 i) (sym (length-map all tree_of) ∙ ap length t);
+      numbers = numbers_from parts [] st (all, last) refl h ∙ ap (λ (i : ℕ). range_with_len 0 i) (sym (length-map all tree_of) ∙ ap length t);
     }
 
 -- ---- names
 
-once_from : (parts : List SourcePart) (acc : Library) (st : State) (all : Library) → library parts acc st ≡ Ok all → repeated (map name_of acc) (modules_in parts) ≡ []
+once_from : (parts : List SourcePart) (acc : Library) (st : State) (all : Outcome) → library parts acc st ≡ Ok all → repeated (map name_of acc) (modules_in parts) ≡ []
 unfolding library modules_in repeated known_at
 once_from [] acc st all h = refl
 once_from (part.Module m ∷ more) acc st all h =
@@ -104,5 +116,5 @@ once_from (part.Module m ∷ more) acc st all h =
 once_from (part.Typedef d ∷ more) acc st all h = let g = goes_on (add_typedef d st) (library more acc) all h in once_from more acc g.0 all g.1
 once_from (part.Param p ∷ more) acc st all h = let g = goes_on (add_params p st) (library more acc) all h in once_from more acc g.0 all g.1
 
-pub library_once : (parts : List SourcePart) (st : State) (all : Library) → library parts [] st ≡ Ok all → repeated [] (modules_in parts) ≡ []
-library_once parts st all h = once_from parts [] st all h
+pub library_once : (parts : List SourcePart) (st last : State) (all : Library) → library parts [] st ≡ Ok (all, last) → repeated [] (modules_in parts) ≡ []
+library_once parts st last all h = once_from parts [] st (all, last) h
