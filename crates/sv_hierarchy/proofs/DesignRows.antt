@@ -1,5 +1,5 @@
 -- What small designs are made of, what they contribute and what stands against them, worked out by hand.
-use Rattle.std.proofs.Common.{◌≡◌, ℕ, ◌+◌, true, List, [], ◌∷◌, ◌++◌, map, replicate, refl, codes, ◌==◌, if◌then◌else◌, Some, None, Ok, Err}
+use Rattle.std.proofs.Common.{◌≡◌, ℕ, ◌+◌, true, List, [], ◌∷◌, ◌++◌, map, replicate, refl, codes, ◌==◌, if◌then◌else◌, Option, Some, None, Ok, Err}
 use Rattle.fourvec.specs.declared.Bit.{Bit}
 use Rattle.fourvec.specs.declared.Bit.TheVariants.{Zero, One, Unknown, Floating}
 use Rattle.sv_tree.specs.declared.exprs.Expr.{Expr}
@@ -32,7 +32,7 @@ use Rattle.lhs_alias.specs.declared.segs.WireBit.{WireBit}
 use Rattle.lhs_alias.specs.Segs.{bit as wire_bit}
 use Rattle.settling.specs.Settling.{Store, Contribution, given_to}
 use Rattle.sv_meaning.specs.Designs.{Design, contributions, links_of}
-use Rattle.sv_hierarchy.specs.Scopes.{design, source_faults}
+use Rattle.sv_hierarchy.specs.Scopes.{State, Instance, scopes, instances, design, source_faults}
 use Rattle.sv_hierarchy.proofs.OnTrees.{designs_on_trees}
 use Rattle.sv_meaning.proofs.Trees.{at, word, lit, name, op}
 
@@ -96,6 +96,10 @@ gives (Ok d) prev now = contributions d prev now
 abbrev first_links : Judged Design → List (ℕ × ℕ)
 first_links (Err all) = []
 first_links (Ok d) = map (λ l. (l.0.wire, l.1.wire)) (links_of d.works)
+
+abbrev blocks : Judged State → List (List ℕ × Option ℕ)
+blocks (Err all) = []
+blocks (Ok st) = map (λ (i : Instance). (i.path, i.parent)) (instances st)
 
 -- what a bit is given, without stimuli
 abbrev at_bit : WireBit → Judged Design → Store → List Bit
@@ -310,3 +314,30 @@ port_again = refl
 no_actual : source_faults (source_of (leaf ∷ unit_of (codes "top") [] (instance 20 (codes "leaf") (codes "u") (connect 30 (codes "q") (lit 31 (codes "8'd1")) ∷ []) ∷ []) ∷ [])) None ≡ fault bad_target (at 31)
 unfolding designs_on_trees
 no_actual = refl
+
+-- each instance before its blocks, and these before the instances below it
+looped_blocks : blocks (scopes looped None) ≡ (codes "", None) ∷ (codes "g[0]", Some 0) ∷ (codes "g[1]", Some 0) ∷ (codes "g[0].u", Some 1) ∷ (codes "g[1].u", Some 2) ∷ []
+unfolding designs_on_trees
+looped_blocks = refl
+
+-- what is declared late: a child's port is joined to a net that stands below the instance, and the child's wires come last
+abbrev late : Source
+late = source_of (leaf ∷ unit_of (codes "top") [] (instance 20 (codes "leaf") (codes "u") (connect 30 (codes "p") (name 31 (codes "w")) ∷ []) ∷ Variable byte (word 40 (codes "w") ∷ []) ∷ []) ∷ [])
+
+late_wires : paths (the_source late) ≡ codes "w" ∷ codes "u.p" ∷ codes "u.q" ∷ []
+unfolding designs_on_trees
+late_wires = refl
+
+late_links : first_links (the_source late) ≡ replicate 8 (1, 0)
+unfolding designs_on_trees
+late_links = refl
+
+late_legal : source_faults late None ≡ []
+unfolding designs_on_trees
+late_legal = refl
+
+-- a constant that is declared below an assignment is not seen there
+late_constant : source_faults (alone (output bit (codes "y") ∷ []) (assign 5 (codes "y") (name 7 (codes "P")) ∷ Param (record { word = param_word.Localparam; form = None; list = record { name = word 9 (codes "P"); value = lit 10 (codes "1") } ∷ [] }) ∷ [])) None
+    ≡ fault unknown_name (at 7)
+unfolding designs_on_trees
+late_constant = refl

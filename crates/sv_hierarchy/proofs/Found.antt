@@ -53,7 +53,7 @@ there_if : (b : Bool) (m : Known) (o : Option Known) → is_there (if b then Som
 there_if true m o = refl
 there_if false m o = refl
 
-there_is : (name : Name) (all : Library) → is_there (module_named name all) ≡ has_name name (map name_of all)
+pub there_is : (name : Name) (all : Library) → is_there (module_named name all) ≡ has_name name (map name_of all)
 unfolding module_named has_name
 there_is name [] = refl
 there_is name (m ∷ all) = there_if (bytes_eq m.tree.name.text name) m (module_named name all) ∙ ap (λ b. bytes_eq m.tree.name.text name || b) (there_is name all)

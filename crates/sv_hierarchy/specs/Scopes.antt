@@ -1,5 +1,5 @@
 -- The scopes of a design: its instances and generate blocks, their names, its wires, and all that contributes.
-use Rattle.std.specs.Prelude.{ℕ, zero, suc, ◌+◌, Bool, true, false, ◌&&◌, nat_lt, List, [], ◌∷◌, ◌++◌, length, map, take, bytes_eq, Option, Some, None, Ok, Err, decimal, codes, if◌then◌else◌}
+use Rattle.std.specs.Prelude.{ℕ, zero, suc, ◌+◌, Bool, true, false, ◌&&◌, ◌||◌, nat_lt, List, [], ◌∷◌, ◌++◌, length, map, take, bytes_eq, Option, Some, None, Ok, Err, decimal, codes, if◌then◌else◌}
 use Rattle.std.specs.Fmt.{signed_decimal}
 use mathlib.Core.Former.{Count}
 use Rattle.fourvec.specs.declared.Bit.{Bit}
@@ -130,8 +130,8 @@ pub record State : Type 0 where
   -- all scopes so far, and the number of the one that is read
   pub levels : List Level
   pub me : ℕ
-  -- all names of that one, and how many generate constructs it has
-  pub taken : List Name
+  -- whether a name is declared in that one, and how many generate constructs it has
+  pub taken : Name → Bool
   pub constructs : ℕ
   -- what its parameters are given
   pub overridden : List Given
@@ -142,6 +142,9 @@ pub record State : Type 0 where
   pub works : List Standing
   -- the instances below this one
   pub children : List Child
+
+abbrev pub nothing_taken : Name → Bool
+nothing_taken n = false
 
 abbrev pub Walk : Type 0
 Walk = State → Judged State
@@ -169,7 +172,7 @@ seen st = seen_at st.levels (here st)
 
 -- a name is declared once in its scope
 abbrev pub declare_at : Place → Name → Walk
-declare_at p n st = provided (fault_if (has_name n st.taken) twice p) (record st { taken = n ∷ st.taken })
+declare_at p n st = provided (fault_if (st.taken n) twice p) (record st { taken = λ other. has_name other (n ∷ []) || st.taken other })
 
 abbrev pub declare : Word → Walk
 declare w st = declare_at w.place w.text st
@@ -220,8 +223,11 @@ add_wire input x w st =
     declare w st >>= λ s. provided (size_faults w.place (s.bits + width x)) (with_wire input x w.text s)
 
 -- the layout of a type, whose enumerators become names here
+abbrev pub formed : TypeTree → State → Judged (Layout × State)
+formed t st = form (seen st) t >>= λ x. (add_constants x.1 st >>= λ s. Ok (x.0, s))
+
 abbrev pub with_form : TypeTree → (Layout → Walk) → Walk
-with_form t f st = form (seen st) t >>= λ x. (add_constants x.1 st >>= f x.0)
+with_form t f st = formed t st >>= λ x. f x.0 x.1
 
 abbrev pub with_form_or_bit : Option TypeTree → (Layout → Walk) → Walk
 with_form_or_bit None f st = f (scalar false) st
@@ -289,7 +295,7 @@ inner part more st = record st {
     consts = [];
   } ∷ [];
   me = length st.levels;
-  taken = [];
+  taken = nothing_taken;
   constructs = 0;
   overridden = [];
 }
@@ -457,7 +463,7 @@ port_form p before st = if is_bare p then Ok (before, st) else form_of p.form
   where
     form_of : Option TypeTree → Judged (Layout × State)
     form_of None = Ok (scalar false, st)
-    form_of (Some t) = form (seen st) t >>= λ y. (add_constants y.1 st >>= λ s. Ok (y.0, s))
+    form_of (Some t) = formed t st
 
 -- The first port has a direction, so what stands before it does not count.
 unfoldable pub header_ports : Bool → Way → Layout → List Port → State → Judged (List OpenPort × State)
@@ -537,19 +543,11 @@ begun m path parent params st = record st {
     consts = [];
   } ∷ [];
   me = length st.levels;
-  taken = [];
+  taken = nothing_taken;
   constructs = 0;
   overridden = params;
   children = [];
 }
-
--- What an instance has without its children: its ports, what these are connected to, and its declarations in text order with generate
--- blocks in their place.
-abbrev pub instance_walk : Bool → Module → (List OpenPort → List Standing) → Walk
-instance_walk top m joined st = do
-  s ← header_params (param_word.Parameter, None) m.params st
-  found ← header_ports top way.Input (scalar false) (ports_of m) s
-  walk_all (λ x. (act x).item) m.items (record found.1 { works = found.1.works ++ joined found.0 })
 
 unfoldable pub port_named : Name → List OpenPort → Option OpenPort
 port_named n [] = None
@@ -566,6 +564,14 @@ connected at p x = []
 unfoldable pub port_works : Front → List Connection → List OpenPort → List Standing
 port_works at [] ports = []
 port_works at (c ∷ more) ports = connected at (port_named c.0 ports) c.1 ++ port_works at more ports
+
+-- What an instance has without its children: its ports, what these are connected to, and its declarations in text order with generate
+-- blocks in their place.
+abbrev pub instance_walk : Bool → Module → Front → List Connection → Walk
+instance_walk top m at pins st = do
+  s ← header_params (param_word.Parameter, None) m.params st
+  found ← header_ports top way.Input (scalar false) (ports_of m) s
+  walk_all (λ x. (act x).item) m.items (record found.1 { works = found.1.works ++ port_works at pins found.0 })
 
 -- the parameters that an instance gives
 unfoldable pub given_by : Front → List Connection → List Given
@@ -584,6 +590,10 @@ module_of all c = known (module_named c.of_module.text all)
 abbrev pub count_instance : Child → Walk
 count_instance c st = provided (size_faults c.name.place (suc st.bits)) (record st { bits = suc st.bits })
 
+-- the children that were found, each by such a walk
+abbrev pub below : (Child → Walk) → Walk
+below f st = walk_all f st.children (record st { children = [] })
+
 -- An instance below another: what it has itself, and then its child instances in text order, each whole. No more than so many levels.
 unfoldable pub child : ℕ → Library → Child → Walk
 child zero all c st = Err (fault instance_deep c.name.place)
@@ -592,8 +602,9 @@ child (suc deep) all c st = do
   params ← connections (seen_at st.levels c.at) (open_params m.tree) c.params
   pins ← connections (seen_at st.levels c.at) (port_texts (ports_of m.tree)) c.pins
   more ← count_instance c st
-  last ← instance_walk false m.tree (port_works c.at pins) (begun m c.path c.at.level (given_by c.at params) more)
-  walk_all (child deep all) last.children last
+  own ← instance_walk false m.tree c.at pins (begun m c.path c.at.level (given_by c.at params) more)
+  last ← below (child deep all) own
+  Ok (outer st last)
 
 -- ---- the file level
 
@@ -601,7 +612,7 @@ abbrev pub file_state : State
 file_state = record {
   levels = no_level ∷ [];
   me = 0;
-  taken = [];
+  taken = nothing_taken;
   constructs = 0;
   overridden = [];
   bits = 0;
@@ -684,12 +695,9 @@ top_module all (Some n) = top_named (module_named n all)
 abbrev pub deepest : ℕ
 deepest = 32
 
-abbrev pub no_works : List OpenPort → List Standing
-no_works ports = []
-
--- the top with all that is below it
-abbrev pub from_top : Library → Known → State → Judged State
-from_top all m st = instance_walk true m.tree no_works (begun m [] 0 [] st) >>= λ last. walk_all (child deepest all) last.children last
+-- the top, which nothing is connected to, with all that is below it
+abbrev pub from_top : Library → Known → Walk
+from_top all m st = instance_walk true m.tree (here st) [] (begun m [] 0 [] st) >>= below (child deepest all)
 
 -- The scopes, the wires, and all that contributes or joins
 abbrev pub scopes : Source → Option Name → Judged State

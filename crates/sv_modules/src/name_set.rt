@@ -7,7 +7,7 @@ use std::collections::HashSet;
 
 /// A set of names.
 #[derive(Drop)]
-pub(crate) struct NameSet {
+pub struct NameSet {
     alloc: Global,
     names: HashSet<Vec<u8>>,
 }
@@ -15,7 +15,7 @@ pub(crate) struct NameSet {
 impl NameSet {
     /// Of no names.
     #[tactic(auto, using(crate::proofs::Sets::holds_none))]
-    pub(crate) fn new(alloc: Global) -> NameSet
+    pub fn new(alloc: Global) -> NameSet
         ensures { Holds result [] }
     {
         NameSet {
@@ -26,14 +26,14 @@ impl NameSet {
 
     /// Whether a name is in it.
     #[tactic(auto, unfolding(crate::specs::Naming::holds))]
-    pub(crate) fn has(&self, name: &[u8]) -> bool
+    pub fn has(&self, name: &[u8]) -> bool
         ensures { result ≡ holds self.now name.now }
     {
         self.names.contains(name)
     }
 
     /// Puts a name in.
-    pub(crate) fn add(&mut self, name: &[u8]) -> Result<(), AllocError>
+    pub fn add(&mut self, name: &[u8]) -> Result<(), AllocError>
         ensures { OnOk result (Adds self.old (name.now ∷ []) self.new) }
     {
         let key = name.to_vec(self.alloc)?;
