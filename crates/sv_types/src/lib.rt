@@ -3,6 +3,7 @@
 
 mod bounds;
 mod copies;
+mod depth;
 mod enumerators;
 mod forms;
 mod members;
@@ -11,6 +12,7 @@ mod ranges;
 mod whole;
 
 pub use bounds::Bounds;
+pub use copies::copy;
 pub use enumerators::Enumerator;
 pub use forms::{Formed, form_of, layout_of};
 pub use params::param_value;
