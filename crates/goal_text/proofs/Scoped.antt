@@ -1,0 +1,55 @@
+-- Scopes of vectors, made one by one.
+use Rattle.std.proofs.Common.{◌≡◌, ℕ, zero, suc, ◌+◌, ◌<◌, ◌≤◌, false, true, List, [], ◌∷◌, ◌++◌, length, take, drop, get_or, map, IsTrue, pos, refl, sym, ap, ◌∙◌, append_assoc, arith}
+use Rattle.std.specs.Prelude.{nat_lt, ◌-◌}
+use Rattle.std.proofs.lemmas.List.{map-append, append-nil, length-map, take_all}
+use Rattle.sv_const.specs.Kinds.{Entry, entry_is, scope_is}
+use Rattle.sv_const.specs.Names.{names_are, frames_of, loops_of}
+use Rattle.sv_const.specs.declared.names.Names.{Names}
+use Rattle.sv_meaning.specs.Layouts.{Name, Origin, Scope, What, count_between, plain, signal_is, width}
+use Rattle.sv_meaning.specs.Meanings.{is_bound}
+use Rattle.sv_meaning.proofs.Rising.{width-plain}
+use Rattle.sv_modules.proofs.Turns.{drop_next, drop_none, get_map}
+use Rattle.goal_text.specs.Scopes.{Vector, vectors_from}
+
+-- ---- widths
+
+pub plain_width : (w : ℕ) → 1 ≤ w → width (plain w false) ≡ w
+plain_width zero h = absurd (omega arith)
+plain_width (suc n) h = sym (width-plain (suc n) false refl)
+
+pub count_is : (w : ℕ) → 1 ≤ w → w ≡ count_between (pos (w - 1)) (pos 0)
+count_is w h = ?
+
+pub bound_is : (w : ℕ) → w ≤ 128 → IsTrue (is_bound (pos (w - 1)))
+bound_is w h = ?
+
+-- ---- one vector more
+
+module _ {A : Type 0} (made : A → Vector) (o : Origin) where
+  pub vectors_next : (whole : Scope) (all : List A) (i : ℕ) (x : A) (scope new : List Entry) (e : Entry) → i < length all → x ≡ get_or all i x
+      → entry_is e ≡ ((made x).0, signal_is o i (plain (made x).1 false)) → new ≡ scope ++ e ∷ []
+      → whole ≡ scope_is scope ++ vectors_from o i (map made (drop i all)) → whole ≡ scope_is new ++ vectors_from o (i + 1) (map made (drop (i + 1) all))
+  unfolding vectors_from
+  vectors_next whole all i x scope new e lt is entry pushed h =
+      let rest = vectors_from o (i + 1) (map made (drop (i + 1) all)) in
+      h ∙ ap (λ l. scope_is scope ++ vectors_from o i (map made l)) (drop_next all i x lt is)
+      ∙ ap (λ z. scope_is scope ++ z ∷ rest) (sym entry)
+      ∙ sym (append_assoc (scope_is scope) (entry_is e ∷ []) rest)
+      ∙ ap (λ z. z ++ rest) (sym (map-append entry_is scope (e ∷ [])) ∙ ap scope_is (sym pushed))
+
+  pub vectors_end : (whole : Scope) (all : List A) (i : ℕ) (scope : List Entry) → length all ≤ i
+      → whole ≡ scope_is scope ++ vectors_from o i (map made (drop i all)) → scope_is scope ≡ whole
+  unfolding vectors_from
+  vectors_end whole all i scope le h = sym (h ∙ ap (λ l. scope_is scope ++ vectors_from o i (map made l)) (drop_none all i le) ∙ append-nil (scope_is scope))
+
+-- ---- names over scopes
+
+pub one_scope : (names : Names) (scope : List Entry) (n : ℕ) → n ≡ length scope → frames_of names ≡ take n scope → loops_of names ≡ [] → names_are names ≡ scope_is scope
+one_scope names scope n len frames loops =
+    ap (λ l. scope_is (l ++ loops_of names)) (frames ∙ take_all n scope (omega arith)) ∙ ap (λ l. scope_is (scope ++ l)) loops ∙ ap scope_is (append-nil scope)
+
+pub two_scopes : (names : Names) (a b : List Entry) (n m : ℕ) → n ≡ length a → m ≡ length b → frames_of names ≡ take n a ++ take m b → loops_of names ≡ []
+    → names_are names ≡ scope_is a ++ scope_is b
+two_scopes names a b n m len other frames loops =
+    ap (λ l. scope_is (l ++ loops_of names)) (frames ∙ ap (λ l. l ++ take m b) (take_all n a (omega arith)) ∙ ap (λ l. a ++ l) (take_all m b (omega arith)))
+    ∙ ap (λ l. scope_is ((a ++ b) ++ l)) loops ∙ ap scope_is (append-nil (a ++ b)) ∙ map-append entry_is a b
