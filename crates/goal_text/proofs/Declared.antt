@@ -3,6 +3,7 @@ use Rattle.std.proofs.Common.{◌≡◌, ℕ, zero, suc, ◌+◌, ◌<◌, ◌�
 use Rattle.std.specs.Prelude.{nat_lt, ◌==◌, ◌&&◌, All}
 use Rattle.std.specs.List.{Contains}
 use Rattle.std.proofs.lemmas.List.Elements.{All-get_or, All-map, Contains-append_cases}
+use Rattle.std.proofs.lemmas.Bool.Decides.{nat_tests}
 use Rattle.fourvec.proofs.Order.{both}
 use Rattle.driver_resolve.specs.Drivers.{is_wire}
 use Rattle.sv_meaning.specs.Layouts.{Name, Origin, of_wires, of_choice, of_samples, Scope, What, Layout, NamedSignal, Declared, plain, signal_is, number_is, width}
@@ -45,7 +46,7 @@ layout_in (signal_is o n x) d = x
 layout_in _ d = d
 
 is_wire_at : (widths : List ℕ) (j n w : ℕ) → j < length widths → n ≡ j → w ≡ get_or widths j 0 → IsTrue (is_wire widths n w)
-is_wire_at widths j n w lt e f = subst (λ k. IsTrue (is_wire widths k w)) (sym e) (subst (λ v. IsTrue (is_wire widths j v)) (sym f) (both _ _ (omega arith) (omega arith)))
+is_wire_at widths j n w lt e f = subst (λ k. IsTrue (is_wire widths k w)) (sym e) (subst (λ v. IsTrue (is_wire widths j v)) (sym f) (let a : nat_lt j (length widths) ≡ true = grind (arith, nat_tests) in let b : (get_or widths j 0 == get_or widths j 0) ≡ true = grind (arith, nat_tests) in both _ _ a b))
 
 vector_declared : (o : Origin) (all : List Vector) → All HasWidth (widths_in all) → (s : NamedSignal) → Declared (vectors_from o 0 all) s → IsVector o all s
 vector_declared o all wide s d =

@@ -1,11 +1,16 @@
 -- Scopes of vectors, made one by one.
-use Rattle.std.proofs.Common.{◌≡◌, ℕ, zero, suc, ◌+◌, ◌<◌, ◌≤◌, false, true, List, [], ◌∷◌, ◌++◌, length, take, drop, get_or, map, IsTrue, pos, refl, sym, ap, ◌∙◌, append_assoc, arith}
-use Rattle.std.specs.Prelude.{nat_lt, ◌-◌}
+use Rattle.std.proofs.Common.{◌≡◌, ℕ, zero, suc, ◌+◌, ◌<◌, ◌≤◌, false, true, List, [], ◌∷◌, ◌++◌, length, take, drop, get_or, map, IsTrue, ℤ, pos, ◌*◌, refl, sym, ap, ◌∙◌, subst, append_assoc, arith}
+use Rattle.std.specs.Prelude.{nat_lt, ◌-◌, ◌^◌}
 use Rattle.std.proofs.lemmas.List.{map-append, append-nil, length-map, take_all}
-use Rattle.sv_const.specs.Kinds.{Entry, entry_is, scope_is}
+use Rattle.std.proofs.lemmas.Bool.Decides.{nat_tests}
+use Rattle.fourvec.proofs.Order.{both}
+use Rattle.sv_const.specs.Kinds.{Entry, entry_is, scope_is, form_is, layout_is, FormIsSound, IsSound}
+use Rattle.sv_const.specs.declared.layout.Layout.{Layout}
+use Rattle.sv_const.specs.declared.layout.Form.TheVariants as f
+use Rattle.sv_const.specs.declared.layout.Form.TheBlock.{shape-the_row-Layout-0, hidden-the_row-Layout-0}
 use Rattle.sv_const.specs.Names.{names_are, frames_of, loops_of}
 use Rattle.sv_const.specs.declared.names.Names.{Names}
-use Rattle.sv_meaning.specs.Layouts.{Name, Origin, Scope, What, count_between, plain, signal_is, width}
+use Rattle.sv_meaning.specs.Layouts.{Name, Origin, Scope, What, count_between, dim, plain, scalar, signal_is, width}
 use Rattle.sv_meaning.specs.Meanings.{is_bound}
 use Rattle.sv_meaning.proofs.Rising.{width-plain}
 use Rattle.sv_modules.proofs.Turns.{drop_next, drop_none, get_map}
@@ -18,10 +23,28 @@ plain_width zero h = absurd (omega arith)
 plain_width (suc n) h = sym (width-plain (suc n) false refl)
 
 pub count_is : (w : ℕ) → 1 ≤ w → w ≡ count_between (pos (w - 1)) (pos 0)
-count_is w h = ?
+count_is zero h = absurd (omega arith)
+count_is (suc n) h = let e : suc n - 1 ≡ n = omega arith in subst (λ k. suc n ≡ count_between (pos k) (pos 0)) (sym e) (from_zero n)
+  where
+    from_zero : (k : ℕ) → suc k ≡ count_between (pos k) (pos 0)
+    from_zero k = let e : suc k ≡ suc (k + 0) = omega arith in e
 
 pub bound_is : (w : ℕ) → w ≤ 128 → IsTrue (is_bound (pos (w - 1)))
-bound_is w h = ?
+bound_is w h = let e : nat_lt (w - 1) (2 ^ 31) ≡ true = grind (arith, nat_tests) in both _ _ refl e
+
+-- ---- layouts
+
+-- one range over bits, as code holds its bounds
+layout_made : (w : ℕ) (l r : ℤ) (each : Layout) → layout_is each ≡ scalar false → form_is false (f.Dim l r each) ≡ dim false l r (scalar false)
+unfolding shape-the_row-Layout-0 hidden-the_row-Layout-0 denote.Hole.Carrier.hidden
+layout_made w l r each e = ap (dim false l r) e
+
+sound_made : (w : ℕ) (l r : ℤ) (each : Layout) → layout_is each ≡ scalar false → IsSound each → IsTrue (is_bound l) → IsTrue (is_bound r) → w ≡ count_between l r → 1 ≤ w → w ≤ 128
+    → FormIsSound w false (f.Dim l r each)
+unfolding shape-the_row-Layout-0 hidden-the_row-Layout-0 denote.Hole.Carrier.hidden
+sound_made w l r each e k a b c h g =
+    let d : w ≡ count_between l r * 1 = omega arith in
+    ((d ∙ ap (λ y. count_between l r * width y) (sym e), h, g), a, b, k)
 
 -- ---- one vector more
 
