@@ -1,16 +1,14 @@
 -- What the scopes of goals declare.
-use Rattle.std.proofs.Common.{◌≡◌, ℕ, zero, suc, ◌+◌, ◌<◌, ◌≤◌, ◌⊎◌, inl, inr, Bool, true, false, List, [], ◌∷◌, ◌++◌, length, get_or, map, IsTrue, refl, sym, ap, ◌∙◌, subst, arith}
-use Rattle.std.specs.Prelude.{nat_lt, ◌==◌, ◌&&◌, All}
+use Rattle.std.proofs.Common.{◌≡◌, ℕ, zero, suc, ◌+◌, ◌<◌, ◌⊎◌, inl, inr, true, false, List, [], ◌∷◌, length, get_or, IsTrue, sym, ap, ◌∙◌, subst, arith}
+use Rattle.std.specs.Prelude.{nat_lt, ◌==◌, All}
 use Rattle.std.specs.List.{Contains}
 use Rattle.std.proofs.lemmas.List.Elements.{All-get_or, All-map, Contains-append_cases}
 use Rattle.std.proofs.lemmas.Bool.Decides.{nat_tests}
 use Rattle.fourvec.proofs.Order.{both}
 use Rattle.driver_resolve.specs.Drivers.{is_wire}
-use Rattle.sv_meaning.specs.Layouts.{Name, Origin, of_wires, of_choice, of_samples, Scope, What, Layout, NamedSignal, Declared, plain, signal_is, number_is, width}
+use Rattle.sv_meaning.specs.Layouts.{Name, Origin, of_choice, of_samples, What, Layout, NamedSignal, Declared, plain, signal_is, width}
 use Rattle.sv_stmt.specs.Lowering.{look_test, HoldsOfDeclared}
 use Rattle.sv_stmt.specs.declared.look.Look.TheVariants.{Present}
-use Rattle.svex_arena.specs.declared.shape.VarName.{VarName}
-use Rattle.svex_arena.specs.declared.shape.VarName.TheVariants.{Chosen, Sampled}
 use Rattle.svtv_table.specs.Binding.{HasWidth}
 use Rattle.svtv_table.specs.declared.bound.Sample.{Sample}
 use Rattle.svtv_table.specs.declared.bound.VarDecl.{VarDecl}
@@ -33,15 +31,15 @@ pub record IsVector (o : Origin) (all : List Vector) (s : NamedSignal) : Type 0 
   pub owner : s.owner ≡ o
   pub wire : IsTrue (is_wire (widths_in all) s.number s.width)
 
-owner_in : What → Origin → Origin
+abbrev owner_in : What → Origin → Origin
 owner_in (signal_is o n x) d = o
 owner_in _ d = d
 
-number_in : What → ℕ
+abbrev number_in : What → ℕ
 number_in (signal_is o n x) = n
 number_in _ = 0
 
-layout_in : What → Layout → Layout
+abbrev layout_in : What → Layout → Layout
 layout_in (signal_is o n x) d = x
 layout_in _ d = d
 

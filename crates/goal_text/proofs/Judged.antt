@@ -1,7 +1,6 @@
 -- What stands against goals, one after the other.
-use Rattle.std.proofs.Common.{◌≡◌, ℕ, ◌+◌, ◌<◌, ◌≤◌, Bool, true, false, List, [], ◌∷◌, ◌++◌, length, take, drop, get_or, map, refl, sym, ap, ◌∙◌, subst, arith}
-use Rattle.std.specs.List.{Contains}
-use Rattle.std.proofs.lemmas.List.{map-append}
+use Rattle.std.proofs.Common.{◌≡◌, ℕ, ◌+◌, ◌<◌, ◌≤◌, Bool, true, false, List, [], ◌∷◌, ◌++◌, length, take, drop, get_or, map, Result, Ok, Err, IfErr, refl, sym, ap, ◌∙◌, subst, arith}
+use Rattle.std.specs.Result.{IsErrAnd}
 use Rattle.std.proofs.lemmas.List.Elements.{Contains-append_left, Contains-append_right}
 use Rattle.sv_outside.specs.declared.refusal.Place.{Place}
 use Rattle.sv_outside.specs.declared.refusal.TextErr.{TextErr}
@@ -9,12 +8,11 @@ use Rattle.sv_outside.specs.declared.refusal.TextErr.TheVariants.{No, Memory}
 use Rattle.sv_meaning.specs.Faults.{Faults, fault_if}
 use Rattle.sv_meaning.specs.Layouts.{Name, Scope}
 use Rattle.sv_meaning.specs.Meanings.{free_faults}
-use Rattle.sv_meaning.specs.Names.{has_name}
 use Rattle.sv_meaning.specs.Values.{mean}
 use Rattle.sv_modules.specs.Naming.{holds, Holds, Adds}
 use Rattle.sv_modules.specs.declared.name_set.NameSet.{NameSet}
 use Rattle.sv_modules.proofs.Sets.{holds_more}
-use Rattle.sv_modules.proofs.Turns.{drop_next, drop_none, take_next, map_next}
+use Rattle.sv_modules.proofs.Turns.{drop_next, drop_none, map_next}
 use Rattle.sv_const.specs.Judging.{IsCause}
 use Rattle.sv_tree.specs.declared.exprs.Expr.{Expr}
 use Rattle.goal_tree.specs.declared.tree.GoalTree.{GoalTree}
@@ -27,6 +25,11 @@ cause_left a b Memory h = tt
 pub cause_right : (a b : Faults) (e : TextErr) → IsCause b e → IsCause (a ++ b) e
 cause_right a b (No r) h = Contains-append_right a b r h
 cause_right a b Memory h = tt
+
+-- what `?` hands on
+pub cause_handed : {A : Type 0} (r : Result A TextErr) (e : TextErr) (P : TextErr → Type 0) → IsErrAnd r (λ y. y ≡ e) → P e → IfErr r P
+cause_handed (Ok x) e P h p = tt
+cause_handed (Err y) e P h p = subst P (sym h) p
 
 pub twice : (b : Bool) (p : Place) → b ≡ true → IsCause (fault_if b twice_goal p) (No (record { number = 34; place = p; count = 0 }))
 twice true p e = (0, omega arith, refl)

@@ -1,8 +1,6 @@
 -- The goals of a text, from its trees.
-use Rattle.std.proofs.Common.{◌≡◌, ℕ, ◌⊎◌, inl, inr, List, [], Result, Ok, Err}
+use Rattle.std.proofs.Common.{◌≡◌, ℕ, inl, inr, List, [], Result, Ok, Err}
 use Rattle.std.specs.List.{AllZip}
-use Rattle.sv_outside.specs.declared.refusal.Place.{Place}
-use Rattle.sv_outside.specs.declared.refusal.Refusal.{Refusal}
 use Rattle.sv_outside.specs.declared.refusal.TextErr.{TextErr}
 use Rattle.sv_outside.specs.declared.refusal.TextErr.TheVariants.{No, Memory}
 use Rattle.sv_outside.specs.declared.text.Token.{Token}
@@ -17,7 +15,7 @@ use Rattle.svtv_table.specs.declared.bound.VarDecl.{VarDecl}
 use Rattle.goal_text.specs.declared.goal.Goal.{Goal}
 use Rattle.goal_text.specs.Faults.{goal_faults}
 use Rattle.goal_text.specs.Nodes.{IsGoal}
-use Rattle.goal_text.specs.Goals.{IsCut, Spell, AreGoalsOf, IsUnread, IsFaulty, HasCause, AreTrees}
+use Rattle.goal_text.specs.Goals.{IsCut, AreGoalsOf, HasCause, AreTrees}
 
 module _ (file : ℕ) (text : List ℕ) where
   pub trees_read : (tokens : List Token) (r : Result (List GoalTree) TextErr) → IsCut file text tokens → AreGoals tokens (past (start file) text) r → AreTrees file text r

@@ -1,5 +1,5 @@
 -- Nodes of truths, and that they stay as the arena grows.
-use Rattle.std.proofs.Common.{◌≡◌, ℕ, ◌<◌, ◌≤◌, Bool, List, [], ◌∷◌, ◌++◌, length, take, get_or, IsTrue, refl, sym, ap, ◌∙◌, subst, arith}
+use Rattle.std.proofs.Common.{◌≡◌, ℕ, ◌+◌, ◌<◌, Bool, List, [], ◌∷◌, ◌++◌, length, take, get_or, IsTrue, refl, sym, ap, ◌∙◌, subst, arith}
 use Rattle.std.specs.List.{AllZip}
 use Rattle.fourvec.specs.declared.Bit.{Bit}
 use Rattle.fourvec.specs.Bits.{first, truth_of}
@@ -20,7 +20,6 @@ use Rattle.svex_arena.specs.declared.shape.Shape.{Shape}
 use Rattle.svex_arena.specs.declared.shape.Shape.TheVariants.{Unary}
 use Rattle.svex_arena.specs.declared.shape.Un.TheVariants.{Truth}
 use Rattle.svex_arena.specs.declared.shape.VarName.{VarName}
-use Rattle.svex_arena.specs.Shapes.{width_at}
 use Rattle.svex_arena.specs.Values.{each_variable}
 use Rattle.svex_arena.specs.Arenas.{Extends, Interned, IsArena}
 use Rattle.svex_arena.proofs.Steps.{value-extends, width-extends, variables-extends}

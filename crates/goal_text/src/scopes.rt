@@ -1,5 +1,5 @@
 // The variables and samples of a table as names.
-ghost use Rattle.std.specs.Prelude.{◌≡◌, ◌++◌, ◌≤◌, All, IfOk, IsTrue, false, pos};
+ghost use Rattle.std.specs.Prelude.{◌≡◌, ◌++◌, ◌≤◌, All, IfOk, IsTrue, false};
 ghost use Rattle.goal_text.specs.Scopes.{variables_of, samples_of};
 ghost use Rattle.sv_const.specs.Kinds.{layout_is, scope_is, IsSound};
 ghost use Rattle.sv_const.specs.Names.{names_are};
@@ -12,29 +12,34 @@ use std::alloc::{AllocError, Global};
 use sv_const::{Form, Layout, Names, Scope, What};
 use svtv_table::{Sample, VarDecl};
 
-// [left:0], unsigned, where that has so many bits.
-fn range(alloc: Global, width: u8, left: i64) -> Result<Layout, AllocError>
-    requires some { 1 ≤ width }
-    requires most { width ≤ 128 }
-    requires bound { IsTrue (is_bound left) }
-    requires bits { width ≡ count_between left (pos 0) }
-    ensures is { IfOk result (λ x. layout_is x ≡ dim false left (pos 0) (scalar false)) }
-    ensures sound { IfOk result IsSound }
+// One bit, unsigned.
+fn bit() -> Layout
+    ensures is { layout_is result ≡ scalar false }
+    ensures sound { IsSound result }
 {
-    let bit = Layout {
+    Layout {
         width: 1,
         signed: false,
         form: Form::Scalar,
-    };
-    let each = Boxed::new(alloc, bit)?;
+    }
+}
+
+// [left:right], unsigned, where that has so many bits.
+fn range(alloc: Global, width: u8, left: i64, right: i64) -> Result<Layout, AllocError>
+    requires some { 1 ≤ width }
+    requires most { width ≤ 128 }
+    requires left { IsTrue (is_bound left) }
+    requires right { IsTrue (is_bound right) }
+    requires bits { width ≡ count_between left right }
+    ensures is { IfOk result (λ x. layout_is x ≡ dim false left right (scalar false)) }
+    ensures sound { IfOk result IsSound }
+{
+    let each = Boxed::new(alloc, bit())?;
+    let form = Form::Dim { left, right, each };
     Ok(Layout {
         width,
         signed: false,
-        form: Form::Dim {
-            left,
-            right: 0,
-            each,
-        },
+        form,
     })
 }
 
@@ -45,7 +50,8 @@ fn vector(alloc: Global, width: u8) -> Result<Layout, AllocError>
     ensures is { IfOk result (λ x. layout_is x ≡ plain width false) }
     ensures sound { IfOk result IsSound }
 {
-    range(alloc, width, i64::from(width - 1))
+    let left = i64::from(width - 1);
+    range(alloc, width, left, 0)
 }
 
 /// The variables of a table.
