@@ -24,7 +24,7 @@ goal g { claim a === b; } => E25 1:18
 goal g { claim a ** b; } => E25 1:18
 goal g § => E1 1:8
 goal g /* => E2 1:8
-goal g { claim (((((((((((((((((((((((((((((((((((((((((((((((((((((((((((((((((((((((((((((((((((((((((((((((((((((((((((((((((((((((((((((((((((((((((((((((((((((((((((((((((((((((((((((((((((((((((((((((((((((((((a))))))))))))))))))))))))))))))))))))))))))))))))))))))))))))))))))))))))))))))))))))))))))))))))))))))))))))))))))))))))))))))))))))))))))))))))))))))))))))))))))))))))))))))))))))))))))))))))))))))))); } => E9 1:216
+goal g { claim (((((((((((((((((((((((((((((((((((((((((((((((((((((((((((((((((((((((((((((((((((((((((((((((((((((((((((((((((((((((((((((((((((((((((((((((((((((((((((((((((((((((((((((((((((((((((((((((((((((((((a))))))))))))))))))))))))))))))))))))))))))))))))))))))))))))))))))))))))))))))))))))))))))))))))))))))))))))))))))))))))))))))))))))))))))))))))))))))))))))))))))))))))))))))))))))))))))))))))))))))))); } => E9 1:217
 goal g { hyp s; claim s; } => E12 1:14
 goal g { claim q; } => E12 1:16
 goal g { claim {a, '1}; } => E14 1:20
@@ -40,6 +40,7 @@ goal g { claim a < b; claim a > b; } => 1000 0111 0, 0000 0 = 01
 goal g { claim a[3]; claim a[0]; claim s[2:1] == 2'b01; } => 1000 0000 0, 0010 0 = 101
 goal goal { hyp c; claim c; } goal claim { hyp a; hyp !c; claim z; claim c || z; } => 0000 0000 1, 0000 0 = 110001";
 
+#[tactic(auto, using(fourvec::proofs::Basic::views))]
 fn digit(code: u8) -> Option<Four>
     ensures { IfSome result (λ d. length d ≡ 1) }
 {
@@ -135,12 +136,7 @@ fn shown(alloc: Global, arena: &Arena, node: Node, env: &Env) -> Result<u8, Allo
     Ok(b'?')
 }
 
-fn truths(
-    alloc: Global,
-    arena: &Arena,
-    goals: &[Goal],
-    env: &Env,
-) -> Result<Vec<u8>, AllocError> {
+fn truths(alloc: Global, arena: &Arena, goals: &[Goal], env: &Env) -> Result<Vec<u8>, AllocError> {
     let mut found = Vec::new(alloc);
     for goal in goals {
         for node in goal.hyps.as_slice() {
