@@ -1,0 +1,5 @@
+pub mod Declared
+pub mod Judged
+pub mod Scoped
+pub mod Texts
+pub mod Truths

@@ -1,0 +1,4 @@
+pub mod Faults
+pub mod Goals
+pub mod Nodes
+pub mod Scopes

@@ -1,0 +1,108 @@
+// The variables and samples of a table as names.
+ghost use Rattle.std.specs.Prelude.{◌≡◌, ◌++◌, ◌≤◌, All, IfOk, IsTrue, false};
+ghost use Rattle.goal_text.specs.Scopes.{variables_of, samples_of};
+ghost use Rattle.sv_const.specs.Kinds.{layout_is, scope_is, IsSound};
+ghost use Rattle.sv_const.specs.Names.{names_are};
+ghost use Rattle.sv_meaning.specs.Layouts.{count_between, dim, plain, scalar};
+ghost use Rattle.sv_meaning.specs.Meanings.{is_bound};
+ghost use Rattle.svtv_table.specs.Binding.{HasWidth};
+
+use items::Boxed;
+use std::alloc::{AllocError, Global};
+use sv_const::{Form, Layout, Names, Scope, What};
+use svtv_table::{Sample, VarDecl};
+
+// One bit, unsigned.
+fn bit() -> Layout
+    ensures is { layout_is result ≡ scalar false }
+    ensures sound { IsSound result }
+{
+    Layout {
+        width: 1,
+        signed: false,
+        form: Form::Scalar,
+    }
+}
+
+// [left:right], unsigned, where that has so many bits.
+fn range(alloc: Global, width: u8, left: i64, right: i64) -> Result<Layout, AllocError>
+    requires some { 1 ≤ width }
+    requires most { width ≤ 128 }
+    requires left { IsTrue (is_bound left) }
+    requires right { IsTrue (is_bound right) }
+    requires bits { width ≡ count_between left right }
+    ensures is { IfOk result (λ x. layout_is x ≡ dim false left right (scalar false)) }
+    ensures sound { IfOk result IsSound }
+{
+    let each = Boxed::new(alloc, bit())?;
+    let form = Form::Dim { left, right, each };
+    Ok(Layout {
+        width,
+        signed: false,
+        form,
+    })
+}
+
+// [width-1:0], unsigned.
+fn vector(alloc: Global, width: u8) -> Result<Layout, AllocError>
+    requires some { 1 ≤ width }
+    requires most { width ≤ 128 }
+    ensures is { IfOk result (λ x. layout_is x ≡ plain width false) }
+    ensures sound { IfOk result IsSound }
+{
+    let left = i64::from(width - 1);
+    range(alloc, width, left, 0)
+}
+
+/// The variables of a table.
+pub fn variables(alloc: Global, vars: &[VarDecl]) -> Result<Scope, AllocError>
+    requires { All (λ var. HasWidth var.width) vars.now }
+    ensures { IfOk result (λ scope. scope_is scope ≡ variables_of vars.now) }
+{
+    let mut scope = Scope::new(alloc);
+    'vars: for (number, var) in vars.iter().enumerate() {
+        let layout = vector(alloc, var.width)?;
+        let name = var.name.copy()?;
+        scope.push(name, What::Chosen { number, layout })?;
+    }
+    Ok(scope)
+}
+
+/// The samples of a table.
+pub fn sampled(alloc: Global, samples: &[Sample]) -> Result<Scope, AllocError>
+    requires { All (λ sample. HasWidth sample.width) samples.now }
+    ensures { IfOk result (λ scope. scope_is scope ≡ samples_of samples.now) }
+{
+    let mut scope = Scope::new(alloc);
+    'samples: for (number, sample) in samples.iter().enumerate() {
+        let layout = vector(alloc, sample.width)?;
+        let name = sample.name.copy()?;
+        scope.push(name, What::Sampled { number, layout })?;
+    }
+    Ok(scope)
+}
+
+/// What hypotheses name: variables.
+#[tactic(auto, using(crate::proofs::Scoped::one_scope))]
+pub fn hyp_names<'a>(alloc: Global, variables: &'a Scope) -> Result<Names<'a>, AllocError>
+    ensures { IfOk result (λ names. names_are names ≡ scope_is variables.now) }
+{
+    let mut names = Names::new(alloc);
+    names.push_scope(variables, variables.len())?;
+    Ok(names)
+}
+
+/// What claims name: variables and samples.
+#[tactic(auto, using(crate::proofs::Scoped::two_scopes))]
+pub fn claim_names<'a>(
+    alloc: Global,
+    variables: &'a Scope,
+    samples: &'a Scope,
+) -> Result<Names<'a>, AllocError>
+    ensures { IfOk result (λ names. names_are names ≡ scope_is variables.now ++ scope_is samples.now) }
+{
+    let mut names = Names::new(alloc);
+    names.push_scope(variables, variables.len())?;
+    names.push_scope(samples, samples.len())?;
+    Ok(names)
+}
