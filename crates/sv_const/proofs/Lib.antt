@@ -4,6 +4,7 @@ pub mod Sound
 pub mod Read
 pub mod Starts
 pub mod Lookups
+pub mod Latest
 pub mod Vectors
 pub mod Chains
 pub mod Judged

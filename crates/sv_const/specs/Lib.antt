@@ -1,4 +1,5 @@
 pub mod Kinds
+pub mod Linked
 pub mod Names
 pub mod Cursors
 pub mod Literals

@@ -8,6 +8,7 @@ mod cursor;
 mod evaluate;
 mod fixed;
 mod layout;
+mod links;
 mod literals;
 mod names;
 mod numbers;

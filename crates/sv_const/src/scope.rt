@@ -1,10 +1,12 @@
 // Names in the order in which they are declared.
 ghost use Rattle.std.specs.Prelude.{◌≡◌, [], ◌∷◌, ◌++◌, length, take, OnOk, OnErr, All, option_map, ◌≤◌, IfSome, MatchOption};
 ghost use Rattle.std.specs.Option.{option_copied};
-ghost use Rattle.sv_const.specs.Kinds.{scope_is, what_is, WhatIsSound, EntryIsSound};
+ghost use Rattle.sv_const.specs.Kinds.{scope_is, what_is, names_of, WhatIsSound, EntryIsSound};
+ghost use Rattle.sv_const.specs.Linked.{IsLinked};
 ghost use Rattle.sv_meaning.specs.Layouts.{find};
 
 use crate::What;
+use crate::links::Links;
 use std::alloc::{AllocError, Global};
 use std::marker::Model;
 use sv_outside::Name;
@@ -13,12 +15,14 @@ use sv_outside::Name;
 #[derive(Drop)]
 pub struct Scope {
     list: Vec<(Name, What)>,
+    links: Links,
 }
 
 impl Model for Scope {
     ghost use Rattle.std.specs.Prelude.{List, ℕ, All};
     ghost use Rattle.sv_const.specs.declared.layout.What.{What};
-    ghost use Rattle.sv_const.specs.Kinds.{EntryIsSound};
+    ghost use Rattle.sv_const.specs.Kinds.{EntryIsSound, names_of};
+    ghost use Rattle.sv_const.specs.Linked.{IsLinked};
     ghost use Rattle.std.specs.Coded.{codes};
     ghost use Rattle.sv_const.specs.contracts.layout.Form as form;
 
@@ -28,7 +32,7 @@ impl Model for Scope {
 
     ghost view = { λ a. a.list.items };
 
-    ghost invariant = { λ a. All EntryIsSound a.list.items };
+    ghost invariant = { λ a. record { sound : All EntryIsSound a.list.items; linked : IsLinked a.links (names_of a.list.items) } };
 }
 
 impl Scope {
@@ -38,6 +42,7 @@ impl Scope {
     {
         Scope {
             list: Vec::new(alloc),
+            links: Links::new(alloc),
         }
     }
 
@@ -54,7 +59,9 @@ impl Scope {
         ensures ok { OnOk result (self.new ≡ self.old ++ (name, what) ∷ []) }
         ensures err { OnErr result (self.new ≡ self.old) }
     {
-        self.list.push((name, what))?;
+        self.list.reserve(1)?;
+        self.links.note(name.bytes())?;
+        self.list.push_reserved((name, what));
         Ok(())
     }
 
@@ -64,14 +71,22 @@ impl Scope {
             ((self.old ≡ []) × (self.new ≡ []))
             (λ last. self.old ≡ self.new ++ last ∷ []) }
     {
-        self.list.pop()
+        match self.list.pop() {
+            Some(last) => {
+                self.links.forget(last.0.bytes());
+                Some(last)
+            }
+            None => None,
+        }
     }
 
     /// Takes all declarations off but the first so many.
     pub fn truncate(&mut self, count: usize)
         ensures { self.new ≡ take count self.old }
     {
-        self.list.truncate(count);
+        'declared: while self.len() > count {
+            let _ = self.pop();
+        }
     }
 
     /// The last declaration of a name among the first `before`.
@@ -79,22 +94,29 @@ impl Scope {
         ensures is { option_map what_is (option_copied result) ≡ find name.now (scope_is (take before self.now)) }
         ensures sound { IfSome result (λ what. WhatIsSound what.now) }
     {
-        last_of(&self.list, name, before.min(self.list.len()))
+        last_of(&self.list, &self.links, name, before.min(self.list.len()))
     }
 }
 
 // The last entry of a name among the first `before`.
-fn last_of<'a>(entries: &'a [(Name, What)], name: &[u8], before: usize) -> Option<&'a What>
+fn last_of<'a>(
+    entries: &'a [(Name, What)],
+    links: &Links,
+    name: &[u8],
+    before: usize,
+) -> Option<&'a What>
     requires within { before ≤ length entries.now }
     requires sound { All EntryIsSound entries.now }
+    requires linked { IsLinked links.now (names_of entries.now) }
     ensures is { option_map what_is (option_copied result) ≡ find name.now (scope_is (take before entries.now)) }
     ensures sound { IfSome result (λ what. WhatIsSound what.now) }
 {
-    for at in (0..before).rev() {
-        let entry = &entries[at];
-        if entry.0.bytes() == name {
-            return Some(&entry.1);
+    let mut latest = links.latest(name);
+    'places: while let Some(place) = latest {
+        if place < before {
+            return Some(&entries[place].1);
         }
+        latest = links.earlier(place);
     }
     None
 }

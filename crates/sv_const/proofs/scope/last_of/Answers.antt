@@ -1,25 +1,32 @@
-use Rattle.std.proofs.Common.{◌≡◌, ◌-◌, ℕ, List, take, Bool, true, false, bytes_eq, Some, sym, ap, ◌∙◌, arith, if◌then◌else◌}
-use Rattle.sv_meaning.specs.Layouts.{find}
-use Rattle.sv_const.specs.Kinds.{what_is, scope_is}
-use Rattle.sv_const.proofs.Lookups.{find_last}
+use Rattle.std.proofs.Common.{◌∙◌, ◌<◌, ◌≤◌, Option, Some, ℕ, length, sym, ap, subst, arith}
+use Rattle.sv_const.specs.Kinds.{Entry, names_of, what_is}
+use Rattle.sv_const.proofs.Latest.{left, found_here, found_nowhere, next_place, place_below, falls}
 use Rattle.sv_const.proofs.scope.last_of.Goals as goal
 
-pub returns-then-eq-clause-is : goal.returns-then-eq-clause-is
-returns-then-eq-clause-is c =
-    let e = c.index-entries-at.result in
-    let b : bytes_eq e.0 c.args.name.now ≡ true = ap (λ (t : List ℕ). bytes_eq t c.args.name.now) (sym c.bytes.ensures) ∙ sym c.eq.ensures ∙ c.if-eq.true in
-    let l : find c.args.name.now (scope_is (take c.loop-at.at c.args.entries.now)) ≡ (if bytes_eq e.0 c.args.name.now then Some (what_is e.1) else find c.args.name.now (scope_is (take (c.loop-at.at - 1) c.args.entries.now))) =
-    find_last c.args.name.now c.args.entries.now c.loop-at.at (c.loop-at.at - 1) e (omega arith) (omega arith) c.index-entries-at.is in
-    sym (ap (λ (t : Bool). if t then Some (what_is e.1) else find c.args.name.now (scope_is (take (c.loop-at.at - 1) c.args.entries.now))) b) ∙ sym l ∙ c.loop-at.invariant
+pub returns-then-place-before-clause-is : goal.returns-then-place-before-clause-is
+returns-then-place-before-clause-is c =
+    let at = c.places.invariant in
+    ap (λ (x : Entry). Some (what_is x.1)) (sym c.index-entries-place.is)
+    ∙ found_here c.args.entries.now c.args.name.now at.0 c.args.before c.in-Some.place c.index-entries-place.result (sym at.3 ∙ c.in-Some.is) at.1 c.requires.within c.if-place-before.true c.index-entries-place.is
 
-pub loop-at-preserved : goal.loop-at-preserved
-loop-at-preserved c =
-    let e = c.index-entries-at.result in
-    let b : bytes_eq e.0 c.args.name.now ≡ false = ap (λ (t : List ℕ). bytes_eq t c.args.name.now) (sym c.bytes.ensures) ∙ sym c.eq.ensures ∙ c.if-eq.false in
-    let l : find c.args.name.now (scope_is (take c.loop-at.at c.args.entries.now)) ≡ (if bytes_eq e.0 c.args.name.now then Some (what_is e.1) else find c.args.name.now (scope_is (take (c.loop-at.at - 1) c.args.entries.now))) =
-    find_last c.args.name.now c.args.entries.now c.loop-at.at (c.loop-at.at - 1) e (omega arith) (omega arith) c.index-entries-at.is in
-    sym (ap (λ (t : Bool). if t then Some (what_is e.1) else find c.args.name.now (scope_is (take (c.loop-at.at - 1) c.args.entries.now))) b) ∙ sym l ∙ c.loop-at.invariant
+pub places-smaller : goal.places-smaller
+places-smaller c =
+    let at = c.places.invariant in
+    let next = next_place c.args.entries.now c.args.name.now at.0 c.in-Some.place c.earlier-latest.result at.2 (sym at.3 ∙ c.in-Some.is) (c.earlier-latest.ensures (names_of c.args.entries.now) c.requires.linked) in
+    subst (λ (x : Option ℕ). left c.earlier-latest.result < left x) (sym c.in-Some.is) (falls (names_of c.args.entries.now) c.args.name.now c.in-Some.place c.earlier-latest.result next)
+
+pub places-preserved : goal.places-preserved
+places-preserved c =
+    let at = c.places.invariant in
+    let below : c.in-Some.place < at.0 = place_below (names_of c.args.entries.now) c.args.name.now at.0 c.in-Some.place (sym at.3 ∙ c.in-Some.is) in
+    let within : c.in-Some.place ≤ length c.args.entries.now = omega (arith, at.2) in (
+      c.in-Some.place,
+      c.if-place-before.false,
+      within,
+      next_place c.args.entries.now c.args.name.now at.0 c.in-Some.place c.earlier-latest.result at.2 (sym at.3 ∙ c.in-Some.is) (c.earlier-latest.ensures (names_of c.args.entries.now) c.requires.linked),
+    )
 
 pub returns-clause-is : goal.returns-clause-is
-unfolding find
-returns-clause-is c = let z : c.loop-at.at ≡ 0 = omega arith in ap (λ (x : ℕ). find c.args.name.now (scope_is (take x c.args.entries.now))) (sym z) ∙ c.loop-at.invariant
+returns-clause-is c =
+    let at = c.places.invariant in
+    found_nowhere c.args.entries.now c.args.name.now at.0 c.args.before (sym at.3 ∙ c.in_default.is) at.1 c.requires.within

@@ -1,7 +1,12 @@
-use Rattle.std.proofs.Common.{◌≡◌, take}
-use Rattle.sv_const.specs.Kinds.{scope_is}
-use Rattle.sv_meaning.specs.Layouts.{find}
+use Rattle.std.proofs.Common.{◌≡◌, ℕ, ◌≤◌, length}
+use Rattle.sv_const.specs.Kinds.{names_of}
+use Rattle.sv_const.specs.Linked.{last_among}
+use Rattle.sv_const.proofs.Latest.{left}
 use Rattle.sv_const.proofs.scope.last_of.Given as goal
 
-abbrev pub invariant-loop-at : goal.invariant-loop-at
-invariant-loop-at l = find l.name (scope_is (take l.at l.entries)) ≡ find l.name (scope_is (take l.before l.entries))
+-- it is the last place below some bound
+abbrev pub invariant-places : goal.invariant-places
+invariant-places l = (bound : ℕ) × (l.before ≤ bound) × (bound ≤ length l.entries) × (l.latest ≡ last_among (names_of l.entries) l.name bound)
+
+abbrev pub decreases-places : goal.decreases-places
+decreases-places l = left l.latest
