@@ -6,9 +6,9 @@ use items::{Boxed, Items};
 use std::alloc::{AllocError, Global};
 use sv_const::{Field, Form, Layout};
 
-/// The same layout again.
+/// The same layout again; an error where memory is out.
 #[cycle(copy)]
-pub(crate) fn copy(alloc: Global, layout: &Layout) -> Result<Layout, AllocError>
+pub fn copy(alloc: Global, layout: &Layout) -> Result<Layout, AllocError>
     requires { IsSound layout.now }
     ensures { IfOk result (λ x. x ≡ layout.now) }
 {

@@ -11,6 +11,7 @@ mod ranges;
 mod whole;
 
 pub use bounds::Bounds;
+pub use copies::copy;
 pub use enumerators::Enumerator;
 pub use forms::{Formed, form_of, layout_of};
 pub use params::param_value;

@@ -1,0 +1,6 @@
+pub mod Levels
+pub mod Walks
+pub mod Ports
+pub mod Items
+pub mod Library
+pub mod Scoped

@@ -1,0 +1,14 @@
+-- The ports of an instance as code holds them.
+use Rattle.std.specs.Prelude.{List, [], ◌∷◌, Option, Some, None, map}
+use Rattle.std.specs.List.{All}
+use Rattle.std.specs.Borrow.{Bor}
+use Rattle.sv_tree.specs.declared.design.Port.{Port}
+use Rattle.sv_const.specs.Kinds.{IsSound, layout_is}
+use Rattle.sv_hierarchy.specs.Scopes as m
+use Rattle.sv_scope.specs.declared.header.OpenPort.{OpenPort}
+
+abbrev pub port_is : OpenPort → m.OpenPort
+port_is p = record { name = p.name.now.text; way = p.way; wire = p.wire; layout = layout_is p.layout }
+
+abbrev pub PortsAreSound : List OpenPort → Type 0
+PortsAreSound all = All (λ (p : OpenPort). IsSound p.layout) all
