@@ -30,18 +30,18 @@ fn head_of(body: &Gen) -> (Option<&Word>, Place)
 
 impl<'a> Walker<'a> {
     // A block of that name in a path is begun, in which these names stand first.
-    fn begin(&mut self, open: &Open<'a>, part: &[u8], nets: Scope) -> Result<Open<'a>, AllocError>
-        ensures { IfOk result (λ block. state_of self.new block ≡ inner part.now (scope_is nets) (state_of self.old open.now)) }
+    fn begin(&mut self, current: &Open<'a>, part: &[u8], nets: Scope) -> Result<Open<'a>, AllocError>
+        ensures { IfOk result (λ block. state_of self.new block ≡ inner part.now (scope_is nets) (state_of self.old current.now)) }
     {
-        let at = self.here(open);
-        let path = self.levels.path(self.alloc, open.level, part)?;
+        let at = self.here(current);
+        let path = self.levels.path(self.alloc, current.level, part)?;
         let around = self.levels.fronts(self.alloc, at)?;
-        let module = self.levels.module(open.level);
+        let module = self.levels.module(current.level);
         let level = self.levels.len();
         self.levels.push(Level {
             path,
             module,
-            parent: open.level,
+            parent: current.level,
             around,
             nets,
             consts: Scope::new(self.alloc),
@@ -52,33 +52,33 @@ impl<'a> Walker<'a> {
     /// A block with a label, or with the number of its construct, is declared and begun; or E13 (27.6).
     pub(crate) fn block(
         &mut self,
-        open: &mut Open<'a>,
+        current: &mut Open<'a>,
         label: Option<&Word>,
         place: Place,
         number: usize,
     ) -> Result<Open<'a>, TextErr>
-        ensures { Begins (option_copied label.entry) place number self.old open.old self.new open.new result }
+        ensures { Begins (option_copied label.entry) place number self.old current.old self.new current.new result }
     {
         let name = block_name(self.alloc, label, number)?;
-        open.declare_at(block_place(label, place), name.bytes())?;
-        let block = self.begin(open, name.bytes(), Scope::new(self.alloc))?;
+        current.declare_at(block_place(label, place), name.bytes())?;
+        let block = self.begin(current, name.bytes(), Scope::new(self.alloc))?;
         Ok(block)
     }
 
     /// A loop with these values of its variable is a construct more, whose name is declared where there are turns; or E13.
     pub(crate) fn begin_loop(
         &self,
-        open: &mut Open<'a>,
+        current: &mut Open<'a>,
         values: Items<Four>,
         body: &Gen,
     ) -> Result<Turns, TextErr>
-        ensures { BeginsLoop body.now values self.now open.old open.new result }
+        ensures { BeginsLoop body.now values self.now current.old current.new result }
     {
-        open.next_construct()?;
+        current.next_construct()?;
         let (label, start) = head_of(body);
-        let name = block_name(self.alloc, label, open.constructs)?;
+        let name = block_name(self.alloc, label, current.constructs)?;
         if !values.is_empty() {
-            open.declare_at(block_place(label, start), name.bytes())?;
+            current.declare_at(block_place(label, start), name.bytes())?;
         }
         Ok(Turns { name, values })
     }
@@ -86,18 +86,18 @@ impl<'a> Walker<'a> {
     /// The block of a turn of the loop at a place is begun, with the variable of these bits; or E20 (27.4).
     pub(crate) fn begin_turn(
         &mut self,
-        open: &Open<'a>,
+        current: &Open<'a>,
         place: Place,
         name: &[u8],
         variable: &Word,
         bits: Four,
     ) -> Result<Open<'a>, TextErr>
-        ensures { Answers (λ st block. st ≡ state_of self.new block) (opened_turn place name.now variable.now.text bits (state_of self.old open.now)) result }
+        ensures { Answers (λ st block. st ≡ state_of self.new block) (opened_turn place name.now variable.now.text bits (state_of self.old current.now)) result }
     {
         self.tally = self.tally.with_turn(place)?;
         let part = turn_name(self.alloc, name, &bits)?;
         let nets = index_scope(self.alloc, variable, bits)?;
-        let block = self.begin(open, part.bytes(), nets)?;
+        let block = self.begin(current, part.bytes(), nets)?;
         Ok(block)
     }
 }

@@ -22,13 +22,13 @@ impl<'a> Walker<'a> {
     /// Continuous assignments (IEEE 1800-2017, 10.3).
     pub(crate) fn add_assignments(
         &mut self,
-        open: &mut Open<'a>,
+        current: &mut Open<'a>,
         list: &'a [AssignPair],
     ) -> Result<(), TextErr>
-        ensures { Walks (walk_all add_assignment list.now) self.old open.old self.new open.new result }
+        ensures { Walks (walk_all add_assignment list.now) self.old current.old self.new current.new result }
     {
         'list: for pair in list {
-            self.add_work(open, Task::Assigning(&pair.target, &pair.value))?;
+            self.add_work(current, Task::Assigning(&pair.target, &pair.value))?;
         }
         Ok(())
     }
@@ -36,15 +36,15 @@ impl<'a> Walker<'a> {
     // An instance that is to be opened, or E13 at its name.
     fn add_child(
         &mut self,
-        open: &mut Open<'a>,
+        current: &mut Open<'a>,
         inst: &'a Inst,
         one: &'a One,
     ) -> Result<(), TextErr>
-        ensures { Walks (add_child inst.now one.now) self.old open.old self.new open.new result }
+        ensures { Walks (add_child inst.now one.now) self.old current.old self.new current.new result }
     {
-        open.declare_at(one.name.place, one.name.text.bytes())?;
-        let at = self.here(open);
-        let path = self.levels.path(self.alloc, open.level, one.name.text.bytes())?;
+        current.declare_at(one.name.place, one.name.text.bytes())?;
+        let at = self.here(current);
+        let path = self.levels.path(self.alloc, current.level, one.name.text.bytes())?;
         self.children.push(Child {
             at,
             of_module: &inst.of_module,
@@ -59,13 +59,13 @@ impl<'a> Walker<'a> {
     /// The instances of an instantiation (23.3.2).
     pub(crate) fn add_children(
         &mut self,
-        open: &mut Open<'a>,
+        current: &mut Open<'a>,
         inst: &'a Inst,
     ) -> Result<(), TextErr>
-        ensures { Walks (walk_all (add_child inst.now) inst.now.list) self.old open.old self.new open.new result }
+        ensures { Walks (walk_all (add_child inst.now) inst.now.list) self.old current.old self.new current.new result }
     {
         'list: for one in inst.list.as_slice() {
-            self.add_child(open, inst, one)?;
+            self.add_child(current, inst, one)?;
         }
         Ok(())
     }

@@ -30,78 +30,78 @@ impl<'a> Walker<'a> {
     /// A constant, a type or a genvar.
     pub(crate) fn add_constant(
         &mut self,
-        open: &mut Open<'a>,
+        current: &mut Open<'a>,
         place: Place,
         name: Name,
         what: What,
     ) -> Result<(), TextErr>
         requires { WhatIsSound what }
-        ensures { Walks (add_constant (record { text = name; place = place }, what_is what)) self.old open.old self.new open.new result }
+        ensures { Walks (add_constant (record { text = name; place = place }, what_is what)) self.old current.old self.new current.new result }
     {
-        open.declare_at(place, name.bytes())?;
-        self.levels.add_const(open.level, name, what)?;
+        current.declare_at(place, name.bytes())?;
+        self.levels.add_const(current.level, name, what)?;
         Ok(())
     }
 
     /// The constants of an enumeration.
-    fn add_constants(&mut self, open: &mut Open<'a>, list: &[Enumerator]) -> Result<(), TextErr>
-        ensures { Walks (add_constants (all_declared list.now)) self.old open.old self.new open.new result }
+    fn add_constants(&mut self, current: &mut Open<'a>, list: &[Enumerator]) -> Result<(), TextErr>
+        ensures { Walks (add_constants (all_declared list.now)) self.old current.old self.new current.new result }
     {
         'list: for label in list {
             let name = label.name.copy()?;
-            self.add_constant(open, label.place, name, What::Number(label.value))?;
+            self.add_constant(current, label.place, name, What::Number(label.value))?;
         }
         Ok(())
     }
 
     /// The layout of a type, whose enumerators become names.
-    pub(crate) fn formed(&mut self, open: &mut Open<'a>, tree: &TypeTree) -> Result<Layout, TextErr>
-        ensures is { Finds (λ x layout. x ≡ layout_is layout) (formed tree.now) self.old open.old self.new open.new result }
+    pub(crate) fn formed(&mut self, current: &mut Open<'a>, tree: &TypeTree) -> Result<Layout, TextErr>
+        ensures is { Finds (λ x layout. x ≡ layout_is layout) (formed tree.now) self.old current.old self.new current.new result }
         ensures sound { IfOk result (λ layout. IsSound layout) }
     {
-        let Formed { layout, declared } = self.form_here(open, tree)?;
-        self.add_constants(open, declared.as_slice())?;
+        let Formed { layout, declared } = self.form_here(current, tree)?;
+        self.add_constants(current, declared.as_slice())?;
         Ok(layout)
     }
 
     // The layout of a type and the constants that it declares, by what is declared above.
-    fn form_here(&self, open: &Open<'a>, tree: &TypeTree) -> Result<Formed, TextErr>
-        ensures { JudgesForm (form (seen (state_of self.now open.now)) tree.now) result }
+    fn form_here(&self, current: &Open<'a>, tree: &TypeTree) -> Result<Formed, TextErr>
+        ensures { JudgesForm (form (seen (state_of self.now current.now)) tree.now) result }
     {
-        let at = self.here(open);
+        let at = self.here(current);
         let mut names = self.levels.seen(self.alloc, at)?;
         form_of(self.alloc, tree, &mut names)
     }
 
     /// A type with a name.
-    pub(crate) fn add_typedef(&mut self, open: &mut Open<'a>, tree: &Typedef) -> Result<(), TextErr>
-        ensures { Walks (add_typedef tree.now) self.old open.old self.new open.new result }
+    pub(crate) fn add_typedef(&mut self, current: &mut Open<'a>, tree: &Typedef) -> Result<(), TextErr>
+        ensures { Walks (add_typedef tree.now) self.old current.old self.new current.new result }
     {
-        let layout = self.formed(open, &tree.form)?;
+        let layout = self.formed(current, &tree.form)?;
         let name = tree.name.text.copy()?;
-        self.add_constant(open, tree.name.place, name, What::Kind(layout))
+        self.add_constant(current, tree.name.place, name, What::Kind(layout))
     }
 
     /// A net or variable: E13 where its name is taken, E22 where there are too many bits.
     pub(crate) fn add_wire(
         &mut self,
-        open: &mut Open<'a>,
+        current: &mut Open<'a>,
         input: bool,
         layout: &Layout,
         word: &Word,
     ) -> Result<(), TextErr>
         requires { IsSound layout.now }
-        ensures { Walks (add_wire input (layout_is layout.now) word.now) self.old open.old self.new open.new result }
+        ensures { Walks (add_wire input (layout_is layout.now) word.now) self.old current.old self.new current.new result }
     {
-        open.declare_at(word.place, word.text.bytes())?;
+        current.declare_at(word.place, word.text.bytes())?;
         self.tally = self.tally.with_bits(word.place, layout.width as u64)?;
-        let path = self.levels.path(self.alloc, open.level, word.text.bytes())?;
+        let path = self.levels.path(self.alloc, current.level, word.text.bytes())?;
         let name = word.text.copy()?;
         let what = What::Wire {
             number: self.wires.len(),
             layout: copy(self.alloc, layout)?,
         };
-        self.levels.add_net(open.level, name, what)?;
+        self.levels.add_net(current.level, name, what)?;
         self.wires.push(Signal {
             path,
             width: layout.width,
@@ -113,15 +113,15 @@ impl<'a> Walker<'a> {
     // Nets or variables of one layout.
     fn add_wires(
         &mut self,
-        open: &mut Open<'a>,
+        current: &mut Open<'a>,
         layout: &Layout,
         words: &[Word],
     ) -> Result<(), TextErr>
         requires { IsSound layout.now }
-        ensures { Walks (walk_all (add_wire false (layout_is layout.now)) words.now) self.old open.old self.new open.new result }
+        ensures { Walks (walk_all (add_wire false (layout_is layout.now)) words.now) self.old current.old self.new current.new result }
     {
         'words: for word in words {
-            self.add_wire(open, false, layout, word)?;
+            self.add_wire(current, false, layout, word)?;
         }
         Ok(())
     }
@@ -129,38 +129,38 @@ impl<'a> Walker<'a> {
     /// Variables of a type.
     pub(crate) fn add_variables(
         &mut self,
-        open: &mut Open<'a>,
+        current: &mut Open<'a>,
         tree: &TypeTree,
         words: &[Word],
     ) -> Result<(), TextErr>
-        ensures { Walks (with_form tree.now (λ x. walk_all (add_wire false x) words.now)) self.old open.old self.new open.new result }
+        ensures { Walks (with_form tree.now (λ x. walk_all (add_wire false x) words.now)) self.old current.old self.new current.new result }
     {
-        let layout = self.formed(open, tree)?;
-        self.add_wires(open, &layout, words)
+        let layout = self.formed(current, tree)?;
+        self.add_wires(current, &layout, words)
     }
 
     /// Nets of a type, or of one bit.
     pub(crate) fn add_nets(
         &mut self,
-        open: &mut Open<'a>,
+        current: &mut Open<'a>,
         tree: Option<&TypeTree>,
         words: &[Word],
     ) -> Result<(), TextErr>
-        ensures { Walks (with_form_or_bit (option_copied tree.entry) (λ x. walk_all (add_wire false x) words.now)) self.old open.old self.new open.new result }
+        ensures { Walks (with_form_or_bit (option_copied tree.entry) (λ x. walk_all (add_wire false x) words.now)) self.old current.old self.new current.new result }
     {
         match tree {
-            Some(tree) => self.add_variables(open, tree, words),
-            None => self.add_wires(open, &scalar(), words),
+            Some(tree) => self.add_variables(current, tree, words),
+            None => self.add_wires(current, &scalar(), words),
         }
     }
 
     /// Variables of generate loops.
-    pub(crate) fn add_genvars(&mut self, open: &mut Open<'a>, words: &[Word]) -> Result<(), TextErr>
-        ensures { Walks (walk_all add_genvar words.now) self.old open.old self.new open.new result }
+    pub(crate) fn add_genvars(&mut self, current: &mut Open<'a>, words: &[Word]) -> Result<(), TextErr>
+        ensures { Walks (walk_all add_genvar words.now) self.old current.old self.new current.new result }
     {
         'words: for word in words {
             let name = word.text.copy()?;
-            self.add_constant(open, word.place, name, What::Genvar)?;
+            self.add_constant(current, word.place, name, What::Genvar)?;
         }
         Ok(())
     }

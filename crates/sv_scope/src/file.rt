@@ -16,7 +16,7 @@ impl<'a> Walker<'a> {
     /// The file level is begun.
     pub(crate) fn begin_file(&mut self) -> Result<Open<'a>, AllocError>
         requires { IsNothing self.old }
-        ensures { IfOk result (λ open. state_of self.new open ≡ m.file_state) }
+        ensures { IfOk result (λ current. state_of self.new current ≡ m.file_state) }
     {
         self.levels.push(Level {
             path: Name::new(self.alloc, b"")?,
@@ -33,10 +33,10 @@ impl<'a> Walker<'a> {
     /// module of a name.
     pub(crate) fn file_level(
         &mut self,
-        open: &mut Open<'a>,
+        current: &mut Open<'a>,
         parts: &'a [SourcePart],
     ) -> Result<Items<usize>, TextErr>
-        ensures { Finds (λ all above. map (λ (k : m.Known). k.above) all ≡ above) (m.library parts.now []) self.old open.old self.new open.new result }
+        ensures { Finds (λ all above. map (λ (k : m.Known). k.above) all ≡ above) (m.library parts.now []) self.old current.old self.new current.new result }
     {
         let mut modules = NameSet::new(self.alloc);
         let mut above = Items::new(self.alloc);
@@ -47,10 +47,10 @@ impl<'a> Walker<'a> {
                         return Err(TextErr::No(refusal(13, module.name.place)));
                     }
                     modules.add(module.name.text.bytes())?;
-                    above.push(self.here(open).consts)?;
+                    above.push(self.here(current).consts)?;
                 }
-                SourcePart::Typedef(tree) => self.add_typedef(open, tree)?,
-                SourcePart::Param(tree) => self.add_params(open, tree)?,
+                SourcePart::Typedef(tree) => self.add_typedef(current, tree)?,
+                SourcePart::Param(tree) => self.add_params(current, tree)?,
             }
         }
         Ok(above)

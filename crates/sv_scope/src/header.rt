@@ -46,19 +46,19 @@ impl<'a> Walker<'a> {
     // The layout of a port: where nothing but the name is written that of the port before it, and one bit where no type is.
     fn port_form(
         &mut self,
-        open: &mut Open<'a>,
+        current: &mut Open<'a>,
         port: &Port,
         before: &Layout,
     ) -> Result<Layout, TextErr>
         requires { IsSound before.now }
-        ensures is { Finds (λ x layout. x ≡ layout_is layout) (port_form port.now (layout_is before.now)) self.old open.old self.new open.new result }
+        ensures is { Finds (λ x layout. x ≡ layout_is layout) (port_form port.now (layout_is before.now)) self.old current.old self.new current.new result }
         ensures sound { IfOk result (λ layout. IsSound layout) }
     {
         if is_bare(port) {
             return Ok(copy(self.alloc, before)?);
         }
         match &port.form {
-            Some(tree) => self.formed(open, tree),
+            Some(tree) => self.formed(current, tree),
             None => Ok(scalar()),
         }
     }
@@ -66,21 +66,21 @@ impl<'a> Walker<'a> {
     /// The ports of a module, as the wires of an instance. Those of the top are read from outside where they are no outputs.
     pub(crate) fn header_ports(
         &mut self,
-        open: &mut Open<'a>,
+        current: &mut Open<'a>,
         top: bool,
         list: &'a [Port],
     ) -> Result<Vec<OpenPort<'a>>, TextErr>
-        ensures is { Finds (λ x ports. x ≡ map port_is ports.items) (header_ports top way.Input (layouts.scalar false) list.now) self.old open.old self.new open.new result }
+        ensures is { Finds (λ x ports. x ≡ map port_is ports.items) (header_ports top way.Input (layouts.scalar false) list.now) self.old current.old self.new current.new result }
         ensures sound { IfOk result (λ ports. PortsAreSound ports.items) }
     {
         let mut ports = Vec::new(self.alloc);
         let mut way = Way::Input;
         let mut before = scalar();
         'list: for port in list {
-            let layout = self.port_form(open, port, &before)?;
+            let layout = self.port_form(current, port, &before)?;
             way = port.way.unwrap_or(way);
             let wire = self.wires.len();
-            self.add_wire(open, top && is_input(way), &layout, &port.name)?;
+            self.add_wire(current, top && is_input(way), &layout, &port.name)?;
             before = copy(self.alloc, &layout)?;
             ports.push(OpenPort {
                 name: &port.name,

@@ -69,7 +69,7 @@ impl<'a> Walker<'a> {
         parent: usize,
         given: Vec<Given<'a>>,
     ) -> Result<Open<'a>, AllocError>
-        ensures { (open : Opened) → IfOk result (λ own. state_of self.new own ≡ m.begun (known_is known) path parent (map given_is given.items) (state_of self.old open)) }
+        ensures { (current : Opened) → IfOk result (λ own. state_of self.new own ≡ m.begun (known_is known.entry) path parent (map given_is given.entry.items) (state_of self.old current)) }
     {
         let mut around = Items::new(self.alloc);
         around.push(Front {
@@ -93,33 +93,33 @@ impl<'a> Walker<'a> {
     /// What an instance has without its children, with its ports connected so.
     pub(crate) fn instance(
         &mut self,
-        open: &mut Open<'a>,
+        current: &mut Open<'a>,
         top: bool,
         tree: &'a Module,
         at: Front,
         pins: &[Connection<'a>],
     ) -> Result<(), TextErr>
-        ensures { Walks (m.instance_walk top tree.now (front_is at) (map connection_is pins.now)) self.old open.old self.new open.new result }
+        ensures { Walks (m.instance_walk top tree.now (front_is at) (map connection_is pins.now)) self.old current.old self.new current.new result }
     {
-        self.header_params(open, tree.params.as_slice())?;
-        let ports = self.header_ports(open, top, ports_of(tree))?;
+        self.header_params(current, tree.params.as_slice())?;
+        let ports = self.header_ports(current, top, ports_of(tree))?;
         add_port_works(self.alloc, at, pins, &ports, &mut self.works)?;
-        self.items(open, tree.items.as_slice())
+        self.items(current, tree.items.as_slice())
     }
 
     /// The children that were found, each whole, at most so many levels deep.
     #[cycle(child)]
     pub(crate) fn below(
         &mut self,
-        open: &Open<'a>,
+        current: &Open<'a>,
         library: &Library<'a>,
         deep: usize,
     ) -> Result<(), TextErr>
-        ensures { (all : m.Library) → IsLibrary library.now all → Walks (m.below (m.child deep all)) self.old open.now self.new open.now result }
+        ensures { (all : m.Library) → IsLibrary library.now all → Walks (m.below (m.child deep all)) self.old current.now self.new current.now result }
     {
         let children = mem::replace(&mut self.children, Vec::new(self.alloc));
         'children: for child in &children {
-            self.child(open, library, deep, child)?;
+            self.child(current, library, deep, child)?;
         }
         Ok(())
     }
@@ -128,12 +128,12 @@ impl<'a> Walker<'a> {
     #[cycle(child)]
     fn child(
         &mut self,
-        open: &Open<'a>,
+        current: &Open<'a>,
         library: &Library<'a>,
         deep: usize,
         child: &Child<'a>,
     ) -> Result<(), TextErr>
-        ensures { (all : m.Library) → IsLibrary library.now all → Walks (m.child deep all (child_is child.now)) self.old open.now self.new open.now result }
+        ensures { (all : m.Library) → IsLibrary library.now all → Walks (m.child deep all (child_is child.now)) self.old current.now self.new current.now result }
     {
         if deep == 0 {
             return Err(TextErr::No(refusal(21, child.name.place)));
@@ -145,7 +145,7 @@ impl<'a> Walker<'a> {
 
     // An instance without its children, connected as its pins say.
     fn open_child(&mut self, known: Known<'a>, child: &Child<'a>) -> Result<Open<'a>, TextErr>
-        ensures { (open : Opened) → Answers (λ st own. st ≡ state_of self.new own) (child_alone (known_is known) (child_is child.now) (state_of self.old open)) result }
+        ensures { (current : Opened) → Answers (λ st own. st ≡ state_of self.new own) (child_alone (known_is known.entry) (child_is child.now) (state_of self.old current)) result }
     {
         let names = open_params(self.alloc, known.tree)?;
         let params = connections(self.alloc, &names, child.params)?;

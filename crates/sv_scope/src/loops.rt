@@ -3,12 +3,13 @@ ghost use Rattle.std.specs.Prelude.{◌≡◌, false, [], ◌∷◌, IfOk};
 ghost use Rattle.sv_const.specs.Kinds.{scope_is};
 ghost use Rattle.sv_const.specs.Names.{names_are};
 ghost use Rattle.sv_tree.specs.declared.word.Word.{Word as Spelt};
-ghost use Rattle.sv_meaning.specs.Deeds.{fixed_truth, index_entry, turns};
+ghost use Rattle.sv_meaning.specs.Deeds.{fixed_truth, index_entry};
 ghost use Rattle.sv_meaning.specs.Values.{mean};
-ghost use Rattle.sv_meaning.specs.Faults.{provided, ◌>>=◌, is_clear};
+ghost use Rattle.sv_meaning.specs.Faults.{is_clear};
 ghost use Rattle.sv_meaning.specs.Layouts.{find};
 ghost use Rattle.sv_loops.specs.Answers.{Gives};
 ghost use Rattle.sv_hierarchy.specs.Scopes.{genvar_faults, seen};
+ghost use Rattle.sv_scope.specs.Looping.{loop_judged};
 ghost use Rattle.sv_scope.specs.Walks.{state_of};
 
 use crate::walker::{Open, Walker};
@@ -63,7 +64,7 @@ impl<'a> Walker<'a> {
     /// generate loops; or why the loop is refused.
     pub(crate) fn loop_values(
         &self,
-        open: &Open<'a>,
+        current: &Open<'a>,
         place: Place,
         header: bool,
         variable: &Word,
@@ -71,9 +72,9 @@ impl<'a> Walker<'a> {
         test: &Expr,
         next: &Step,
     ) -> Result<Items<Four>, TextErr>
-        ensures { Gives (provided (genvar_faults header variable.now (find variable.now.text (seen (state_of self.now open.now)))) (seen (state_of self.now open.now)) >>= λ at. turns place at variable.now.text start.now test.now next.now) result }
+        ensures { Gives (loop_judged place header variable.now start.now test.now next.now (state_of self.now current.now)) result }
     {
-        let at = self.here(open);
+        let at = self.here(current);
         let mut names = self.levels.seen(self.alloc, at)?;
         if !header && !is_genvar(&names, variable.text.bytes()) {
             return Err(TextErr::No(refusal(12, variable.place)));
@@ -82,10 +83,10 @@ impl<'a> Walker<'a> {
     }
 
     /// Whether the condition of a generate conditional holds (27.5), or why it is refused.
-    pub(crate) fn holds(&self, open: &Open<'a>, test: &Expr) -> Result<bool, TextErr>
-        ensures { Gives (fixed_truth (mean (seen (state_of self.now open.now)) test.now)) result }
+    pub(crate) fn holds(&self, current: &Open<'a>, test: &Expr) -> Result<bool, TextErr>
+        ensures { Gives (fixed_truth (mean (seen (state_of self.now current.now)) test.now)) result }
     {
-        let at = self.here(open);
+        let at = self.here(current);
         let names = self.levels.seen(self.alloc, at)?;
         condition(self.alloc, test, &names)
     }

@@ -1,5 +1,5 @@
 // Parameters (IEEE 1800-2017, 6.20).
-ghost use Rattle.std.specs.Prelude.{◌≡◌};
+ghost use Rattle.std.specs.Prelude.{◌≡◌, map};
 ghost use Rattle.std.specs.Option.{option_copied};
 ghost use Rattle.sv_tree.specs.declared.design.ParamWord.TheVariants as param_word;
 ghost use Rattle.sv_const.specs.Names.{names_are};
@@ -26,7 +26,7 @@ fn value_of(
     value: Actual<'_>,
     value_names: &Names<'_>,
 ) -> Result<Known, TextErr>
-    ensures { JudgesValue (param_value (names_are names.now) (option_copied form.entry) (mean (names_are value_names.now) (actual_is value))) result }
+    ensures { JudgesValue (param_value (names_are names.now) (option_copied form.entry) (mean (names_are value_names.now) (actual_is value.entry))) result }
 {
     match value {
         Actual::Written(expr) => param_value(alloc, form, names, expr, value_names),
@@ -41,7 +41,7 @@ fn value_of(
 
 // What is given to a parameter, or else its own expression. A `localparam` is given nothing.
 fn given_to<'a>(given: &[Given<'a>], word: ParamWord, own: Given<'a>) -> Given<'a>
-    ensures { given_is result ≡ m.given_or (given_is own).name (m.overriding word (map given_is given.now)) (given_is own) }
+    ensures { given_is result ≡ m.given_or (given_is own.entry).name (m.overriding word (map given_is given.now)) (given_is own.entry) }
 {
     match word {
         ParamWord::Parameter => given_or(given, own),
@@ -51,7 +51,7 @@ fn given_to<'a>(given: &[Given<'a>], word: ParamWord, own: Given<'a>) -> Given<'
 
 // The first that is given to the name, or else another.
 fn given_or<'a>(given: &[Given<'a>], other: Given<'a>) -> Given<'a>
-    ensures { given_is result ≡ m.given_or (given_is other).name (map given_is given.now) (given_is other) }
+    ensures { given_is result ≡ m.given_or (given_is other.entry).name (map given_is given.now) (given_is other.entry) }
 {
     'given: for one in given {
         if one.name.text.bytes() == other.name.text.bytes() {
@@ -65,21 +65,21 @@ impl<'a> Walker<'a> {
     // The value of a parameter by what is declared above it.
     fn value_here(
         &self,
-        open: &Open<'a>,
+        current: &Open<'a>,
         word: ParamWord,
         form: Option<&ParamType>,
         name: &'a Word,
         value: &'a Expr,
     ) -> Result<Known, TextErr>
-        ensures { JudgesValue (param_value (seen (state_of self.now open.now)) (option_copied form.entry) (meant (state_of self.now open.now).levels (m.given_to word name.now value.now (state_of self.now open.now)))) result }
+        ensures { JudgesValue (param_value (seen (state_of self.now current.now)) (option_copied form.entry) (meant (state_of self.now current.now).levels (m.given_to word name.now value.now (state_of self.now current.now)))) result }
     {
-        let at = self.here(open);
+        let at = self.here(current);
         let own = Given {
             name,
             at,
             value: Actual::Written(value),
         };
-        let given = given_to(&open.overridden, word, own);
+        let given = given_to(&current.overridden, word, own);
         let names = self.levels.seen(self.alloc, at)?;
         let value_names = self.levels.seen(self.alloc, given.at)?;
         value_of(self.alloc, form, &names, given.value, &value_names)
@@ -88,25 +88,25 @@ impl<'a> Walker<'a> {
     // A parameter.
     fn add_param(
         &mut self,
-        open: &mut Open<'a>,
+        current: &mut Open<'a>,
         word: ParamWord,
         form: Option<&ParamType>,
         name: &'a Word,
         value: &'a Expr,
     ) -> Result<(), TextErr>
-        ensures { Walks (add_param word (option_copied form.entry) name.now value.now) self.old open.old self.new open.new result }
+        ensures { Walks (add_param word (option_copied form.entry) name.now value.now) self.old current.old self.new current.new result }
     {
-        let known = self.value_here(open, word, form, name, value)?;
+        let known = self.value_here(current, word, form, name, value)?;
         let text = name.text.copy()?;
-        self.add_constant(open, name.place, text, What::Number(known))
+        self.add_constant(current, name.place, text, What::Number(known))
     }
 
     /// The parameters of a declaration.
-    pub(crate) fn add_params(&mut self, open: &mut Open<'a>, tree: &'a Param) -> Result<(), TextErr>
-        ensures { Walks (add_params tree.now) self.old open.old self.new open.new result }
+    pub(crate) fn add_params(&mut self, current: &mut Open<'a>, tree: &'a Param) -> Result<(), TextErr>
+        ensures { Walks (add_params tree.now) self.old current.old self.new current.new result }
     {
         'list: for item in tree.list.as_slice() {
-            self.add_param(open, tree.word, tree.form.as_ref(), &item.name, &item.value)?;
+            self.add_param(current, tree.word, tree.form.as_ref(), &item.name, &item.value)?;
         }
         Ok(())
     }
@@ -114,10 +114,10 @@ impl<'a> Walker<'a> {
     /// The parameters of a module's list. An entry takes over what it leaves out from the one before it.
     pub(crate) fn header_params(
         &mut self,
-        open: &mut Open<'a>,
+        current: &mut Open<'a>,
         list: &'a [ParPort],
     ) -> Result<(), TextErr>
-        ensures { Walks (header_params (param_word.Parameter, None) list.now) self.old open.old self.new open.new result }
+        ensures { Walks (header_params (param_word.Parameter, None) list.now) self.old current.old self.new current.new result }
     {
         let mut word = ParamWord::Parameter;
         let mut form: Option<&'a ParamType> = None;
@@ -126,7 +126,7 @@ impl<'a> Walker<'a> {
                 form = port.form.as_ref();
             }
             word = port.word.unwrap_or(word);
-            self.add_param(open, word, form, &port.name, &port.value)?;
+            self.add_param(current, word, form, &port.name, &port.value)?;
         }
         Ok(())
     }

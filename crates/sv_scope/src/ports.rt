@@ -17,7 +17,7 @@ use sv_modules::{Connection, Joined};
 use sv_tree::{Module, Port, Word};
 use sv_types::copy;
 
-// What stands behind a name, where it is not left open.
+// What stands behind a name, where it is not left current.
 fn actual_of<'a>(connection: &Connection<'a>) -> Option<Actual<'a>>
     ensures { option_map actual_is result ≡ joined_is connection.now.name.now connection.now.joined }
 {
@@ -71,7 +71,7 @@ fn add_connected<'a>(
     works: &mut Vec<Work<'a>>,
 ) -> Result<(), AllocError>
     requires { PortsAreSound ports.now }
-    ensures { OnOk result (map work_is works.new.items ≡ map work_is works.old.items ++ m.connected (front_is at) (m.port_named name.now.text (map port_is ports.now)) (Some (actual_is actual))) }
+    ensures { OnOk result (map work_is works.new.items ≡ map work_is works.old.items ++ m.connected (front_is at) (m.port_named name.now.text (map port_is ports.now)) (Some (actual_is actual.entry))) }
 {
     if let Some(port) = port_named(name.text.bytes(), ports) {
         let layout = copy(alloc, &port.layout)?;

@@ -1,12 +1,12 @@
 // Where a walk through the items of a design stands.
-ghost use Rattle.std.specs.Prelude.{◌≡◌, []};
+ghost use Rattle.std.specs.Prelude.{◌≡◌, [], map};
 ghost use Rattle.sv_meaning.specs.Layouts.{Name as Bytes};
 ghost use Rattle.sv_meaning.specs.Names.{has_name};
 ghost use Rattle.sv_modules.specs.Naming.{holds};
 ghost use Rattle.sv_hierarchy.specs.Scopes.{add_work, declare_at, next_construct, here};
 ghost use Rattle.sv_scope.specs.declared.walker.Walker.{Walker as Walking};
 ghost use Rattle.sv_scope.specs.Levels.{front_is};
-ghost use Rattle.sv_scope.specs.Walks.{IsNothing, Walks, state_of, task_is};
+ghost use Rattle.sv_scope.specs.Walks.{IsNothing, Walks, given_is, state_of, task_is};
 
 use crate::levels::{Front, Levels};
 use crate::tally::Tally;
@@ -93,7 +93,7 @@ impl<'a> Open<'a> {
     pub(crate) fn new(alloc: Global, level: usize, overridden: Vec<Given<'a>>) -> Open<'a>
         ensures level { result.level ≡ level }
         ensures constructs { result.constructs ≡ 0 }
-        ensures overridden { result.overridden ≡ overridden }
+        ensures overridden { map given_is result.overridden.items ≡ map given_is overridden.entry.items }
         ensures taken { (name : Bytes) → holds result.taken name ≡ has_name name [] }
     {
         Open {
@@ -145,17 +145,17 @@ impl<'a> Walker<'a> {
     }
 
     /// The place that is read.
-    pub(crate) fn here(&self, open: &Open<'a>) -> Front
-        ensures { front_is result ≡ here (state_of self.now open.now) }
+    pub(crate) fn here(&self, current: &Open<'a>) -> Front
+        ensures { front_is result ≡ here (state_of self.now current.now) }
     {
-        self.levels.front(open.level)
+        self.levels.front(current.level)
     }
 
     /// One task more.
-    pub(crate) fn add_work(&mut self, open: &Open<'a>, task: Task<'a>) -> Result<(), TextErr>
-        ensures { Walks (add_work (task_is task)) self.old open.now self.new open.now result }
+    pub(crate) fn add_work(&mut self, current: &Open<'a>, task: Task<'a>) -> Result<(), TextErr>
+        ensures { Walks (add_work (task_is task.entry)) self.old current.now self.new current.now result }
     {
-        let at = self.here(open);
+        let at = self.here(current);
         self.works.push(Work { at, task })?;
         Ok(())
     }

@@ -37,7 +37,7 @@ fn from_top<'a>(
     library: &Library<'a>,
     top: Known<'a>,
 ) -> Result<(), TextErr>
-    ensures { FromTop library.now top walker.old file.now walker.new result }
+    ensures { FromTop library.now top.entry walker.old file.now walker.new result }
 {
     let path = Name::new(walker.alloc, b"")?;
     let none = Vec::new(walker.alloc);
