@@ -1,7 +1,6 @@
 // Constants that control a loop or a conditional.
 ghost use Rattle.std.specs.Prelude.{◌≡◌, ◌<◌, true, length, IfOk};
 ghost use Rattle.fourvec.specs.Bits.{first, truth_of};
-ghost use Rattle.sv_outside.specs.declared.refusal.TextErr.TheVariants.{No};
 ghost use Rattle.sv_typed.specs.Typed.{IsSound};
 ghost use Rattle.sv_meaning.specs.Meanings.{Meaning};
 ghost use Rattle.sv_meaning.specs.Values.{mean};
@@ -12,20 +11,10 @@ ghost use Rattle.sv_loops.specs.Answers.{Gives};
 
 use fourvec::{Bit, Four};
 use std::alloc::Global;
-use sv_const::{Names, start, typed};
-use sv_outside::{Place, Refusal, TextErr};
+use sv_const::{Names, refusal, start, typed};
+use sv_outside::{Place, TextErr};
 use sv_tree::Expr;
 use sv_typed::Typed;
-
-pub(crate) fn refused(number: u8, place: Place) -> TextErr
-    ensures { result ≡ No (record { number = number; place = place; count = 0 }) }
-{
-    TextErr::No(Refusal {
-        number,
-        place,
-        count: 0,
-    })
-}
 
 // The low 32 bits of a typed constant that begins at a place, wholly 0 and 1, or E15.
 #[tactic(auto, using(sv_typed::proofs::Sound::most_bits, fourvec::proofs::Widths::widths))]
@@ -39,7 +28,7 @@ pub(crate) fn low_bits(start: Place, x: Result<Typed, TextErr>) -> Result<Four, 
     if bits.is_bool() {
         Ok(bits)
     } else {
-        Err(refused(15, start))
+        Err(TextErr::No(refusal(15, start)))
     }
 }
 
@@ -64,7 +53,7 @@ fn truth_of(start: Place, x: Result<Typed, TextErr>) -> Result<bool, TextErr>
     if value.is_bool() {
         Ok(is_taken(&value))
     } else {
-        Err(refused(15, start))
+        Err(TextErr::No(refusal(15, start)))
     }
 }
 

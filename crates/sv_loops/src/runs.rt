@@ -7,12 +7,12 @@ ghost use Rattle.sv_const.specs.Names.{names_are, entries_of, frames_of, loops_o
 ghost use Rattle.sv_loops.specs.Answers.{Gives};
 ghost use Rattle.sv_loops.specs.Steps.{index_is};
 
-use crate::constants::{condition, index_value, refused};
+use crate::constants::{condition, index_value};
 use crate::steps::next_value;
 use fourvec::Four;
 use items::Items;
 use std::alloc::Global;
-use sv_const::{Known, Names};
+use sv_const::{Known, Names, refusal};
 use sv_outside::{Place, TextErr};
 use sv_tree::{Expr, Step, Word};
 
@@ -101,7 +101,7 @@ fn turns_from(
     let mut taken = holds_at(alloc, names, variable, bits, test)?;
     'turns: while taken {
         if values.len() == MOST_TURNS {
-            return Err(refused(20, place));
+            return Err(TextErr::No(refusal(20, place)));
         }
         values.push(bits)?;
         let value = following(alloc, names, variable, bits, next)?;

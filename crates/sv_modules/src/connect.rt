@@ -1,7 +1,6 @@
 // Connections of ports, and overrides of parameters.
 ghost use Rattle.std.specs.Prelude.{◌≡◌, [], map, IfOk};
 ghost use Rattle.std.specs.Option.{option_copied};
-ghost use Rattle.sv_outside.specs.declared.refusal.TextErr.TheVariants.{No};
 ghost use Rattle.sv_meaning.specs.Layouts.{Scope};
 ghost use Rattle.sv_meaning.specs.Params.{connections, by_name, in_order, pinned};
 ghost use Rattle.sv_loops.specs.Answers.{Answers};
@@ -11,8 +10,8 @@ ghost use Rattle.sv_modules.specs.Connections.{joined_is, connection_is};
 
 use crate::name_set::NameSet;
 use std::alloc::{AllocError, Global};
-use sv_const::start;
-use sv_outside::{Place, Refusal, TextErr};
+use sv_const::{refusal, start};
+use sv_outside::TextErr;
 use sv_tree::{Expr, NamedPin, Pin, Pins, Word};
 
 /// What stands behind a name.
@@ -32,16 +31,6 @@ pub enum Joined<'a> {
 pub struct Connection<'a> {
     pub name: &'a Word,
     pub joined: Joined<'a>,
-}
-
-fn refused(number: u8, place: Place) -> TextErr
-    ensures { result ≡ No (record { number = number; place = place; count = 0 }) }
-{
-    TextErr::No(Refusal {
-        number,
-        place,
-        count: 0,
-    })
 }
 
 fn joined_of(pin: &Pin) -> Joined<'_>
@@ -78,10 +67,10 @@ fn by_name<'a>(
     let mut list = Vec::new(alloc);
     'pins: for pin in pins {
         if !known.has(pin.name.text.bytes()) {
-            return Err(refused(17, pin.name.place));
+            return Err(TextErr::No(refusal(17, pin.name.place)));
         }
         if used.has(pin.name.text.bytes()) {
-            return Err(refused(18, pin.name.place));
+            return Err(TextErr::No(refusal(18, pin.name.place)));
         }
         used.add(pin.name.text.bytes())?;
         list.push(Connection {
@@ -103,7 +92,7 @@ fn in_order<'a>(
     let mut list = Vec::new(alloc);
     'exprs: for (at, expr) in exprs.iter().enumerate() {
         if at >= names.len() {
-            return Err(refused(17, start(expr)));
+            return Err(TextErr::No(refusal(17, start(expr))));
         }
         list.push(Connection {
             name: names[at],

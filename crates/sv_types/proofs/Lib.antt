@@ -4,6 +4,7 @@ pub mod Above
 pub mod Labels
 pub mod Trees
 pub mod Membership
+pub mod Nested
 pub mod Gathering
 pub mod Valuing
 pub mod Copying

@@ -12,6 +12,7 @@ ghost use Rattle.sv_types.specs.Types.{JudgesLayout, JudgesForm, JudgesType, For
 
 use crate::bounds::Bounds;
 use crate::copies::copy;
+use crate::depth::is_structure_too_deep;
 use crate::enumerators::{Enumerator, enumerators};
 use crate::members::add_fields;
 use crate::ranges::{base_layout, dim, over_ranges, scalar, vector_layout};
@@ -115,7 +116,8 @@ fn structure(signed: bool, fields: Items<Field>, bits: u8) -> Layout
     }
 }
 
-// A structure of these members, with ranges. No text spells a structure of no bits; that is answered as want of memory.
+// A structure of these members, with ranges. One that would be nested too deep is answered as want of memory, and so is one
+// of no bits, which no text spells.
 fn struct_layout(
     alloc: Global,
     signed: bool,
@@ -129,7 +131,7 @@ fn struct_layout(
     requires most { bits ≤ 128 }
     ensures { JudgesLayout (struct_layout (names_are names.now) signed ranges.now (members_of fields)) result }
 {
-    if bits == 0 {
+    if bits == 0 || is_structure_too_deep(fields.as_slice()) {
         return Err(TextErr::Memory);
     }
     if ranges.is_empty() {
@@ -252,7 +254,8 @@ fn joined(
 }
 
 /// The layout of a type, and the constants that it declares, in order; or why it is refused: E12, E13, E14, or what an
-/// expression is refused for. The names are afterwards as before.
+/// expression is refused for. A layout nested more than 1,000 deep, each range and each structure being one level, is
+/// answered as want of memory. The names are afterwards as before.
 pub fn form_of(alloc: Global, tree: &TypeTree, names: &mut Names<'_>) -> Result<Formed, TextErr>
     ensures is { JudgesForm (form (names_are names.old) tree.now) result }
     ensures frames { frames_of names.new ≡ frames_of names.old }

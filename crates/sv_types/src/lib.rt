@@ -3,6 +3,7 @@
 
 mod bounds;
 mod copies;
+mod depth;
 mod enumerators;
 mod forms;
 mod members;

@@ -11,6 +11,7 @@ ghost use Rattle.sv_meaning.specs.Meanings.{Meaning, number_of};
 ghost use Rattle.sv_types.specs.Types.{JudgesBound, JudgesBounds, JudgesLayout, ranged_form};
 
 use crate::bounds::Bounds;
+use crate::depth::are_ranges_too_deep;
 use items::Boxed;
 use std::alloc::{AllocError, Global};
 use sv_const::{Fixed, Form, Layout, Names, eval_fixed, refusal, small};
@@ -117,7 +118,8 @@ fn sign_at(signed: bool, at: usize) -> bool
     signed && at == 0
 }
 
-/// Ranges over elements, the outermost first; that one has the sign.
+/// Ranges over elements, the outermost first; that one has the sign. A layout that would be nested too deep is answered as
+/// want of memory.
 pub(crate) fn over_ranges(
     alloc: Global,
     signed: bool,
@@ -128,6 +130,9 @@ pub(crate) fn over_ranges(
     requires { IsSound each }
     ensures { JudgesLayout (over_ranges (names_are names.now) signed ranges.now (layout_is each)) result }
 {
+    if are_ranges_too_deep(ranges.len(), &each) {
+        return Err(TextErr::Memory);
+    }
     let mut found = Ok(each);
     let mut at = ranges.len();
     'outward: while at > 0 {

@@ -5,6 +5,7 @@ use Rattle.sv_meaning.specs.Deeds.{index_value}
 use Rattle.sv_typed.specs.Typed.{worth}
 use Rattle.sv_const.proofs.Judged.{typed_ok}
 use Rattle.sv_loops.specs.Answers.{Gives}
+use Rattle.sv_outside.specs.declared.refusal.TextErr.TheVariants.{No}
 use Rattle.sv_loops.proofs.Values.{index_ok, index_unknown}
 use Rattle.sv_loops.proofs.constants.low_bits.Goals as goal
 
@@ -18,6 +19,6 @@ returns-then-is_bool-clause-width c = ap length c.slice-bits.ensures ∙ length-
 
 pub returns-clause-is : goal.returns-clause-is
 returns-clause-is c = λ m s h.
-    subst (λ e. Gives (index_value m) (Err e)) (sym c.refused.ensures)
+    subst (λ e. Gives (index_value m) (Err (No e))) (sym c.refusal.ensures)
     (index_unknown m c.in_ok-x.x c.slice-bits.result c.args.start (typed_ok m (m.faults true) c.args.x c.in_ok-x.x c.in_ok-x.was h) s
     (c.slice-bits.ensures ∙ ap (take 32) (c.value.ensures.is ∙ ap (λ n. worth c.in_ok-x.x nowhere n c.in_ok-x.x.signed) c.max.ensures)) (sym c.is_bool.ensures ∙ c.if-is_bool.false))

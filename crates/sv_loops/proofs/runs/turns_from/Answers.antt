@@ -6,6 +6,7 @@ use Rattle.sv_meaning.specs.Deeds.{turns_from, most_turns, next_value, holds_at,
 use Rattle.sv_const.specs.Names.{names_are}
 use Rattle.sv_loops.specs.Answers.{Gives}
 use Rattle.sv_loops.proofs.Chains.{behind, if_taken, is_taken, turns_begin, turn_more, turn_refused, test_refused, too_long, all_taken}
+use Rattle.sv_outside.specs.declared.refusal.TextErr.TheVariants.{No}
 use Rattle.sv_loops.proofs.Frames.{same_names}
 use Rattle.sv_loops.proofs.runs.turns_from.Goals as goal
 
@@ -20,7 +21,7 @@ turns-init c = record {
 
 pub returns-then-len-eq-MOST_TURNS-clause-is : goal.returns-then-len-eq-MOST_TURNS-clause-is
 returns-then-len-eq-MOST_TURNS-clause-is c =
-    subst (λ e. Gives (turns_from most_turns c.args.place (names_are c.args.names.now) c.args.variable.now.text c.args.test.now c.args.next.now c.args.first) (Err e)) (sym c.refused.ensures)
+    subst (λ e. Gives (turns_from most_turns c.args.place (names_are c.args.names.now) c.args.variable.now.text c.args.test.now c.args.next.now c.args.first) (Err (No e))) (sym c.refusal.ensures)
     (too_long (turns_from most_turns c.args.place (names_are c.args.names.now) c.args.variable.now.text c.args.test.now c.args.next.now c.args.first) c.turns.values (4096 - length c.turns.values) c.args.place (names_are c.args.names.now) c.args.variable.now.text c.args.test.now c.args.next.now c.turns.bits
     (omega (arith, c.len.ensures, c.if-len-eq-MOST_TURNS.true)) (is_taken (turns_from most_turns c.args.place (names_are c.args.names.now) c.args.variable.now.text c.args.test.now c.args.next.now c.args.first) c.turns.values c.turns.taken (4096 - length c.turns.values) c.args.place (names_are c.args.names.now) c.args.variable.now.text c.args.test.now c.args.next.now c.turns.bits c.turns-test.true c.turns.invariant.rest))
 
