@@ -2,26 +2,41 @@
 use Rattle.std.proofs.Common.{◌≡◌, ℕ, zero, suc, ◌+◌, ◌<◌, ◌≤◌, Bool, true, false, List, [], ◌∷◌, ◌++◌, length, map, drop, get_or, Option, Some, None, Result, Ok, Err, refl, sym, ap, ◌∙◌, subst, arith, if◌then◌else◌, Bor, Vec, Global}
 use mathlib.Core.Path.{fun_ext}
 use Rattle.std.specs.Option.{option_map, option_copied}
+use Rattle.std.specs.Result.{IsErrAnd}
 use Rattle.std.specs.List.{slice_get, range_with_len}
-use Rattle.std.proofs.lemmas.Option.{slice_get-map}
+use Rattle.std.proofs.lemmas.Option.{slice_get-map, slice_get_read}
 use Rattle.std.proofs.Math.Numerals.{add-one}
 use Rattle.sv_outside.specs.declared.refusal.Place.{Place}
+use Rattle.sv_outside.specs.declared.refusal.Refusal.{Refusal}
 use Rattle.sv_outside.specs.declared.refusal.TextErr.{TextErr}
 use Rattle.sv_outside.specs.declared.refusal.TextErr.TheVariants.{No, Memory}
 use Rattle.sv_tree.specs.declared.design.Module.{Module}
 use Rattle.sv_tree.specs.declared.design.Pins.{Pins}
-use Rattle.sv_meaning.specs.Faults.{Judged, ◌>>=◌, provided, fault, unknown_module, instance_deep}
-use Rattle.sv_meaning.specs.Layouts.{Name}
+use Rattle.sv_meaning.specs.Faults.{Faults, Judged, ◌>>=◌, provided, fault, unknown_module, instance_deep}
+use Rattle.sv_meaning.specs.Layouts.{Name, Scope}
+use Rattle.sv_meaning.specs.Names.{has_name}
+use Rattle.std.specs.Str.{bytes_eq}
 use Rattle.sv_meaning.specs.Params.{Connection, connections}
 use Rattle.sv_hierarchy.specs.Libraries.{IsLibraryOf}
 use Rattle.sv_hierarchy.specs.Scopes as m
 use Rattle.sv_hierarchy.specs.Scopes.{unused, module_named, walk_all, child}
 use Rattle.sv_loops.specs.Answers.{Answers, Gives}
 use Rattle.sv_loops.proofs.Chains.{gives_memory, answers_err}
-use Rattle.sv_scope.specs.Library.{child_alone}
-use Rattle.sv_scope.specs.Walks.{lent, state_of}
+use Rattle.sv_modules.specs.Connections.{connection_is}
+use Rattle.sv_modules.specs.Naming.{holds}
+use Rattle.sv_modules.specs.declared.connect.Connection.{Connection as Coded}
+use Rattle.sv_const.specs.Kinds.{scope_is}
+use Rattle.sv_scope.specs.Levels.{front_is, level_is, levels_are}
+use Rattle.sv_scope.specs.Library.{KnowsNumber, child_alone, known_is}
+use Rattle.sv_scope.specs.declared.instances.Known.{Known}
+use Rattle.sv_scope.specs.declared.levels.Front.{Front}
+use Rattle.sv_scope.specs.declared.levels.Level.{Level}
+use Rattle.sv_scope.specs.declared.levels.Levels.{Levels}
+use Rattle.sv_scope.specs.declared.walker.Child.{Child}
+use Rattle.sv_scope.specs.Walks.{IsNothing, child_is, given_is, lent, state_of, work_is}
 use Rattle.sv_scope.specs.declared.walker.Walker.{Walker}
 use Rattle.sv_scope.specs.declared.walker.Open.{Open}
+use Rattle.sv_scope.specs.declared.tally.Tally.{Tally}
 use Rattle.sv_modules.proofs.Turns.{drop_next, drop_none}
 
 -- ---- answers
@@ -37,9 +52,24 @@ refused_first r s (Ok x) f Memory h = answers_memory s (f x)
 refused_first r s (Err all) f (No e) h = h
 refused_first r s (Err all) f Memory h = tt
 
--- where what is judged is one value, the answer is judged by what comes behind it
-pub behind_value : {A C D : Type 0} (s : C → D → Type 0) (j : Judged A) (f : A → Judged C) (x : A) (result : Result D TextErr) → j ≡ Ok x → Answers s (f x) result → Answers s (j >>= f) result
-behind_value s j f x result e h = subst (λ y. Answers s (y >>= f) result) (sym e) h
+-- the same of another relation
+pub same_refusal : {A B D : Type 0} (r : A → B → Type 0) (s : A → D → Type 0) (j : Judged A) (e : TextErr) → Answers r j (Err e) → Answers s j (Err e)
+same_refusal r s (Ok x) (No e) h = absurd h
+same_refusal r s (Ok x) Memory h = tt
+same_refusal r s (Err all) (No e) h = h
+same_refusal r s (Err all) Memory h = tt
+
+-- what `?` hands on
+pub passed_on : {A B D : Type 0} (r : A → B → Type 0) (s : A → D → Type 0) (j : Judged A) (q : Result D TextErr) (e : TextErr) → IsErrAnd q (λ y. y ≡ e) → Answers r j (Err e) → Answers s j q
+passed_on r s j (Ok u) e h g = absurd h
+passed_on r s j (Err y) e h g = subst (λ z. Answers s j (Err z)) (sym h) (same_refusal r s j e g)
+
+-- a relation for what is refused, where it says nothing
+abbrev pub Reached : m.State → Unit {0} → Type 0
+Reached st u = Unit {0}
+
+abbrev pub Found : m.Library × m.State → Unit {0} → Type 0
+Found found u = Unit {0}
 
 -- a walk that was taken leads to its state
 pub walked_to : {B : Type 0} (j : Judged m.State) (st : m.State) (u : B) → Answers (λ x (v : B). x ≡ st) j (Ok u) → j ≡ Ok st
@@ -101,6 +131,11 @@ known_at modules all above n t a h e f g =
     (λ k i. number_at modules all n k h i)
     (sym (slice_get-map above_of all n) ∙ ap (λ (x : List ℕ). slice_get x n) e ∙ g)
 
+-- an element of what code lists
+pub tree_got : (listed : List (Bor Module)) (modules : List Module) (n : ℕ) (t : Bor Module) → map (λ (x : Bor Module). x.now) listed ≡ modules → n < length listed → t ≡ get_or listed n t → slice_get modules n ≡ Some t.now
+tree_got listed modules n t e h g =
+    ap (λ (x : List Module). slice_get x n) (sym e) ∙ slice_get-map (λ (x : Bor Module). x.now) listed n ∙ ap (option_map (λ (x : Bor Module). x.now)) (slice_get_read listed (length listed) n t refl h g)
+
 -- ---- the module of a name
 
 among_if : (b : Bool) (k : m.Known) (all u : m.Library) (x : m.Known) → (IsAmong u x → IsAmong all x) → IsAmong (if b then u else k ∷ u) x → IsAmong (k ∷ all) x
@@ -111,21 +146,21 @@ among_if false k all u x f (suc j, e) = let g = f (j, e) in (suc g.0, g.1)
 pub among_unused : (names : List Name) (all : m.Library) (x : m.Known) → IsAmong (m.unused names all) x → IsAmong all x
 unfolding unused
 among_unused names [] x h = h
-among_unused names (k ∷ all) x h = among_if _ k all (m.unused names all) x (among_unused names all x) h
+among_unused names (k ∷ all) x h = among_if (has_name k.tree.name.text names) k all (m.unused names all) x (among_unused names all x) h
 
 pub among_one : (all : m.Library) (x : m.Known) → m.the_one all ≡ Ok x → IsAmong all x
 among_one [] x h = cc
-among_one (k ∷ []) x h = let e : k ≡ x = cc in (0, ap Some e)
+among_one (k ∷ []) x h = let e : k ≡ x = cc in (zero, ap Some e)
 among_one (k ∷ n ∷ all) x h = cc
 
 named_if : (b : Bool) (k : m.Known) (all : m.Library) (o : Option m.Known) (x : m.Known) → (o ≡ Some x → IsAmong all x) → (if b then Some k else o) ≡ Some x → IsAmong (k ∷ all) x
-named_if true k all o x f h = (0, h)
+named_if true k all o x f h = (zero, h)
 named_if false k all o x f h = let g = f h in (suc g.0, g.1)
 
 pub among_named : (n : Name) (all : m.Library) (x : m.Known) → m.module_named n all ≡ Some x → IsAmong all x
 unfolding module_named
 among_named n [] x h = cc
-among_named n (k ∷ all) x h = named_if _ k all (m.module_named n all) x (among_named n all x) h
+among_named n (k ∷ all) x h = named_if (bytes_eq k.tree.name.text n) k all (m.module_named n all) x (among_named n all x) h
 
 named_is : (o : Option m.Known) (n : ℕ) → option_map number_of o ≡ Some n → (x : m.Known) × (o ≡ Some x) × (x.number ≡ n)
 named_is None n h = cc
@@ -146,9 +181,15 @@ pub module_at : (modules : List Module) (all : m.Library) (c : m.Child) (n : ℕ
     slice_get all n ≡ Some k → m.module_of all c ≡ Ok k
 module_at modules all c n k h e g =
     let x = named_is (m.module_named c.of_module.text all) n e in
-    let a : slice_get all x.0.number ≡ Some x.0 = own_number modules all x.0 h (among_named c.of_module.text all x.0 x.1.0) in
-    let b : Some x.0 ≡ Some k = sym a ∙ ap (λ (j : ℕ). slice_get all j) x.1.1 ∙ g in
-    module_is all c x.0 x.1.0 ∙ (let y : x.0 ≡ k = cc in ap Ok y)
+    let a : slice_get all x.0.number ≡ Some x.0 = own_number modules all x.0 h (among_named c.of_module.text all x.0 x.1) in
+    let b : Some x.0 ≡ Some k = sym a ∙ ap (λ (j : ℕ). slice_get all j) x.2 ∙ g in
+    module_is all c x.0 x.1 ∙ (let y : x.0 ≡ k = cc in ap Ok y)
+
+pub module_told : (modules : List Module) (all : m.Library) (c : m.Child) (n : ℕ) (r : Result Known TextErr) → IsLibraryOf modules all → option_map (λ (x : m.Known). x.number) (m.module_named c.of_module.text all) ≡ Some n →
+    KnowsNumber all n r → Answers (λ (k : m.Known) (known : Known). k ≡ known_is known) (m.module_of all c) r
+module_told modules all c n (Ok k) h e g = subst (λ (j : Judged m.Known). Answers (λ (x : m.Known) (known : Known). x ≡ known_is known) j (Ok k)) (sym (module_at modules all c n (known_is k) h e g)) refl
+module_told modules all c n (Err (No x)) h e g = absurd g
+module_told modules all c n (Err Memory) h e g = answers_memory (λ (k : m.Known) (known : Known). k ≡ known_is known) (m.module_of all c)
 
 pub module_none : (all : m.Library) (c : m.Child) → option_map (λ (x : m.Known). x.number) (m.module_named c.of_module.text all) ≡ None → m.module_of all c ≡ Err (fault unknown_module c.of_module.place)
 module_none all c e = module_missing all c (unnamed_is (m.module_named c.of_module.text all) e)
@@ -162,7 +203,11 @@ lent_is (Some x) = refl
 pub alone_is : (k : m.Known) (c : m.Child) (st more : m.State) (params pins : List Connection) → connections (m.seen_at st.levels c.at) (m.open_params k.tree) c.params ≡ Ok params →
     connections (m.seen_at st.levels c.at) (m.port_texts (m.ports_of k.tree)) c.pins ≡ Ok pins → m.count_instance c st ≡ Ok more →
     child_alone k c st ≡ m.instance_walk false k.tree c.at pins (m.begun k c.path c.at.level (m.given_by c.at params) more)
-alone_is k c st more params pins e f g = rw (e, f, g) refl
+alone_is k c st more params pins e f g =
+    ap (λ (j : Judged (List Connection)). j >>= λ a. connections (m.seen_at st.levels c.at) (m.port_texts (m.ports_of k.tree)) c.pins >>= λ b. m.count_instance c st >>= λ d.
+    m.instance_walk false k.tree c.at b (m.begun k c.path c.at.level (m.given_by c.at a) d)) e
+    ∙ ap (λ (j : Judged (List Connection)). j >>= λ b. m.count_instance c st >>= λ d. m.instance_walk false k.tree c.at b (m.begun k c.path c.at.level (m.given_by c.at params) d)) f
+    ∙ ap (λ (j : Judged m.State). j >>= λ d. m.instance_walk false k.tree c.at pins (m.begun k c.path c.at.level (m.given_by c.at params) d)) g
 
 -- ---- one value, of any kind
 
@@ -179,19 +224,19 @@ listed_is g (Err all) y h = absurd h
 pub walk_next : {A B : Type 0} (g : B → A) (f : A → m.Walk) (xs : List B) (i : ℕ) (x : B) (j : Judged m.State) (st next : m.State) → i < length xs → x ≡ get_or xs i x →
     j ≡ m.walk_all f (map g (drop i xs)) st → f (g x) st ≡ Ok next → j ≡ m.walk_all f (map g (drop (i + 1) xs)) next
 unfolding walk_all
-walk_next g f xs i x j st next h e k n =
-    k ∙ ap (λ ys. m.walk_all f (map g ys) st) (drop_next xs i x h e) ∙ ap (λ y. y >>= m.walk_all f (map g (drop (i + 1) xs))) n
+walk_next {B = B} g f xs i x j st next h e k n =
+    k ∙ ap (λ (ys : List B). m.walk_all f (map g ys) st) (drop_next xs i x h e) ∙ ap (λ (y : Judged m.State). y >>= m.walk_all f (map g (drop (i + 1) xs))) n
 
 pub walk_refused : {A B D : Type 0} (g : B → A) (f : A → m.Walk) (s : m.State → D → Type 0) (xs : List B) (i : ℕ) (x : B) (j : Judged m.State) (st : m.State) (r : m.State → D → Type 0) (e : TextErr) → i < length xs → x ≡ get_or xs i x →
     j ≡ m.walk_all f (map g (drop i xs)) st → Answers r (f (g x) st) (Err e) → Answers s j (Err e)
 unfolding walk_all
-walk_refused g f s xs i x j st r e h k n a =
-    subst (λ y. Answers s y (Err e)) (sym (n ∙ ap (λ ys. m.walk_all f (map g ys) st) (drop_next xs i x h k)))
+walk_refused {B = B} g f s xs i x j st r e h k n a =
+    subst (λ (y : Judged m.State). Answers s y (Err e)) (sym (n ∙ ap (λ (ys : List B). m.walk_all f (map g ys) st) (drop_next xs i x h k)))
     (refused_first r s (f (g x) st) (m.walk_all f (map g (drop (i + 1) xs))) e a)
 
 pub walk_end : {A B : Type 0} (g : B → A) (f : A → m.Walk) (xs : List B) (i : ℕ) (j : Judged m.State) (st : m.State) → length xs ≤ i → j ≡ m.walk_all f (map g (drop i xs)) st → j ≡ Ok st
 unfolding walk_all
-walk_end g f xs i j st h k = k ∙ ap (λ ys. m.walk_all f (map g ys) st) (drop_none xs i h)
+walk_end {B = B} g f xs i j st h k = k ∙ ap (λ (ys : List B). m.walk_all f (map g ys) st) (drop_none xs i h)
 
 -- ---- an instance below another
 
@@ -212,7 +257,7 @@ pub child_at : (deep n : ℕ) (all : m.Library) (c : m.Child) (st : m.State) (k 
     m.child deep all c st ≡ (child_alone k c st >>= λ own. m.below (m.child n all) own >>= λ last. Ok (m.outer st last))
 child_at deep n all c st k e f =
     ap (λ (d : ℕ). m.child d all c st) e ∙ child_is_deep n all c st
-    ∙ ap (λ j. j >>= λ (x : m.Known). connections (m.seen_at st.levels c.at) (m.open_params x.tree) c.params >>= λ params.
+    ∙ ap (λ (j : Judged m.Known). j >>= λ x. connections (m.seen_at st.levels c.at) (m.open_params x.tree) c.params >>= λ params.
     connections (m.seen_at st.levels c.at) (m.port_texts (m.ports_of x.tree)) c.pins >>= λ pins. m.count_instance c st >>= λ more.
     m.instance_walk false x.tree c.at pins (m.begun x c.path c.at.level (m.given_by c.at params) more) >>= λ own. m.below (m.child n all) own >>= λ last. Ok (m.outer st last)) f
     ∙ three (connections (m.seen_at st.levels c.at) (m.open_params k.tree) c.params) (connections (m.seen_at st.levels c.at) (m.port_texts (m.ports_of k.tree)) c.pins) (m.count_instance c st)
@@ -224,14 +269,161 @@ child_too_deep deep all c st e = ap (λ (d : ℕ). m.child d all c st) e
 
 pub child_unknown : {B D : Type 0} (r : m.Known → B → Type 0) (s : m.State → D → Type 0) (deep n : ℕ) (all : m.Library) (c : m.Child) (st : m.State) (e : TextErr) → deep ≡ suc n →
     Answers r (m.module_of all c) (Err e) → Answers s (m.child deep all c st) (Err e)
-child_unknown r s deep n all c st e i h = subst (λ j. Answers s j (Err e)) (sym (ap (λ (d : ℕ). m.child d all c st) i ∙ child_is_deep n all c st)) (refused_first r s (m.module_of all c) _ e h)
+child_unknown r s deep n all c st e i h = subst (λ (j : Judged m.State). Answers s j (Err e)) (sym (ap (λ (d : ℕ). m.child d all c st) i ∙ child_is_deep n all c st)) (refused_first r s (m.module_of all c) _ e h)
 
 -- back in the scope around the instance
-pub outer_answers : (j : Judged m.State) (w v : Walker) (current own : Open) (result : Result Unit TextErr) → Answers (λ st (u : Unit). st ≡ state_of v own) j result →
-    Answers (λ st (u : Unit). st ≡ state_of v current) (j >>= λ last. Ok (m.outer (state_of w current) last)) result
+pub outer_answers : (j : Judged m.State) (w v : Walker) (current own : Open) (result : Result (Unit {0}) TextErr) → Answers (λ st (u : Unit {0}). st ≡ state_of v own) j result →
+    Answers (λ st (u : Unit {0}). st ≡ state_of v current) (j >>= λ last. Ok (m.outer (state_of w current) last)) result
 outer_answers (Ok x) w v current own (Ok u) h = ap (m.outer (state_of w current)) h
 outer_answers (Ok x) w v current own (Err (No e)) h = absurd h
 outer_answers (Ok x) w v current own (Err Memory) h = tt
 outer_answers (Err all) w v current own (Ok u) h = absurd h
 outer_answers (Err all) w v current own (Err (No e)) h = h
 outer_answers (Err all) w v current own (Err Memory) h = tt
+
+-- ---- what stands against an instance without its children
+
+pub no_params : {B D : Type 0} (r : List Connection → B → Type 0) (s : m.State → D → Type 0) (k : m.Known) (c : m.Child) (st : m.State) (e : TextErr) →
+    Answers r (connections (m.seen_at st.levels c.at) (m.open_params k.tree) c.params) (Err e) → Answers s (child_alone k c st) (Err e)
+no_params r s k c st e h = refused_first r s (connections (m.seen_at st.levels c.at) (m.open_params k.tree) c.params) _ e h
+
+pub no_pins : {B D : Type 0} (r : List Connection → B → Type 0) (s : m.State → D → Type 0) (k : m.Known) (c : m.Child) (st : m.State) (params : List Connection) (e : TextErr) →
+    connections (m.seen_at st.levels c.at) (m.open_params k.tree) c.params ≡ Ok params →
+    Answers r (connections (m.seen_at st.levels c.at) (m.port_texts (m.ports_of k.tree)) c.pins) (Err e) → Answers s (child_alone k c st) (Err e)
+no_pins r s k c st params e f h =
+    subst (λ (j : Judged (List Connection)). Answers s (j >>= λ a. connections (m.seen_at st.levels c.at) (m.port_texts (m.ports_of k.tree)) c.pins >>= λ b. m.count_instance c st >>= λ d.
+    m.instance_walk false k.tree c.at b (m.begun k c.path c.at.level (m.given_by c.at a) d)) (Err e)) (sym f)
+    (refused_first r s (connections (m.seen_at st.levels c.at) (m.port_texts (m.ports_of k.tree)) c.pins) _ e h)
+
+pub no_room : {B D : Type 0} (r : m.State → B → Type 0) (s : m.State → D → Type 0) (k : m.Known) (c : m.Child) (st : m.State) (params pins : List Connection) (e : TextErr) →
+    connections (m.seen_at st.levels c.at) (m.open_params k.tree) c.params ≡ Ok params → connections (m.seen_at st.levels c.at) (m.port_texts (m.ports_of k.tree)) c.pins ≡ Ok pins →
+    Answers r (m.count_instance c st) (Err e) → Answers s (child_alone k c st) (Err e)
+no_room r s k c st params pins e f g h =
+    subst (λ (j : Judged (List Connection)). Answers s (j >>= λ a. connections (m.seen_at st.levels c.at) (m.port_texts (m.ports_of k.tree)) c.pins >>= λ b. m.count_instance c st >>= λ d.
+    m.instance_walk false k.tree c.at b (m.begun k c.path c.at.level (m.given_by c.at a) d)) (Err e)) (sym f)
+    (subst (λ (j : Judged (List Connection)). Answers s (j >>= λ b. m.count_instance c st >>= λ d.
+    m.instance_walk false k.tree c.at b (m.begun k c.path c.at.level (m.given_by c.at params) d)) (Err e)) (sym g)
+    (refused_first r s (m.count_instance c st) _ e h))
+
+-- ---- one instance more
+
+abbrev pub Counts : ℕ → ℕ → Tally → Type 0
+Counts turns n t = (t.bits ≡ n) × (t.turns ≡ turns)
+
+clear_is : (all : Faults) (turns n : ℕ) (t : Tally) → Answers (Counts turns) (provided all n) (Ok t) → (all ≡ []) × (t.bits ≡ n) × (t.turns ≡ turns)
+clear_is [] turns n t h = (refl, h.0, h.1)
+clear_is (f ∷ all) turns n t h = absurd h
+
+pub counted_ok : (c : m.Child) (st : m.State) (t : Tally) → Answers (Counts st.turns) (provided (m.size_faults c.name.place (st.bits + 1)) (st.bits + 1)) (Ok t) → m.count_instance c st ≡ Ok (record st { bits = t.bits; turns = t.turns })
+counted_ok c st t h =
+    let parts = clear_is (m.size_faults c.name.place (st.bits + 1)) st.turns (st.bits + 1) t h in
+    let more : suc st.bits ≡ st.bits + 1 = omega arith in
+    ap (λ (n : ℕ). provided (m.size_faults c.name.place n) (record st { bits = n })) more
+    ∙ ap (λ (fs : Faults). provided fs (record st { bits = st.bits + 1 })) parts.0
+    ∙ ap (λ (n : ℕ). Ok (record st { bits = n })) (sym parts.1)
+    ∙ ap (λ (n : ℕ). Ok (record st { bits = t.bits; turns = n })) (sym parts.2)
+
+counted_cause : {D : Type 0} (r : m.State → D → Type 0) (all : Faults) (turns n : ℕ) (x : m.State) (e : TextErr) → (let s : Result Tally TextErr = Err e in Answers (Counts turns) (provided all n) s) → Answers r (provided all x) (Err e)
+counted_cause r [] turns n x (No e) h = absurd h
+counted_cause r [] turns n x Memory h = tt
+counted_cause r (f ∷ all) turns n x (No e) h = h
+counted_cause r (f ∷ all) turns n x Memory h = tt
+
+pub counted_err : {D : Type 0} (r : m.State → D → Type 0) (c : m.Child) (st : m.State) (e : TextErr) → (let s : Result Tally TextErr = Err e in Answers (Counts st.turns) (provided (m.size_faults c.name.place (st.bits + 1)) (st.bits + 1)) s) →
+    Answers r (m.count_instance c st) (Err e)
+counted_err r c st e h =
+    let more : st.bits + 1 ≡ suc st.bits = omega arith in
+    subst (λ (n : ℕ). Answers r (provided (m.size_faults c.name.place n) (record st { bits = n })) (Err e)) more
+    (counted_cause r (m.size_faults c.name.place (st.bits + 1)) st.turns (st.bits + 1) (record st { bits = st.bits + 1 }) e h)
+
+pub alone_ok : (k : m.Known) (c : m.Child) (st more first last : m.State) (params pins : List Connection) → connections (m.seen_at st.levels c.at) (m.open_params k.tree) c.params ≡ Ok params →
+    connections (m.seen_at st.levels c.at) (m.port_texts (m.ports_of k.tree)) c.pins ≡ Ok pins → m.count_instance c st ≡ Ok more → first ≡ m.begun k c.path c.at.level (m.given_by c.at params) more →
+    m.instance_walk false k.tree c.at pins first ≡ Ok last → child_alone k c st ≡ Ok last
+alone_ok k c st more first last params pins e f g h i =
+    alone_is k c st more params pins e f g ∙ ap (λ (s : m.State). m.instance_walk false k.tree c.at pins s) (sym h) ∙ i
+
+pub alone_refused : {B D : Type 0} (r : m.State → B → Type 0) (s : m.State → D → Type 0) (k : m.Known) (c : m.Child) (st more first : m.State) (params pins : List Connection) (why : TextErr) →
+    connections (m.seen_at st.levels c.at) (m.open_params k.tree) c.params ≡ Ok params → connections (m.seen_at st.levels c.at) (m.port_texts (m.ports_of k.tree)) c.pins ≡ Ok pins → m.count_instance c st ≡ Ok more →
+    first ≡ m.begun k c.path c.at.level (m.given_by c.at params) more → Answers r (m.instance_walk false k.tree c.at pins first) (Err why) → Answers s (child_alone k c st) (Err why)
+alone_refused r s k c st more first params pins why e f g h a =
+    subst (λ (j : Judged m.State). Answers s j (Err why)) (sym (alone_is k c st more params pins e f g ∙ ap (λ (x : m.State). m.instance_walk false k.tree c.at pins x) (sym h)))
+    (same_refusal r s (m.instance_walk false k.tree c.at pins first) why a)
+
+pub too_deep : {D : Type 0} (s : m.State → D → Type 0) (deep : ℕ) (all : m.Library) (c : m.Child) (st : m.State) (e : Refusal) → deep ≡ zero → e ≡ record { number = instance_deep; place = c.name.place; count = 0 } →
+    Answers s (m.child deep all c st) (Err (No e))
+too_deep s deep all c st e h g =
+    subst (λ (j : Judged m.State). Answers s j (Err (No e))) (sym (child_too_deep deep all c st h))
+    (subst (λ (f : Refusal). let j : Judged m.State = Err (fault instance_deep c.name.place) in Answers s j (Err (No f))) (sym g) (0, omega arith, refl))
+
+pub own_refused : {B D : Type 0} (r : m.State → B → Type 0) (s : m.State → D → Type 0) (deep n : ℕ) (all : m.Library) (c : m.Child) (st : m.State) (k : m.Known) (e : TextErr) → deep ≡ suc n → m.module_of all c ≡ Ok k →
+    Answers r (child_alone k c st) (Err e) → Answers s (m.child deep all c st) (Err e)
+own_refused r s deep n all c st k e i f h =
+    subst (λ (j : Judged m.State). Answers s j (Err e)) (sym (child_at deep n all c st k i f)) (refused_first r s (child_alone k c st) _ e h)
+
+pub own_walked : (deep n : ℕ) (all : m.Library) (c : m.Child) (st own : m.State) (k : m.Known) → deep ≡ suc n → m.module_of all c ≡ Ok k → child_alone k c st ≡ Ok own →
+    m.child deep all c st ≡ (m.below (m.child n all) own >>= λ last. Ok (m.outer st last))
+own_walked deep n all c st own k i f g = child_at deep n all c st k i f ∙ ap (λ (j : Judged m.State). j >>= λ x. m.below (m.child n all) x >>= λ last. Ok (m.outer st last)) g
+
+pub below_begins : (w : Walker) (o : Open) (f : m.Child → m.Walk) (xs : List Child) (rest : Vec Child Global) → xs ≡ w.children.items → rest.items ≡ [] →
+    m.below f (state_of w o) ≡ m.walk_all f (map child_is (drop 0 xs)) (state_of (record w { children = rest }) o)
+below_begins w o f xs rest h e =
+    ap (λ (ys : List Child). m.walk_all f (map child_is ys) (record (state_of w o) { children = [] })) (sym h)
+    ∙ ap (λ (ys : List Child). m.walk_all f (map child_is xs) (record (state_of w o) { children = map child_is ys })) (sym e)
+
+-- ---- connections as code lists them
+
+abbrev pub IsListed : List Connection → Vec Coded Global → Type 0
+IsListed all list = map connection_is list.items ≡ all
+
+pub connected_as : {B : Type 0} (r : List Connection → B → Type 0) (at : Scope) (a b : List Name) (o p : Option Pins) (q : Result B TextErr) → a ≡ b → o ≡ p → Answers r (connections at a o) q → Answers r (connections at b p) q
+connected_as r at a b o p q e f h = subst (λ (j : Judged (List Connection)). Answers r j q) (ap (λ (x : List Name). connections at x o) e ∙ ap (connections at b) f) h
+
+pub connected_ok : (at : Scope) (a b : List Name) (o p : Option Pins) (v : Vec Coded Global) → a ≡ b → o ≡ p → Answers IsListed (connections at a o) (Ok v) → connections at b p ≡ Ok (map connection_is v.items)
+connected_ok at a b o p v e f h = listed_is (λ (x : Vec Coded Global). map connection_is x.items) (connections at b p) v (connected_as IsListed at a b o p (Ok v) e f h)
+
+-- ---- an instance is begun, and the file level
+
+pub one_front : (around none : List Front) (f : Front) → around ≡ none ++ f ∷ [] → none ≡ [] → map front_is around ≡ front_is f ∷ []
+one_front around none f h e = ap (map front_is) (h ∙ ap (λ (x : List Front). x ++ f ∷ []) e)
+
+pub begun_is : (w : Walker) (levels : Levels) (children : Vec Child Global) (o current : Open) (k : m.Known) (path : Name) (parent : ℕ) (given : List m.Given) (x : Level) → levels_are levels ≡ levels_are w.levels ++ level_is x ∷ [] →
+    x.path ≡ path → x.module ≡ k.number → x.parent ≡ parent → map front_is x.around ≡ record { level = 0; nets = 0; consts = k.above } ∷ [] → x.nets ≡ [] → x.consts ≡ [] → children.items ≡ [] →
+    o.level ≡ length (levels_are w.levels) → o.constructs ≡ 0 → map given_is o.overridden.items ≡ given → ((n : Name) → holds o.taken n ≡ has_name n []) →
+    state_of (record w { levels = levels; children = children }) o ≡ m.begun k path parent given (state_of w current)
+unfolding has_name
+begun_is w levels children o current k path parent given x h p n q a b c e l g i t =
+    let taken : holds o.taken ≡ m.nothing_taken = fun_ext t in
+    let all : levels_are levels ≡ levels_are w.levels ++ record { path = path; module_number = k.number; parent = parent; around = record { level = 0; nets = 0; consts = k.above } ∷ []; nets = []; consts = [] } ∷ []
+        = h ∙ (λ z. levels_are w.levels ++ record { path = p z; module_number = n z; parent = q z; around = a z; nets = scope_is (b z); consts = scope_is (c z) } ∷ []) in
+    λ z. record {
+      levels = all z;
+      me = l z;
+      taken = taken z;
+      constructs = g z;
+      overridden = i z;
+      bits = w.tally.bits;
+      turns = w.tally.turns;
+      wires = w.wires;
+      works = map work_is w.works.items;
+      children = map child_is (e z);
+    }
+
+pub file_is : (w : Walker) (levels : Levels) (o : Open) (x : Level) → IsNothing w → levels_are levels ≡ levels_are w.levels ++ level_is x ∷ [] → x.path ≡ [] → x.module ≡ 0 → x.parent ≡ 0 → x.around ≡ [] → x.nets ≡ [] → x.consts ≡ [] →
+    o.level ≡ 0 → o.constructs ≡ 0 → map given_is o.overridden.items ≡ [] → ((n : Name) → holds o.taken n ≡ has_name n []) → state_of (record w { levels = levels }) o ≡ m.file_state
+unfolding has_name
+file_is w levels o x none h p n q a b c l g i t =
+    let taken : holds o.taken ≡ m.nothing_taken = fun_ext t in
+    let all : levels_are levels ≡ m.no_level ∷ []
+        = h ∙ (λ z. none.levels z ++ record { path = p z; module_number = n z; parent = q z; around = map front_is (a z); nets = scope_is (b z); consts = scope_is (c z) } ∷ []) in
+    λ z. record {
+      levels = all z;
+      me = l z;
+      taken = taken z;
+      constructs = g z;
+      overridden = i z;
+      bits = none.bits z;
+      turns = none.turns z;
+      wires = none.wires z;
+      works = map work_is (none.works z);
+      children = map child_is (none.children z);
+    }

@@ -13,4 +13,4 @@ decreases-child l = 2 * l.deep
 abbrev pub invariant-below-children : goal.invariant-below-children
 invariant-below-children l =
     (all : m.Library) → IsLibrary l.library all →
-    m.below (m.child l.deep all) (state_of l.fn.self l.fn.current) ≡ m.walk_all (m.child l.deep all) (map child_is (drop l.child-index l.children.items)) (state_of l.self l.current)
+    m.below (m.child l.deep all) (state_of l.fn.self l.fn.current) ≡ m.walk_all (m.child l.deep all) (map child_is (drop l.child-index l.child-items)) (state_of l.self l.current)

@@ -1,5 +1,5 @@
 use Rattle.sv_scope.specs.Walks.{state_of}
-use Rattle.sv_scope.proofs.Whole.{Filed}
+use Rattle.sv_scope.proofs.WholeDesign.{Filed}
 use Rattle.sv_scope.proofs.walker.Walker.file_level.Given as goal
 
 abbrev pub invariant-parts : goal.invariant-parts

@@ -3,6 +3,7 @@ use Rattle.std.proofs.Common.{◌≡◌, ℕ, zero, suc, ◌+◌, ◌-◌, ◌<�
 use Rattle.std.proofs.lemmas.List.{map-append, append-nil}
 use Rattle.std.specs.Option.{option_map, option_copied}
 use Rattle.std.specs.List.{slice_get, range_with_len}
+use Rattle.sv_outside.specs.declared.refusal.Refusal.{Refusal}
 use Rattle.sv_outside.specs.declared.refusal.TextErr.{TextErr}
 use Rattle.sv_outside.specs.declared.refusal.TextErr.TheVariants.{No, Memory}
 use Rattle.sv_tree.specs.declared.design.Module.{Module}
@@ -21,7 +22,9 @@ use Rattle.sv_hierarchy.proofs.Found.{there_is, library_is, library_once}
 use Rattle.sv_loops.specs.Answers.{Answers, Gives}
 use Rattle.sv_modules.specs.Naming.{Adds, Holds, holds}
 use Rattle.sv_modules.specs.Libraries.{modules_once}
+use Rattle.sv_modules.specs.Listed.{modules_of}
 use Rattle.sv_modules.specs.declared.name_set.NameSet.{NameSet}
+use Rattle.sv_modules.specs.declared.numbered.Modules.{Modules}
 use Rattle.sv_modules.proofs.Sets.{holds_more}
 use Rattle.sv_modules.proofs.Turns.{drop_next, drop_none}
 use Rattle.sv_meaning.specs.Params.{Connection}
@@ -85,19 +88,20 @@ pub filed_module : (parts : List SourcePart) (i : ℕ) (start st : m.State) (nam
 unfolding known_of
 filed_module parts i start st names more above longer x t n f h e g none adds l k = record {
   all = f.all ++ known_of f.all st t ∷ [];
-  names_are = subst (Holds more) (sym (map-append (λ (y : m.Known). y.tree.name.text) f.all (known_of f.all st t ∷ []))) (holds_more names more _ (t.name.text ∷ []) f.names_are adds);
+  names_are = subst (Holds more) (sym (map-append (λ (y : m.Known). y.tree.name.text) f.all (known_of f.all st t ∷ []))) (holds_more names more (map (λ (y : m.Known). y.tree.name.text) f.all) (t.name.text ∷ []) f.names_are adds);
   above_are = map-append (λ (y : m.Known). y.above) f.all (known_of f.all st t ∷ []) ∙ ap (λ (ns : List ℕ). ns ++ (m.here st).consts ∷ []) f.above_are ∙ ap (λ (c : ℕ). above ++ c ∷ []) (sym k) ∙ sym l;
   rest = f.rest ∙ next_part parts i x (part.Module t) f.all st h e g ∙ module_is t (drop (i + 1) parts) f.all st
       ∙ unless_there (m.is_there (m.module_named t.name.text f.all)) t (known_of f.all st t) (λ y. m.library (drop (i + 1) parts) (f.all ++ y ∷ []) st) (there_is t.name.text f.all ∙ sym (f.names_are t.name.text) ∙ none);
 }
 
 pub filed_twice : {D : Type 0} (s : m.Library × m.State → D → Type 0) (parts : List SourcePart) (i : ℕ) (start st : m.State) (names : NameSet) (above : List ℕ) (x : SourcePart) (t : Module) → Filed parts i start st names above → i < length parts →
-    x ≡ get_or parts i x → x ≡ part.Module t → holds names t.name.text ≡ true → Answers s (m.library parts [] start) (Err (No (record { number = twice; place = t.name.place; count = 0 })))
-filed_twice s parts i start st names above x t f h e g there =
-    subst (λ j. Answers s j (Err (No (record { number = twice; place = t.name.place; count = 0 }))))
+    x ≡ get_or parts i x → x ≡ part.Module t → holds names t.name.text ≡ true → (why : Refusal) → why ≡ record { number = twice; place = t.name.place; count = 0 } → Answers s (m.library parts [] start) (Err (No why))
+filed_twice s parts i start st names above x t f h e g there why k =
+    subst (λ (y : Refusal). Answers s (m.library parts [] start) (Err (No y))) (sym k)
+    (subst (λ (j : Judged (m.Library × m.State)). Answers s j (Err (No (record { number = twice; place = t.name.place; count = 0 }))))
     (sym (f.rest ∙ next_part parts i x (part.Module t) f.all st h e g ∙ module_is t (drop (i + 1) parts) f.all st
     ∙ if_there (m.is_there (m.module_named t.name.text f.all)) t (known_of f.all st t) (λ y. m.library (drop (i + 1) parts) (f.all ++ y ∷ []) st) (there_is t.name.text f.all ∙ sym (f.names_are t.name.text) ∙ there)))
-    (0, omega arith, refl)
+    (0, omega arith, refl))
 
 pub filed_typedef : (parts : List SourcePart) (i : ℕ) (start st next : m.State) (names : NameSet) (above : List ℕ) (x : SourcePart) (d : Typedef) → Filed parts i start st names above → i < length parts → x ≡ get_or parts i x →
     x ≡ part.Typedef d → m.add_typedef d st ≡ Ok next → Filed parts (i + 1) start next names above
@@ -105,7 +109,7 @@ filed_typedef parts i start st next names above x d f h e g n = record {
   all = f.all;
   names_are = f.names_are;
   above_are = f.above_are;
-  rest = f.rest ∙ next_part parts i x (part.Typedef d) f.all st h e g ∙ typedef_is d (drop (i + 1) parts) f.all st ∙ ap (λ j. j >>= m.library (drop (i + 1) parts) f.all) n;
+  rest = f.rest ∙ next_part parts i x (part.Typedef d) f.all st h e g ∙ typedef_is d (drop (i + 1) parts) f.all st ∙ ap (λ (j : Judged m.State). j >>= m.library (drop (i + 1) parts) f.all) n;
 }
 
 pub filed_param : (parts : List SourcePart) (i : ℕ) (start st next : m.State) (names : NameSet) (above : List ℕ) (x : SourcePart) (p : Param) → Filed parts i start st names above → i < length parts → x ≡ get_or parts i x →
@@ -114,20 +118,29 @@ filed_param parts i start st next names above x p f h e g n = record {
   all = f.all;
   names_are = f.names_are;
   above_are = f.above_are;
-  rest = f.rest ∙ next_part parts i x (part.Param p) f.all st h e g ∙ param_is p (drop (i + 1) parts) f.all st ∙ ap (λ j. j >>= m.library (drop (i + 1) parts) f.all) n;
+  rest = f.rest ∙ next_part parts i x (part.Param p) f.all st h e g ∙ param_is p (drop (i + 1) parts) f.all st ∙ ap (λ (j : Judged m.State). j >>= m.library (drop (i + 1) parts) f.all) n;
 }
 
 pub no_typedef : {B D : Type 0} (r : m.State → B → Type 0) (s : m.Library × m.State → D → Type 0) (parts : List SourcePart) (i : ℕ) (start st : m.State) (names : NameSet) (above : List ℕ) (x : SourcePart) (d : Typedef) (why : TextErr) →
     Filed parts i start st names above → i < length parts → x ≡ get_or parts i x → x ≡ part.Typedef d → Answers r (m.add_typedef d st) (Err why) → Answers s (m.library parts [] start) (Err why)
 no_typedef r s parts i start st names above x d why f h e g n =
-    subst (λ j. Answers s j (Err why)) (sym (f.rest ∙ next_part parts i x (part.Typedef d) f.all st h e g ∙ typedef_is d (drop (i + 1) parts) f.all st))
+    subst (λ (j : Judged (m.Library × m.State)). Answers s j (Err why)) (sym (f.rest ∙ next_part parts i x (part.Typedef d) f.all st h e g ∙ typedef_is d (drop (i + 1) parts) f.all st))
     (refused_first r s (m.add_typedef d st) (m.library (drop (i + 1) parts) f.all) why n)
 
 pub no_param : {B D : Type 0} (r : m.State → B → Type 0) (s : m.Library × m.State → D → Type 0) (parts : List SourcePart) (i : ℕ) (start st : m.State) (names : NameSet) (above : List ℕ) (x : SourcePart) (p : Param) (why : TextErr) →
     Filed parts i start st names above → i < length parts → x ≡ get_or parts i x → x ≡ part.Param p → Answers r (m.add_params p st) (Err why) → Answers s (m.library parts [] start) (Err why)
 no_param r s parts i start st names above x p why f h e g n =
-    subst (λ j. Answers s j (Err why)) (sym (f.rest ∙ next_part parts i x (part.Param p) f.all st h e g ∙ param_is p (drop (i + 1) parts) f.all st))
+    subst (λ (j : Judged (m.Library × m.State)). Answers s j (Err why)) (sym (f.rest ∙ next_part parts i x (part.Param p) f.all st h e g ∙ param_is p (drop (i + 1) parts) f.all st))
     (refused_first r s (m.add_params p st) (m.library (drop (i + 1) parts) f.all) why n)
+
+-- the same of values that are equal
+pub filed_as : (parts : List SourcePart) (i : ℕ) (start : m.State) (w v : Walker) (o p : Open) (names more : NameSet) (above longer : List ℕ) → v ≡ w → p ≡ o → more ≡ names → longer ≡ above →
+    Filed parts i start (state_of w o) names above → Filed parts i start (state_of v p) more longer
+filed_as parts i start w v o p names more above longer a b c d f =
+    subst (λ (x : Walker). Filed parts i start (state_of x p) more longer) (sym a)
+    (subst (λ (x : Open). Filed parts i start (state_of w x) more longer) (sym b)
+    (subst (λ (x : NameSet). Filed parts i start (state_of w o) x longer) (sym c)
+    (subst (λ (x : List ℕ). Filed parts i start (state_of w o) names x) (sym d) f)))
 
 pub filed_end : (parts : List SourcePart) (i : ℕ) (start st : m.State) (names : NameSet) (above : List ℕ) (f : Filed parts i start st names above) → length parts ≤ i → m.library parts [] start ≡ Ok (f.all, st)
 filed_end parts i start st names above f h = f.rest ∙ ap (λ (ps : List SourcePart). m.library ps f.all st) (drop_none parts i h) ∙ library_end f.all st
@@ -166,7 +179,7 @@ behind_length (x ∷ all) = omega arith
 
 -- ---- from the top down
 
-pub walked_answers : (j : Judged m.State) (v : Walker) (own : Open) (result : Result Unit TextErr) → Answers (λ st (u : Unit). st ≡ state_of v own) j result → Answers (λ st (u : Unit). IsWalked st v) j result
+pub walked_answers : (j : Judged m.State) (v : Walker) (own : Open) (result : Result (Unit {0}) TextErr) → Answers (λ st (u : Unit {0}). st ≡ state_of v own) j result → Answers (λ st (u : Unit {0}). IsWalked st v) j result
 walked_answers (Ok x) v own (Ok u) h = record { levels = ap (λ (st : m.State). st.levels) h; turns = ap (λ (st : m.State). st.turns) h; wires = ap (λ (st : m.State). st.wires) h; works = ap (λ (st : m.State). st.works) h }
 walked_answers (Ok x) v own (Err (No e)) h = absurd h
 walked_answers (Ok x) v own (Err Memory) h = tt
@@ -185,12 +198,32 @@ top_walk all k st last at pins e f g =
     ∙ ap (λ (a : m.Front). m.instance_walk true k.tree a [] last >>= m.below (m.child m.deepest all)) (sym f)
     ∙ ap (λ (p : List Connection). m.instance_walk true k.tree at p last >>= m.below (m.child m.deepest all)) (sym g)
 
+pub top_stopped : {B D : Type 0} (r : m.State → B → Type 0) (s : m.State → D → Type 0) (all : m.Library) (k : m.Known) (st last : m.State) (at : m.Front) (pins : List Connection) (e : TextErr) → last ≡ m.begun k [] 0 [] st → at ≡ m.here st → pins ≡ [] →
+    Answers r (m.instance_walk true k.tree at pins last) (Err e) → Answers s (m.from_top all k st) (Err e)
+top_stopped r s all k st last at pins e b f g h =
+    subst (λ (j : Judged m.State). Answers s j (Err e)) (sym (top_walk all k st last at pins b f g)) (refused_first r s (m.instance_walk true k.tree at pins last) (m.below (m.child m.deepest all)) e h)
+
+pub top_opened : (all : m.Library) (k : m.Known) (st last own : m.State) (at : m.Front) (pins : List Connection) → last ≡ m.begun k [] 0 [] st → at ≡ m.here st → pins ≡ [] →
+    m.instance_walk true k.tree at pins last ≡ Ok own → m.from_top all k st ≡ m.below (m.child m.deepest all) own
+top_opened all k st last own at pins b f g h = top_walk all k st last at pins b f g ∙ ap (λ (j : Judged m.State). j >>= m.below (m.child m.deepest all)) h
+
+pub ok_walked : (j : Judged m.State) (v : Walker) (u : Unit {0}) → Answers (λ st (x : Unit {0}). IsWalked st v) j (Ok u) → Answers (λ st (w : Walker). IsWalked st w) j (Ok v)
+ok_walked (Ok st) v u h = h
+ok_walked (Err all) v u h = absurd h
+
 -- ---- the whole
 
 pub library_found : (j : Judged (m.Library × m.State)) (st : m.State) (above : List ℕ) → Answers (λ (found : m.Library × m.State) (x : List ℕ). (map (λ (k : m.Known). k.above) found.0 ≡ x) × (found.1 ≡ st)) j (Ok above) →
     (all : m.Library) × (j ≡ Ok (all, st)) × (map (λ (k : m.Known). k.above) all ≡ above)
 library_found (Ok x) st above h = (x.0, ap (λ (s : m.State). Ok (x.0, s)) h.1, h.0)
 library_found (Err why) st above h = absurd h
+
+pub library_at : (parts rows : List SourcePart) (start st : m.State) (above : List ℕ) → rows ≡ parts → start ≡ m.file_state →
+    Answers (λ (found : m.Library × m.State) (x : List ℕ). (map (λ (k : m.Known). k.above) found.0 ≡ x) × (found.1 ≡ st)) (m.library rows [] start) (Ok above) →
+    (all : m.Library) × (m.library parts [] m.file_state ≡ Ok (all, st)) × (map (λ (k : m.Known). k.above) all ≡ above)
+library_at parts rows start st above e f h =
+    let found = library_found (m.library rows [] start) st above h in
+    (found.0, sym (ap (λ (ps : List SourcePart). m.library ps [] start) e ∙ ap (m.library parts []) f) ∙ found.1, found.2)
 
 -- where there is a library, no two modules have one name
 pub modules_refused : {A B D : Type 0} (r : List Module → B → Type 0) (s : A → D → Type 0) (j : Judged A) (parts : List SourcePart) (start st : m.State) (all : m.Library) (e : TextErr) → m.library parts [] start ≡ Ok (all, st) →
@@ -201,9 +234,10 @@ modules_refused r s j parts start st all e h a = go e (subst (λ (fs : Faults). 
     go (No why) b = absurd b
     go Memory b = answers_memory s j
 
-pub modules_are : (parts : List SourcePart) (start st : m.State) (all : m.Library) (modules : List Module) → m.library parts [] start ≡ Ok (all, st) → Answers (λ (x y : List Module). y ≡ x) (modules_once parts) (Ok modules) → IsLibraryOf modules all
+pub modules_are : (parts : List SourcePart) (start st : m.State) (all : m.Library) (modules : Modules) → m.library parts [] start ≡ Ok (all, st) →
+    Answers (λ (x : List Module) (y : Modules). modules_of y ≡ x) (modules_once parts) (Ok modules) → IsLibraryOf (modules_of modules) all
 modules_are parts start st all modules h a =
-    let once = subst (λ (fs : Faults). Answers (λ (x y : List Module). y ≡ x) (provided fs (modules_in parts)) (Ok modules)) (library_once parts start st all h) a in
+    let once : modules_of modules ≡ modules_in parts = subst (λ (fs : Faults). Answers (λ (x : List Module) (y : Modules). modules_of y ≡ x) (provided fs (modules_in parts)) (Ok modules)) (library_once parts start st all h) a in
     subst (λ (ms : List Module). IsLibraryOf ms all) (sym once) (library_is parts start st all h)
 
 pub known_refused : {A D : Type 0} (s : A → D → Type 0) (j : Judged A) (all : m.Library) (n : ℕ) (e : TextErr) → KnowsNumber all n (Err e) → Answers s j (Err e)
