@@ -5,6 +5,7 @@ use Rattle.sv_loops.specs.Answers.{Answers}
 use Rattle.sv_loops.proofs.Chains.{answers_ok}
 use Rattle.sv_scope.specs.Library.{child_alone, known_is}
 use Rattle.sv_scope.specs.Walks.{child_is, state_of}
+use Rattle.sv_scope.specs.declared.instances.Known.{Known}
 use Rattle.sv_scope.specs.declared.walker.Child.{Child}
 use Rattle.sv_scope.specs.declared.walker.Open.{Open}
 use Rattle.sv_scope.proofs.Opening.{Reached, passed_on, walk_next, walk_refused, walk_end, walked_to, value_is, below_begins, too_deep, child_unknown, own_refused, own_walked, outer_answers}
@@ -54,7 +55,7 @@ child-returns-in_err-known t c = λ all h.
     let st = state_of c.args.self.now c.args.current.now in
     let more : c.args.deep ≡ suc (c.args.deep - 1) = omega (arith, c.if-deep-eq0.false) in
     passed_on Reached _ (m.child c.args.deep all ch st) c.from_residual.result e c.from_residual.ensures.1
-    (child_unknown _ Reached c.args.deep (c.args.deep - 1) all ch st e more (c.in_err-known.ensures all h))
+    (child_unknown (λ (k : m.Known) (known : Known). k ≡ known_is known) Reached c.args.deep (c.args.deep - 1) all ch st e more (c.in_err-known.ensures all h))
 
 pub child-returns-in_err-own : goal.child-returns-in_err-own
 child-returns-in_err-own t c = λ all h.

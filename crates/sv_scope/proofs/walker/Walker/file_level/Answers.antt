@@ -14,7 +14,7 @@ parts-init c = filed_none c.args.parts.now (state_of c.args.self.now c.args.curr
 
 pub returns-then-has : goal.returns-then-has
 returns-then-has c =
-    filed_twice _ c.args.parts.now c.parts.part-index (state_of c.args.self.now c.args.current.now) (state_of c.parts.self c.parts.current) c.parts.modules c.parts.above c.part-item.result c.in-Module.module
+    filed_twice (λ (found : m.Library × m.State) (x : List ℕ). (map (λ (k : m.Known). k.above) found.0 ≡ x) × (found.1 ≡ state_of c.parts.self c.parts.current)) c.args.parts.now c.parts.part-index (state_of c.args.self.now c.args.current.now) (state_of c.parts.self c.parts.current) c.parts.modules c.parts.above c.part-item.result c.in-Module.module
     c.parts.invariant c.parts-test.true c.part-item.is c.in-Module.is (ap (holds c.parts.modules) (sym c.bytes.ensures) ∙ sym c.if-has.ensures) c.refusal.result c.refusal.ensures
 
 pub returns-in_err-add_typedef-in-Typedef : goal.returns-in_err-add_typedef-in-Typedef
