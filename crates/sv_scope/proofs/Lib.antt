@@ -1,0 +1,4 @@
+pub mod Declaring
+pub mod DeclaringWires
+pub mod LevelsHeld
+pub mod LevelsSeen
