@@ -1,35 +1,23 @@
 -- Walks one after the other, and the declarations of a scope.
-use Rattle.std.proofs.Common.{◌≡◌, ℕ, zero, suc, ◌+◌, ◌<◌, ◌≤◌, Bool, true, false, ◌||◌, List, [], ◌∷◌, ◌++◌, length, map, drop, get_or, Option, Some, None, Result, Ok, Err, refl, sym, ap, ◌∙◌, subst, arith, Vec, Global}
-use Rattle.std.proofs.lemmas.List.{map-append, length-map}
-use Rattle.std.specs.List.{Contains}
+use Rattle.std.proofs.Common.{◌≡◌, ℕ, ◌+◌, ◌<◌, ◌≤◌, List, [], ◌∷◌, length, map, drop, get_or, Result, Ok, Err, refl, sym, ap, ◌∙◌, subst}
 use Rattle.std.specs.Result.{IsErrAnd}
-use mathlib.Core.Path.{fun_ext}
 use Rattle.sv_outside.specs.declared.refusal.Place.{Place}
-use Rattle.sv_outside.specs.declared.refusal.Refusal.{Refusal}
 use Rattle.sv_outside.specs.declared.refusal.TextErr.{TextErr}
 use Rattle.sv_outside.specs.declared.refusal.TextErr.TheVariants.{No, Memory}
-use Rattle.sv_outside.specs.declared.text.Signal.{Signal}
 use Rattle.sv_tree.specs.declared.word.Word.{Word}
-use Rattle.sv_meaning.specs.Faults.{Faults, Judged, provided, fault_if, twice, ◌>>=◌}
+use Rattle.sv_meaning.specs.Faults.{Judged, ◌>>=◌}
 use Rattle.sv_meaning.specs.Layouts as layouts
 use Rattle.sv_meaning.specs.Layouts.{Name}
-use Rattle.sv_meaning.specs.Names.{has_name}
 use Rattle.sv_const.specs.declared.layout.What.{What}
-use Rattle.sv_const.specs.declared.layout.Layout.{Layout}
-use Rattle.sv_const.specs.Kinds.{entry_is, layout_is, what_is}
-use Rattle.sv_const.proofs.Lists.{in_fault, no_fault, none_in}
+use Rattle.sv_const.specs.Kinds.{entry_is, what_is}
+use Rattle.sv_const.proofs.Lists.{none_in}
 use Rattle.sv_types.specs.Types.{Refused}
 use Rattle.sv_loops.specs.Answers.{Answers}
-use Rattle.sv_modules.specs.declared.name_set.NameSet.{NameSet}
-use Rattle.sv_modules.specs.Naming.{holds, Adds}
 use Rattle.sv_modules.proofs.Turns.{drop_next, drop_none}
 use Rattle.sv_hierarchy.specs.Scopes as m
-use Rattle.sv_scope.specs.declared.levels.Levels.{Levels}
 use Rattle.sv_scope.specs.declared.walker.Walker.{Walker}
 use Rattle.sv_scope.specs.declared.walker.Open.{Open}
-use Rattle.sv_scope.specs.declared.walker.Work.{Work}
-use Rattle.sv_scope.specs.Levels.{levels_are}
-use Rattle.sv_scope.specs.Walks.{state_of, work_is, given_is, Walks}
+use Rattle.sv_scope.specs.Walks.{state_of}
 
 -- ---- answers
 
@@ -107,32 +95,6 @@ walk_map f g (x ∷ all) st = then_same (f (g x) st) (m.walk_all f (map g all)) 
     then_same (Ok s) a b h = h s
     then_same (Err e) a b h = refl
 
--- ---- names
-
-pub declared_twice : (w v : Walker) (o p : Open) (place : Place) (name : Name) (r : Refusal) → holds o.taken name ≡ true → r ≡ record { number = 13; place = place; count = 0 } →
-    Leads (m.declare_at place name (state_of w o)) v p (Err (No r))
-declared_twice w v o p place name r h e =
-    refused_by (λ (st : m.State) (u : Unit {0}). st ≡ state_of v p) (m.declare_at place name (state_of w o)) (No r) (clash (holds o.taken name) (record (state_of w o) { taken = λ other. has_name other (name ∷ []) || holds o.taken other }) h)
-  where
-    clash : (b : Bool) (st : m.State) → b ≡ true → Refused (provided (fault_if b twice place) st) (No r)
-    clash true st h = (0, omega arith, e)
-    clash false st h = cc
-
-pub declared_once : (w : Walker) (o : Open) (place : Place) (name : Name) (taken : NameSet) (u : Unit {0}) → holds o.taken name ≡ false → Adds o.taken (name ∷ []) taken →
-    Leads (m.declare_at place name (state_of w o)) w (record o { taken = taken }) (Ok u)
-declared_once w o place name taken u h e =
-    leads (m.declare_at place name (state_of w o)) w (record o { taken = taken }) u
-    (ap (λ (all : Faults). provided all (record (state_of w o) { taken = λ other. has_name other (name ∷ []) || holds o.taken other })) (no_fault (holds o.taken name) twice place h)
-    ∙ ap Ok (same (fun_ext (λ other. sym (e other)))))
-  where
-    same : (λ (other : Name). has_name other (name ∷ []) || holds o.taken other) ≡ holds taken → record (state_of w o) { taken = λ other. has_name other (name ∷ []) || holds o.taken other } ≡ state_of w (record o { taken = taken })
-    same g = λ i. record (state_of w o) { taken = g i }
-
--- ---- one construct more
-
-pub next_counted : (w : Walker) (o : Open) (n : ℕ) (u : Unit {0}) → n ≡ o.constructs + 1 → Leads (m.next_construct (state_of w o)) w (record o { constructs = n }) (Ok u)
-next_counted w o n u e = let h : suc o.constructs ≡ n = omega arith in λ i. record (state_of w o) { constructs = h i }
-
 -- what `?` hands on
 pub handed : (j : Judged m.State) (w v : Walker) (o p : Open) (q : Result (Unit {0}) TextErr) (e : TextErr) → IsErrAnd q (λ y. y ≡ e) → Leads j w o (Err e) → Leads j v p q
 handed j w v o p (Ok u) e h g = absurd h
@@ -140,12 +102,6 @@ handed j w v o p (Err y) e h g =
     subst (λ z. Leads j v p (Err z)) (sym h) (refused_as (λ (st : m.State) (u : Unit {0}). st ≡ state_of w o) (λ (st : m.State) (u : Unit {0}). st ≡ state_of v p) j e g)
 
 -- ---- constants
-
-pub const_declared : (w : Walker) (levels : Levels) (o p : Open) (place : Place) (name bytes : Name) (what : What) (u : Unit {0}) → bytes ≡ name → Leads (m.declare_at place bytes (state_of w o)) w p (Ok u) →
-    levels_are levels ≡ m.with_level p.level (m.with_const (entry_is (name, what))) (levels_are w.levels) → Leads (m.add_constant (record { text = name; place = place }, what_is what) (state_of w o)) (record w { levels = levels }) p (Ok tt)
-const_declared w levels o p place name bytes what u e h g =
-    after (λ (st : m.State) (x : Unit {0}). st ≡ state_of (record w { levels = levels }) p) (m.declare_at place name (state_of w o)) w p u (λ s. Ok (m.see_const (entry_is (name, what)) s)) (Ok tt)
-    (subst (λ (b : Name). Leads (m.declare_at place b (state_of w o)) w p (Ok u)) e h) (λ i. record (state_of w p) { levels = sym g i })
 
 pub const_refused : (w v : Walker) (o p q : Open) (place : Place) (name bytes : Name) (what : What) (e : TextErr) → bytes ≡ name → Leads (m.declare_at place bytes (state_of w o)) w p (Err e) →
     Leads (m.add_constant (record { text = name; place = place }, what_is what) (state_of w o)) v q (Err e)
@@ -156,12 +112,3 @@ const_refused w v o p q place name bytes what e i h =
 pub const_named : (d : Word) (name : Name) (x : layouts.What) (st : m.State) (w : Walker) (o : Open) (q : Result (Unit {0}) TextErr) → name ≡ d.text → Leads (m.add_constant (record { text = name; place = d.place }, x) st) w o q →
     Leads (m.add_constant (d, x) st) w o q
 const_named d name x st w o q e h = subst (λ (n : Name). Leads (m.add_constant (record { text = n; place = d.place }, x) st) w o q) e h
-
--- ---- tasks
-
-pub work_added : (w : Walker) (o : Open) (x : Work) (t : m.Task) (all : Vec Work Global) (u : Unit {0}) → all.items ≡ w.works.items ++ x ∷ [] → work_is x ≡ record { at = m.here (state_of w o); task = t } →
-    Leads (m.add_work t (state_of w o)) (record w { works = all }) o (Ok u)
-work_added w o x t all u e h =
-    let g : map work_is w.works.items ++ record { at = m.here (state_of w o); task = t } ∷ [] ≡ map work_is all.items =
-        ap (λ (y : m.Standing). map work_is w.works.items ++ y ∷ []) (sym h) ∙ sym (map-append work_is w.works.items (x ∷ [])) ∙ sym (ap (map work_is) e) in
-    λ i. record (state_of w o) { works = g i }

@@ -86,7 +86,7 @@ provided_is r [] n y h = (refl, h)
 provided_is r (f ∷ all) n y h = absurd h
 
 -- the count that stands for the bits and turns
-pub counted : (all : Faults) (n more : ℕ) (t : Tally) (turns : ℕ) → Answers (λ (k : ℕ) (y : Tally). (y.bits ≡ k) × (y.turns ≡ turns)) (provided all n) (Ok t) → (all ≡ []) × (t.bits ≡ n) × (t.turns ≡ turns)
+pub counted : (all : Faults) (n more : ℕ) (t : Tally) (turns : ℕ) → Answers (λ (k : ℕ) (y : Tally). (y.bits ≡ k) × (y.turns ≡ turns)) (provided all n) (Ok t) → (all ≡ []) × ((t.bits ≡ n) × (t.turns ≡ turns))
 counted all n more t turns h = provided_is (λ (k : ℕ) (y : Tally). (y.bits ≡ k) × (y.turns ≡ turns)) all n t h
 
 pub wire_added : (w v : Walker) (o p : Open) (input : Bool) (x : layouts.Layout) (d : Word) (place : Place) (bytes : Name) (u : Unit {0}) → bytes ≡ d.text → place ≡ d.place →

@@ -1,4 +1,5 @@
 pub mod Declaring
+pub mod DeclaringParams
 pub mod DeclaringWires
 pub mod LevelsHeld
 pub mod LevelsSeen

@@ -69,7 +69,8 @@ impl<'a> Walker<'a> {
         ensures is { Finds (λ x layout. x ≡ layout_is layout) (formed tree.now) self.old current.old self.new current.new result }
         ensures sound { IfOk result (λ layout. IsSound layout) }
     {
-        let Formed { layout, declared } = self.form_here(current, tree)?;
+        let found = self.form_here(current, tree)?;
+        let Formed { layout, declared } = found;
         self.add_constants(current, declared.as_slice())?;
         Ok(layout)
     }

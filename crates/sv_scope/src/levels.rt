@@ -109,7 +109,8 @@ impl Levels {
     pub(crate) fn instance(&self, number: usize) -> Option<Instance<'_>>
         ensures { option_map (instance_is (levels_are self.now)) result ≡ slice_get (instances_from 1 (levels_are self.now) (behind (levels_are self.now))) number }
     {
-        if number >= self.list.len() {
+        let count = self.len();
+        if number >= count {
             return None;
         }
         let level = number + 1;

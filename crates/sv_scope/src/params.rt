@@ -9,7 +9,7 @@ ghost use Rattle.sv_meaning.specs.Params.{name_alone, param_value};
 ghost use Rattle.sv_meaning.specs.Values.{mean};
 ghost use Rattle.sv_types.specs.Values.{JudgesValue};
 ghost use Rattle.sv_hierarchy.specs.Scopes as m;
-ghost use Rattle.sv_hierarchy.specs.Scopes.{add_param, add_params, given_or, given_to, header_of, header_params, meant, overriding, seen};
+ghost use Rattle.sv_hierarchy.specs.Scopes.{add_param, add_param_item, add_params, given_or, given_to, header_of, header_params, meant, overriding, seen, walk_all};
 ghost use Rattle.sv_scope.specs.Walks.{Walks, actual_is, given_is, state_of};
 
 use crate::walker::{Actual, Given, Open, Walker};
@@ -17,7 +17,7 @@ use items::Items;
 use std::alloc::Global;
 use sv_const::{Known, Names, What};
 use sv_outside::TextErr;
-use sv_tree::{Expr, ParPort, Param, ParamType, ParamWord, Word};
+use sv_tree::{Expr, ParPort, Param, ParamItem, ParamType, ParamWord, Word};
 use sv_types::param_value;
 
 // The value of a parameter that an expression gives, or a name that stands for itself.
@@ -151,14 +151,39 @@ impl<'a> Walker<'a> {
         self.add_constant(current, name.place, text, What::Number(known))
     }
 
+    // One parameter of a declaration.
+    fn add_param_item(
+        &mut self,
+        current: &mut Open<'a>,
+        tree: &'a Param,
+        item: &'a ParamItem,
+    ) -> Result<(), TextErr>
+        ensures { Walks (add_param_item tree.now item.now) self.old current.old self.new current.new result }
+    {
+        let form = tree.form.as_ref();
+        self.add_param(current, tree.word, form, &item.name, &item.value)
+    }
+
+    // Some parameters of a declaration.
+    fn add_param_list(
+        &mut self,
+        current: &mut Open<'a>,
+        tree: &'a Param,
+        list: &'a [ParamItem],
+    ) -> Result<(), TextErr>
+        ensures { Walks (walk_all (add_param_item tree.now) list.now) self.old current.old self.new current.new result }
+    {
+        'list: for item in list {
+            self.add_param_item(current, tree, item)?;
+        }
+        Ok(())
+    }
+
     /// The parameters of a declaration.
     pub(crate) fn add_params(&mut self, current: &mut Open<'a>, tree: &'a Param) -> Result<(), TextErr>
         ensures { Walks (add_params tree.now) self.old current.old self.new current.new result }
     {
-        'list: for item in tree.list.as_slice() {
-            self.add_param(current, tree.word, tree.form.as_ref(), &item.name, &item.value)?;
-        }
-        Ok(())
+        self.add_param_list(current, tree, tree.list.as_slice())
     }
 
     /// The parameters of a module's list. An entry takes over what it leaves out from the one before it.
@@ -172,9 +197,11 @@ impl<'a> Walker<'a> {
         let mut word = ParamWord::Parameter;
         let mut form: Option<&'a ParamType> = None;
         'list: for port in list {
-            form = form_of(port, form);
-            word = word_of(port, word);
-            self.add_param(current, word, form, &port.name, &port.value)?;
+            let next = form_of(port, form);
+            let named = word_of(port, word);
+            self.add_param(current, named, next, &port.name, &port.value)?;
+            form = next;
+            word = named;
         }
         Ok(())
     }
