@@ -1,5 +1,5 @@
 -- Parameters, and the entries of a module's list.
-use Rattle.std.proofs.Common.{◌≡◌, ℕ, ◌+◌, ◌<◌, ◌≤◌, Bool, true, false, List, [], ◌∷◌, length, map, drop, get_or, bytes_eq, Option, Some, None, Result, Ok, Err, refl, sym, ap, ◌∙◌, subst, arith, if◌then◌else◌}
+use Rattle.std.proofs.Common.{◌≡◌, ℕ, ◌+◌, ◌<◌, ◌≤◌, true, false, List, [], ◌∷◌, length, map, drop, get_or, bytes_eq, Option, Result, Ok, Err, refl, sym, ap, ◌∙◌, subst, if◌then◌else◌}
 use Rattle.std.specs.Result.{IsErrAnd}
 use Rattle.sv_outside.specs.declared.refusal.TextErr.{TextErr}
 use Rattle.sv_tree.specs.declared.word.Word.{Word}
@@ -20,14 +20,13 @@ use Rattle.sv_const.specs.declared.layout.Known.{Known}
 use Rattle.sv_types.specs.Types.{Refused}
 use Rattle.sv_types.specs.Values.{JudgesValue}
 use Rattle.sv_modules.proofs.Turns.{drop_next, drop_none}
-use Rattle.sv_loops.specs.Answers.{Answers}
 use Rattle.sv_hierarchy.specs.Scopes as m
 use Rattle.sv_scope.specs.declared.walker.Walker.{Walker}
 use Rattle.sv_scope.specs.declared.walker.Open.{Open}
 use Rattle.sv_scope.specs.declared.walker.Given.{Given}
 use Rattle.sv_scope.specs.Levels.{levels_are}
 use Rattle.sv_scope.specs.Walks.{state_of, given_is}
-use Rattle.sv_scope.proofs.Declaring.{Leads, led, leads, after, refused, refused_then, refused_as, refused_by}
+use Rattle.sv_scope.proofs.Declaring.{Leads, led, leads, refused, refused_then, refused_by}
 
 -- ---- what is given
 
@@ -52,9 +51,6 @@ given_none n all i other h = ap (λ (xs : List Given). m.given_or n (map given_i
 pub given_local : (n : Name) (w : ParamWord) (all : List m.Given) (other : m.Given) → w ≡ param_word.Localparam → m.given_or n (m.overriding w all) other ≡ other
 unfolding m.given_or
 given_local n w all other h = ap (λ (x : ParamWord). m.given_or n (m.overriding x all) other) h
-
-pub given_open : (n : Name) (w : ParamWord) (all : List m.Given) (other : m.Given) → w ≡ param_word.Parameter → m.given_or n (m.overriding w all) other ≡ m.given_or n all other
-given_open n w all other h = ap (λ (x : ParamWord). m.given_or n (m.overriding x all) other) h
 
 -- ---- a parameter
 
@@ -109,7 +105,7 @@ value_is w o form word name value x names value_names own given r h a b c d e =
     let p : value_names ≡ m.seen_at (levels_are w.levels) (m.given_to word name value (state_of w o)).at = d ∙ ap (λ (z : m.Given). m.seen_at (levels_are w.levels) z.at) g in
     let q : x ≡ (m.given_to word name value (state_of w o)).value = e ∙ ap (λ (z : m.Given). z.value) g in
     let t : param_value names form (mean value_names x) ≡ param_value (m.seen (state_of w o)) form (m.meant (levels_are w.levels) (m.given_to word name value (state_of w o))) =
-        λ i. param_value (c i) form (mean (p i) (q i)) in
+    λ i. param_value (c i) form (mean (p i) (q i)) in
     subst (λ (j : Judged layouts.What). JudgesValue j r) t h
 
 -- ---- a name that stands for itself

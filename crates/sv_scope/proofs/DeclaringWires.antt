@@ -1,5 +1,5 @@
 -- Types, and nets and variables of a layout.
-use Rattle.std.proofs.Common.{◌≡◌, ℕ, ◌+◌, ◌≤◌, Bool, true, false, List, [], ◌∷◌, ◌++◌, length, map, Option, Some, None, Result, Ok, Err, refl, sym, ap, ◌∙◌, subst, arith}
+use Rattle.std.proofs.Common.{◌≡◌, ℕ, ◌+◌, Bool, List, [], ◌∷◌, ◌++◌, length, Result, Ok, Err, refl, sym, ap, ◌∙◌, subst}
 use Rattle.std.specs.Result.{IsErrAnd}
 use Rattle.sv_outside.specs.declared.refusal.Place.{Place}
 use Rattle.sv_outside.specs.declared.refusal.TextErr.{TextErr}
@@ -24,7 +24,7 @@ use Rattle.sv_scope.specs.declared.walker.Walker.{Walker}
 use Rattle.sv_scope.specs.declared.walker.Open.{Open}
 use Rattle.sv_scope.specs.Levels.{levels_are}
 use Rattle.sv_scope.specs.Walks.{state_of}
-use Rattle.sv_scope.proofs.Declaring.{Leads, led, leads, after, refused, refused_then, refused_as, refused_by}
+use Rattle.sv_scope.proofs.Declaring.{Leads, after, refused, refused_then, refused_by}
 
 -- ---- types
 
@@ -43,7 +43,7 @@ unformed t w v o p (Ok x) e i h = absurd i
 unformed t w v o p (Err y) e i h =
     subst (λ z. Forms (m.formed t (state_of w o)) v p (Err z)) (sym i)
     (refused_then (λ (x : layouts.Layout × List Declared) (y : Unit {0}). Unit {0}) (λ (found : layouts.Layout × m.State) (y : Layout). (found.0 ≡ layout_is y) × (found.1 ≡ state_of v p)) (form (m.seen (state_of w o)) t)
-      (λ y. (m.add_constants y.1 (state_of w o) >>= λ s. Ok (y.0, s))) e (refused_by (λ (x : layouts.Layout × List Declared) (y : Unit {0}). Unit {0}) (form (m.seen (state_of w o)) t) e h))
+    (λ y. (m.add_constants y.1 (state_of w o) >>= λ s. Ok (y.0, s))) e (refused_by (λ (x : layouts.Layout × List Declared) (y : Unit {0}). Unit {0}) (form (m.seen (state_of w o)) t) e h))
 
 pub unlisted : (t : TypeTree) (w v : Walker) (o p : Open) (x : Layout) (all : List Declared) (q : Result Layout TextErr) (e : TextErr) → IsErrAnd q (λ y. y ≡ e) → form (m.seen (state_of w o)) t ≡ Ok (layout_is x, all) →
     Leads (m.add_constants all (state_of w o)) v p (Err e) → Forms (m.formed t (state_of w o)) v p q
@@ -75,10 +75,10 @@ pub wire_put : (w : Walker) (o : Open) (levels : Levels) (wires : List Signal) (
     m.with_wire input (layout_is x) n (state_of w o) ≡ state_of (record w { levels = levels; wires = wires; tally = tally }) o
 wire_put w o levels wires tally input x y n name path bytes k sound a b c d e f g h l =
     let l1 : m.with_level o.level (m.with_net (n, layouts.signal_is layouts.of_wires (length w.wires) (layout_is x))) (levels_are w.levels) ≡ levels_are levels =
-        (λ i. m.with_level o.level (m.with_net (sym a i, layouts.signal_is layouts.of_wires (sym d i) (layout_is (sym c i)))) (levels_are w.levels)) ∙ sym f in
+    (λ i. m.with_level o.level (m.with_net (sym a i, layouts.signal_is layouts.of_wires (sym d i) (layout_is (sym c i)))) (levels_are w.levels)) ∙ sym f in
     let p1 : m.prefix_of (m.level_at (levels_are w.levels) o.level).path ++ n ≡ path = ap (λ (z : Name). m.prefix_of (m.level_at (levels_are w.levels) o.level).path ++ z) (sym b) ∙ sym e in
     let w1 : w.wires ++ record { path = m.prefix_of (m.level_at (levels_are w.levels) o.level).path ++ n; width = layouts.width (layout_is x); input = input } ∷ [] ≡ wires =
-        (λ i. w.wires ++ record { path = p1 i; width = sym (sound_is x sound) i; input = input } ∷ []) ∙ sym g in
+    (λ i. w.wires ++ record { path = p1 i; width = sym (sound_is x sound) i; input = input } ∷ []) ∙ sym g in
     λ i. record (state_of w o) { levels = l1 i; bits = sym h i; turns = sym l i; wires = w1 i }
 
 provided_is : {A B : Type 0} (r : A → B → Type 0) (all : Faults) (n : A) (y : B) → Answers r (provided all n) (Ok y) → (all ≡ []) × r n y
@@ -116,5 +116,5 @@ wire_too_large w v o p q input x d bytes n turns u e a b h g =
     let k : Leads (m.declare_at d.place d.text (state_of w o)) w p (Ok u) = subst (λ (z : Name). Leads (m.declare_at d.place z (state_of w o)) w p (Ok u)) a h in
     after (λ (st : m.State) (y : Unit {0}). st ≡ state_of v q) (m.declare_at d.place d.text (state_of w o)) w p u (λ s. provided (m.size_faults d.place (s.bits + layouts.width x)) (m.with_wire input x d.text s)) (Err e) k
     (not_provided (λ (k : ℕ) (y : Tally). (y.bits ≡ k) × (y.turns ≡ turns)) (λ (st : m.State) (y : Unit {0}). st ≡ state_of v q) (m.size_faults d.place (w.tally.bits + layouts.width x)) (w.tally.bits + layouts.width x)
-      (m.with_wire input x d.text (state_of w p)) e
-      (subst (λ (z : ℕ). Answers (λ (k : ℕ) (y : Tally). (y.bits ≡ k) × (y.turns ≡ turns)) (provided (m.size_faults d.place (w.tally.bits + z)) (w.tally.bits + z)) (Err e)) b g))
+    (m.with_wire input x d.text (state_of w p)) e
+    (subst (λ (z : ℕ). Answers (λ (k : ℕ) (y : Tally). (y.bits ≡ k) × (y.turns ≡ turns)) (provided (m.size_faults d.place (w.tally.bits + z)) (w.tally.bits + z)) (Err e)) b g))

@@ -121,11 +121,11 @@ instance_shown list n k x o i j e h a b c =
     let q : 1 + n ≡ k = omega arith in
     shown 1 (map level_is list) (m.behind (map level_is list)) n (level_is x) (behind_get (map level_is list) n ∙ ap (slice_get (map level_is list)) p ∙ slice_get-map level_is list k ∙ ap (option_map level_is) h)
     ∙ (λ t. Some (record {
-        path = x.path;
-        module_number = (level_is x).module_number;
-        parent = sym a t;
-        scope = m.live_at (map level_is list) (record { level = q t; nets = (length-map x.nets entry_is ∙ sym b) t; consts = (length-map x.consts entry_is ∙ sym c) t });
-      }))
+      path = x.path;
+      module_number = (level_is x).module_number;
+      parent = sym a t;
+      scope = m.live_at (map level_is list) (record { level = q t; nets = (length-map x.nets entry_is ∙ sym b) t; consts = (length-map x.consts entry_is ∙ sym c) t });
+    }))
 
 -- a front that a loop goes through
 pub same_front : (all : List Front) (i : ℕ) (d e : Front) → i < length all → get_or all i d ≡ get_or all i e

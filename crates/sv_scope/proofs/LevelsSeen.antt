@@ -1,6 +1,6 @@
 -- What fronts of scopes give, one front after the other.
-use Rattle.std.proofs.Common.{◌≡◌, ℕ, zero, suc, ◌+◌, ◌<◌, ◌≤◌, List, [], ◌∷◌, ◌++◌, length, map, take, get_or, slice_get, Option, Some, None, refl, sym, ap, ◌∙◌, append_assoc, arith}
-use Rattle.std.proofs.lemmas.List.{append-nil, length-map, map-append, take-map, take_all}
+use Rattle.std.proofs.Common.{◌≡◌, ℕ, ◌+◌, ◌<◌, ◌≤◌, List, [], ◌∷◌, ◌++◌, length, map, take, get_or, slice_get, Some, None, sym, ap, ◌∙◌, append_assoc, arith}
+use Rattle.std.proofs.lemmas.List.{append-nil, map-append, take-map, take_all}
 use Rattle.std.proofs.Math.Seq.{take-nil}
 use Rattle.sv_const.specs.declared.names.Names.{Names}
 use Rattle.sv_const.specs.Kinds.{Entry, entry_is, scope_is}
@@ -74,6 +74,3 @@ all_seen names all fronts i h p q = ap scope_is (nothing_above (frames_of names)
 pub all_live : (names : Names) (all : List m.Level) (fronts : List Front) (i : ℕ) → length fronts ≤ i → scope_is (frames_of names) ≡ live_frames all (take i fronts) → loops_of names ≡ [] →
     names_are names ≡ live_frames all fronts
 all_live names all fronts i h p q = ap scope_is (nothing_above (frames_of names) (loops_of names) q) ∙ p ∙ ap (live_frames all) (take_all i fronts h)
-
-pub same_frames : (old new : Names) → frames_of new ≡ frames_of old → scope_is (frames_of new) ≡ scope_is (frames_of old)
-same_frames old new h = ap scope_is h

@@ -1,5 +1,5 @@
 // Declarations of constants, types, nets and variables (IEEE 1800-2017, 6.5, 6.18, 6.19).
-ghost use Rattle.std.specs.Prelude.{◌≡◌, ◌+◌, true, false, IfOk, OnOk};
+ghost use Rattle.std.specs.Prelude.{◌≡◌, ◌+◌, false, IfOk, OnOk};
 ghost use Rattle.std.specs.Option.{option_copied};
 ghost use Rattle.sv_const.specs.Kinds.{IsSound, WhatIsSound, layout_is, what_is};
 ghost use Rattle.sv_types.specs.Types.{JudgesForm, all_declared, declared_is};
@@ -65,7 +65,11 @@ impl<'a> Walker<'a> {
     }
 
     /// The layout of a type, whose enumerators become names.
-    pub(crate) fn formed(&mut self, current: &mut Open<'a>, tree: &TypeTree) -> Result<Layout, TextErr>
+    pub(crate) fn formed(
+        &mut self,
+        current: &mut Open<'a>,
+        tree: &TypeTree,
+    ) -> Result<Layout, TextErr>
         ensures is { Finds (λ x layout. x ≡ layout_is layout) (formed tree.now) self.old current.old self.new current.new result }
         ensures sound { IfOk result (λ layout. IsSound layout) }
     {
@@ -85,7 +89,11 @@ impl<'a> Walker<'a> {
     }
 
     /// A type with a name.
-    pub(crate) fn add_typedef(&mut self, current: &mut Open<'a>, tree: &Typedef) -> Result<(), TextErr>
+    pub(crate) fn add_typedef(
+        &mut self,
+        current: &mut Open<'a>,
+        tree: &Typedef,
+    ) -> Result<(), TextErr>
         ensures { Walks (add_typedef tree.now) self.old current.old self.new current.new result }
     {
         let layout = self.formed(current, &tree.form)?;
@@ -124,7 +132,9 @@ impl<'a> Walker<'a> {
         requires turns { tally.turns ≡ self.old.tally.turns }
         ensures { OnOk result (with_wire input (layout_is layout.now) word.now.text (state_of self.old current.now) ≡ state_of self.new current.now) }
     {
-        let path = self.levels.path(self.alloc, current.level, word.text.bytes())?;
+        let path = self
+            .levels
+            .path(self.alloc, current.level, word.text.bytes())?;
         let name = word.text.copy()?;
         let layout_of_wire = copy(self.alloc, layout)?;
         let what = What::Wire {
@@ -194,7 +204,11 @@ impl<'a> Walker<'a> {
     }
 
     /// Variables of generate loops.
-    pub(crate) fn add_genvars(&mut self, current: &mut Open<'a>, words: &[Word]) -> Result<(), TextErr>
+    pub(crate) fn add_genvars(
+        &mut self,
+        current: &mut Open<'a>,
+        words: &[Word],
+    ) -> Result<(), TextErr>
         ensures { Walks (walk_all add_genvar words.now) self.old current.old self.new current.new result }
     {
         'words: for word in words {

@@ -154,12 +154,7 @@ impl Levels {
     }
 
     /// One net or variable more.
-    pub(crate) fn add_net(
-        &mut self,
-        level: usize,
-        name: Name,
-        what: What,
-    ) -> Result<(), AllocError>
+    pub(crate) fn add_net(&mut self, level: usize, name: Name, what: What) -> Result<(), AllocError>
         requires { WhatIsSound what }
         ensures { OnOk result (levels_are self.new ≡ with_level level (with_net (entry_is (name, what))) (levels_are self.old)) }
     {

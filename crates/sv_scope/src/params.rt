@@ -9,7 +9,7 @@ ghost use Rattle.sv_meaning.specs.Params.{name_alone, param_value};
 ghost use Rattle.sv_meaning.specs.Values.{mean};
 ghost use Rattle.sv_types.specs.Values.{JudgesValue};
 ghost use Rattle.sv_hierarchy.specs.Scopes as m;
-ghost use Rattle.sv_hierarchy.specs.Scopes.{add_param, add_param_item, add_params, given_or, given_to, header_of, header_params, meant, overriding, seen, walk_all};
+ghost use Rattle.sv_hierarchy.specs.Scopes.{add_param, add_param_item, add_params, header_of, header_params, meant, seen, walk_all};
 ghost use Rattle.sv_scope.specs.Walks.{Walks, actual_is, given_is, state_of};
 
 use crate::walker::{Actual, Given, Open, Walker};
@@ -180,7 +180,11 @@ impl<'a> Walker<'a> {
     }
 
     /// The parameters of a declaration.
-    pub(crate) fn add_params(&mut self, current: &mut Open<'a>, tree: &'a Param) -> Result<(), TextErr>
+    pub(crate) fn add_params(
+        &mut self,
+        current: &mut Open<'a>,
+        tree: &'a Param,
+    ) -> Result<(), TextErr>
         ensures { Walks (add_params tree.now) self.old current.old self.new current.new result }
     {
         self.add_param_list(current, tree, tree.list.as_slice())
