@@ -116,7 +116,7 @@ fn tokens_of(alloc: Global, text: &[u8]) -> Result<Tokens, TextErr> {
     })
 }
 
-fn put_wires(alloc: Global, wires: &[Signal], out: &mut Vec<u8>) -> Result<(), AllocError> {
+fn put_wires(alloc: Global, wires: &[Signal], out: &mut Vec<u8>) -> Result<(), TextErr> {
     for (at, wire) in wires.iter().enumerate() {
         if at > 0 {
             out.push(b' ')?;
@@ -154,7 +154,7 @@ fn put_scopes(
     out: &mut Vec<u8>,
 ) -> Result<(), TextErr> {
     match scopes(alloc, source, top) {
-        Ok(found) => Ok(put_wires(alloc, found.wires(), out)?),
+        Ok(found) => put_wires(alloc, found.wires(), out),
         Err(why) => put_refusal(alloc, why, out),
     }
 }
@@ -191,15 +191,22 @@ fn put_instances(
     Ok(())
 }
 
-// The instances of a source, how many wires and works there are, and the turns of loops.
-fn put_counts(alloc: Global, source: &Source, out: &mut Vec<u8>) -> Result<(), TextErr> {
-    let found = scopes(alloc, source, None)?;
-    let wires = found.wires().len();
-    let works = found.works().len();
-    let turns = found.turns();
+// How many wires and works there are, the turns of loops, and the instances.
+fn put_counts(alloc: Global, scopes: &DesignScopes<'_>, out: &mut Vec<u8>) -> Result<(), TextErr> {
+    let wires = scopes.wires().len();
+    let works = scopes.works().len();
+    let turns = scopes.turns();
     out.extend_from_slice(format!(in alloc; "{wires} {works} {turns}")?.as_bytes())?;
-    put_instances(alloc, &found, out)?;
+    put_instances(alloc, scopes, out)?;
     Ok(())
+}
+
+// The same of a source.
+fn put_counted(alloc: Global, source: &Source, out: &mut Vec<u8>) -> Result<(), TextErr> {
+    match scopes(alloc, source, None) {
+        Ok(found) => put_counts(alloc, &found, out),
+        Err(why) => put_refusal(alloc, why, out),
+    }
 }
 
 #[test]
@@ -239,8 +246,8 @@ fn counted(alloc: Global, text: &str) -> Result<Vec<u8>, TextErr> {
     let lines = lines_of(alloc, text.as_bytes())?;
     let tokens = tokens_of(alloc, &lines)?;
     let put = match parse(alloc, &tokens) {
-        Ok(source) => put_counts(alloc, &source, &mut out),
-        Err(why) => Err(why),
+        Ok(source) => put_counted(alloc, &source, &mut out),
+        Err(why) => put_refusal(alloc, why, &mut out),
     };
     put?;
     Ok(out)
