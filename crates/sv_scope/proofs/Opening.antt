@@ -12,8 +12,13 @@ use Rattle.sv_outside.specs.declared.refusal.TextErr.{TextErr}
 use Rattle.sv_outside.specs.declared.refusal.TextErr.TheVariants.{No, Memory}
 use Rattle.sv_tree.specs.declared.design.Module.{Module}
 use Rattle.sv_tree.specs.declared.design.Pins.{Pins}
+use Rattle.sv_tree.specs.declared.design.ParPort.{ParPort}
+use Rattle.sv_tree.specs.declared.design.ParamWord.TheVariants as param_word
+use Rattle.sv_tree.specs.declared.design.Port.{Port}
+use Rattle.sv_tree.specs.declared.design.Way.TheVariants as way
+use Rattle.sv_tree.specs.declared.design.Item.{Item}
 use Rattle.sv_meaning.specs.Faults.{Faults, Judged, ◌>>=◌, provided, fault, unknown_module, instance_deep}
-use Rattle.sv_meaning.specs.Layouts.{Name, Scope}
+use Rattle.sv_meaning.specs.Layouts.{Name, Scope, scalar}
 use Rattle.sv_meaning.specs.Names.{has_name}
 use Rattle.std.specs.Str.{bytes_eq}
 use Rattle.sv_meaning.specs.Params.{Connection, connections}
@@ -394,7 +399,7 @@ unfolding has_name
 begun_is w levels children o current k path parent given x h p n q a b c e l g i t =
     let taken : holds o.taken ≡ m.nothing_taken = fun_ext t in
     let all : levels_are levels ≡ levels_are w.levels ++ record { path = path; module_number = k.number; parent = parent; around = record { level = 0; nets = 0; consts = k.above } ∷ []; nets = []; consts = [] } ∷ []
-        = h ∙ (λ z. levels_are w.levels ++ record { path = p z; module_number = n z; parent = q z; around = a z; nets = scope_is (b z); consts = scope_is (c z) } ∷ []) in
+    = h ∙ (λ z. levels_are w.levels ++ record { path = p z; module_number = n z; parent = q z; around = a z; nets = scope_is (b z); consts = scope_is (c z) } ∷ []) in
     λ z. record {
       levels = all z;
       me = l z;
@@ -414,7 +419,7 @@ unfolding has_name
 file_is w levels o x none h p n q a b c l g i t =
     let taken : holds o.taken ≡ m.nothing_taken = fun_ext t in
     let all : levels_are levels ≡ m.no_level ∷ []
-        = h ∙ (λ z. none.levels z ++ record { path = p z; module_number = n z; parent = q z; around = map front_is (a z); nets = scope_is (b z); consts = scope_is (c z) } ∷ []) in
+    = h ∙ (λ z. none.levels z ++ record { path = p z; module_number = n z; parent = q z; around = map front_is (a z); nets = scope_is (b z); consts = scope_is (c z) } ∷ []) in
     λ z. record {
       levels = all z;
       me = l z;
@@ -427,3 +432,36 @@ file_is w levels o x none h p n q a b c l g i t =
       works = map work_is (none.works z);
       children = map child_is (none.children z);
     }
+
+-- ---- what an instance has without its children
+
+pub instance_no_params : {B D : Type 0} (r : m.State → B → Type 0) (s : m.State → D → Type 0) (top : Bool) (t : Module) (at : m.Front) (pins : List Connection) (st : m.State) (list : List ParPort) (e : TextErr) → list ≡ t.params →
+    Answers r (m.header_params (param_word.Parameter, None) list st) (Err e) → Answers s (m.instance_walk top t at pins st) (Err e)
+instance_no_params r s top t at pins st list e h a =
+    refused_first r s (m.header_params (param_word.Parameter, None) t.params st) _ e (subst (λ (ps : List ParPort). Answers r (m.header_params (param_word.Parameter, None) ps st) (Err e)) h a)
+
+-- what comes behind the parameters
+abbrev behind_params : Bool → Module → m.Front → List Connection → m.Walk
+behind_params top t at pins st =
+    m.header_ports top way.Input (scalar false) (m.ports_of t) st >>= λ found. m.walk_all (λ x. (m.act x).item) t.items (record found.1 { works = found.1.works ++ m.port_works at pins found.0 })
+
+params_first : (top : Bool) (t : Module) (at : m.Front) (pins : List Connection) (st first : m.State) (list : List ParPort) → list ≡ t.params → m.header_params (param_word.Parameter, None) list st ≡ Ok first →
+    m.instance_walk top t at pins st ≡ behind_params top t at pins first
+params_first top t at pins st first list h e =
+    ap (λ (ps : List ParPort). m.header_params (param_word.Parameter, None) ps st >>= behind_params top t at pins) (sym h) ∙ ap (λ (j : Judged m.State). j >>= behind_params top t at pins) e
+
+pub instance_no_ports : {B D : Type 0} (r : List m.OpenPort × m.State → B → Type 0) (s : m.State → D → Type 0) (top : Bool) (t : Module) (at : m.Front) (pins : List Connection) (st first : m.State) (list : List ParPort) (ports : List Port) (e : TextErr) →
+    list ≡ t.params → ports ≡ m.ports_of t → m.header_params (param_word.Parameter, None) list st ≡ Ok first → Answers r (m.header_ports top way.Input (scalar false) ports first) (Err e) → Answers s (m.instance_walk top t at pins st) (Err e)
+instance_no_ports r s top t at pins st first list ports e h g f a =
+    subst (λ (j : Judged m.State). Answers s j (Err e)) (sym (params_first top t at pins st first list h f))
+    (refused_first r s (m.header_ports top way.Input (scalar false) (m.ports_of t) first) _ e (subst (λ (ps : List Port). Answers r (m.header_ports top way.Input (scalar false) ps first) (Err e)) g a))
+
+pub instance_opened : (top : Bool) (t : Module) (at : m.Front) (pins : List Connection) (st first second : m.State) (list : List ParPort) (ports : List Port) (rows : List Item) (found : List m.OpenPort) (works : List m.Standing) → list ≡ t.params → ports ≡ m.ports_of t →
+    rows ≡ t.items → m.header_params (param_word.Parameter, None) list st ≡ Ok first → m.header_ports top way.Input (scalar false) ports first ≡ Ok (found, second) → works ≡ second.works ++ m.port_works at pins found →
+    m.instance_walk top t at pins st ≡ m.walk_all (λ x. (m.act x).item) rows (record second { works = works })
+instance_opened top t at pins st first second list ports rows found works h g k e f w =
+    params_first top t at pins st first list h e
+    ∙ ap (λ (ps : List Port). m.header_ports top way.Input (scalar false) ps first >>= λ x. m.walk_all (λ y. (m.act y).item) t.items (record x.1 { works = x.1.works ++ m.port_works at pins x.0 })) (sym g)
+    ∙ ap (λ (j : Judged (List m.OpenPort × m.State)). j >>= λ x. m.walk_all (λ y. (m.act y).item) t.items (record x.1 { works = x.1.works ++ m.port_works at pins x.0 })) f
+    ∙ ap (λ (xs : List Item). m.walk_all (λ y. (m.act y).item) xs (record second { works = second.works ++ m.port_works at pins found })) (sym k)
+    ∙ ap (λ (ws : List m.Standing). m.walk_all (λ y. (m.act y).item) rows (record second { works = ws })) (sym w)

@@ -255,15 +255,6 @@ scopes_are source top all st k h e =
     ∙ ap (λ (j : Judged m.Known). j >>= λ x. m.from_top all x st) e
 
 -- what a walk ended in is what is answered
-pub scoped_answers : (j : Judged m.State) (result : Result DesignScopes TextErr) (e : TextErr) → result ≡ Err e → Answers (λ st (w : Walker). IsWalked st w) j (Err e) → Answers (λ st (s : DesignScopes). IsScoped st s) j result
-scoped_answers j result e i h = subst (λ (r : Result DesignScopes TextErr). Answers (λ st (s : DesignScopes). IsScoped st s) j r) (sym i) (go j e h)
-  where
-    go : (j : Judged m.State) (e : TextErr) → Answers (λ st (w : Walker). IsWalked st w) j (Err e) → Answers (λ st (s : DesignScopes). IsScoped st s) j (Err e)
-    go (Ok x) (No why) h = absurd h
-    go (Ok x) Memory h = tt
-    go (Err all) (No why) h = h
-    go (Err all) Memory h = tt
-
 pub scoped_ok : (j : Judged m.State) (w : Walker) (s : DesignScopes) → Answers (λ st (v : Walker). IsWalked st v) j (Ok w) → levels_are w.levels ≡ levels_are s.levels → w.wires ≡ s.wires → map work_is w.works.items ≡ map work_is s.works.items → w.tally.turns ≡ s.turns →
     Answers (λ st (x : DesignScopes). IsScoped st x) j (Ok s)
 scoped_ok (Ok st) w s h a b c d = record { levels = h.levels ∙ a; wires = h.wires ∙ b; works = h.works ∙ c; turns = h.turns ∙ d }
