@@ -37,6 +37,11 @@ Begins label p n w o v q (Err e) = Answers (λ (x : m.State) (y : m.State). x �
 abbrev pub opened_turn : Place → Name → Name → List Bit → m.State → Judged m.State
 opened_turn p g v bits st = m.count_turn p st >>= λ s. Ok (m.inner (m.turn_name g bits) (index_entry v bits ∷ []) s)
 
+-- the name of a loop with such values is declared, if there are some
+abbrev pub declare_turns : Place → Name → List (List Bit) → m.Walk
+declare_turns p n [] st = Ok st
+declare_turns p n all st = m.declare_at p n st
+
 -- what stands before the turns of a loop with such values
 abbrev pub before_turns : Gen → List (List Bit) → m.Walk
 before_turns body [] st = m.next_construct st
