@@ -45,7 +45,7 @@ pub begun_state : (s t : State) (part : Name) (nets : Scope) (x : Level) → t.l
     t.bits ≡ s.bits → t.turns ≡ s.turns → t.wires ≡ s.wires → t.works ≡ s.works → t.children ≡ s.children → t ≡ inner part nets s
 begun_state s t part nets x levels path number parent around n c me taken constructs overridden bits turns wires works children =
     let level : x ≡ record { path = path_of s part; module_number = (mine s).module_number; parent = s.me; around = fronts_at s.levels (here s); nets = nets; consts = [] } =
-        λ i. record { path = path i; module_number = number i; parent = parent i; around = around i; nets = n i; consts = c i } in
+    λ i. record { path = path i; module_number = number i; parent = parent i; around = around i; nets = n i; consts = c i } in
     same_state t (inner part nets s) (levels ∙ ap (λ (y : Level). s.levels ++ y ∷ []) level) me (λ i. λ name. none_taken t.taken taken name i) constructs overridden bits turns wires works children
 
 -- ---- blocks are left
@@ -126,8 +126,8 @@ loop_turns p v body [] s q h = h
 loop_turns p v body (x ∷ more) s q h =
     let s' : State = record s { constructs = suc s.constructs } in
     let n : q.constructs ≡ suc s.constructs =
-        declared_constructs (fault_if (s.taken (block_name (under body).label (suc s.constructs))) twice (block_place (under body).label (under body).start)) s'
-        (record s' { taken = λ other. has_name other (block_name (under body).label (suc s.constructs) ∷ []) || s.taken other }) q refl h in
+    declared_constructs (fault_if (s.taken (block_name (under body).label (suc s.constructs))) twice (block_place (under body).label (under body).start)) s'
+    (record s' { taken = λ other. has_name other (block_name (under body).label (suc s.constructs) ∷ []) || s.taken other }) q refl h in
     ap (λ (j : Judged State). j >>= walk_all (turn_walk p (block_name (under body).label (suc s.constructs)) v (under body).body) (x ∷ more)) h
     ∙ ap (λ (k : ℕ). walk_all (turn_walk p (block_name (under body).label k) v (under body).body) (x ∷ more) q) (sym n)
 
@@ -190,9 +190,9 @@ loop_undeclared body values w o x q t label start place name y e z a b c d f h k
     let same : record (state_of w o) { constructs = suc o.constructs } ≡ state_of w x = cc in
     let n : suc o.constructs ≡ x.constructs = ap (λ (s : State). s.constructs) same in
     let is : before_turns body values (state_of w o) ≡ declare_turns place name values (state_of w x) =
-        before_is body values (state_of w o)
-        ∙ (λ j. declare_turns (block_place (sym a j) (sym b j)) (block_name (sym a j) (n j)) values (same j))
-        ∙ sym (λ j. declare_turns (c j) (d j) values (state_of w x)) in
+    before_is body values (state_of w o)
+    ∙ (λ j. declare_turns (block_place (sym a j) (sym b j)) (block_name (sym a j) (n j)) values (same j))
+    ∙ sym (λ j. declare_turns (c j) (d j) values (state_of w x)) in
     subst (BeginsLoop body values w o q) (sym r.1) (subst (λ g. BeginsLoop body values w o q (Err g)) (sym r.2)
     (subst (λ j. Answers (λ (s : State) (u : State). s ≡ u) j (Err e)) (sym is)
     (is_refused t (declare_turns place name values (state_of w x)) e (subst (Ends t (declare_turns place name values (state_of w x))) h k))))

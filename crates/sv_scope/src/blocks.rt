@@ -56,7 +56,12 @@ impl<'a> Walker<'a> {
     }
 
     // A block of that name in a path is begun, in which these names stand first.
-    fn begin(&mut self, current: &Open<'a>, part: &[u8], nets: Scope) -> Result<Open<'a>, AllocError>
+    fn begin(
+        &mut self,
+        current: &Open<'a>,
+        part: &[u8],
+        nets: Scope,
+    ) -> Result<Open<'a>, AllocError>
         ensures { IfOk result (λ block. state_of self.new block ≡ inner part.now (scope_is nets) (state_of self.old current.now)) }
     {
         let at = self.here(current);

@@ -1,14 +1,17 @@
 // Declarations of constants, types, nets and variables (IEEE 1800-2017, 6.5, 6.18, 6.19).
-ghost use Rattle.std.specs.Prelude.{◌≡◌, true, false, IfOk};
+ghost use Rattle.std.specs.Prelude.{◌≡◌, ◌+◌, false, IfOk, OnOk};
 ghost use Rattle.std.specs.Option.{option_copied};
 ghost use Rattle.sv_const.specs.Kinds.{IsSound, WhatIsSound, layout_is, what_is};
-ghost use Rattle.sv_types.specs.Types.{JudgesForm, all_declared};
+ghost use Rattle.sv_types.specs.Types.{JudgesForm, all_declared, declared_is};
 ghost use Rattle.sv_meaning.specs.Forms.{form};
 ghost use Rattle.sv_meaning.specs.Layouts as layouts;
-ghost use Rattle.sv_hierarchy.specs.Scopes.{add_constant, add_constants, add_genvar, add_typedef, add_wire, formed, seen, walk_all, with_form, with_form_or_bit};
+ghost use Rattle.sv_meaning.specs.Layouts.{width};
+ghost use Rattle.sv_hierarchy.specs.Scopes.{add_constant, add_constants, add_genvar, add_typedef, add_wire, formed, seen, walk_all, with_form, with_form_or_bit, with_wire};
 ghost use Rattle.sv_scope.specs.Walks.{Finds, Walks, state_of};
 
+use crate::tally::Tally;
 use crate::walker::{Open, Walker};
+use std::alloc::AllocError;
 use sv_const::{Form, Layout, What};
 use sv_outside::{Name, Place, Signal, TextErr};
 use sv_tree::{TypeTree, Typedef, Word};
@@ -43,23 +46,35 @@ impl<'a> Walker<'a> {
         Ok(())
     }
 
-    /// The constants of an enumeration.
+    // A constant of an enumeration.
+    fn add_enumerator(&mut self, current: &mut Open<'a>, label: &Enumerator) -> Result<(), TextErr>
+        ensures { Walks (add_constant (declared_is label.now)) self.old current.old self.new current.new result }
+    {
+        let name = label.name.copy()?;
+        self.add_constant(current, label.place, name, What::Number(label.value))
+    }
+
+    // The constants of an enumeration.
     fn add_constants(&mut self, current: &mut Open<'a>, list: &[Enumerator]) -> Result<(), TextErr>
         ensures { Walks (add_constants (all_declared list.now)) self.old current.old self.new current.new result }
     {
         'list: for label in list {
-            let name = label.name.copy()?;
-            self.add_constant(current, label.place, name, What::Number(label.value))?;
+            self.add_enumerator(current, label)?;
         }
         Ok(())
     }
 
     /// The layout of a type, whose enumerators become names.
-    pub(crate) fn formed(&mut self, current: &mut Open<'a>, tree: &TypeTree) -> Result<Layout, TextErr>
+    pub(crate) fn formed(
+        &mut self,
+        current: &mut Open<'a>,
+        tree: &TypeTree,
+    ) -> Result<Layout, TextErr>
         ensures is { Finds (λ x layout. x ≡ layout_is layout) (formed tree.now) self.old current.old self.new current.new result }
         ensures sound { IfOk result (λ layout. IsSound layout) }
     {
-        let Formed { layout, declared } = self.form_here(current, tree)?;
+        let found = self.form_here(current, tree)?;
+        let Formed { layout, declared } = found;
         self.add_constants(current, declared.as_slice())?;
         Ok(layout)
     }
@@ -74,7 +89,11 @@ impl<'a> Walker<'a> {
     }
 
     /// A type with a name.
-    pub(crate) fn add_typedef(&mut self, current: &mut Open<'a>, tree: &Typedef) -> Result<(), TextErr>
+    pub(crate) fn add_typedef(
+        &mut self,
+        current: &mut Open<'a>,
+        tree: &Typedef,
+    ) -> Result<(), TextErr>
         ensures { Walks (add_typedef tree.now) self.old current.old self.new current.new result }
     {
         let layout = self.formed(current, &tree.form)?;
@@ -94,12 +113,33 @@ impl<'a> Walker<'a> {
         ensures { Walks (add_wire input (layout_is layout.now) word.now) self.old current.old self.new current.new result }
     {
         current.declare_at(word.place, word.text.bytes())?;
-        self.tally = self.tally.with_bits(word.place, layout.width as u64)?;
-        let path = self.levels.path(self.alloc, current.level, word.text.bytes())?;
+        let tally = self.tally.with_bits(word.place, layout.width as u64)?;
+        self.put_wire(current, input, layout, word, tally)?;
+        Ok(())
+    }
+
+    // A wire more, by which so much is counted.
+    fn put_wire(
+        &mut self,
+        current: &Open<'a>,
+        input: bool,
+        layout: &Layout,
+        word: &Word,
+        tally: Tally,
+    ) -> Result<(), AllocError>
+        requires sound { IsSound layout.now }
+        requires bits { tally.bits ≡ self.old.tally.bits + width (layout_is layout.now) }
+        requires turns { tally.turns ≡ self.old.tally.turns }
+        ensures { OnOk result (with_wire input (layout_is layout.now) word.now.text (state_of self.old current.now) ≡ state_of self.new current.now) }
+    {
+        let path = self
+            .levels
+            .path(self.alloc, current.level, word.text.bytes())?;
         let name = word.text.copy()?;
+        let layout_of_wire = copy(self.alloc, layout)?;
         let what = What::Wire {
             number: self.wires.len(),
-            layout: copy(self.alloc, layout)?,
+            layout: layout_of_wire,
         };
         self.levels.add_net(current.level, name, what)?;
         self.wires.push(Signal {
@@ -107,6 +147,7 @@ impl<'a> Walker<'a> {
             width: layout.width,
             input,
         })?;
+        self.tally = tally;
         Ok(())
     }
 
@@ -154,13 +195,24 @@ impl<'a> Walker<'a> {
         }
     }
 
+    // A variable of generate loops.
+    fn add_genvar(&mut self, current: &mut Open<'a>, word: &Word) -> Result<(), TextErr>
+        ensures { Walks (add_genvar word.now) self.old current.old self.new current.new result }
+    {
+        let name = word.text.copy()?;
+        self.add_constant(current, word.place, name, What::Genvar)
+    }
+
     /// Variables of generate loops.
-    pub(crate) fn add_genvars(&mut self, current: &mut Open<'a>, words: &[Word]) -> Result<(), TextErr>
+    pub(crate) fn add_genvars(
+        &mut self,
+        current: &mut Open<'a>,
+        words: &[Word],
+    ) -> Result<(), TextErr>
         ensures { Walks (walk_all add_genvar words.now) self.old current.old self.new current.new result }
     {
         'words: for word in words {
-            let name = word.text.copy()?;
-            self.add_constant(current, word.place, name, What::Genvar)?;
+            self.add_genvar(current, word)?;
         }
         Ok(())
     }

@@ -1,7 +1,7 @@
 // The scopes of a design, each with its names.
-ghost use Rattle.std.specs.Prelude.{◌≡◌, [], ◌∷◌, ◌++◌, length, map, slice_get, IfOk, OnOk, option_map};
-ghost use Rattle.sv_const.specs.Kinds.{WhatIsSound, entry_is};
-ghost use Rattle.sv_const.specs.Names.{names_are, loops_of};
+ghost use Rattle.std.specs.Prelude.{◌≡◌, [], ◌∷◌, ◌++◌, length, map, slice_get, take, IfOk, OnOk, option_map};
+ghost use Rattle.sv_const.specs.Kinds.{WhatIsSound, entry_is, scope_is};
+ghost use Rattle.sv_const.specs.Names.{frames_of, loops_of, names_are};
 ghost use Rattle.sv_hierarchy.specs.Scopes.{behind, fronts_at, instances_from, level_at, live_at, prefix_of, seen_at, with_const, with_level, with_net};
 ghost use Rattle.sv_scope.specs.Scoped.{instance_is};
 ghost use Rattle.sv_scope.specs.Levels.{front_is, front_of, level_is, levels_are, live_frames, seen_frames};
@@ -109,7 +109,11 @@ impl Levels {
     pub(crate) fn instance(&self, number: usize) -> Option<Instance<'_>>
         ensures { option_map (instance_is (levels_are self.now)) result ≡ slice_get (instances_from 1 (levels_are self.now) (behind (levels_are self.now))) number }
     {
-        let level = number.checked_add(1)?;
+        let count = self.len();
+        if number >= count {
+            return None;
+        }
+        let level = number + 1;
         let found = self.list.get(level)?;
         Some(Instance {
             path: &found.path,
@@ -150,12 +154,7 @@ impl Levels {
     }
 
     /// One net or variable more.
-    pub(crate) fn add_net(
-        &mut self,
-        level: usize,
-        name: Name,
-        what: What,
-    ) -> Result<(), AllocError>
+    pub(crate) fn add_net(&mut self, level: usize, name: Name, what: What) -> Result<(), AllocError>
         requires { WhatIsSound what }
         ensures { OnOk result (levels_are self.new ≡ with_level level (with_net (entry_is (name, what))) (levels_are self.old)) }
     {
@@ -169,14 +168,19 @@ impl Levels {
     pub(crate) fn fronts(&self, alloc: Global, at: Front) -> Result<Items<Front>, AllocError>
         ensures { IfOk result (λ all. map front_is all ≡ fronts_at (levels_are self.now) (front_is at)) }
     {
-        let mut all = Items::new(alloc);
-        if let Some(level) = self.list.get(at.level) {
-            'around: for front in level.around.as_slice() {
-                all.push(*front)?;
-            }
-        }
+        let mut all = self.around(alloc, at.level)?;
         all.push(at)?;
         Ok(all)
+    }
+
+    // The places in the scopes around one.
+    fn around(&self, alloc: Global, level: usize) -> Result<Items<Front>, AllocError>
+        ensures { IfOk result (λ all. map front_is all ≡ (level_at (levels_are self.now) level).around) }
+    {
+        match self.list.get(level) {
+            Some(level) => Ok(Items::from_vec(level.around.as_slice().to_vec(alloc)?)),
+            None => Ok(Items::new(alloc)),
+        }
     }
 
     /// What a constant expression at a place sees: what is declared above it (6.20.2, 23.9).
@@ -211,6 +215,35 @@ fn joined(alloc: Global, path: &[u8], name: &[u8]) -> Result<Name, AllocError>
     Name::new(alloc, &bytes)
 }
 
+// How many nets and variables a scope has.
+fn nets_of(levels: &[Level], level: usize) -> usize
+    ensures { result ≡ length (level_at (map level_is levels.now) level).nets }
+{
+    match levels.get(level) {
+        Some(level) => level.nets.len(),
+        None => 0,
+    }
+}
+
+// The names of a front of a scope, of which so many nets are seen.
+fn enter<'a>(
+    names: &mut Names<'a>,
+    levels: &'a [Level],
+    front: Front,
+    nets: usize,
+) -> Result<(), AllocError>
+    ensures frames { OnOk result (scope_is (frames_of names.new) ≡ scope_is (frames_of names.old) ++ (take nets (level_at (map level_is levels.now) front.level).nets ++ take front.consts (level_at (map level_is levels.now) front.level).consts)) }
+    ensures loops { OnOk result (loops_of names.new ≡ loops_of names.old) }
+{
+    match levels.get(front.level) {
+        Some(level) => {
+            names.push_scope(&level.nets, nets)?;
+            names.push_scope(&level.consts, front.consts)
+        }
+        None => Ok(()),
+    }
+}
+
 // The names of fronts of scopes, with the nets above each.
 fn seen_along<'a>(
     alloc: Global,
@@ -222,10 +255,7 @@ fn seen_along<'a>(
 {
     let mut names = Names::new(alloc);
     'fronts: for front in fronts {
-        if let Some(level) = levels.get(front.level) {
-            names.push_scope(&level.nets, front.nets)?;
-            names.push_scope(&level.consts, front.consts)?;
-        }
+        enter(&mut names, levels, *front, front.nets)?;
     }
     Ok(names)
 }
@@ -241,10 +271,7 @@ fn live_along<'a>(
 {
     let mut names = Names::new(alloc);
     'fronts: for front in fronts {
-        if let Some(level) = levels.get(front.level) {
-            names.push_scope(&level.nets, level.nets.len())?;
-            names.push_scope(&level.consts, front.consts)?;
-        }
+        enter(&mut names, levels, *front, nets_of(levels, front.level))?;
     }
     Ok(names)
 }

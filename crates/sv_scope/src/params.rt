@@ -1,13 +1,15 @@
 // Parameters (IEEE 1800-2017, 6.20).
-ghost use Rattle.std.specs.Prelude.{◌≡◌, map};
+ghost use Rattle.std.specs.Prelude.{◌≡◌, None, Option, MatchOption, bytes_eq, map};
 ghost use Rattle.std.specs.Option.{option_copied};
+ghost use Rattle.sv_tree.specs.declared.design.ParamType.{ParamType as TypeOfParam};
+ghost use Rattle.sv_tree.specs.declared.design.ParamWord.{ParamWord as WordOfParam};
 ghost use Rattle.sv_tree.specs.declared.design.ParamWord.TheVariants as param_word;
 ghost use Rattle.sv_const.specs.Names.{names_are};
-ghost use Rattle.sv_meaning.specs.Params.{param_value};
+ghost use Rattle.sv_meaning.specs.Params.{name_alone, param_value};
 ghost use Rattle.sv_meaning.specs.Values.{mean};
 ghost use Rattle.sv_types.specs.Values.{JudgesValue};
 ghost use Rattle.sv_hierarchy.specs.Scopes as m;
-ghost use Rattle.sv_hierarchy.specs.Scopes.{add_param, add_params, given_or, given_to, header_of, header_params, meant, overriding, seen};
+ghost use Rattle.sv_hierarchy.specs.Scopes.{add_param, add_param_item, add_params, header_of, header_params, meant, seen, walk_all};
 ghost use Rattle.sv_scope.specs.Walks.{Walks, actual_is, given_is, state_of};
 
 use crate::walker::{Actual, Given, Open, Walker};
@@ -15,7 +17,7 @@ use items::Items;
 use std::alloc::Global;
 use sv_const::{Known, Names, What};
 use sv_outside::TextErr;
-use sv_tree::{Expr, ParPort, Param, ParamType, ParamWord, Word};
+use sv_tree::{Expr, ParPort, Param, ParamItem, ParamType, ParamWord, Word};
 use sv_types::param_value;
 
 // The value of a parameter that an expression gives, or a name that stands for itself.
@@ -30,13 +32,24 @@ fn value_of(
 {
     match value {
         Actual::Written(expr) => param_value(alloc, form, names, expr, value_names),
-        Actual::Named(word) => {
-            let text = word.text.copy()?;
-            let place = word.place;
-            let expr = Expr::Name(Word { text, place }, Items::new(alloc));
-            param_value(alloc, form, names, &expr, value_names)
-        }
+        Actual::Named(word) => value_named(alloc, form, names, word, value_names),
     }
+}
+
+// The value that a name gives which stands for itself.
+fn value_named(
+    alloc: Global,
+    form: Option<&ParamType>,
+    names: &Names<'_>,
+    word: &Word,
+    value_names: &Names<'_>,
+) -> Result<Known, TextErr>
+    ensures { JudgesValue (param_value (names_are names.now) (option_copied form.entry) (mean (names_are value_names.now) (name_alone word.now))) result }
+{
+    let text = word.text.copy()?;
+    let place = word.place;
+    let expr = Expr::Name(Word { text, place }, Items::new(alloc));
+    param_value(alloc, form, names, &expr, value_names)
 }
 
 // What is given to a parameter, or else its own expression. A `localparam` is given nothing.
@@ -49,16 +62,53 @@ fn given_to<'a>(given: &[Given<'a>], word: ParamWord, own: Given<'a>) -> Given<'
     }
 }
 
+// Whether an expression is given to a name.
+fn is_given(given: Given<'_>, name: &Word) -> bool
+    ensures { result ≡ bytes_eq (given_is given.entry).name name.now.text }
+{
+    given.name.text.bytes() == name.text.bytes()
+}
+
 // The first that is given to the name, or else another.
 fn given_or<'a>(given: &[Given<'a>], other: Given<'a>) -> Given<'a>
     ensures { given_is result ≡ m.given_or (given_is other.entry).name (map given_is given.now) (given_is other.entry) }
 {
     'given: for one in given {
-        if one.name.text.bytes() == other.name.text.bytes() {
+        if is_given(*one, other.name) {
             return *one;
         }
     }
     other
+}
+
+// The type of an entry of a module's list. With neither a word nor a type it is that of the entry before.
+fn form_of<'a>(port: &'a ParPort, before: Option<&'a ParamType>) -> Option<&'a ParamType>
+    ensures { (w : WordOfParam) → option_copied result ≡ (header_of (w, option_copied before.entry) port.now).1 }
+{
+    match &port.form {
+        Some(form) => Some(form),
+        None => form_by_word(port.word, before),
+    }
+}
+
+// The type of an entry without one.
+fn form_by_word<'a>(word: Option<ParamWord>, before: Option<&'a ParamType>) -> Option<&'a ParamType>
+    ensures { MatchOption word (option_copied result ≡ option_copied before.entry) (λ w. option_copied result ≡ None) }
+{
+    match word {
+        Some(_) => None,
+        None => before,
+    }
+}
+
+// The word of an entry of a module's list, or else that of the entry before.
+fn word_of(port: &ParPort, before: ParamWord) -> ParamWord
+    ensures { (t : Option TypeOfParam) → result ≡ (header_of (before, t) port.now).0 }
+{
+    match port.word {
+        Some(word) => word,
+        None => before,
+    }
 }
 
 impl<'a> Walker<'a> {
@@ -101,14 +151,43 @@ impl<'a> Walker<'a> {
         self.add_constant(current, name.place, text, What::Number(known))
     }
 
-    /// The parameters of a declaration.
-    pub(crate) fn add_params(&mut self, current: &mut Open<'a>, tree: &'a Param) -> Result<(), TextErr>
-        ensures { Walks (add_params tree.now) self.old current.old self.new current.new result }
+    // One parameter of a declaration.
+    fn add_param_item(
+        &mut self,
+        current: &mut Open<'a>,
+        tree: &'a Param,
+        item: &'a ParamItem,
+    ) -> Result<(), TextErr>
+        ensures { Walks (add_param_item tree.now item.now) self.old current.old self.new current.new result }
     {
-        'list: for item in tree.list.as_slice() {
-            self.add_param(current, tree.word, tree.form.as_ref(), &item.name, &item.value)?;
+        let form = tree.form.as_ref();
+        self.add_param(current, tree.word, form, &item.name, &item.value)
+    }
+
+    // Some parameters of a declaration.
+    fn add_param_list(
+        &mut self,
+        current: &mut Open<'a>,
+        tree: &'a Param,
+        list: &'a [ParamItem],
+    ) -> Result<(), TextErr>
+        ensures { Walks (walk_all (add_param_item tree.now) list.now) self.old current.old self.new current.new result }
+    {
+        'list: for item in list {
+            self.add_param_item(current, tree, item)?;
         }
         Ok(())
+    }
+
+    /// The parameters of a declaration.
+    pub(crate) fn add_params(
+        &mut self,
+        current: &mut Open<'a>,
+        tree: &'a Param,
+    ) -> Result<(), TextErr>
+        ensures { Walks (add_params tree.now) self.old current.old self.new current.new result }
+    {
+        self.add_param_list(current, tree, tree.list.as_slice())
     }
 
     /// The parameters of a module's list. An entry takes over what it leaves out from the one before it.
@@ -122,11 +201,11 @@ impl<'a> Walker<'a> {
         let mut word = ParamWord::Parameter;
         let mut form: Option<&'a ParamType> = None;
         'list: for port in list {
-            if port.word.is_some() || port.form.is_some() {
-                form = port.form.as_ref();
-            }
-            word = port.word.unwrap_or(word);
-            self.add_param(current, word, form, &port.name, &port.value)?;
+            let next = form_of(port, form);
+            let named = word_of(port, word);
+            self.add_param(current, named, next, &port.name, &port.value)?;
+            form = next;
+            word = named;
         }
         Ok(())
     }

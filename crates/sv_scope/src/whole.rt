@@ -49,11 +49,7 @@ fn from_top<'a>(
 }
 
 // All that a source has.
-fn walked<'a>(
-    alloc: Global,
-    source: &'a Source,
-    top: Option<&Name>,
-) -> Result<Walker<'a>, TextErr>
+fn walked<'a>(alloc: Global, source: &'a Source, top: Option<&Name>) -> Result<Walker<'a>, TextErr>
     ensures { Answers (λ st walker. IsWalked st walker) (m.scopes source.now (option_copied top.entry)) result }
 {
     let mut walker = Walker::new(alloc);

@@ -79,8 +79,8 @@ item-returns-in_err-turns-in-For t c =
     let judged = loop_judged c.in-For.place c.in-For.header c.in-For.variable c.in-For.start c.in-For.test c.in-For.next s in
     let valued = gives_ok judged c.in_ok-found-in-For.found c.in_ok-found-in-For.ensures in
     let refused : Answers (λ (x : State) (y : State). x ≡ y) (before_turns c.in-For.body c.in_ok-found-in-For.found s) (Err c.in_err-turns-in-For.field-0.0) =
-        subst (λ (x : Gen). BeginsLoop x c.in_ok-found-in-For.found c.args.self.now c.args.current.now c.begin_loop.new.current (Err c.in_err-turns-in-For.field-0.0)) c.get.ensures
-        (subst (BeginsLoop c.get.result.now c.in_ok-found-in-For.found c.args.self.now c.args.current.now c.begin_loop.new.current) c.in_err-turns-in-For.was c.begin_loop.ensures) in
+    subst (λ (x : Gen). BeginsLoop x c.in_ok-found-in-For.found c.args.self.now c.args.current.now c.begin_loop.new.current (Err c.in_err-turns-in-For.field-0.0)) c.get.ensures
+    (subst (BeginsLoop c.get.result.now c.in_ok-found-in-For.found c.args.self.now c.args.current.now c.begin_loop.new.current) c.in_err-turns-in-For.was c.begin_loop.ensures) in
     for_refused c.in-For.place c.in-For.header c.in-For.variable c.in-For.start c.in-For.test c.in-For.next c.in-For.body c.args.item.now s (state_of c.args.self.now c.begin_loop.new.current) c.in_ok-found-in-For.found c.in_err-turns-in-For.field-0.0 c.from_residual-in_err-turns-in-For.result c.in-For.is valued refused c.from_residual-in_err-turns-in-For.ensures.1
 
 pub item-turns-init : goal.item-turns-init
@@ -89,7 +89,7 @@ item-turns-init t c =
     let judged = loop_judged c.in-For.place c.in-For.header c.in-For.variable c.in-For.start c.in-For.test c.in-For.next s in
     let valued = gives_ok judged c.in_ok-found-in-For.found c.in_ok-found-in-For.ensures in
     let loop : IsLoop c.in-For.body c.in_ok-found-in-For.found c.args.self.now c.args.current.now c.begin_loop.new.current c.in_ok-turns-in-For.turns =
-        subst (λ (x : Gen). IsLoop x c.in_ok-found-in-For.found c.args.self.now c.args.current.now c.begin_loop.new.current c.in_ok-turns-in-For.turns) c.get.ensures c.in_ok-turns-in-For.ensures in
+    subst (λ (x : Gen). IsLoop x c.in_ok-found-in-For.found c.args.self.now c.args.current.now c.begin_loop.new.current c.in_ok-turns-in-For.turns) c.get.ensures c.in_ok-turns-in-For.ensures in
     let name = block_name (under c.in-For.body).label c.begin_loop.new.current.constructs in
     let inside = (under c.in-For.body).body in
     let q = state_of c.args.self.now c.begin_loop.new.current in
@@ -100,7 +100,7 @@ pub item-returns-in_err-block-in-For : goal.item-returns-in_err-block-in-For
 item-returns-in_err-block-in-For t c =
     let s = state_of c.args.self.now c.args.current.now in
     let loop : IsLoop c.in-For.body c.in_ok-found-in-For.found c.args.self.now c.args.current.now c.begin_loop.new.current c.in_ok-turns-in-For.turns =
-        subst (λ (x : Gen). IsLoop x c.in_ok-found-in-For.found c.args.self.now c.args.current.now c.begin_loop.new.current c.in_ok-turns-in-For.turns) c.get.ensures c.in_ok-turns-in-For.ensures in
+    subst (λ (x : Gen). IsLoop x c.in_ok-found-in-For.found c.args.self.now c.args.current.now c.begin_loop.new.current c.in_ok-turns-in-For.turns) c.get.ensures c.in_ok-turns-in-For.ensures in
     let name = block_name (under c.in-For.body).label c.begin_loop.new.current.constructs in
     let inside = (under c.in-For.body).body in
     let now = state_of c.turns.self c.begin_loop.new.current in
@@ -116,14 +116,14 @@ pub item-returns-in_err-body-in-For : goal.item-returns-in_err-body-in-For
 item-returns-in_err-body-in-For t c =
     let s = state_of c.args.self.now c.args.current.now in
     let loop : IsLoop c.in-For.body c.in_ok-found-in-For.found c.args.self.now c.args.current.now c.begin_loop.new.current c.in_ok-turns-in-For.turns =
-        subst (λ (x : Gen). IsLoop x c.in_ok-found-in-For.found c.args.self.now c.args.current.now c.begin_loop.new.current c.in_ok-turns-in-For.turns) c.get.ensures c.in_ok-turns-in-For.ensures in
+    subst (λ (x : Gen). IsLoop x c.in_ok-found-in-For.found c.args.self.now c.args.current.now c.begin_loop.new.current c.in_ok-turns-in-For.turns) c.get.ensures c.in_ok-turns-in-For.ensures in
     let name = block_name (under c.in-For.body).label c.begin_loop.new.current.constructs in
     let inside = (under c.in-For.body).body in
     let block = state_of c.begin_turn.new.self c.in_ok-block-in-For.block in
     let now = state_of c.turns.self c.begin_loop.new.current in
     let opened : opened_turn c.in-For.place name c.in-For.variable.text c.bits-item.result now ≡ Ok block =
-        answered (state_of c.begin_turn.new.self) (opened_turn c.in-For.place name c.in-For.variable.text c.bits-item.result now) c.in_ok-block-in-For.block
-        (subst (λ (n : Name). Answers (λ st b. st ≡ state_of c.begin_turn.new.self b) (opened_turn c.in-For.place n c.in-For.variable.text c.bits-item.result now) (Ok c.in_ok-block-in-For.block)) (c.bytes.ensures ∙ loop.name) c.in_ok-block-in-For.ensures) in
+    answered (state_of c.begin_turn.new.self) (opened_turn c.in-For.place name c.in-For.variable.text c.bits-item.result now) c.in_ok-block-in-For.block
+    (subst (λ (n : Name). Answers (λ st b. st ≡ state_of c.begin_turn.new.self b) (opened_turn c.in-For.place n c.in-For.variable.text c.bits-item.result now) (Ok c.in_ok-block-in-For.block)) (c.bytes.ensures ∙ loop.name) c.in_ok-block-in-For.ensures) in
     let e = state_of c.body.new.self c.body.new.current in
     let t = state_of c.body.new.self c.begin_loop.new.current in
     let none : Result (Unit {0}) TextErr = Err c.in_err-body-in-For.field-0.0 in
@@ -137,14 +137,14 @@ pub item-turns-preserved : goal.item-turns-preserved
 item-turns-preserved t c =
     let s = state_of c.args.self.now c.args.current.now in
     let loop : IsLoop c.in-For.body c.in_ok-found-in-For.found c.args.self.now c.args.current.now c.begin_loop.new.current c.in_ok-turns-in-For.turns =
-        subst (λ (x : Gen). IsLoop x c.in_ok-found-in-For.found c.args.self.now c.args.current.now c.begin_loop.new.current c.in_ok-turns-in-For.turns) c.get.ensures c.in_ok-turns-in-For.ensures in
+    subst (λ (x : Gen). IsLoop x c.in_ok-found-in-For.found c.args.self.now c.args.current.now c.begin_loop.new.current c.in_ok-turns-in-For.turns) c.get.ensures c.in_ok-turns-in-For.ensures in
     let name = block_name (under c.in-For.body).label c.begin_loop.new.current.constructs in
     let inside = (under c.in-For.body).body in
     let block = state_of c.begin_turn.new.self c.in_ok-block-in-For.block in
     let now = state_of c.turns.self c.begin_loop.new.current in
     let opened : opened_turn c.in-For.place name c.in-For.variable.text c.bits-item.result now ≡ Ok block =
-        answered (state_of c.begin_turn.new.self) (opened_turn c.in-For.place name c.in-For.variable.text c.bits-item.result now) c.in_ok-block-in-For.block
-        (subst (λ (n : Name). Answers (λ st b. st ≡ state_of c.begin_turn.new.self b) (opened_turn c.in-For.place n c.in-For.variable.text c.bits-item.result now) (Ok c.in_ok-block-in-For.block)) (c.bytes.ensures ∙ loop.name) c.in_ok-block-in-For.ensures) in
+    answered (state_of c.begin_turn.new.self) (opened_turn c.in-For.place name c.in-For.variable.text c.bits-item.result now) c.in_ok-block-in-For.block
+    (subst (λ (n : Name). Answers (λ st b. st ≡ state_of c.begin_turn.new.self b) (opened_turn c.in-For.place n c.in-For.variable.text c.bits-item.result now) (Ok c.in_ok-block-in-For.block)) (c.bytes.ensures ∙ loop.name) c.in_ok-block-in-For.ensures) in
     let e = state_of c.body.new.self c.body.new.current in
     let t = state_of c.body.new.self c.begin_loop.new.current in
     walk_next (turn_walk c.in-For.place name c.in-For.variable.text inside) c.as_slice-bits-items.result.now c.turns.bits-index c.bits-item.result ((act c.args.item.now).item s) now t c.turns-test.true c.bits-item.is c.turns.invariant
@@ -236,8 +236,8 @@ pub branch-returns-in_err-block-in-Block : goal.branch-returns-in_err-block-in-B
 branch-returns-in_err-block-in-Block t c =
     let s = state_of c.args.self.now c.args.current.now in
     let is : (under c.args.body.now).branch c.args.number ≡ block_walk (option_copied c.as_ref.result) c.in-Block.place c.args.number (items_walk c.in-Block.items) =
-        ap (λ (x : Gen). (under x).branch c.args.number) c.in-Block.is ∙ block_branch c.in-Block.place c.in-Block.label c.in-Block.items c.in-Block.field-3 c.args.number
-        ∙ sym (λ i. block_walk (c.as_ref.ensures.value i) c.in-Block.place c.args.number (items_walk c.in-Block.items)) in
+    ap (λ (x : Gen). (under x).branch c.args.number) c.in-Block.is ∙ block_branch c.in-Block.place c.in-Block.label c.in-Block.items c.in-Block.field-3 c.args.number
+    ∙ sym (λ i. block_walk (c.as_ref.ensures.value i) c.in-Block.place c.args.number (items_walk c.in-Block.items)) in
     let t = state_of c.block.new.self c.block.new.current in
     same_ends t ((under c.args.body.now).branch c.args.number s) (block_walk (option_copied c.as_ref.result) c.in-Block.place c.args.number (items_walk c.in-Block.items) s) c.from_residual.result (λ i. is i s)
     (block_refused (option_copied c.as_ref.result) c.in-Block.place c.args.number (items_walk c.in-Block.items) s t c.in_err-block-in-Block.field-0.0 c.from_residual.result
@@ -247,8 +247,8 @@ pub branch-returns-in_ok-block-in-Block : goal.branch-returns-in_ok-block-in-Blo
 branch-returns-in_ok-block-in-Block t c =
     let s = state_of c.args.self.now c.args.current.now in
     let is : (under c.args.body.now).branch c.args.number ≡ block_walk (option_copied c.as_ref.result) c.in-Block.place c.args.number (items_walk c.in-Block.items) =
-        ap (λ (x : Gen). (under x).branch c.args.number) c.in-Block.is ∙ block_branch c.in-Block.place c.in-Block.label c.in-Block.items c.in-Block.field-3 c.args.number
-        ∙ sym (λ i. block_walk (c.as_ref.ensures.value i) c.in-Block.place c.args.number (items_walk c.in-Block.items)) in
+    ap (λ (x : Gen). (under x).branch c.args.number) c.in-Block.is ∙ block_branch c.in-Block.place c.in-Block.label c.in-Block.items c.in-Block.field-3 c.args.number
+    ∙ sym (λ i. block_walk (c.as_ref.ensures.value i) c.in-Block.place c.args.number (items_walk c.in-Block.items)) in
     let t = state_of c.items.new.self c.block.new.current in
     let e = state_of c.items.new.self c.items.new.current in
     let b = state_of c.block.new.self c.in_ok-block-in-Block.block in
@@ -262,8 +262,8 @@ branch-returns-in_err-holds-in-If t c =
     let item : c.in-Single.item ≡ it.If c.in-If.field-0 c.in-If.test c.in-If.body c.in-If.other = sym c.get.ensures ∙ c.in-If.is in
     let cond = conditional c.in-If.test (under c.in-If.body) (else_of c.in-If.other) c.args.number s in
     let is : (under c.args.body.now).branch c.args.number s ≡ cond =
-        ap (λ (x : Gen). (under x).branch c.args.number s) (c.in-Single.is ∙ ap (λ (x : Item). ge.Single c.in-Single.place x) item)
-        ∙ ap (λ (f : Walk). f s) (if_branch c.in-If.field-0 c.in-Single.place c.in-If.test c.in-If.body c.in-If.other c.args.number) in
+    ap (λ (x : Gen). (under x).branch c.args.number s) (c.in-Single.is ∙ ap (λ (x : Item). ge.Single c.in-Single.place x) item)
+    ∙ ap (λ (f : Walk). f s) (if_branch c.in-If.field-0 c.in-Single.place c.in-If.test c.in-If.body c.in-If.other c.args.number) in
     same_ends s ((under c.args.body.now).branch c.args.number s) cond c.from_residual-in_err-holds-in-If.result is
     (handed (λ x y. x ≡ y) (λ st u. st ≡ s) (fixed_truth (mean (seen s) c.in-If.test)) (λ b. chosen_branch b (under c.in-If.body) (else_of c.in-If.other) c.args.number s) c.holds.result c.in_err-holds-in-If.field-0.0 c.from_residual-in_err-holds-in-If.result
     c.in_err-holds-in-If.was c.holds.ensures c.from_residual-in_err-holds-in-If.ensures.1)
@@ -274,8 +274,8 @@ branch-returns-then-branch t c =
     let item : c.in-Single.item ≡ it.If c.in-If.field-0 c.in-If.test c.in-If.body c.in-If.other = sym c.get.ensures ∙ c.in-If.is in
     let cond = conditional c.in-If.test (under c.in-If.body) (else_of c.in-If.other) c.args.number s in
     let is : (under c.args.body.now).branch c.args.number s ≡ cond =
-        ap (λ (x : Gen). (under x).branch c.args.number s) (c.in-Single.is ∙ ap (λ (x : Item). ge.Single c.in-Single.place x) item)
-        ∙ ap (λ (f : Walk). f s) (if_branch c.in-If.field-0 c.in-Single.place c.in-If.test c.in-If.body c.in-If.other c.args.number) in
+    ap (λ (x : Gen). (under x).branch c.args.number s) (c.in-Single.is ∙ ap (λ (x : Item). ge.Single c.in-Single.place x) item)
+    ∙ ap (λ (f : Walk). f s) (if_branch c.in-If.field-0 c.in-Single.place c.in-If.test c.in-If.body c.in-If.other c.args.number) in
     let true_ok : (fixed_truth (mean (seen s) c.in-If.test)) ≡ Ok true = gives_ok (fixed_truth (mean (seen s) c.in-If.test)) c.in_ok-holds-in-If.field-0 c.in_ok-holds-in-If.ensures ∙ ap Ok c.if-branch.true in
     let t = state_of c.branch-self.new.self c.branch-self.new.current in
     same_ends t ((under c.args.body.now).branch c.args.number s) ((under c.in-If.body).branch c.args.number s) c.branch-self.result (is ∙ taken_branch c.in-If.test c.in-If.body c.in-If.other c.args.number s true_ok)
@@ -287,8 +287,8 @@ branch-returns-in-Some t c =
     let item : c.in-Single.item ≡ it.If c.in-If.field-0 c.in-If.test c.in-If.body c.in-If.other = sym c.get.ensures ∙ c.in-If.is in
     let cond = conditional c.in-If.test (under c.in-If.body) (else_of c.in-If.other) c.args.number s in
     let is : (under c.args.body.now).branch c.args.number s ≡ cond =
-        ap (λ (x : Gen). (under x).branch c.args.number s) (c.in-Single.is ∙ ap (λ (x : Item). ge.Single c.in-Single.place x) item)
-        ∙ ap (λ (f : Walk). f s) (if_branch c.in-If.field-0 c.in-Single.place c.in-If.test c.in-If.body c.in-If.other c.args.number) in
+    ap (λ (x : Gen). (under x).branch c.args.number s) (c.in-Single.is ∙ ap (λ (x : Item). ge.Single c.in-Single.place x) item)
+    ∙ ap (λ (f : Walk). f s) (if_branch c.in-If.field-0 c.in-Single.place c.in-If.test c.in-If.body c.in-If.other c.args.number) in
     let false_ok : (fixed_truth (mean (seen s) c.in-If.test)) ≡ Ok false = gives_ok (fixed_truth (mean (seen s) c.in-If.test)) c.in_ok-holds-in-If.field-0 c.in_ok-holds-in-If.ensures ∙ ap Ok c.if-branch.false in
     let t = state_of c.branch-self-in-Some.new.self c.branch-self-in-Some.new.current in
     same_ends t ((under c.args.body.now).branch c.args.number s) ((under c.in-Some.other).branch c.args.number s) c.branch-self-in-Some.result
@@ -301,8 +301,8 @@ branch-returns-in-None t c =
     let item : c.in-Single.item ≡ it.If c.in-If.field-0 c.in-If.test c.in-If.body c.in-If.other = sym c.get.ensures ∙ c.in-If.is in
     let cond = conditional c.in-If.test (under c.in-If.body) (else_of c.in-If.other) c.args.number s in
     let is : (under c.args.body.now).branch c.args.number s ≡ cond =
-        ap (λ (x : Gen). (under x).branch c.args.number s) (c.in-Single.is ∙ ap (λ (x : Item). ge.Single c.in-Single.place x) item)
-        ∙ ap (λ (f : Walk). f s) (if_branch c.in-If.field-0 c.in-Single.place c.in-If.test c.in-If.body c.in-If.other c.args.number) in
+    ap (λ (x : Gen). (under x).branch c.args.number s) (c.in-Single.is ∙ ap (λ (x : Item). ge.Single c.in-Single.place x) item)
+    ∙ ap (λ (f : Walk). f s) (if_branch c.in-If.field-0 c.in-Single.place c.in-If.test c.in-If.body c.in-If.other c.args.number) in
     let false_ok : (fixed_truth (mean (seen s) c.in-If.test)) ≡ Ok false = gives_ok (fixed_truth (mean (seen s) c.in-If.test)) c.in_ok-holds-in-If.field-0 c.in_ok-holds-in-If.ensures ∙ ap Ok c.if-branch.false in
     ends s ((under c.args.body.now).branch c.args.number s) (tt {0}) (is ∙ other_branch c.in-If.test c.in-If.body c.in-If.other c.args.number s false_ok ∙ ap (λ (o : Option Gen). else_of o c.args.number s) c.in-None.is)
 
@@ -310,8 +310,8 @@ pub branch-returns-in_err-block-in_default : goal.branch-returns-in_err-block-in
 branch-returns-in_err-block-in_default t c =
     let s = state_of c.args.self.now c.args.current.now in
     let is : (under c.args.body.now).branch c.args.number ≡ block_walk None c.in-Single.place c.args.number (act c.in-Single.item).item =
-        ap (λ (x : Gen). (under x).branch c.args.number) c.in-Single.is
-        ∙ single_branch c.in-Single.place c.in-Single.item c.args.number (λ q x y o h. c.in_default.not-If q x y o (c.get.ensures ∙ h)) in
+    ap (λ (x : Gen). (under x).branch c.args.number) c.in-Single.is
+    ∙ single_branch c.in-Single.place c.in-Single.item c.args.number (λ q x y o h. c.in_default.not-If q x y o (c.get.ensures ∙ h)) in
     let t = state_of c.block-in_default.new.self c.block-in_default.new.current in
     same_ends t ((under c.args.body.now).branch c.args.number s) (block_walk None c.in-Single.place c.args.number (act c.in-Single.item).item s) c.from_residual-in_err-block-in_default.result (λ i. is i s)
     (block_refused None c.in-Single.place c.args.number (act c.in-Single.item).item s t c.in_err-block-in_default.field-0.0 c.from_residual-in_err-block-in_default.result
@@ -321,8 +321,8 @@ pub branch-returns-in_ok-block-in_default : goal.branch-returns-in_ok-block-in_d
 branch-returns-in_ok-block-in_default t c =
     let s = state_of c.args.self.now c.args.current.now in
     let is : (under c.args.body.now).branch c.args.number ≡ block_walk None c.in-Single.place c.args.number (act c.in-Single.item).item =
-        ap (λ (x : Gen). (under x).branch c.args.number) c.in-Single.is
-        ∙ single_branch c.in-Single.place c.in-Single.item c.args.number (λ q x y o h. c.in_default.not-If q x y o (c.get.ensures ∙ h)) in
+    ap (λ (x : Gen). (under x).branch c.args.number) c.in-Single.is
+    ∙ single_branch c.in-Single.place c.in-Single.item c.args.number (λ q x y o h. c.in_default.not-If q x y o (c.get.ensures ∙ h)) in
     let t = state_of c.item.new.self c.block-in_default.new.current in
     let e = state_of c.item.new.self c.item.new.current in
     let b = state_of c.block-in_default.new.self c.in_ok-block-in_default.block in

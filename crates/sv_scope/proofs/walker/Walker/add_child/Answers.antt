@@ -20,8 +20,8 @@ returns c =
     let s = state_of c.args.self.now c.args.current.now in
     let q = state_of c.args.self.now c.declare_at.new.self in
     let e = declared_as c.args.one.now.name.place c.args.one.now.name.place c.bytes.result.now c.args.one.now.name.text s q refl c.bytes.ensures
-        (ended q (declare_at c.args.one.now.name.place c.bytes.result.now s) (tt {0}) (c.in_ok-declare_at.ensures c.args.self.now)) in
+    (ended q (declare_at c.args.one.now.name.place c.bytes.result.now s) (tt {0}) (c.in_ok-declare_at.ensures c.args.self.now)) in
     let more = children_more q c.args.inst.now c.args.one.now c.args.self.now.children.items c.push.new.self.items _ c.in_ok-push.ensures.items refl c.here-at.ensures refl refl
-        (c.in_ok-path.ensures ∙ ap (λ (n : Name). path_of q n) c.bytes-2.ensures) c.params_of.ensures c.as_ref.ensures.value in
+    (c.in_ok-path.ensures ∙ ap (λ (n : Name). path_of q n) c.bytes-2.ensures) c.params_of.ensures c.as_ref.ensures.value in
     ends (record q { children = map child_is c.push.new.self.items }) (declare_at c.args.one.now.name.place c.args.one.now.name.text s >>= λ (x : State). Ok (record x { children = x.children ++ child_of c.args.inst.now c.args.one.now x ∷ [] })) tt
     (ap (λ (j : Judged State). j >>= λ (x : State). Ok (record x { children = x.children ++ child_of c.args.inst.now c.args.one.now x ∷ [] })) e ∙ λ i. Ok (record q { children = more i }))

@@ -17,11 +17,11 @@ use Rattle.sv_scope.proofs.walker.Walker.header_ports.Goals as goal
 pub list-init : goal.list-init
 list-init c =
     record {
-    rest = behind_none (header_ports c.args.top way.Input (scalar false) c.args.list.now (state_of c.args.self.now c.args.current.now))
-        ∙ λ i. behind (map port_is (sym c.new-ports.ensures.items i)) (header_ports c.args.top way.Input (sym c.scalar-before.ensures.is i) c.args.list.now (state_of c.args.self.now c.args.current.now));
-    before = c.scalar-before.ensures.sound;
-    sound = subst PortsAreSound (sym c.new-ports.ensures.items) (All-from_recursion (λ (p : OpenPort). IsSound p.layout) [] tt);
-  }
+      rest = behind_none (header_ports c.args.top way.Input (scalar false) c.args.list.now (state_of c.args.self.now c.args.current.now))
+          ∙ λ i. behind (map port_is (sym c.new-ports.ensures.items i)) (header_ports c.args.top way.Input (sym c.scalar-before.ensures.is i) c.args.list.now (state_of c.args.self.now c.args.current.now));
+      before = c.scalar-before.ensures.sound;
+      sound = subst PortsAreSound (sym c.new-ports.ensures.items) (All-from_recursion (λ (p : OpenPort). IsSound p.layout) [] tt);
+    }
 
 pub returns-in_err-one-clause-is : goal.returns-in_err-one-clause-is
 returns-in_err-one-clause-is c =
