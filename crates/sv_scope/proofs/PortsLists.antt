@@ -1,13 +1,12 @@
 -- Ports and connections in lists that loops go through.
 use Rattle.std.proofs.Common.{◌≡◌, ℕ, ◌+◌, ◌<◌, ◌≤◌, List, [], ◌∷◌, ◌++◌, length, take, drop, get_or, map, bytes_eq, Bool, true, false, ◌&&◌, Option, Some, None, Result, Ok, Err, refl, sym, ap, ◌∙◌, subst, append_assoc, if◌then◌else◌, Bor}
-use Rattle.std.specs.List.{All}
 use Rattle.std.specs.Result.{IsErrAnd}
-use Rattle.std.specs.Option.{option_map, unwrap_or}
+use Rattle.std.specs.Option.{unwrap_or}
 use Rattle.sv_outside.specs.declared.refusal.TextErr.{TextErr}
 use Rattle.sv_tree.specs.declared.forms.TypeTree.{TypeTree}
 use Rattle.sv_const.specs.declared.layout.Layout.{Layout as Coded}
 use Rattle.sv_loops.specs.Answers.{Answers}
-use Rattle.std.proofs.lemmas.List.{append-nil, map-append, take_all}
+use Rattle.std.proofs.lemmas.List.{append-nil, map-append}
 use Rattle.std.proofs.lemmas.List.Elements.{All-get_or}
 use Rattle.sv_tree.specs.declared.word.Word.{Word}
 use Rattle.sv_tree.specs.declared.exprs.Expr.{Expr}
@@ -20,7 +19,7 @@ use Rattle.sv_meaning.specs.Layouts.{Name, Layout, scalar}
 use Rattle.sv_modules.specs.declared.connect.Connection.{Connection}
 use Rattle.sv_modules.specs.Connections.{connection_is, joined_is}
 use Rattle.sv_modules.specs.Naming.{texts_of}
-use Rattle.sv_modules.proofs.Turns.{take_next, drop_next, drop_none, map_next}
+use Rattle.sv_modules.proofs.Turns.{take_next, drop_next, drop_none}
 use Rattle.sv_hierarchy.specs.Scopes as m
 use Rattle.sv_scope.specs.declared.header.OpenPort.{OpenPort}
 use Rattle.sv_scope.specs.declared.levels.Front.{Front}
@@ -59,10 +58,6 @@ port_sound all i x h e s = subst (λ (y : OpenPort). IsSound y.layout) (sym e) (
 pub nothing_connected : (at : m.Front) (p : Option m.OpenPort) → m.connected at p None ≡ []
 nothing_connected at (Some p) = refl
 nothing_connected at None = refl
-
-pub no_port : (at : m.Front) (x : Option Expr) → m.connected at None x ≡ []
-no_port at (Some x) = refl
-no_port at None = refl
 
 pub works_next : (at : m.Front) (ports : List m.OpenPort) (all : List Connection) (i : ℕ) (x : Connection) (a b w : List m.Standing) → i < length all → x ≡ get_or all i x →
     a ++ m.port_works at (map connection_is (drop i all)) ports ≡ w → b ≡ a ++ m.connected at (m.port_named (connection_is x).0 ports) (connection_is x).1 → b ++ m.port_works at (map connection_is (drop (i + 1) all)) ports ≡ w

@@ -1,9 +1,8 @@
 -- Walks step by step, and along lists.
-use Rattle.std.proofs.Common.{◌≡◌, ℕ, ◌+◌, ◌<◌, ◌≤◌, List, [], ◌∷◌, length, drop, get_or, Result, Ok, Err, refl, sym, ap, ◌∙◌, subst}
+use Rattle.std.proofs.Common.{◌≡◌, ℕ, ◌+◌, ◌<◌, ◌≤◌, List, length, drop, get_or, Result, Ok, Err, refl, sym, ap, ◌∙◌, subst}
 use Rattle.std.specs.Result.{IsErrAnd}
 use Rattle.std.proofs.lemmas.Result.{err_from_is_err_and}
 use Rattle.sv_outside.specs.declared.refusal.TextErr.{TextErr}
-use Rattle.sv_outside.specs.declared.refusal.TextErr.TheVariants.{No, Memory}
 use Rattle.sv_meaning.specs.Faults.{Judged, ◌>>=◌}
 use Rattle.sv_loops.specs.Answers.{Answers}
 use Rattle.sv_modules.proofs.Turns.{drop_next, drop_none}
@@ -11,6 +10,7 @@ use Rattle.sv_hierarchy.specs.Scopes.{State, Walk, walk_all}
 use Rattle.sv_scope.specs.declared.walker.Walker.{Walker}
 use Rattle.sv_scope.specs.declared.walker.Open.{Open}
 use Rattle.sv_scope.specs.Walks.{Walks}
+use Rattle.sv_scope.proofs.Declaring.{refused_as, refused_then}
 
 -- what is judged is such a state
 abbrev pub Ends : {A : Type 0} → State → Judged State → Result A TextErr → Type 0
@@ -23,23 +23,12 @@ ended t (Err all) x h = absurd h
 pub ends : {A : Type 0} (t : State) (j : Judged State) (x : A) → j ≡ Ok t → Ends t j (Ok x)
 ends t j x e = subst (λ z. Ends t z (Ok x)) (sym e) refl
 
-pub no_memory : {A B : Type 0} (r : A → B → Type 0) (j : Judged A) → Answers r j (Err Memory)
-no_memory r (Ok x) = tt
-no_memory r (Err all) = tt
-
--- what is refused first is refused
-pub then_refused : {A B C D : Type 0} (r : A → B → Type 0) (k : C → D → Type 0) (j : Judged A) (f : A → Judged C) (e : TextErr) → Answers r j (Err e) → Answers k (j >>= f) (Err e)
-then_refused r k (Ok x) f (No e) h = absurd h
-then_refused r k (Ok x) f Memory h = no_memory k (f x)
-then_refused r k (Err all) f (No e) h = h
-then_refused r k (Err all) f Memory h = tt
-
--- the same where `?` hands it on
+-- what is refused first is refused, where `?` hands it on
 pub handed : {A B C D : Type 0} (r : A → B → Type 0) (k : C → D → Type 0) (j : Judged A) (f : A → Judged C) (x : Result B TextErr) (e : TextErr) (z : Result D TextErr) →
     x ≡ Err e → Answers r j x → IsErrAnd z (λ y. y ≡ e) → Answers k (j >>= f) z
 handed r k j f x e z g h i =
     let p = err_from_is_err_and z i in
-    subst (Answers k (j >>= f)) (sym p.1) (subst (λ y. Answers k (j >>= f) (Err y)) (sym p.2) (then_refused r k j f e (subst (Answers r j) g h)))
+    subst (Answers k (j >>= f)) (sym p.1) (subst (λ y. Answers k (j >>= f) (Err y)) (sym p.2) (refused_then r k j f e (subst (Answers r j) g h)))
 
 pub handed_walk : {A D : Type 0} (t u : State) (j : Judged State) (f : Walk) (x : Result A TextErr) (e : TextErr) (z : Result D TextErr) →
     x ≡ Err e → Ends t j x → IsErrAnd z (λ y. y ≡ e) → Ends u (j >>= f) z
@@ -52,16 +41,10 @@ then_ends s u j f z e h = subst (λ y. Ends u (y >>= f) z) (sym e) h
 pub same_ends : {A : Type 0} (u : State) (i j : Judged State) (z : Result A TextErr) → i ≡ j → Ends u j z → Ends u i z
 same_ends u i j z e h = subst (λ y. Ends u y z) (sym e) h
 
-err_same : (A B : Type 0) (u : State) (j : Judged State) (e : TextErr) → Answers (λ st (x : A). st ≡ u) j (Err e) → Answers (λ st (x : B). st ≡ u) j (Err e)
-err_same A B u (Ok s) (No r) h = absurd h
-err_same A B u (Ok s) Memory h = tt
-err_same A B u (Err all) (No r) h = h
-err_same A B u (Err all) Memory h = tt
-
 pub handed_same : {D : Type 0} (u : State) (j : Judged State) (e : TextErr) (z : Result D TextErr) → Answers (λ st (x : Unit {0}). st ≡ u) j (Err e) → IsErrAnd z (λ y. y ≡ e) → Ends u j z
 handed_same {D = D} u j e z h i =
     let p = err_from_is_err_and z i in
-    subst (Ends u j) (sym p.1) (subst (λ y. Ends {A = D} u j (Err y)) (sym p.2) (err_same (Unit {0}) D u j e h))
+    subst (Ends u j) (sym p.1) (subst (λ y. Ends {A = D} u j (Err y)) (sym p.2) (refused_as (λ st (x : Unit {0}). st ≡ u) (λ st (x : D). st ≡ u) j e h))
 
 pub same_walk : (f g : Walk) (w : Walker) (o : Open) (v : Walker) (p : Open) (r : Result (Unit {0}) TextErr) → f ≡ g → Walks g w o v p r → Walks f w o v p r
 same_walk f g w o v p r e h = subst (λ k. Walks k w o v p r) (sym e) h

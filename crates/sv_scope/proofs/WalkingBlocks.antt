@@ -7,7 +7,6 @@ use Rattle.sv_outside.specs.declared.refusal.Place.{Place}
 use Rattle.sv_outside.specs.declared.refusal.Refusal.{Refusal}
 use Rattle.sv_outside.specs.declared.refusal.TextErr.{TextErr}
 use Rattle.sv_outside.specs.declared.refusal.TextErr.TheVariants.{No, Memory}
-use Rattle.sv_outside.specs.declared.text.Signal.{Signal}
 use Rattle.sv_tree.specs.declared.word.Word.{Word}
 use Rattle.sv_tree.specs.declared.exprs.Expr.{Expr}
 use Rattle.sv_tree.specs.declared.stmts.Step.{Step}
@@ -17,22 +16,20 @@ use Rattle.sv_meaning.specs.Layouts.{Name, Scope, What, find, number_is, type_is
 use Rattle.sv_meaning.specs.Names.{has_name}
 use Rattle.sv_meaning.specs.Deeds.{index_entry, turn_faults, turns}
 use Rattle.sv_loops.specs.Answers.{Answers, Gives}
-use Rattle.sv_hierarchy.specs.Scopes.{State, Walk, Level, Branch, Front, Given, Standing, Child, walk_all, declare_at, block_place, block_name, block_walk, enclosed, inner, outer, mine, here, path_of, fronts_at, turn_walk, turn_name, count_turn, turns_walk, body_of, under, next_construct, genvar_faults, seen}
+use Rattle.sv_hierarchy.specs.Scopes.{State, Walk, Level, walk_all, declare_at, block_place, block_name, block_walk, enclosed, inner, outer, mine, here, path_of, fronts_at, turn_walk, turn_name, count_turn, turns_walk, body_of, under, next_construct, genvar_faults, seen}
 use Rattle.sv_scope.specs.declared.walker.Walker.{Walker}
 use Rattle.sv_scope.specs.declared.walker.Open.{Open}
 use Rattle.sv_scope.specs.declared.loops.Turns.{Turns}
 use Rattle.sv_scope.specs.Walks.{state_of}
 use Rattle.sv_scope.specs.Looping.{loop_judged}
 use Rattle.sv_scope.specs.Items.{Begins, BeginsLoop, IsLoop, opened_block, opened_turn, before_turns, declare_turns}
-use Rattle.sv_scope.proofs.Walking.{Ends, then_ends, then_refused, no_memory}
+use Rattle.sv_scope.proofs.Declaring.{out_of_memory, refused_as, refused_then}
+use Rattle.sv_scope.proofs.Walking.{Ends, then_ends}
 
 pub same_state : (a b : State) → a.levels ≡ b.levels → a.me ≡ b.me → a.taken ≡ b.taken → a.constructs ≡ b.constructs → a.overridden ≡ b.overridden → a.bits ≡ b.bits → a.turns ≡ b.turns →
     a.wires ≡ b.wires → a.works ≡ b.works → a.children ≡ b.children → a ≡ b
 same_state a b levels me taken constructs overridden bits turns wires works children =
     λ i. record { levels = levels i; me = me i; taken = taken i; constructs = constructs i; overridden = overridden i; bits = bits i; turns = turns i; wires = wires i; works = works i; children = children i }
-
-pub same_level : (a b : Level) → a.path ≡ b.path → a.module_number ≡ b.module_number → a.parent ≡ b.parent → a.around ≡ b.around → a.nets ≡ b.nets → a.consts ≡ b.consts → a ≡ b
-same_level a b path number parent around nets consts = λ i. record { path = path i; module_number = number i; parent = parent i; around = around i; nets = nets i; consts = consts i }
 
 none_taken : (f : Name → Bool) → ((n : Name) → f n ≡ has_name n []) → (n : Name) → f n ≡ false
 unfolding has_name
@@ -70,7 +67,7 @@ block_ends label p n body s q b e r d g h =
 pub through_refused : {A B C D E : Type 0} (r : B → E → Type 0) (k : C → D → Type 0) (j : Judged A) (f : A → B) (g : A → Judged C) (e : TextErr) →
     Answers r (j >>= λ x. Ok (f x)) (Err e) → Answers k (j >>= g) (Err e)
 through_refused r k (Ok x) f g (No e) h = absurd h
-through_refused r k (Ok x) f g Memory h = no_memory k (g x)
+through_refused r k (Ok x) f g Memory h = out_of_memory k (g x)
 through_refused r k (Err all) f g (No e) h = h
 through_refused r k (Err all) f g Memory h = tt
 
@@ -110,7 +107,7 @@ pub body_refused : {B : Type 0} (p : Place) (g v : Name) (body : Walk) (bits : L
     Ends t (body b) y → Answers (λ st (x : Unit {0}). st ≡ u) (turn_walk p g v body bits s) (Err e)
 body_refused {B = B} p g v body bits s b t u y e h i k =
     subst (λ (j : Judged State). Answers (λ st (x : Unit {0}). st ≡ u) j (Err e)) (sym (turn_is p g v body bits s b h))
-    (then_refused (λ st (x : B). st ≡ t) (λ st (x : Unit {0}). st ≡ u) (body b) (λ last. Ok (outer s last)) e (subst (Ends t (body b)) i k))
+    (refused_then (λ st (x : B). st ≡ t) (λ st (x : Unit {0}). st ≡ u) (body b) (λ last. Ok (outer s last)) e (subst (Ends t (body b)) i k))
 
 -- ---- loops
 
@@ -137,7 +134,7 @@ pub loop_refused : (p : Place) (v : Name) (body : Gen) (values : List (List Bit)
 loop_refused p v body [] s u (No e) h = absurd h
 loop_refused p v body [] s u Memory h = tt
 loop_refused p v body (x ∷ more) s u e h =
-    then_refused (λ (x : State) (y : State). x ≡ y) (λ st (x : Unit {0}). st ≡ u) (declare_at (block_place (under body).label (under body).start) (block_name (under body).label (suc s.constructs)) (record s { constructs = suc s.constructs }))
+    refused_then (λ (x : State) (y : State). x ≡ y) (λ st (x : Unit {0}). st ≡ u) (declare_at (block_place (under body).label (under body).start) (block_name (under body).label (suc s.constructs)) (record s { constructs = suc s.constructs }))
     (walk_all (turn_walk p (block_name (under body).label (suc s.constructs)) v (under body).body) (x ∷ more)) e h
 
 pub none_declared : (p : Place) (n : Name) (values : List (List Bit)) (t : State) → values ≡ [] → declare_turns p n values t ≡ Ok t
@@ -160,7 +157,7 @@ declared_as p q m n s t e f h = sym (λ i. declare_at (e i) (f i) s) ∙ h
 pub begins_memory : (label : Option Word) (p : Place) (n : ℕ) (w : Walker) (o : Open) (v : Walker) (q : Open) (z : Result Open TextErr) → IsErrAnd z (λ y. y ≡ Memory) → Begins label p n w o v q z
 begins_memory label p n w o v q z i =
     let x = err_from_is_err_and z i in
-    subst (Begins label p n w o v q) (sym x.1) (subst (λ y. Begins label p n w o v q (Err y)) (sym x.2) (no_memory (λ (a : State) (b : State). a ≡ b) (opened_block label p n (state_of w o))))
+    subst (Begins label p n w o v q) (sym x.1) (subst (λ y. Begins label p n w o v q (Err y)) (sym x.2) (out_of_memory (λ (a : State) (b : State). a ≡ b) (opened_block label p n (state_of w o))))
 
 pub begins_refused : (label : Option Word) (p : Place) (n : ℕ) (w : Walker) (o : Open) (v : Walker) (q : Open) (t : State) (place : Place) (name : Name) (y : Result (Unit {0}) TextErr) (e : TextErr) (z : Result Open TextErr) →
     place ≡ block_place label p → name ≡ block_name label n → y ≡ Err e → Ends t (declare_at place name (state_of w o)) y → IsErrAnd z (λ d. d ≡ e) → Begins label p n w o v q z
@@ -168,13 +165,13 @@ begins_refused label p n w o v q t place name y e z f g h k i =
     let x = err_from_is_err_and z i in
     let d : Ends t (declare_at (block_place label p) (block_name label n) (state_of w o)) y = subst (λ j. Ends t j y) (λ k. declare_at (f k) (g k) (state_of w o)) k in
     subst (Begins label p n w o v q) (sym x.1) (subst (λ d. Begins label p n w o v q (Err d)) (sym x.2)
-    (then_refused (λ st (u : Unit {0}). st ≡ t) (λ (a : State) (b : State). a ≡ b) (declare_at (block_place label p) (block_name label n) (state_of w o)) (λ s. Ok (inner (block_name label n) [] s)) e
+    (refused_then (λ st (u : Unit {0}). st ≡ t) (λ (a : State) (b : State). a ≡ b) (declare_at (block_place label p) (block_name label n) (state_of w o)) (λ s. Ok (inner (block_name label n) [] s)) e
     (subst (Ends t (declare_at (block_place label p) (block_name label n) (state_of w o))) h d)))
 
 pub loop_memory : (body : Gen) (values : List (List Bit)) (w : Walker) (o q : Open) (z : Result Turns TextErr) → IsErrAnd z (λ y. y ≡ Memory) → BeginsLoop body values w o q z
 loop_memory body values w o q z i =
     let x = err_from_is_err_and z i in
-    subst (BeginsLoop body values w o q) (sym x.1) (subst (λ y. BeginsLoop body values w o q (Err y)) (sym x.2) (no_memory (λ (a : State) (b : State). a ≡ b) (before_turns body values (state_of w o))))
+    subst (BeginsLoop body values w o q) (sym x.1) (subst (λ y. BeginsLoop body values w o q (Err y)) (sym x.2) (out_of_memory (λ (a : State) (b : State). a ≡ b) (before_turns body values (state_of w o))))
 
 pub loop_counted : (body : Gen) (values : List (List Bit)) (w : Walker) (o q : Open) (t : State) (y : Result (Unit {0}) TextErr) (e : TextErr) (z : Result Turns TextErr) → y ≡ Err e →
     Ends t (next_construct (state_of w o)) y → IsErrAnd z (λ d. d ≡ e) → BeginsLoop body values w o q z
@@ -195,13 +192,7 @@ loop_undeclared body values w o x q t label start place name y e z a b c d f h k
     ∙ sym (λ j. declare_turns (c j) (d j) values (state_of w x)) in
     subst (BeginsLoop body values w o q) (sym r.1) (subst (λ g. BeginsLoop body values w o q (Err g)) (sym r.2)
     (subst (λ j. Answers (λ (s : State) (u : State). s ≡ u) j (Err e)) (sym is)
-    (is_refused t (declare_turns place name values (state_of w x)) e (subst (Ends t (declare_turns place name values (state_of w x))) h k))))
-  where
-    is_refused : (t : State) (j : Judged State) (e : TextErr) → Ends {A = Unit {0}} t j (Err e) → Answers (λ (s : State) (u : State). s ≡ u) j (Err e)
-    is_refused t (Ok s) (No r) h = absurd h
-    is_refused t (Ok s) Memory h = tt
-    is_refused t (Err all) (No r) h = h
-    is_refused t (Err all) Memory h = tt
+    (refused_as (λ st (u : Unit {0}). st ≡ t) (λ (s : State) (u : State). s ≡ u) (declare_turns place name values (state_of w x)) e (subst (Ends t (declare_turns place name values (state_of w x))) h k))))
 
 turns_constructs : (p : Place) (n : Name) (values : List (List Bit)) (s t : State) → declare_turns p n values s ≡ Ok t → t.constructs ≡ s.constructs
 turns_constructs p n [] s t h = let e : s ≡ t = cc in sym (ap (λ (x : State). x.constructs) e)

@@ -4,7 +4,6 @@ use Rattle.std.proofs.lemmas.List.{map-append}
 use Rattle.std.specs.Option.{option_copied}
 use Rattle.std.specs.Borrow.{Bor}
 use Rattle.std.proofs.Common.{Some, None}
-use Rattle.sv_tree.specs.declared.design.Pins.{Pins}
 use Rattle.sv_tree.specs.declared.design.One.{One}
 use Rattle.sv_tree.specs.declared.design.Inst.{Inst}
 use Rattle.sv_hierarchy.specs.Scopes.{State, child_of, flat_pins, here, path_of}

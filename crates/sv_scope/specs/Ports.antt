@@ -1,7 +1,6 @@
 -- The ports of an instance as code holds them.
-use Rattle.std.specs.Prelude.{Bool, List, [], ◌∷◌, Option, Some, None, map}
+use Rattle.std.specs.Prelude.{Bool, List}
 use Rattle.std.specs.List.{All}
-use Rattle.std.specs.Borrow.{Bor}
 use Rattle.sv_tree.specs.declared.design.Port.{Port}
 use Rattle.sv_tree.specs.declared.design.Way.{Way}
 use Rattle.sv_meaning.specs.Faults.{Judged, ◌>>=◌}

@@ -1,4 +1,4 @@
-use Rattle.std.proofs.Common.{◌∙◌, sym, ap, refl}
+use Rattle.std.proofs.Common.{◌∙◌, sym, ap}
 use Rattle.sv_tree.specs.declared.design.Gen.{Gen}
 use Rattle.sv_hierarchy.specs.Scopes.{under}
 use Rattle.sv_scope.proofs.WalkingTrees.{block_head, single_head}

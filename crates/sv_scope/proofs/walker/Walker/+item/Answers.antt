@@ -1,4 +1,4 @@
-use Rattle.std.proofs.Common.{◌≡◌, ◌∙◌, List, Bool, true, false, Option, Some, None, Result, Ok, Err, refl, sym, ap, subst}
+use Rattle.std.proofs.Common.{◌≡◌, ◌∙◌, List, true, false, Option, None, Result, Ok, Err, refl, sym, ap, subst}
 use Rattle.std.specs.Option.{option_copied}
 use Rattle.fourvec.specs.declared.Bit.{Bit}
 use Rattle.sv_outside.specs.declared.refusal.TextErr.{TextErr}
@@ -7,7 +7,6 @@ use Rattle.sv_tree.specs.declared.design.Gen.TheVariants as ge
 use Rattle.sv_tree.specs.declared.design.Item.{Item}
 use Rattle.sv_tree.specs.declared.design.Item.TheVariants as it
 use Rattle.sv_meaning.specs.Deeds.{fixed_truth}
-use Rattle.sv_meaning.specs.Faults.{Judged}
 use Rattle.sv_meaning.specs.Layouts.{Name}
 use Rattle.sv_meaning.specs.Values.{mean}
 use Rattle.sv_loops.specs.Answers.{Answers}
@@ -15,8 +14,8 @@ use Rattle.sv_loops.proofs.Chains.{gives_ok}
 use Rattle.sv_hierarchy.specs.Scopes.{State, Walk, act, add_genvar, add_wire, add_assignment, block_name, block_walk, chosen_branch, conditional, next_construct, seen, turn_walk, under, walk_all, with_form, with_form_or_bit}
 use Rattle.sv_scope.specs.Items.{Begins, BeginsLoop, IsLoop, before_turns, items_walk, opened_turn}
 use Rattle.sv_scope.specs.Looping.{loop_judged}
-use Rattle.sv_scope.specs.Walks.{Walks, state_of}
-use Rattle.sv_scope.proofs.Walking.{Ends, ended, ends, handed, handed_same, handed_walk, same_ends, same_walk, walk_next, walk_none, walk_refused}
+use Rattle.sv_scope.specs.Walks.{state_of}
+use Rattle.sv_scope.proofs.Walking.{Ends, ended, ends, handed, same_ends, same_walk, walk_next, walk_none, walk_refused}
 use Rattle.sv_scope.proofs.WalkingBlocks.{answered, block_ends, block_refused, body_refused, not_opened, turned}
 use Rattle.sv_scope.proofs.WalkingTrees.{always_walk, assign_walk, block_body, block_branch, else_of, for_begun, for_refused, for_unvalued, generate_walk, genvar_walk, if_branch, if_counted, if_is, inst_walk, net_walk, other_branch, param_walk, single_body, single_branch, taken_branch, typedef_walk, variable_walk}
 use Rattle.sv_scope.proofs.walker.Walker.+item.Goals as goal

@@ -1,4 +1,3 @@
-use Rattle.std.proofs.Common.{◌∙◌}
 use Rattle.sv_hierarchy.specs.Scopes.{add_assignment, walk_all}
 use Rattle.sv_scope.specs.Walks.{state_of}
 use Rattle.sv_scope.proofs.Walking.{ended, ends, walk_next, walk_none, walk_refused}

@@ -1,7 +1,7 @@
 use Rattle.std.proofs.Common.{◌∙◌, map, ap, refl}
 use Rattle.sv_const.specs.Kinds.{scope_is}
 use Rattle.sv_hierarchy.specs.Scopes.{fronts_at}
-use Rattle.sv_scope.specs.Levels.{level_is, levels_are}
+use Rattle.sv_scope.specs.Levels.{levels_are}
 use Rattle.sv_scope.specs.Walks.{given_is, state_of}
 use Rattle.sv_scope.proofs.WalkingBlocks.{begun_state}
 use Rattle.sv_scope.proofs.walker.Walker.begin.Goals as goal

@@ -1,4 +1,4 @@
-use Rattle.std.proofs.Common.{◌∙◌, refl}
+use Rattle.std.proofs.Common.{◌∙◌}
 use Rattle.std.specs.Option.{option_copied}
 use Rattle.sv_const.specs.Kinds.{scope_is}
 use Rattle.sv_hierarchy.specs.Scopes.{block_name, block_place, declare_at, inner}

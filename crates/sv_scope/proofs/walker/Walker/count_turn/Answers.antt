@@ -1,6 +1,5 @@
 use Rattle.std.proofs.Common.{◌≡◌, suc, sym}
 use Rattle.sv_meaning.specs.Deeds.{turn_faults}
-use Rattle.sv_hierarchy.specs.Scopes.{State}
 use Rattle.sv_scope.specs.Walks.{state_of}
 use Rattle.sv_scope.proofs.WalkingBlocks.{provided_handed, provided_ok}
 use Rattle.sv_scope.proofs.walker.Walker.count_turn.Goals as goal

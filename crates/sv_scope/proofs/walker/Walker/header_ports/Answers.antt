@@ -1,12 +1,11 @@
-use Rattle.std.proofs.Common.{◌≡◌, ◌∙◌, ◌+◌, ◌∷◌, ◌++◌, [], List, length, drop, map, false, sym, ap, refl, subst}
-use Rattle.std.specs.List.{All}
+use Rattle.std.proofs.Common.{◌≡◌, ◌∙◌, ◌+◌, ◌∷◌, [], drop, map, false, sym, ap, subst}
 use Rattle.std.specs.Global.{Vec}
 use Rattle.std.proofs.lemmas.List.{map-append}
 use Rattle.std.proofs.lemmas.List.Elements.{All-from_recursion, All-push}
 use Rattle.sv_tree.specs.declared.design.Way.TheVariants as way
 use Rattle.sv_const.specs.declared.layout.Layout.{Layout as Coded}
 use Rattle.sv_const.specs.Kinds.{IsSound, layout_is}
-use Rattle.sv_meaning.specs.Layouts.{Layout, scalar}
+use Rattle.sv_meaning.specs.Layouts.{scalar}
 use Rattle.sv_hierarchy.specs.Scopes.{header_ports}
 use Rattle.sv_scope.specs.declared.header.OpenPort.{OpenPort}
 use Rattle.sv_scope.specs.Ports.{PortsAreSound, one_port, port_is}

@@ -1,4 +1,4 @@
-use Rattle.std.proofs.Common.{◌∙◌, ap, refl}
+use Rattle.std.proofs.Common.{◌∙◌, ap}
 use Rattle.sv_const.specs.Names.{names_are}
 use Rattle.sv_hierarchy.specs.Scopes.{seen_at}
 use Rattle.sv_scope.specs.Levels.{levels_are}

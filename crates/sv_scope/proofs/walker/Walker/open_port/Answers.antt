@@ -1,5 +1,4 @@
-use Rattle.std.proofs.Common.{◌∙◌, length, refl, sym, ap}
-use Rattle.std.specs.Option.{option_copied}
+use Rattle.std.proofs.Common.{◌∙◌}
 use Rattle.sv_const.specs.Kinds.{layout_is}
 use Rattle.sv_hierarchy.specs.Scopes.{add_wire}
 use Rattle.sv_scope.specs.Walks.{state_of}
