@@ -5,3 +5,8 @@ pub mod DeclaringParams
 pub mod DeclaringWires
 pub mod LevelsHeld
 pub mod LevelsSeen
+pub mod PortsLists
+pub mod Walking
+pub mod WalkingBlocks
+pub mod WalkingChildren
+pub mod WalkingTrees

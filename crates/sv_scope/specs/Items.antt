@@ -1,5 +1,5 @@
 -- The walks through items, as the program takes them.
-use Rattle.std.specs.Prelude.{◌≡◌, ℕ, List, [], ◌∷◌, Option, Some, None, Result, Ok, Err}
+use Rattle.std.specs.Prelude.{◌≡◌, ℕ, List, [], ◌∷◌, Option, Result, Ok, Err}
 use Rattle.fourvec.specs.declared.Bit.{Bit}
 use Rattle.sv_outside.specs.declared.refusal.Place.{Place}
 use Rattle.sv_outside.specs.declared.refusal.TextErr.{TextErr}
@@ -36,6 +36,11 @@ Begins label p n w o v q (Err e) = Answers (λ (x : m.State) (y : m.State). x �
 -- a turn is counted, and its block is begun
 abbrev pub opened_turn : Place → Name → Name → List Bit → m.State → Judged m.State
 opened_turn p g v bits st = m.count_turn p st >>= λ s. Ok (m.inner (m.turn_name g bits) (index_entry v bits ∷ []) s)
+
+-- the name of a loop with such values is declared, if there are some
+abbrev pub declare_turns : Place → Name → List (List Bit) → m.Walk
+declare_turns p n [] st = Ok st
+declare_turns p n all st = m.declare_at p n st
 
 -- what stands before the turns of a loop with such values
 abbrev pub before_turns : Gen → List (List Bit) → m.Walk

@@ -3,9 +3,11 @@ ghost use Rattle.std.specs.Prelude.{◌≡◌, IfOk};
 ghost use Rattle.std.specs.Option.{option_copied};
 ghost use Rattle.sv_const.specs.Kinds.{scope_is};
 ghost use Rattle.sv_loops.specs.Answers.{Answers};
-ghost use Rattle.sv_hierarchy.specs.Scopes.{inner, under};
-ghost use Rattle.sv_scope.specs.Items.{Begins, BeginsLoop, opened_turn};
-ghost use Rattle.sv_scope.specs.Walks.{state_of};
+ghost use Rattle.sv_hierarchy.specs.Scopes.{count_turn, inner, under};
+ghost use Rattle.sv_scope.specs.Items.{Begins, BeginsLoop, declare_turns, opened_turn};
+ghost use Rattle.sv_scope.specs.declared.walker.Open.{Open as Opened};
+ghost use Rattle.sv_scope.specs.declared.walker.Walker.{Walker as Walking};
+ghost use Rattle.sv_scope.specs.Walks.{Walks, state_of};
 
 use crate::levels::Level;
 use crate::loops::{Turns, index_scope};
@@ -28,9 +30,38 @@ fn head_of(body: &Gen) -> (Option<&Word>, Place)
     }
 }
 
+// The name of a loop is declared where there are turns.
+fn declare_turns(
+    current: &mut Open<'_>,
+    place: Place,
+    name: &[u8],
+    values: &Items<Four>,
+) -> Result<(), TextErr>
+    ensures { (w : Walking) → Walks (declare_turns place name.now values.now) w current.old w current.new result }
+{
+    if values.is_empty() {
+        Ok(())
+    } else {
+        current.declare_at(place, name)
+    }
+}
+
 impl<'a> Walker<'a> {
+    // One turn more, or E20.
+    fn count_turn(&mut self, place: Place) -> Result<(), TextErr>
+        ensures { (o : Opened) → Walks (count_turn place) self.old o self.new o result }
+    {
+        self.tally = self.tally.with_turn(place)?;
+        Ok(())
+    }
+
     // A block of that name in a path is begun, in which these names stand first.
-    fn begin(&mut self, current: &Open<'a>, part: &[u8], nets: Scope) -> Result<Open<'a>, AllocError>
+    fn begin(
+        &mut self,
+        current: &Open<'a>,
+        part: &[u8],
+        nets: Scope,
+    ) -> Result<Open<'a>, AllocError>
         ensures { IfOk result (λ block. state_of self.new block ≡ inner part.now (scope_is nets) (state_of self.old current.now)) }
     {
         let at = self.here(current);
@@ -77,9 +108,7 @@ impl<'a> Walker<'a> {
         current.next_construct()?;
         let (label, start) = head_of(body);
         let name = block_name(self.alloc, label, current.constructs)?;
-        if !values.is_empty() {
-            current.declare_at(block_place(label, start), name.bytes())?;
-        }
+        declare_turns(current, block_place(label, start), name.bytes(), &values)?;
         Ok(Turns { name, values })
     }
 
@@ -94,7 +123,7 @@ impl<'a> Walker<'a> {
     ) -> Result<Open<'a>, TextErr>
         ensures { Answers (λ st block. st ≡ state_of self.new block) (opened_turn place name.now variable.now.text bits (state_of self.old current.now)) result }
     {
-        self.tally = self.tally.with_turn(place)?;
+        self.count_turn(place)?;
         let part = turn_name(self.alloc, name, &bits)?;
         let nets = index_scope(self.alloc, variable, bits)?;
         let block = self.begin(current, part.bytes(), nets)?;

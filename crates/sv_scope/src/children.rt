@@ -44,7 +44,9 @@ impl<'a> Walker<'a> {
     {
         current.declare_at(one.name.place, one.name.text.bytes())?;
         let at = self.here(current);
-        let path = self.levels.path(self.alloc, current.level, one.name.text.bytes())?;
+        let path = self
+            .levels
+            .path(self.alloc, current.level, one.name.text.bytes())?;
         self.children.push(Child {
             at,
             of_module: &inst.of_module,

@@ -1,11 +1,11 @@
 // The ports of a module's header (IEEE 1800-2017, 23.2.2).
-ghost use Rattle.std.specs.Prelude.{◌≡◌, false, map, IfOk};
+ghost use Rattle.std.specs.Prelude.{◌≡◌, false, ◌&&◌, map, IfOk};
 ghost use Rattle.std.specs.Option.{option_copied};
 ghost use Rattle.sv_tree.specs.declared.design.Way.TheVariants as way;
 ghost use Rattle.sv_const.specs.Kinds.{IsSound, layout_is};
 ghost use Rattle.sv_meaning.specs.Layouts as layouts;
 ghost use Rattle.sv_hierarchy.specs.Scopes.{header_ports, is_bare, is_input, or_way, port_form};
-ghost use Rattle.sv_scope.specs.Ports.{PortsAreSound, port_is};
+ghost use Rattle.sv_scope.specs.Ports.{PortsAreSound, one_port, port_is};
 ghost use Rattle.sv_scope.specs.Walks.{Finds};
 
 use crate::declare::scalar;
@@ -33,6 +33,13 @@ fn is_input(way: Way) -> bool
         Way::Output => false,
         Way::Inout => true,
     }
+}
+
+// Whether a port is read from outside; those of instances below the top are not.
+fn is_read(top: bool, way: Way) -> bool
+    ensures { result ≡ (top && is_input way) }
+{
+    if top { is_input(way) } else { false }
 }
 
 // Whether nothing but the name is written.
@@ -63,6 +70,31 @@ impl<'a> Walker<'a> {
         }
     }
 
+    // A port, as a wire of an instance, behind a port of such a direction and layout.
+    fn open_port(
+        &mut self,
+        current: &mut Open<'a>,
+        top: bool,
+        way: Way,
+        before: &Layout,
+        port: &'a Port,
+    ) -> Result<OpenPort<'a>, TextErr>
+        requires { IsSound before.now }
+        ensures is { Finds (λ x one. x ≡ port_is one) (one_port top way (layout_is before.now) port.now) self.old current.old self.new current.new result }
+        ensures sound { IfOk result (λ one. IsSound one.layout) }
+    {
+        let layout = self.port_form(current, port, before)?;
+        let way = port.way.unwrap_or(way);
+        let wire = self.wires.len();
+        self.add_wire(current, is_read(top, way), &layout, &port.name)?;
+        Ok(OpenPort {
+            name: &port.name,
+            way,
+            wire,
+            layout,
+        })
+    }
+
     /// The ports of a module, as the wires of an instance. Those of the top are read from outside where they are no outputs.
     pub(crate) fn header_ports(
         &mut self,
@@ -77,17 +109,10 @@ impl<'a> Walker<'a> {
         let mut way = Way::Input;
         let mut before = scalar();
         'list: for port in list {
-            let layout = self.port_form(current, port, &before)?;
-            way = port.way.unwrap_or(way);
-            let wire = self.wires.len();
-            self.add_wire(current, top && is_input(way), &layout, &port.name)?;
-            before = copy(self.alloc, &layout)?;
-            ports.push(OpenPort {
-                name: &port.name,
-                way,
-                wire,
-                layout,
-            })?;
+            let one = self.open_port(current, top, way, &before, port)?;
+            way = one.way;
+            before = copy(self.alloc, &one.layout)?;
+            ports.push(one)?;
         }
         Ok(ports)
     }

@@ -36,6 +36,17 @@ fn is_genvar(names: &Names<'_>, name: &[u8]) -> bool
     }
 }
 
+// Whether a loop may have this variable: it is declared in the header, or is one of generate loops.
+fn is_loop_variable(names: &Names<'_>, header: bool, variable: &Word) -> bool
+    ensures { result ≡ is_clear (genvar_faults header variable.now (find variable.now.text (names_are names.now))) }
+{
+    if header {
+        true
+    } else {
+        is_genvar(names, variable.text.bytes())
+    }
+}
+
 /// The name of a loop's blocks, and the values of its variable in all turns.
 #[derive(Drop)]
 pub(crate) struct Turns {
@@ -76,10 +87,11 @@ impl<'a> Walker<'a> {
     {
         let at = self.here(current);
         let mut names = self.levels.seen(self.alloc, at)?;
-        if !header && !is_genvar(&names, variable.text.bytes()) {
-            return Err(TextErr::No(refusal(12, variable.place)));
+        if is_loop_variable(&names, header, variable) {
+            turns(self.alloc, place, &mut names, variable, start, test, next)
+        } else {
+            Err(TextErr::No(refusal(12, variable.place)))
         }
-        turns(self.alloc, place, &mut names, variable, start, test, next)
     }
 
     /// Whether the condition of a generate conditional holds (27.5), or why it is refused.

@@ -1,5 +1,5 @@
 // What the ports of an instance are connected to (IEEE 1800-2017, 23.3.2).
-ghost use Rattle.std.specs.Prelude.{◌≡◌, ◌++◌, map, Some, IfOk, IfSome, OnOk, option_map};
+ghost use Rattle.std.specs.Prelude.{◌≡◌, [], ◌∷◌, ◌++◌, map, Some, IfOk, IfSome, OnOk, option_map};
 ghost use Rattle.std.specs.Option.{option_copied};
 ghost use Rattle.sv_const.specs.Kinds.{IsSound};
 ghost use Rattle.sv_modules.specs.Connections.{connection_is, joined_is};
@@ -54,11 +54,26 @@ pub(crate) fn add_port_works<'a>(
     ensures { OnOk result (map work_is works.new.items ≡ map work_is works.old.items ++ m.port_works (front_is at) (map connection_is connections.now) (map port_is ports.now)) }
 {
     'connections: for connection in connections {
-        if let Some(actual) = actual_of(connection) {
-            add_connected(alloc, at, connection.name, actual, ports, works)?;
-        }
+        add_port_work(alloc, at, connection, ports, works)?;
     }
     Ok(())
+}
+
+// The task of a connection, if something is connected and there is such a port.
+fn add_port_work<'a>(
+    alloc: Global,
+    at: Front,
+    connection: &Connection<'a>,
+    ports: &[OpenPort<'a>],
+    works: &mut Vec<Work<'a>>,
+) -> Result<(), AllocError>
+    requires { PortsAreSound ports.now }
+    ensures { OnOk result (map work_is works.new.items ≡ map work_is works.old.items ++ m.connected (front_is at) (m.port_named connection.now.name.now.text (map port_is ports.now)) (joined_is connection.now.name.now connection.now.joined)) }
+{
+    match actual_of(connection) {
+        Some(actual) => add_connected(alloc, at, connection.name, actual, ports, works),
+        None => Ok(()),
+    }
 }
 
 // The task of a port of a name, if there is one.
@@ -96,15 +111,30 @@ pub(crate) fn given_by<'a>(
 {
     let mut given = Vec::new(alloc);
     'connections: for connection in connections {
-        if let Some(value) = actual_of(connection) {
+        add_given(at, connection, &mut given)?;
+    }
+    Ok(given)
+}
+
+// What a connection gives to a parameter, if it gives something.
+fn add_given<'a>(
+    at: Front,
+    connection: &Connection<'a>,
+    given: &mut Vec<Given<'a>>,
+) -> Result<(), AllocError>
+    ensures { OnOk result (map given_is given.new.items ≡ map given_is given.old.items ++ m.given_by (front_is at) (connection_is connection.now ∷ [])) }
+{
+    match actual_of(connection) {
+        Some(value) => {
             given.push(Given {
                 name: connection.name,
                 at,
                 value,
             })?;
+            Ok(())
         }
+        None => Ok(()),
     }
-    Ok(given)
 }
 
 /// The ports of a module's header.

@@ -1,7 +1,8 @@
 // Names that the text does not spell.
-ghost use Rattle.std.specs.Prelude.{◌≡◌, IfOk, IfSome};
+ghost use Rattle.std.specs.Prelude.{◌≡◌, IfErr, IfOk, IfSome};
 ghost use Rattle.std.specs.Option.{option_copied};
 ghost use Rattle.fourvec.specs.Bits.{signed};
+ghost use Rattle.sv_outside.specs.declared.refusal.TextErr.TheVariants.{Memory};
 ghost use Rattle.sv_hierarchy.specs.Scopes.{block_name, block_place, turn_name};
 
 use fourvec::Four;
@@ -54,7 +55,8 @@ fn number_of(bits: &Four) -> Option<i64>
 /// The name of a turn's block, by the value of the loop's variable. That is wholly 0 and 1 and has 32 bits; any other is
 /// answered as want of memory.
 pub(crate) fn turn_name(alloc: Global, block: &[u8], bits: &Four) -> Result<Name, TextErr>
-    ensures { IfOk result (λ name. name ≡ turn_name block.now bits.now) }
+    ensures is { IfOk result (λ name. name ≡ turn_name block.now bits.now) }
+    ensures memory { IfErr result (λ why. why ≡ Memory) }
 {
     let Some(number) = number_of(bits) else {
         return Err(TextErr::Memory);

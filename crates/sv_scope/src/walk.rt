@@ -25,11 +25,18 @@ impl<'a> Walker<'a> {
             Item::Inst(inst) => self.add_children(current, inst),
             Item::Generate(items) => self.items(current, items.as_slice()),
             Item::For(place, header, variable, start, test, next, body) => {
-                let found = self.loop_values(current, *place, *header, variable, start, test, next)?;
+                let found = self.loop_values(
+                    current, *place, *header, variable, start, test, next,
+                )?;
                 let turns = self.begin_loop(current, found, body.get())?;
                 'turns: for bits in turns.values.as_slice() {
-                    let mut block =
-                        self.begin_turn(current, *place, turns.name.bytes(), variable, *bits)?;
+                    let mut block = self.begin_turn(
+                        current,
+                        *place,
+                        turns.name.bytes(),
+                        variable,
+                        *bits,
+                    )?;
                     self.body(&mut block, body.get())?;
                 }
                 Ok(())
