@@ -1,0 +1,261 @@
+-- The file level, the top, and what is made of a walk's end.
+use Rattle.std.proofs.Common.{◌≡◌, ℕ, zero, suc, ◌+◌, ◌-◌, ◌<◌, ◌≤◌, Bool, true, false, List, [], ◌∷◌, ◌++◌, length, map, drop, get_or, Option, Some, None, Result, Ok, Err, refl, sym, ap, ◌∙◌, subst, arith, if◌then◌else◌}
+use Rattle.std.proofs.lemmas.List.{map-append, append-nil}
+use Rattle.std.specs.Option.{option_map, option_copied}
+use Rattle.std.specs.List.{slice_get, range_with_len}
+use Rattle.sv_outside.specs.declared.refusal.Refusal.{Refusal}
+use Rattle.sv_outside.specs.declared.refusal.TextErr.{TextErr}
+use Rattle.sv_outside.specs.declared.refusal.TextErr.TheVariants.{No, Memory}
+use Rattle.sv_tree.specs.declared.design.Module.{Module}
+use Rattle.sv_tree.specs.declared.design.Param.{Param}
+use Rattle.sv_tree.specs.declared.design.Source.{Source}
+use Rattle.sv_tree.specs.declared.design.SourcePart.{SourcePart}
+use Rattle.sv_tree.specs.declared.design.SourcePart.TheVariants as part
+use Rattle.sv_tree.specs.declared.forms.Typedef.{Typedef}
+use Rattle.sv_meaning.specs.Faults.{Faults, Judged, ◌>>=◌, provided, fault_if, twice}
+use Rattle.sv_meaning.specs.Layouts.{Name}
+use Rattle.sv_meaning.specs.Names.{has_name}
+use Rattle.sv_hierarchy.specs.Libraries.{IsLibraryOf, modules_in, repeated}
+use Rattle.sv_hierarchy.specs.Scopes as m
+use Rattle.sv_hierarchy.specs.Scopes.{library, instances_from}
+use Rattle.sv_hierarchy.proofs.Found.{there_is, library_is, library_once}
+use Rattle.sv_loops.specs.Answers.{Answers, Gives}
+use Rattle.sv_modules.specs.Naming.{Adds, Holds, holds}
+use Rattle.sv_modules.specs.Libraries.{modules_once}
+use Rattle.sv_modules.specs.Listed.{modules_of}
+use Rattle.sv_modules.specs.declared.name_set.NameSet.{NameSet}
+use Rattle.sv_modules.specs.declared.numbered.Modules.{Modules}
+use Rattle.sv_modules.proofs.Sets.{holds_more}
+use Rattle.sv_modules.proofs.Turns.{drop_next, drop_none}
+use Rattle.sv_meaning.specs.Params.{Connection}
+use Rattle.sv_scope.specs.Levels.{levels_are}
+use Rattle.sv_scope.specs.Library.{KnowsNumber}
+use Rattle.sv_scope.specs.Scoped.{IsScoped, IsWalked}
+use Rattle.sv_scope.specs.Walks.{state_of, work_is}
+use Rattle.sv_scope.specs.declared.walker.Walker.{Walker}
+use Rattle.sv_scope.specs.declared.walker.Open.{Open}
+use Rattle.sv_scope.specs.declared.whole.DesignScopes.{DesignScopes}
+use Rattle.sv_scope.proofs.Opening.{answers_memory, refused_first, IsAmong, among_unused, among_one, among_named, own_number}
+
+-- ---- the parts of a text
+
+abbrev name_of : m.Known → Name
+name_of k = k.tree.name.text
+
+-- So many parts of a text are read: some library has these names of modules and this many names above each, and what is left leads on from it.
+pub record Filed (parts : List SourcePart) (i : ℕ) (start st : m.State) (names : NameSet) (above : List ℕ) : Type 0 where
+  pub all : m.Library
+  pub names_are : Holds names (map (λ (k : m.Known). k.tree.name.text) all)
+  pub above_are : map (λ (k : m.Known). k.above) all ≡ above
+  pub rest : m.library parts [] start ≡ m.library (drop i parts) all st
+
+pub filed_none : (parts : List SourcePart) (start : m.State) (names : NameSet) (above : List ℕ) → Holds names [] → above ≡ [] → Filed parts 0 start start names above
+filed_none parts start names above h e = record { all = []; names_are = h; above_are = sym e; rest = refl }
+
+known_of : m.Library → m.State → Module → m.Known
+known_of all st t = record { tree = t; number = length all; above = (m.here st).consts }
+
+module_is : (t : Module) (more : List SourcePart) (all : m.Library) (st : m.State) → m.library (part.Module t ∷ more) all st ≡
+    (provided (fault_if (m.is_there (m.module_named t.name.text all)) twice t.name.place) (known_of all st t) >>= λ k. m.library more (all ++ k ∷ []) st)
+unfolding library known_of
+module_is t more all st = refl
+
+typedef_is : (d : Typedef) (more : List SourcePart) (all : m.Library) (st : m.State) → m.library (part.Typedef d ∷ more) all st ≡ (m.add_typedef d st >>= m.library more all)
+unfolding library
+typedef_is d more all st = refl
+
+param_is : (p : Param) (more : List SourcePart) (all : m.Library) (st : m.State) → m.library (part.Param p ∷ more) all st ≡ (m.add_params p st >>= m.library more all)
+unfolding library
+param_is p more all st = refl
+
+library_end : (all : m.Library) (st : m.State) → m.library [] all st ≡ Ok (all, st)
+unfolding library
+library_end all st = refl
+
+unless_there : (b : Bool) (t : Module) (k : m.Known) (f : m.Known → Judged (m.Library × m.State)) → b ≡ false → (provided (fault_if b twice t.name.place) k >>= f) ≡ f k
+unless_there false t k f h = refl
+unless_there true t k f h = cc
+
+if_there : (b : Bool) (t : Module) (k : m.Known) (f : m.Known → Judged (m.Library × m.State)) → b ≡ true → (provided (fault_if b twice t.name.place) k >>= f) ≡ Err (record { number = twice; place = t.name.place; count = 0 } ∷ [])
+if_there true t k f h = refl
+if_there false t k f h = cc
+
+next_part : (parts : List SourcePart) (i : ℕ) (x y : SourcePart) (all : m.Library) (st : m.State) → i < length parts → x ≡ get_or parts i x → x ≡ y → m.library (drop i parts) all st ≡ m.library (y ∷ drop (i + 1) parts) all st
+next_part parts i x y all st h e g = ap (λ (ps : List SourcePart). m.library ps all st) (drop_next parts i x h e ∙ ap (λ (p : SourcePart). p ∷ drop (i + 1) parts) g)
+
+pub filed_module : (parts : List SourcePart) (i : ℕ) (start st : m.State) (names more : NameSet) (above longer : List ℕ) (x : SourcePart) (t : Module) (n : ℕ) → Filed parts i start st names above → i < length parts → x ≡ get_or parts i x →
+    x ≡ part.Module t → holds names t.name.text ≡ false → Adds names (t.name.text ∷ []) more → longer ≡ above ++ n ∷ [] → n ≡ (m.here st).consts → Filed parts (i + 1) start st more longer
+unfolding known_of
+filed_module parts i start st names more above longer x t n f h e g none adds l k = record {
+  all = f.all ++ known_of f.all st t ∷ [];
+  names_are = subst (Holds more) (sym (map-append (λ (y : m.Known). y.tree.name.text) f.all (known_of f.all st t ∷ []))) (holds_more names more (map (λ (y : m.Known). y.tree.name.text) f.all) (t.name.text ∷ []) f.names_are adds);
+  above_are = map-append (λ (y : m.Known). y.above) f.all (known_of f.all st t ∷ []) ∙ ap (λ (ns : List ℕ). ns ++ (m.here st).consts ∷ []) f.above_are ∙ ap (λ (c : ℕ). above ++ c ∷ []) (sym k) ∙ sym l;
+  rest = f.rest ∙ next_part parts i x (part.Module t) f.all st h e g ∙ module_is t (drop (i + 1) parts) f.all st
+      ∙ unless_there (m.is_there (m.module_named t.name.text f.all)) t (known_of f.all st t) (λ y. m.library (drop (i + 1) parts) (f.all ++ y ∷ []) st) (there_is t.name.text f.all ∙ sym (f.names_are t.name.text) ∙ none);
+}
+
+pub filed_twice : {D : Type 0} (s : m.Library × m.State → D → Type 0) (parts : List SourcePart) (i : ℕ) (start st : m.State) (names : NameSet) (above : List ℕ) (x : SourcePart) (t : Module) → Filed parts i start st names above → i < length parts →
+    x ≡ get_or parts i x → x ≡ part.Module t → holds names t.name.text ≡ true → (why : Refusal) → why ≡ record { number = twice; place = t.name.place; count = 0 } → Answers s (m.library parts [] start) (Err (No why))
+filed_twice s parts i start st names above x t f h e g there why k =
+    subst (λ (y : Refusal). Answers s (m.library parts [] start) (Err (No y))) (sym k)
+    (subst (λ (j : Judged (m.Library × m.State)). Answers s j (Err (No (record { number = twice; place = t.name.place; count = 0 }))))
+    (sym (f.rest ∙ next_part parts i x (part.Module t) f.all st h e g ∙ module_is t (drop (i + 1) parts) f.all st
+    ∙ if_there (m.is_there (m.module_named t.name.text f.all)) t (known_of f.all st t) (λ y. m.library (drop (i + 1) parts) (f.all ++ y ∷ []) st) (there_is t.name.text f.all ∙ sym (f.names_are t.name.text) ∙ there)))
+    (0, omega arith, refl))
+
+pub filed_typedef : (parts : List SourcePart) (i : ℕ) (start st next : m.State) (names : NameSet) (above : List ℕ) (x : SourcePart) (d : Typedef) → Filed parts i start st names above → i < length parts → x ≡ get_or parts i x →
+    x ≡ part.Typedef d → m.add_typedef d st ≡ Ok next → Filed parts (i + 1) start next names above
+filed_typedef parts i start st next names above x d f h e g n = record {
+  all = f.all;
+  names_are = f.names_are;
+  above_are = f.above_are;
+  rest = f.rest ∙ next_part parts i x (part.Typedef d) f.all st h e g ∙ typedef_is d (drop (i + 1) parts) f.all st ∙ ap (λ (j : Judged m.State). j >>= m.library (drop (i + 1) parts) f.all) n;
+}
+
+pub filed_param : (parts : List SourcePart) (i : ℕ) (start st next : m.State) (names : NameSet) (above : List ℕ) (x : SourcePart) (p : Param) → Filed parts i start st names above → i < length parts → x ≡ get_or parts i x →
+    x ≡ part.Param p → m.add_params p st ≡ Ok next → Filed parts (i + 1) start next names above
+filed_param parts i start st next names above x p f h e g n = record {
+  all = f.all;
+  names_are = f.names_are;
+  above_are = f.above_are;
+  rest = f.rest ∙ next_part parts i x (part.Param p) f.all st h e g ∙ param_is p (drop (i + 1) parts) f.all st ∙ ap (λ (j : Judged m.State). j >>= m.library (drop (i + 1) parts) f.all) n;
+}
+
+pub no_typedef : {B D : Type 0} (r : m.State → B → Type 0) (s : m.Library × m.State → D → Type 0) (parts : List SourcePart) (i : ℕ) (start st : m.State) (names : NameSet) (above : List ℕ) (x : SourcePart) (d : Typedef) (why : TextErr) →
+    Filed parts i start st names above → i < length parts → x ≡ get_or parts i x → x ≡ part.Typedef d → Answers r (m.add_typedef d st) (Err why) → Answers s (m.library parts [] start) (Err why)
+no_typedef r s parts i start st names above x d why f h e g n =
+    subst (λ (j : Judged (m.Library × m.State)). Answers s j (Err why)) (sym (f.rest ∙ next_part parts i x (part.Typedef d) f.all st h e g ∙ typedef_is d (drop (i + 1) parts) f.all st))
+    (refused_first r s (m.add_typedef d st) (m.library (drop (i + 1) parts) f.all) why n)
+
+pub no_param : {B D : Type 0} (r : m.State → B → Type 0) (s : m.Library × m.State → D → Type 0) (parts : List SourcePart) (i : ℕ) (start st : m.State) (names : NameSet) (above : List ℕ) (x : SourcePart) (p : Param) (why : TextErr) →
+    Filed parts i start st names above → i < length parts → x ≡ get_or parts i x → x ≡ part.Param p → Answers r (m.add_params p st) (Err why) → Answers s (m.library parts [] start) (Err why)
+no_param r s parts i start st names above x p why f h e g n =
+    subst (λ (j : Judged (m.Library × m.State)). Answers s j (Err why)) (sym (f.rest ∙ next_part parts i x (part.Param p) f.all st h e g ∙ param_is p (drop (i + 1) parts) f.all st))
+    (refused_first r s (m.add_params p st) (m.library (drop (i + 1) parts) f.all) why n)
+
+-- the same of values that are equal
+pub filed_as : (parts : List SourcePart) (i : ℕ) (start : m.State) (w v : Walker) (o p : Open) (names more : NameSet) (above longer : List ℕ) → v ≡ w → p ≡ o → more ≡ names → longer ≡ above →
+    Filed parts i start (state_of w o) names above → Filed parts i start (state_of v p) more longer
+filed_as parts i start w v o p names more above longer a b c d f =
+    subst (λ (x : Walker). Filed parts i start (state_of x p) more longer) (sym a)
+    (subst (λ (x : Open). Filed parts i start (state_of w x) more longer) (sym b)
+    (subst (λ (x : NameSet). Filed parts i start (state_of w o) x longer) (sym c)
+    (subst (λ (x : List ℕ). Filed parts i start (state_of w o) names x) (sym d) f)))
+
+pub filed_end : (parts : List SourcePart) (i : ℕ) (start st : m.State) (names : NameSet) (above : List ℕ) (f : Filed parts i start st names above) → length parts ≤ i → m.library parts [] start ≡ Ok (f.all, st)
+filed_end parts i start st names above f h = f.rest ∙ ap (λ (ps : List SourcePart). m.library ps f.all st) (drop_none parts i h) ∙ library_end f.all st
+
+-- ---- the top
+
+top_among : (all : m.Library) (top : Option Name) (k : m.Known) → m.top_module all top ≡ Ok k → IsAmong all k
+top_among all None k h = among_unused (m.all_used all) all k (among_one (m.unused (m.all_used all) all) k h)
+top_among all (Some n) k h = among_named n all k (go (m.module_named n all) h)
+  where
+    go : (o : Option m.Known) → m.top_named o ≡ Ok k → o ≡ Some k
+    go None e = cc
+    go (Some x) e = cc
+
+-- the top is the module of its number
+pub top_at : (modules : List Module) (all : m.Library) (top : Option Name) (n : ℕ) (k : m.Known) → IsLibraryOf modules all → Answers (λ (x : m.Known) (i : ℕ). x.number ≡ i) (m.top_module all top) (Ok n) → slice_get all n ≡ Some k → m.top_module all top ≡ Ok k
+top_at modules all top n k h a e = go (m.top_module all top) refl a
+  where
+    go : (j : Judged m.Known) → m.top_module all top ≡ j → Answers (λ (x : m.Known) (i : ℕ). x.number ≡ i) j (Ok n) → m.top_module all top ≡ Ok k
+    go (Ok x) i b =
+        let own : slice_get all x.number ≡ Some x = own_number modules all x h (top_among all top x i) in
+        let same : Some x ≡ Some k = sym own ∙ ap (λ (l : ℕ). slice_get all l) b ∙ e in
+        i ∙ (let y : x ≡ k = cc in ap Ok y)
+    go (Err all) i b = absurd b
+
+-- ---- instances
+
+pub instances_length : (n : ℕ) (all some : List m.Level) → length (m.instances_from n all some) ≡ length some
+unfolding instances_from
+instances_length n all [] = refl
+instances_length n all (x ∷ some) = ap suc (instances_length (suc n) all some)
+
+pub behind_length : (all : List m.Level) → length (m.behind all) ≡ length all - 1
+behind_length [] = omega arith
+behind_length (x ∷ all) = omega arith
+
+-- ---- from the top down
+
+pub walked_answers : (j : Judged m.State) (v : Walker) (own : Open) (result : Result (Unit {0}) TextErr) → Answers (λ st (u : Unit {0}). st ≡ state_of v own) j result → Answers (λ st (u : Unit {0}). IsWalked st v) j result
+walked_answers (Ok x) v own (Ok u) h = record { levels = ap (λ (st : m.State). st.levels) h; turns = ap (λ (st : m.State). st.turns) h; wires = ap (λ (st : m.State). st.wires) h; works = ap (λ (st : m.State). st.works) h }
+walked_answers (Ok x) v own (Err (No e)) h = absurd h
+walked_answers (Ok x) v own (Err Memory) h = tt
+walked_answers (Err all) v own (Ok u) h = absurd h
+walked_answers (Err all) v own (Err (No e)) h = h
+walked_answers (Err all) v own (Err Memory) h = tt
+
+-- the top is begun, with no name and nothing given
+pub top_begun : (k : m.Known) (st last : m.State) (path : Name) (given : List m.Given) → path ≡ [] → given ≡ [] → last ≡ m.begun k path 0 given st → last ≡ m.begun k [] 0 [] st
+top_begun k st last path given e f h = h ∙ ap (λ (n : Name). m.begun k n 0 given st) e ∙ ap (λ (g : List m.Given). m.begun k [] 0 g st) f
+
+pub top_walk : (all : m.Library) (k : m.Known) (st last : m.State) (at : m.Front) (pins : List Connection) → last ≡ m.begun k [] 0 [] st → at ≡ m.here st → pins ≡ [] →
+    m.from_top all k st ≡ (m.instance_walk true k.tree at pins last >>= m.below (m.child m.deepest all))
+top_walk all k st last at pins e f g =
+    ap (λ (s : m.State). m.instance_walk true k.tree (m.here st) [] s >>= m.below (m.child m.deepest all)) (sym e)
+    ∙ ap (λ (a : m.Front). m.instance_walk true k.tree a [] last >>= m.below (m.child m.deepest all)) (sym f)
+    ∙ ap (λ (p : List Connection). m.instance_walk true k.tree at p last >>= m.below (m.child m.deepest all)) (sym g)
+
+pub top_stopped : {B D : Type 0} (r : m.State → B → Type 0) (s : m.State → D → Type 0) (all : m.Library) (k : m.Known) (st last : m.State) (at : m.Front) (pins : List Connection) (e : TextErr) → last ≡ m.begun k [] 0 [] st → at ≡ m.here st → pins ≡ [] →
+    Answers r (m.instance_walk true k.tree at pins last) (Err e) → Answers s (m.from_top all k st) (Err e)
+top_stopped r s all k st last at pins e b f g h =
+    subst (λ (j : Judged m.State). Answers s j (Err e)) (sym (top_walk all k st last at pins b f g)) (refused_first r s (m.instance_walk true k.tree at pins last) (m.below (m.child m.deepest all)) e h)
+
+pub top_opened : (all : m.Library) (k : m.Known) (st last own : m.State) (at : m.Front) (pins : List Connection) → last ≡ m.begun k [] 0 [] st → at ≡ m.here st → pins ≡ [] →
+    m.instance_walk true k.tree at pins last ≡ Ok own → m.from_top all k st ≡ m.below (m.child m.deepest all) own
+top_opened all k st last own at pins b f g h = top_walk all k st last at pins b f g ∙ ap (λ (j : Judged m.State). j >>= m.below (m.child m.deepest all)) h
+
+pub ok_walked : (j : Judged m.State) (v : Walker) (u : Unit {0}) → Answers (λ st (x : Unit {0}). IsWalked st v) j (Ok u) → Answers (λ st (w : Walker). IsWalked st w) j (Ok v)
+ok_walked (Ok st) v u h = h
+ok_walked (Err all) v u h = absurd h
+
+-- ---- the whole
+
+pub library_found : (j : Judged (m.Library × m.State)) (st : m.State) (above : List ℕ) → Answers (λ (found : m.Library × m.State) (x : List ℕ). (map (λ (k : m.Known). k.above) found.0 ≡ x) × (found.1 ≡ st)) j (Ok above) →
+    (all : m.Library) × (j ≡ Ok (all, st)) × (map (λ (k : m.Known). k.above) all ≡ above)
+library_found (Ok x) st above h = (x.0, ap (λ (s : m.State). Ok (x.0, s)) h.1, h.0)
+library_found (Err why) st above h = absurd h
+
+pub library_at : (parts rows : List SourcePart) (start st : m.State) (above : List ℕ) → rows ≡ parts → start ≡ m.file_state →
+    Answers (λ (found : m.Library × m.State) (x : List ℕ). (map (λ (k : m.Known). k.above) found.0 ≡ x) × (found.1 ≡ st)) (m.library rows [] start) (Ok above) →
+    (all : m.Library) × (m.library parts [] m.file_state ≡ Ok (all, st)) × (map (λ (k : m.Known). k.above) all ≡ above)
+library_at parts rows start st above e f h =
+    let found = library_found (m.library rows [] start) st above h in
+    (found.0, sym (ap (λ (ps : List SourcePart). m.library ps [] start) e ∙ ap (m.library parts []) f) ∙ found.1, found.2)
+
+-- where there is a library, no two modules have one name
+pub modules_refused : {A B D : Type 0} (r : List Module → B → Type 0) (s : A → D → Type 0) (j : Judged A) (parts : List SourcePart) (start st : m.State) (all : m.Library) (e : TextErr) → m.library parts [] start ≡ Ok (all, st) →
+    Answers r (modules_once parts) (Err e) → Answers s j (Err e)
+modules_refused r s j parts start st all e h a = go e (subst (λ (fs : Faults). Answers r (provided fs (modules_in parts)) (Err e)) (library_once parts start st all h) a)
+  where
+    go : (e : TextErr) → Answers r (Ok (modules_in parts)) (Err e) → Answers s j (Err e)
+    go (No why) b = absurd b
+    go Memory b = answers_memory s j
+
+pub modules_are : (parts : List SourcePart) (start st : m.State) (all : m.Library) (modules : Modules) → m.library parts [] start ≡ Ok (all, st) →
+    Answers (λ (x : List Module) (y : Modules). modules_of y ≡ x) (modules_once parts) (Ok modules) → IsLibraryOf (modules_of modules) all
+modules_are parts start st all modules h a =
+    let once : modules_of modules ≡ modules_in parts = subst (λ (fs : Faults). Answers (λ (x : List Module) (y : Modules). modules_of y ≡ x) (provided fs (modules_in parts)) (Ok modules)) (library_once parts start st all h) a in
+    subst (λ (ms : List Module). IsLibraryOf ms all) (sym once) (library_is parts start st all h)
+
+pub known_refused : {A D : Type 0} (s : A → D → Type 0) (j : Judged A) (all : m.Library) (n : ℕ) (e : TextErr) → KnowsNumber all n (Err e) → Answers s j (Err e)
+known_refused s j all n (No why) h = absurd h
+known_refused s j all n Memory h = answers_memory s j
+
+pub top_refused : {B D : Type 0} (r : m.Known → B → Type 0) (s : m.State → D → Type 0) (source : Source) (top : Option Name) (all : m.Library) (st : m.State) (e : TextErr) → m.library source.parts [] m.file_state ≡ Ok (all, st) →
+    Answers r (m.top_module all top) (Err e) → Answers s (m.scopes source top) (Err e)
+top_refused r s source top all st e h a =
+    subst (λ (j : Judged (m.Library × m.State)). Answers s (j >>= λ file. m.top_module file.0 top >>= λ k. m.from_top file.0 k file.1) (Err e)) (sym h) (refused_first r s (m.top_module all top) (λ k. m.from_top all k st) e a)
+
+pub scopes_are : (source : Source) (top : Option Name) (all : m.Library) (st : m.State) (k : m.Known) → m.library source.parts [] m.file_state ≡ Ok (all, st) → m.top_module all top ≡ Ok k → m.scopes source top ≡ m.from_top all k st
+scopes_are source top all st k h e =
+    ap (λ (j : Judged (m.Library × m.State)). j >>= λ file. m.top_module file.0 top >>= λ x. m.from_top file.0 x file.1) h
+    ∙ ap (λ (j : Judged m.Known). j >>= λ x. m.from_top all x st) e
+
+-- what a walk ended in is what is answered
+pub scoped_ok : (j : Judged m.State) (w : Walker) (s : DesignScopes) → Answers (λ st (v : Walker). IsWalked st v) j (Ok w) → levels_are w.levels ≡ levels_are s.levels → w.wires ≡ s.wires → map work_is w.works.items ≡ map work_is s.works.items → w.tally.turns ≡ s.turns →
+    Answers (λ st (x : DesignScopes). IsScoped st x) j (Ok s)
+scoped_ok (Ok st) w s h a b c d = record { levels = h.levels ∙ a; wires = h.wires ∙ b; works = h.works ∙ c; turns = h.turns ∙ d }
+scoped_ok (Err all) w s h a b c d = absurd h

@@ -1,0 +1,13 @@
+use Rattle.std.proofs.Common.{◌∙◌, map, ap, refl}
+use Rattle.sv_const.specs.Kinds.{scope_is}
+use Rattle.sv_hierarchy.specs.Scopes.{fronts_at}
+use Rattle.sv_scope.specs.Levels.{levels_are}
+use Rattle.sv_scope.specs.Walks.{given_is, state_of}
+use Rattle.sv_scope.proofs.WalkingBlocks.{begun_state}
+use Rattle.sv_scope.proofs.walker.Walker.begin.Goals as goal
+
+pub returns : goal.returns
+returns c =
+    begun_state (state_of c.args.self.now c.args.current.now) (state_of (record c.args.self.now { levels = c.push.new.self }) c.new-3.result) c.args.part.now (scope_is c.args.nets) _ c.in_ok-push.ensures
+    c.in_ok-path.ensures c.module-module.ensures refl (c.in_ok-around.ensures ∙ ap (fronts_at (levels_are c.args.self.now.levels)) c.here-at.ensures) refl (ap scope_is c.new.ensures)
+    (c.new-3.ensures.level ∙ c.len-level.ensures) c.new-3.ensures.taken c.new-3.ensures.constructs (c.new-3.ensures.overridden ∙ ap (map given_is) c.new-2.ensures.items) refl refl refl refl refl

@@ -1,0 +1,7 @@
+pub mod Levels
+pub mod Walks
+pub mod Ports
+pub mod Looping
+pub mod Items
+pub mod Library
+pub mod Scoped

@@ -1,0 +1,61 @@
+-- The scopes of a source as code holds them.
+use Rattle.std.specs.Prelude.{◌≡◌, ℕ, List, map, Option, slice_get, Result}
+use Rattle.std.specs.Option.{option_map}
+use Rattle.sv_outside.specs.declared.refusal.TextErr.{TextErr}
+use Rattle.sv_outside.specs.declared.text.Signal.{Signal}
+use Rattle.sv_meaning.specs.Designs.{Design}
+use Rattle.sv_loops.specs.Answers.{Answers}
+use Rattle.sv_hierarchy.specs.Scopes as m
+use Rattle.sv_scope.specs.declared.instances.Library.{Library}
+use Rattle.sv_scope.specs.declared.instances.Known.{Known}
+use Rattle.sv_scope.specs.declared.levels.Instance.{Instance}
+use Rattle.sv_scope.specs.declared.whole.DesignScopes.{DesignScopes}
+use Rattle.sv_scope.specs.declared.walker.Walker.{Walker}
+use Rattle.sv_scope.specs.declared.walker.Open.{Open}
+use Rattle.sv_scope.specs.Levels.{front_is, levels_are}
+use Rattle.sv_scope.specs.Library.{IsLibrary, known_is}
+use Rattle.sv_scope.specs.Walks.{state_of, work_is}
+
+-- ---- what a walk found at its end
+
+pub record IsWalked (st : m.State) (w : Walker) : Type 0 where
+  pub levels : st.levels ≡ levels_are w.levels
+  pub turns : st.turns ≡ w.tally.turns
+  pub wires : st.wires ≡ w.wires
+  pub works : st.works ≡ map work_is w.works.items
+
+abbrev pub FromTop : Library → Known → Walker → Open → Walker → Result Unit TextErr → Type 0
+FromTop library top w file v result =
+    (all : m.Library) → IsLibrary library all → Answers (λ st u. IsWalked st v) (m.from_top all (known_is top) (state_of w file)) result
+
+-- ---- what is answered
+
+abbrev pub levels_of : DesignScopes → List m.Level
+levels_of s = levels_are s.levels
+
+abbrev pub wires_of : DesignScopes → List Signal
+wires_of s = s.wires
+
+abbrev pub works_of : DesignScopes → List m.Standing
+works_of s = map work_is s.works.items
+
+abbrev pub turns_of : DesignScopes → ℕ
+turns_of s = s.turns
+
+-- the scopes, wires and works of a state in which a walk ends
+pub record IsScoped (st : m.State) (s : DesignScopes) : Type 0 where
+  pub levels : st.levels ≡ levels_of s
+  pub wires : st.wires ≡ wires_of s
+  pub works : st.works ≡ works_of s
+  pub turns : st.turns ≡ turns_of s
+
+-- the design that these make
+abbrev pub design_is : DesignScopes → Design
+design_is s = record { wires = wires_of s; works = map (m.work_at (levels_of s)) (works_of s); turns = turns_of s }
+
+abbrev pub instances_of : DesignScopes → List m.Instance
+instances_of s = m.instances_from 1 (levels_of s) (m.behind (levels_of s))
+
+-- an instance or block, with all names that it sees at its end
+abbrev pub instance_is : List m.Level → Instance → m.Instance
+instance_is all i = record { path = i.path.now; module_number = i.module; parent = i.parent; scope = m.live_at all (front_is i.at) }

@@ -1,0 +1,212 @@
+// Parameters (IEEE 1800-2017, 6.20).
+ghost use Rattle.std.specs.Prelude.{◌≡◌, None, Option, MatchOption, bytes_eq, map};
+ghost use Rattle.std.specs.Option.{option_copied};
+ghost use Rattle.sv_tree.specs.declared.design.ParamType.{ParamType as TypeOfParam};
+ghost use Rattle.sv_tree.specs.declared.design.ParamWord.{ParamWord as WordOfParam};
+ghost use Rattle.sv_tree.specs.declared.design.ParamWord.TheVariants as param_word;
+ghost use Rattle.sv_const.specs.Names.{names_are};
+ghost use Rattle.sv_meaning.specs.Params.{name_alone, param_value};
+ghost use Rattle.sv_meaning.specs.Values.{mean};
+ghost use Rattle.sv_types.specs.Values.{JudgesValue};
+ghost use Rattle.sv_hierarchy.specs.Scopes as m;
+ghost use Rattle.sv_hierarchy.specs.Scopes.{add_param, add_param_item, add_params, header_of, header_params, meant, seen, walk_all};
+ghost use Rattle.sv_scope.specs.Walks.{Walks, actual_is, given_is, state_of};
+
+use crate::walker::{Actual, Given, Open, Walker};
+use items::Items;
+use std::alloc::Global;
+use sv_const::{Known, Names, What};
+use sv_outside::TextErr;
+use sv_tree::{Expr, ParPort, Param, ParamItem, ParamType, ParamWord, Word};
+use sv_types::param_value;
+
+// The value of a parameter that an expression gives, or a name that stands for itself.
+fn value_of(
+    alloc: Global,
+    form: Option<&ParamType>,
+    names: &Names<'_>,
+    value: Actual<'_>,
+    value_names: &Names<'_>,
+) -> Result<Known, TextErr>
+    ensures { JudgesValue (param_value (names_are names.now) (option_copied form.entry) (mean (names_are value_names.now) (actual_is value.entry))) result }
+{
+    match value {
+        Actual::Written(expr) => param_value(alloc, form, names, expr, value_names),
+        Actual::Named(word) => value_named(alloc, form, names, word, value_names),
+    }
+}
+
+// The value that a name gives which stands for itself.
+fn value_named(
+    alloc: Global,
+    form: Option<&ParamType>,
+    names: &Names<'_>,
+    word: &Word,
+    value_names: &Names<'_>,
+) -> Result<Known, TextErr>
+    ensures { JudgesValue (param_value (names_are names.now) (option_copied form.entry) (mean (names_are value_names.now) (name_alone word.now))) result }
+{
+    let text = word.text.copy()?;
+    let place = word.place;
+    let expr = Expr::Name(Word { text, place }, Items::new(alloc));
+    param_value(alloc, form, names, &expr, value_names)
+}
+
+// What is given to a parameter, or else its own expression. A `localparam` is given nothing.
+fn given_to<'a>(given: &[Given<'a>], word: ParamWord, own: Given<'a>) -> Given<'a>
+    ensures { given_is result ≡ m.given_or (given_is own.entry).name (m.overriding word (map given_is given.now)) (given_is own.entry) }
+{
+    match word {
+        ParamWord::Parameter => given_or(given, own),
+        ParamWord::Localparam => own,
+    }
+}
+
+// Whether an expression is given to a name.
+fn is_given(given: Given<'_>, name: &Word) -> bool
+    ensures { result ≡ bytes_eq (given_is given.entry).name name.now.text }
+{
+    given.name.text.bytes() == name.text.bytes()
+}
+
+// The first that is given to the name, or else another.
+fn given_or<'a>(given: &[Given<'a>], other: Given<'a>) -> Given<'a>
+    ensures { given_is result ≡ m.given_or (given_is other.entry).name (map given_is given.now) (given_is other.entry) }
+{
+    'given: for one in given {
+        if is_given(*one, other.name) {
+            return *one;
+        }
+    }
+    other
+}
+
+// The type of an entry of a module's list. With neither a word nor a type it is that of the entry before.
+fn form_of<'a>(port: &'a ParPort, before: Option<&'a ParamType>) -> Option<&'a ParamType>
+    ensures { (w : WordOfParam) → option_copied result ≡ (header_of (w, option_copied before.entry) port.now).1 }
+{
+    match &port.form {
+        Some(form) => Some(form),
+        None => form_by_word(port.word, before),
+    }
+}
+
+// The type of an entry without one.
+fn form_by_word<'a>(word: Option<ParamWord>, before: Option<&'a ParamType>) -> Option<&'a ParamType>
+    ensures { MatchOption word (option_copied result ≡ option_copied before.entry) (λ w. option_copied result ≡ None) }
+{
+    match word {
+        Some(_) => None,
+        None => before,
+    }
+}
+
+// The word of an entry of a module's list, or else that of the entry before.
+fn word_of(port: &ParPort, before: ParamWord) -> ParamWord
+    ensures { (t : Option TypeOfParam) → result ≡ (header_of (before, t) port.now).0 }
+{
+    match port.word {
+        Some(word) => word,
+        None => before,
+    }
+}
+
+impl<'a> Walker<'a> {
+    // The value of a parameter by what is declared above it.
+    fn value_here(
+        &self,
+        current: &Open<'a>,
+        word: ParamWord,
+        form: Option<&ParamType>,
+        name: &'a Word,
+        value: &'a Expr,
+    ) -> Result<Known, TextErr>
+        ensures { JudgesValue (param_value (seen (state_of self.now current.now)) (option_copied form.entry) (meant (state_of self.now current.now).levels (m.given_to word name.now value.now (state_of self.now current.now)))) result }
+    {
+        let at = self.here(current);
+        let own = Given {
+            name,
+            at,
+            value: Actual::Written(value),
+        };
+        let given = given_to(&current.overridden, word, own);
+        let names = self.levels.seen(self.alloc, at)?;
+        let value_names = self.levels.seen(self.alloc, given.at)?;
+        value_of(self.alloc, form, &names, given.value, &value_names)
+    }
+
+    // A parameter.
+    fn add_param(
+        &mut self,
+        current: &mut Open<'a>,
+        word: ParamWord,
+        form: Option<&ParamType>,
+        name: &'a Word,
+        value: &'a Expr,
+    ) -> Result<(), TextErr>
+        ensures { Walks (add_param word (option_copied form.entry) name.now value.now) self.old current.old self.new current.new result }
+    {
+        let known = self.value_here(current, word, form, name, value)?;
+        let text = name.text.copy()?;
+        self.add_constant(current, name.place, text, What::Number(known))
+    }
+
+    // One parameter of a declaration.
+    fn add_param_item(
+        &mut self,
+        current: &mut Open<'a>,
+        tree: &'a Param,
+        item: &'a ParamItem,
+    ) -> Result<(), TextErr>
+        ensures { Walks (add_param_item tree.now item.now) self.old current.old self.new current.new result }
+    {
+        let form = tree.form.as_ref();
+        self.add_param(current, tree.word, form, &item.name, &item.value)
+    }
+
+    // Some parameters of a declaration.
+    fn add_param_list(
+        &mut self,
+        current: &mut Open<'a>,
+        tree: &'a Param,
+        list: &'a [ParamItem],
+    ) -> Result<(), TextErr>
+        ensures { Walks (walk_all (add_param_item tree.now) list.now) self.old current.old self.new current.new result }
+    {
+        'list: for item in list {
+            self.add_param_item(current, tree, item)?;
+        }
+        Ok(())
+    }
+
+    /// The parameters of a declaration.
+    pub(crate) fn add_params(
+        &mut self,
+        current: &mut Open<'a>,
+        tree: &'a Param,
+    ) -> Result<(), TextErr>
+        ensures { Walks (add_params tree.now) self.old current.old self.new current.new result }
+    {
+        self.add_param_list(current, tree, tree.list.as_slice())
+    }
+
+    /// The parameters of a module's list. An entry takes over what it leaves out from the one before it.
+    pub(crate) fn header_params(
+        &mut self,
+        current: &mut Open<'a>,
+        list: &'a [ParPort],
+    ) -> Result<(), TextErr>
+        ensures { Walks (header_params (param_word.Parameter, None) list.now) self.old current.old self.new current.new result }
+    {
+        let mut word = ParamWord::Parameter;
+        let mut form: Option<&'a ParamType> = None;
+        'list: for port in list {
+            let next = form_of(port, form);
+            let named = word_of(port, word);
+            self.add_param(current, named, next, &port.name, &port.value)?;
+            form = next;
+            word = named;
+        }
+        Ok(())
+    }
+}

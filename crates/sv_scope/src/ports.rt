@@ -1,0 +1,159 @@
+// What the ports of an instance are connected to (IEEE 1800-2017, 23.3.2).
+ghost use Rattle.std.specs.Prelude.{◌≡◌, [], ◌∷◌, ◌++◌, map, Some, IfOk, IfSome, OnOk, option_map};
+ghost use Rattle.std.specs.Option.{option_copied};
+ghost use Rattle.sv_const.specs.Kinds.{IsSound};
+ghost use Rattle.sv_modules.specs.Connections.{connection_is, joined_is};
+ghost use Rattle.sv_modules.specs.Naming.{texts_of};
+ghost use Rattle.sv_hierarchy.specs.Scopes as m;
+ghost use Rattle.sv_scope.specs.Levels.{front_is};
+ghost use Rattle.sv_scope.specs.Ports.{PortsAreSound, port_is};
+ghost use Rattle.sv_scope.specs.Walks.{actual_is, given_is, work_is};
+
+use crate::header::OpenPort;
+use crate::levels::Front;
+use crate::walker::{Actual, Given, Task, Work};
+use std::alloc::{AllocError, Global};
+use sv_modules::{Connection, Joined};
+use sv_tree::{Module, Port, Word};
+use sv_types::copy;
+
+// What stands behind a name, where it is not left current.
+fn actual_of<'a>(connection: &Connection<'a>) -> Option<Actual<'a>>
+    ensures { option_map actual_is result ≡ joined_is connection.now.name.now connection.now.joined }
+{
+    match connection.joined {
+        Joined::Same => Some(Actual::Named(connection.name)),
+        Joined::Open => None,
+        Joined::Given(expr) => Some(Actual::Written(expr)),
+    }
+}
+
+// The first port of a name.
+fn port_named<'p, 'a>(name: &[u8], ports: &'p [OpenPort<'a>]) -> Option<&'p OpenPort<'a>>
+    requires { PortsAreSound ports.now }
+    ensures is { option_map port_is (option_copied result) ≡ m.port_named name.now (map port_is ports.now) }
+    ensures sound { IfSome result (λ port. IsSound port.now.layout) }
+{
+    'ports: for port in ports {
+        if port.name.text.bytes() == name {
+            return Some(port);
+        }
+    }
+    None
+}
+
+/// One task more for each port that is connected, in the order of the connections.
+pub(crate) fn add_port_works<'a>(
+    alloc: Global,
+    at: Front,
+    connections: &[Connection<'a>],
+    ports: &[OpenPort<'a>],
+    works: &mut Vec<Work<'a>>,
+) -> Result<(), AllocError>
+    requires { PortsAreSound ports.now }
+    ensures { OnOk result (map work_is works.new.items ≡ map work_is works.old.items ++ m.port_works (front_is at) (map connection_is connections.now) (map port_is ports.now)) }
+{
+    'connections: for connection in connections {
+        add_port_work(alloc, at, connection, ports, works)?;
+    }
+    Ok(())
+}
+
+// The task of a connection, if something is connected and there is such a port.
+fn add_port_work<'a>(
+    alloc: Global,
+    at: Front,
+    connection: &Connection<'a>,
+    ports: &[OpenPort<'a>],
+    works: &mut Vec<Work<'a>>,
+) -> Result<(), AllocError>
+    requires { PortsAreSound ports.now }
+    ensures { OnOk result (map work_is works.new.items ≡ map work_is works.old.items ++ m.connected (front_is at) (m.port_named connection.now.name.now.text (map port_is ports.now)) (joined_is connection.now.name.now connection.now.joined)) }
+{
+    match actual_of(connection) {
+        Some(actual) => add_connected(alloc, at, connection.name, actual, ports, works),
+        None => Ok(()),
+    }
+}
+
+// The task of a port of a name, if there is one.
+fn add_connected<'a>(
+    alloc: Global,
+    at: Front,
+    name: &Word,
+    actual: Actual<'a>,
+    ports: &[OpenPort<'a>],
+    works: &mut Vec<Work<'a>>,
+) -> Result<(), AllocError>
+    requires { PortsAreSound ports.now }
+    ensures { OnOk result (map work_is works.new.items ≡ map work_is works.old.items ++ m.connected (front_is at) (m.port_named name.now.text (map port_is ports.now)) (Some (actual_is actual.entry))) }
+{
+    if let Some(port) = port_named(name.text.bytes(), ports) {
+        let layout = copy(alloc, &port.layout)?;
+        let task = Task::Connecting {
+            way: port.way,
+            wire: port.wire,
+            layout,
+            actual,
+        };
+        works.push(Work { at, task })?;
+    }
+    Ok(())
+}
+
+/// What is given to the parameters of an instance.
+pub(crate) fn given_by<'a>(
+    alloc: Global,
+    at: Front,
+    connections: &[Connection<'a>],
+) -> Result<Vec<Given<'a>>, AllocError>
+    ensures { IfOk result (λ given. map given_is given.items ≡ m.given_by (front_is at) (map connection_is connections.now)) }
+{
+    let mut given = Vec::new(alloc);
+    'connections: for connection in connections {
+        add_given(at, connection, &mut given)?;
+    }
+    Ok(given)
+}
+
+// What a connection gives to a parameter, if it gives something.
+fn add_given<'a>(
+    at: Front,
+    connection: &Connection<'a>,
+    given: &mut Vec<Given<'a>>,
+) -> Result<(), AllocError>
+    ensures { OnOk result (map given_is given.new.items ≡ map given_is given.old.items ++ m.given_by (front_is at) (connection_is connection.now ∷ [])) }
+{
+    match actual_of(connection) {
+        Some(value) => {
+            given.push(Given {
+                name: connection.name,
+                at,
+                value,
+            })?;
+            Ok(())
+        }
+        None => Ok(()),
+    }
+}
+
+/// The ports of a module's header.
+pub(crate) fn ports_of(tree: &Module) -> &[Port]
+    ensures { result.now ≡ m.ports_of tree.now }
+{
+    match &tree.ports {
+        Some(ports) => ports.as_slice(),
+        None => &[],
+    }
+}
+
+/// The names of ports.
+pub(crate) fn port_names<'a>(alloc: Global, ports: &'a [Port]) -> Result<Vec<&'a Word>, AllocError>
+    ensures { IfOk result (λ words. texts_of words.items ≡ m.port_texts ports.now) }
+{
+    let mut words = Vec::new(alloc);
+    'ports: for port in ports {
+        words.push(&port.name)?;
+    }
+    Ok(words)
+}

@@ -1,0 +1,139 @@
+// The scopes of a source.
+ghost use Rattle.std.specs.Prelude.{◌≡◌, [], length, map, slice_get, IfOk, option_map};
+ghost use Rattle.std.specs.Option.{option_copied};
+ghost use Rattle.sv_loops.specs.Answers.{Answers};
+ghost use Rattle.sv_const.specs.Names.{names_are, loops_of};
+ghost use Rattle.sv_hierarchy.specs.Scopes as m;
+ghost use Rattle.sv_scope.specs.Levels.{front_is};
+ghost use Rattle.sv_scope.specs.Scoped.{FromTop, IsScoped, IsWalked, instance_is, instances_of, levels_of, turns_of, wires_of, works_of};
+ghost use Rattle.sv_scope.specs.Walks.{work_is};
+
+use crate::instances::{Known, Library};
+use crate::levels::{Front, Instance, Levels};
+use crate::walker::{Open, Walker, Work};
+use items::Items;
+use std::alloc::{AllocError, Global};
+use sv_const::Names;
+use sv_modules::{Modules, top_of};
+use sv_outside::{Name, Signal, TextErr};
+use sv_tree::Source;
+
+/// How many levels instances nest below the top.
+const DEEPEST: usize = 32;
+
+/// The instances and generate blocks of a design, its wires by number, and what contributes to them or joins them.
+#[derive(Drop)]
+pub struct DesignScopes<'a> {
+    levels: Levels,
+    wires: Items<Signal>,
+    works: Vec<Work<'a>>,
+    turns: u64,
+}
+
+// The top with all that is below it.
+fn from_top<'a>(
+    walker: &mut Walker<'a>,
+    file: &Open<'a>,
+    library: &Library<'a>,
+    top: Known<'a>,
+) -> Result<(), TextErr>
+    ensures { FromTop library.now top.entry walker.old file.now walker.new result }
+{
+    let path = Name::new(walker.alloc, b"")?;
+    let none = Vec::new(walker.alloc);
+    let at = walker.here(file);
+    let given = Vec::new(walker.alloc);
+    let mut own = walker.begin_instance(top, path, 0, given)?;
+    walker.instance(&mut own, true, top.tree, at, &none)?;
+    walker.below(&own, library, DEEPEST)
+}
+
+// All that a source has.
+fn walked<'a>(alloc: Global, source: &'a Source, top: Option<&Name>) -> Result<Walker<'a>, TextErr>
+    ensures { Answers (λ st walker. IsWalked st walker) (m.scopes source.now (option_copied top.entry)) result }
+{
+    let mut walker = Walker::new(alloc);
+    let mut file = walker.begin_file()?;
+    let above = walker.file_level(&mut file, source.parts.as_slice())?;
+    let modules = Modules::new(alloc, source)?;
+    let library = Library { modules, above };
+    let number = top_of(alloc, &library.modules, top)?;
+    let known = library.known(number)?;
+    from_top(&mut walker, &file, &library, known)?;
+    Ok(walker)
+}
+
+/// The scopes of a source with a top: the module of a given name or, where none is given, the one module that no module
+/// instantiates. Each instance comes before its generate blocks, these in text order, and before its child instances, each whole;
+/// wires are numbered so: the ports of an instance, its declarations in text order with generate blocks in their place, and then
+/// its children. Refused are E10 to E18 and E20 to E23, and literals (E2).
+///
+/// The time is linear in the design that is laid out, but for the depth of nested blocks.
+pub fn scopes<'a>(
+    alloc: Global,
+    source: &'a Source,
+    top: Option<&Name>,
+) -> Result<DesignScopes<'a>, TextErr>
+    ensures { Answers (λ st scopes. IsScoped st scopes) (m.scopes source.now (option_copied top.entry)) result }
+{
+    let walker = walked(alloc, source, top)?;
+    let Walker {
+        levels,
+        tally,
+        wires,
+        works,
+        ..
+    } = walker;
+    Ok(DesignScopes {
+        levels,
+        wires,
+        works,
+        turns: tally.turns,
+    })
+}
+
+impl<'a> DesignScopes<'a> {
+    /// The wires by number.
+    pub fn wires(&self) -> &[Signal]
+        ensures { result.now ≡ wires_of self.now }
+    {
+        self.wires.as_slice()
+    }
+
+    /// What contributes or joins, in order.
+    pub fn works(&self) -> &[Work<'a>]
+        ensures { map work_is result.now ≡ works_of self.now }
+    {
+        &self.works
+    }
+
+    /// The turns of all generate loops.
+    pub fn turns(&self) -> u64
+        ensures { result ≡ turns_of self.now }
+    {
+        self.turns
+    }
+
+    /// The names that the task at a place sees: all nets and variables of the scopes around it, and the constants and types that are
+    /// declared above it (23.9).
+    pub fn names(&self, alloc: Global, at: Front) -> Result<Names<'_>, AllocError>
+        ensures names { IfOk result (λ names. names_are names ≡ m.live_at (levels_of self.now) (front_is at)) }
+        ensures loops { IfOk result (λ names. loops_of names ≡ []) }
+    {
+        self.levels.live(alloc, at)
+    }
+
+    /// How many instances and generate blocks there are.
+    pub fn len(&self) -> usize
+        ensures { result ≡ length (instances_of self.now) }
+    {
+        self.levels.len().saturating_sub(1)
+    }
+
+    /// The instance or generate block of a number: its path, its module and the one around it, each by number.
+    pub fn instance(&self, number: usize) -> Option<Instance<'_>>
+        ensures { option_map (instance_is (levels_of self.now)) result ≡ slice_get (instances_of self.now) number }
+    {
+        self.levels.instance(number)
+    }
+}
