@@ -18,10 +18,10 @@ pub record Does (all : List Action) (d : Deed) : Type 0 where
   pub fits : All Fits all
 
 -- Nothing stands against the statements, where so many turns of loops were made before.
-pub record IsActed (d : Deed) (made : ℕ) (x : Acted) : Type 0 where
+pub record IsActed (d : Deed) (before : ℕ) (x : Acted) : Type 0 where
   pub clear : d.faults ≡ []
-  pub turned : d.overrun made ≡ []
-  pub made : x.made ≡ made + d.turns
+  pub turned : d.overrun before ≡ []
+  pub made : x.made ≡ before + d.turns
   pub does : Does x.actions d
 
 abbrev pub JudgesDeed : Deed → ℕ → Result Acted TextErr → Type 0

@@ -3,8 +3,12 @@
 #![tactic(auto)]
 
 mod action;
+mod arms;
+mod labels;
 mod marks;
+mod rules;
 mod statements;
+mod turns;
 
 pub use action::{Action, Arm, Case};
 pub use marks::judge_marks;
