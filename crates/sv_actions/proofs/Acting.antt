@@ -164,7 +164,7 @@ bits_same : (m : Meaning) (v : Typed) (read : Read) (w : ℕ) → Stands v m →
 unfolding Stands
 bits_same m v read w h = ap (λ (x : Meaning). assigned x read w) h.is
 
-names_stand : (m : Meaning) (v : Typed) (n : NamedSignal) → Stands v m → Contains (names_of v) n → Contains m.names n
+pub names_stand : (m : Meaning) (v : Typed) (n : NamedSignal) → Stands v m → Contains (names_of v) n → Contains m.names n
 unfolding Stands
 names_stand m v n h q = h.names n q
 
@@ -187,7 +187,7 @@ assign_names judge to m xs v h k n q = contains_both (names_of v) (target_names 
 
 assign_fits : (judge : Meaning → Faults) (to : List Target) (xs : List TypedTarget) (v : Typed) → AllZip (StandsFor judge) xs to → IsSound v → 1 ≤ width_of_all xs → width_of_all xs ≤ 128 → Fits (act.Assign xs v)
 unfolding Fits
-assign_fits judge to xs v h s some most = (s, (All-from_recursion TargetFits xs (targets_fit judge xs to h), (some, most)))
+assign_fits judge to xs v h s some most = (s, All-from_recursion TargetFits xs (targets_fit judge xs to h), some, most)
 
 pub acted_assign : (to : List Target) (why : Faults) (m : Meaning) (xs : List TypedTarget) (v : Typed) (made : ℕ) (z : Acted) → AreTargets free_faults why to xs → IsTyped m (m.faults false) v → 1 ≤ width_of_all xs → width_of_all xs ≤ 128 →
     z.actions ≡ act.Assign xs v ∷ [] → z.made ≡ made → IsActed (assign to why m) made z
@@ -225,7 +225,7 @@ choose_names c a b v xs ys s h k n q =
 
 choose_fits : (a b : Deed) (v : Typed) (xs ys : List Action) → IsSound v → Does xs a → Does ys b → Fits (act.Choose v xs ys)
 unfolding Fits shape-the_row-Action-0 hidden-the_row-Action-0 shape-the_row-Arm-1 hidden-the_row-Arm-1 denote.Hole.Carrier.hidden
-choose_fits a b v xs ys s h k = (s, (row_fits xs h.fits, row_fits ys k.fits))
+choose_fits a b v xs ys s h k = (s, row_fits xs h.fits, row_fits ys k.fits)
 
 pub acted_choose : (c : Meaning) (a b : Deed) (v : Typed) (made : ℕ) (x y z : Acted) → IsTyped c (c.faults false) v → IsActed a made x → IsActed b x.made y → z.actions ≡ act.Choose v x.actions y.actions ∷ [] → z.made ≡ y.made →
     IsActed (if_else c a b) made z

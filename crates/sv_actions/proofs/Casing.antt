@@ -258,7 +258,7 @@ labels_named (l ∷ ls) (m ∷ ms) k n q = contains_both (names_of l) (names_tog
 -- names of the arms are those of labels or of bodies
 arms_named : (xs : List Arm) (arms : List CaseArm) → AllZip IsArm xs arms → (n : NamedSignal) → Contains (names_arms (hidden-the_row-Arm-1 xs)) n → Contains (all_names (labels_of arms) ++ (bodies arms).names) n
 unfolding names labels_of in_order shape-the_row-Action-0 hidden-the_row-Action-0 shape-the_row-Arm-1 hidden-the_row-Arm-1 denote.Hole.Carrier.hidden
-arms_named [] [] k n q = contains_left [] [] n q
+arms_named [] [] k n (i, h, e) = absurd (omega arith)
 arms_named [] (a ∷ arms) k n q = absurd k
 arms_named (y ∷ xs) [] k n q = absurd k
 arms_named (y ∷ xs) (a ∷ arms) k n q =
@@ -332,7 +332,7 @@ match_names c x xs ys arms other h k d n q =
 
 match_fits : (c : Case) (xs : List Arm) (ys : List Action) (arms : List CaseArm) (other : Deed) → CaseFits c → AllZip IsArm xs arms → longest (labels_of arms) ≤ c.width → Does ys other → Fits (act.Match c xs ys)
 unfolding Fits shape-the_row-Action-0 hidden-the_row-Action-0 shape-the_row-Arm-1 hidden-the_row-Arm-1 denote.Hole.Carrier.hidden
-match_fits c xs ys arms other f k w d = (f, (arms_fit c xs arms k w, row_fits ys d.fits))
+match_fits c xs ys arms other f k w d = (f, arms_fit c xs arms k w, row_fits ys d.fits)
 
 -- labels have 128 bits at most
 labels_most : (ls : List Typed) (ms : List Meaning) → AllZip Stands ls ms → AllByRecursion IsSound ls → longest ms ≤ 128

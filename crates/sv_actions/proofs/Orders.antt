@@ -54,13 +54,16 @@ after_idle a = λ i. record {
   overrun = λ made. or_none (a.overrun made) i;
 }
 
+none_first : (n : ℕ) → 0 + n ≡ n
+none_first n = omega arith
+
 pub idle_after : (a : Deed) → after idle a ≡ a
 idle_after a = λ i. record {
   run = λ look store. a.run look store;
   targets = a.targets;
   names = a.names;
   faults = a.faults;
-  turns = a.turns;
+  turns = none_first a.turns i;
   overrun = λ made. a.overrun (no_more made i);
 }
 

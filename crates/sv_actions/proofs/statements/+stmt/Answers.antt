@@ -1,4 +1,4 @@
-use Rattle.std.proofs.Common.{◌+◌, ◌++◌, map, take, refl, sym, ◌∙◌, subst, arith}
+use Rattle.std.proofs.Common.{◌+◌, ◌++◌, map, take, refl, ◌∙◌, subst, arith, Ok}
 use Rattle.std.proofs.lemmas.Result.{err_from_is_err_and}
 use Rattle.sv_tree.specs.declared.stmts.Stmt.{Stmt}
 use Rattle.sv_meaning.specs.Layouts.{Scope}
@@ -20,46 +20,75 @@ use Rattle.sv_actions.proofs.statements.+stmt.Goals as goal
 -- ---- statements
 
 pub typed_stmt-returns-in-Empty-clause-is : goal.typed_stmt-returns-in-Empty-clause-is
-typed_stmt-returns-in-Empty-clause-is t c = ?
+typed_stmt-returns-in-Empty-clause-is t c = done_empty (names_are c.args.names.now) c.args.stmt.now c.args.made (Ok c.nothing.result) c.in-Empty.is c.nothing.ensures
 
 pub typed_stmt-returns-in-Block-clause-is : goal.typed_stmt-returns-in-Block-clause-is
-typed_stmt-returns-in-Block-clause-is t c = ?
+typed_stmt-returns-in-Block-clause-is t c =
+    done_block (names_are c.args.names.now) c.args.stmt.now c.in-Block.field-0 c.in-Block.field-1 c.in-Block.all c.as_slice.result.now c.in-Block.field-3 c.args.made c.typed_all.result c.in-Block.is c.as_slice.ensures c.typed_all.ensures.is
 
 pub typed_stmt-returns-in-If-clause-is : goal.typed_stmt-returns-in-If-clause-is
-typed_stmt-returns-in-If-clause-is t c = ?
+typed_stmt-returns-in-If-clause-is t c =
+    let at = names_are c.args.names.now in
+    done_if at c.args.stmt.now c.in-If.field-0 c.in-If.condition c.in-If.body c.get.result.now c.in-If.other c.args.made c.chosen.result c.in-If.is c.get.ensures
+    (c.chosen.ensures (mean at c.in-If.condition) (deed c.get.result.now at) (else_deed at c.in-If.other) c.args.made c.typed-condition.ensures c.typed_stmt-first.ensures.is
+    (at_names (λ (s : Scope). else_deed s c.in-If.other) c.args.names.now c.typed_stmt-first.new.names c.made_behind.result (made_behind c.typed_stmt-first.result) c.typed_else-second.result
+    c.typed_stmt-first.ensures.frames c.typed_stmt-first.ensures.loops c.made_behind.ensures c.typed_else-second.ensures.is))
 
 pub typed_stmt-returns-in-If-clause-frames : goal.typed_stmt-returns-in-If-clause-frames
-typed_stmt-returns-in-If-clause-frames t c = ?
+typed_stmt-returns-in-If-clause-frames t c = c.typed_else-second.ensures.frames ∙ c.typed_stmt-first.ensures.frames
 
 pub typed_stmt-returns-in-If-clause-loops : goal.typed_stmt-returns-in-If-clause-loops
-typed_stmt-returns-in-If-clause-loops t c = ?
+typed_stmt-returns-in-If-clause-loops t c = c.typed_else-second.ensures.loops ∙ c.typed_stmt-first.ensures.loops
 
 pub typed_stmt-returns-in-Case-clause-is : goal.typed_stmt-returns-in-Case-clause-is
-typed_stmt-returns-in-Case-clause-is t c = ?
+typed_stmt-returns-in-Case-clause-is t c =
+    let at = names_are c.args.names.now in
+    let one = c.as_slice-in-Case.result.now in
+    let two = c.as_slice-in-Case-2.result.now in
+    done_case at c.args.stmt.now c.in-Case.field-0 c.in-Case.word c.in-Case.value c.in-Case.all one two c.is_masked.result c.args.made c.matched.result c.in-Case.is c.as_slice-in-Case.ensures c.as_slice-in-Case-2.ensures c.is_masked.ensures
+    (c.matched.ensures (mean at c.in-Case.value) (all_arms at one) (rest_of at two) c.args.made c.typed-value.ensures c.typed_arms-arms.ensures.is
+    (at_names (λ (s : Scope). rest_of s two) c.args.names.now c.typed_arms-arms.new.names c.arms_behind.result (arms_behind c.typed_arms-arms.result) c.typed_rest-rest.result
+    c.typed_arms-arms.ensures.frames c.typed_arms-arms.ensures.loops c.arms_behind.ensures c.typed_rest-rest.ensures.is))
 
 pub typed_stmt-returns-in-Case-clause-frames : goal.typed_stmt-returns-in-Case-clause-frames
-typed_stmt-returns-in-Case-clause-frames t c = ?
+typed_stmt-returns-in-Case-clause-frames t c = c.typed_rest-rest.ensures.frames ∙ c.typed_arms-arms.ensures.frames
 
 pub typed_stmt-returns-in-Case-clause-loops : goal.typed_stmt-returns-in-Case-clause-loops
-typed_stmt-returns-in-Case-clause-loops t c = ?
+typed_stmt-returns-in-Case-clause-loops t c = c.typed_rest-rest.ensures.loops ∙ c.typed_arms-arms.ensures.loops
 
 pub typed_stmt-returns-in-Ok-clause-is : goal.typed_stmt-returns-in-Ok-clause-is
-typed_stmt-returns-in-Ok-clause-is t c = ?
+typed_stmt-returns-in-Ok-clause-is t c =
+    let at = names_are c.args.names.now in
+    let v = c.in-For.variable in
+    let given = c.get-in-Ok.result.now in
+    let slice = c.as_slice-in-Ok.result.now in
+    done_for at c.args.stmt.now c.in-For.place c.in-For.field-1 v c.in-For.start c.in-For.test c.in-For.next c.in-For.body given c.in-Ok.values slice c.args.made c.typed_turns.result c.in-For.is c.get-in-Ok.ensures c.as_slice-in-Ok.ensures
+    (subst (Gives (turns c.in-For.place at v.text c.in-For.start c.in-For.test c.in-For.next)) c.in-Ok.is c.turns.ensures.is)
+    (at_names (λ (s : Scope). in_order (turn_deed s c.in-For.place v.text given) slice) c.args.names.now c.turns.new.names c.args.made c.args.made c.typed_turns.result
+    c.turns.ensures.frames (loops_kept c.args.names.now c.turns.new.names c.turns.ensures.names c.turns.ensures.frames) refl c.typed_turns.ensures.is)
 
 pub typed_stmt-returns-in-Ok-clause-frames : goal.typed_stmt-returns-in-Ok-clause-frames
-typed_stmt-returns-in-Ok-clause-frames t c = ?
+typed_stmt-returns-in-Ok-clause-frames t c = c.typed_turns.ensures.frames ∙ c.turns.ensures.frames
 
 pub typed_stmt-returns-in-Ok-clause-loops : goal.typed_stmt-returns-in-Ok-clause-loops
-typed_stmt-returns-in-Ok-clause-loops t c = ?
+typed_stmt-returns-in-Ok-clause-loops t c = c.typed_turns.ensures.loops ∙ loops_kept c.args.names.now c.turns.new.names c.turns.ensures.names c.turns.ensures.frames
 
 pub typed_stmt-returns-in-Err-clause-is : goal.typed_stmt-returns-in-Err-clause-is
-typed_stmt-returns-in-Err-clause-is t c = ?
+typed_stmt-returns-in-Err-clause-is t c =
+    let at = names_are c.args.names.now in
+    let v = c.in-For.variable in
+    for_refused at c.args.stmt.now c.in-For.place c.in-For.field-1 v c.in-For.start c.in-For.test c.in-For.next c.in-For.body c.args.made c.in-Err.why c.in-For.is
+    (subst (Gives (turns c.in-For.place at v.text c.in-For.start c.in-For.test c.in-For.next)) c.in-Err.is c.turns.ensures.is)
 
 pub typed_stmt-returns-in-Err-clause-loops : goal.typed_stmt-returns-in-Err-clause-loops
-typed_stmt-returns-in-Err-clause-loops t c = ?
+typed_stmt-returns-in-Err-clause-loops t c = loops_kept c.args.names.now c.turns.new.names c.turns.ensures.names c.turns.ensures.frames
 
 pub typed_stmt-returns-in-Assign-clause-is : goal.typed_stmt-returns-in-Assign-clause-is
-typed_stmt-returns-in-Assign-clause-is t c = ?
+typed_stmt-returns-in-Assign-clause-is t c =
+    let at = names_are c.args.names.now in
+    let to = c.in-Assign.target in
+    done_assign at c.args.stmt.now to c.in-Assign.field-1 c.in-Assign.field-2 c.in-Assign.value c.args.made c.assigned.result c.in-Assign.is
+    (c.assigned.ensures (targets at to) (lvalue_faults free_faults at to) (mean at c.in-Assign.value) c.typed_targets.ensures.is c.typed_targets.ensures.narrow (targets_some free_faults at to c.typed_targets.result c.typed_targets.ensures.is) c.typed.ensures)
 
 -- ---- lists of statements
 
@@ -178,7 +207,12 @@ pub typed_rest-returns-in-Default-clause-loops : goal.typed_rest-returns-in-Defa
 typed_rest-returns-in-Default-clause-loops t c = c.typed_stmt.ensures.loops ∙ c.arms.invariant.loops
 
 pub typed_rest-arms-preserved : goal.typed_rest-arms-preserved
-typed_rest-arms-preserved t c = ?
+typed_rest-arms-preserved t c =
+    record {
+      frames = c.arms.invariant.frames;
+      loops = c.arms.invariant.loops;
+      rest = rest_passed (names_are c.args.names.now) c.args.all.now c.arms.arm-index c.arm-item.result c.in-Labels.field-0 c.in-Labels.field-1 c.arms-test.true c.arm-item.is c.in-Labels.is c.arms.invariant.rest;
+    }
 
 pub typed_rest-returns-clause-is : goal.typed_rest-returns-clause-is
 typed_rest-returns-clause-is t c = rest_absent (names_are c.args.names.now) c.args.all.now c.arms.arm-index c.args.made c.nothing.result (omega arith) c.arms.invariant.rest c.nothing.ensures
