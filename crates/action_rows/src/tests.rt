@@ -52,7 +52,8 @@ none | a.x = 1; => E23 2
 none | case (a) 1: y = 1; b: y = 2; endcase => E12 20";
 
 // A kind of block, a statement, and behind `=>` that each of its marks is right, or the number of the refusal and its column.
-static MARKS: &str = "comb | begin a = 1; if (a) y = 2; else case (a) 1: y = 3; default: y = 4; endcase end => right
+static MARKS: &str =
+    "comb | begin a = 1; if (a) y = 2; else case (a) 1: y = 3; default: y = 4; endcase end => right
 clocked | begin a <= 1; if (a) y <= 2; else case (a) 1: y <= 3; default: y <= 4; endcase end => right
 comb | a <= 1; => E24 3
 clocked | a = 1; => E24 3
@@ -72,7 +73,13 @@ fn bit() -> Layout
 }
 
 // [left:right]
-fn range(alloc: Global, width: u8, signed: bool, left: i64, right: i64) -> Result<Layout, AllocError>
+fn range(
+    alloc: Global,
+    width: u8,
+    signed: bool,
+    left: i64,
+    right: i64,
+) -> Result<Layout, AllocError>
     requires some { 1 ≤ width }
     requires most { width ≤ 128 }
     requires left { IsTrue (is_bound left) }

@@ -1,5 +1,5 @@
 -- Actions do what statements do: none, one after the other, an assignment, and one of two.
-use Rattle.std.proofs.Common.{◌≡◌, ℕ, ◌+◌, ◌≤◌, max, true, false, List, [], ◌∷◌, ◌++◌, take, drop, refl, sym, ap, ◌∙◌, subst, append_assoc, arith, Result, Ok, Err}
+use Rattle.std.proofs.Common.{◌≡◌, ℕ, ◌+◌, ◌≤◌, false, List, [], ◌∷◌, ◌++◌, take, drop, refl, sym, ap, ◌∙◌, subst, append_assoc, arith, Result, Ok, Err}
 use Rattle.std.proofs.lemmas.List.{append-nil}
 use Rattle.std.specs.Result.{IfOk, IfErr}
 use Rattle.std.specs.List.{Contains, All, AllZip, AllByRecursion}
@@ -9,23 +9,21 @@ use Rattle.sv_outside.specs.declared.refusal.TextErr.{TextErr}
 use Rattle.sv_outside.specs.declared.refusal.TextErr.TheVariants.{Memory}
 use Rattle.settling.specs.Settling.{Store}
 use Rattle.sv_meaning.specs.Faults.{Faults, or_then}
-use Rattle.sv_meaning.specs.Layouts.{width, Read, NamedSignal}
+use Rattle.sv_meaning.specs.Layouts.{Read, NamedSignal}
 use Rattle.sv_meaning.specs.Meanings.{Meaning, free_faults, assigned, truth, all_indices, bits_from}
 use Rattle.sv_meaning.specs.Targets.{Target, widths, present, put, write, write_all, with_wire, bits_named}
 use Rattle.sv_meaning.specs.Deeds as deeds
 use Rattle.sv_meaning.specs.Deeds.{Deed, idle, after, either, assign, if_else, merged}
 use Rattle.sv_typed.specs.declared.tree.Typed.{Typed}
-use Rattle.sv_typed.specs.Typed.{Stands, IsSound, worth, own, names_of, names_picked}
+use Rattle.sv_typed.specs.Typed.{Stands, IsSound, names_of, names_picked}
 use Rattle.sv_const.specs.Judging.{IsTyped, IsCause}
-use Rattle.sv_const.specs.Picks.{picked_put}
 use Rattle.sv_const.proofs.Lists.{contains_both, both_clear, then_clear, in_left, in_right}
 use Rattle.sv_const.proofs.Judged.{cause_from}
 use Rattle.sv_targets.specs.declared.targets.TypedTarget.{TypedTarget}
-use Rattle.sv_targets.specs.Slots.{slots_of}
 use Rattle.sv_targets.specs.Targets.{StandsFor, AreTargets, width_of_all}
 use Rattle.sv_targets.proofs.Targeting.{widths_are}
 use Rattle.sv_targets.proofs.Slotting.{slots_are}
-use Rattle.sv_actions.specs.declared.action.Action.{Action, Row_of-Action, end_of-Action, more_of-Action}
+use Rattle.sv_actions.specs.declared.action.Action.{Action}
 use Rattle.sv_actions.specs.declared.action.Action.TheVariants as act
 use Rattle.sv_actions.specs.declared.action.Action.TheBlock.{shape-the_row-Action-0, hidden-the_row-Action-0, shape-the_row-Arm-1, hidden-the_row-Arm-1}
 use Rattle.sv_actions.specs.declared.statements.Acted.{Acted}

@@ -13,7 +13,7 @@ use Rattle.sv_tree.specs.declared.exprs.Expr.{Expr}
 use Rattle.sv_meaning.specs.Layouts.{Scope, Read, NamedSignal}
 use Rattle.sv_meaning.specs.Meanings.{Meaning, free_faults}
 use Rattle.sv_meaning.specs.Values.{mean}
-use Rattle.sv_meaning.specs.Deeds.{Deed, CaseArm, idle, after, together, either, merged, same_value, matches, case_chain, case_of, needing_all, labels_of, longest, all_signed, all_faults, all_names}
+use Rattle.sv_meaning.specs.Deeds.{Deed, CaseArm, after, together, either, merged, same_value, matches, case_chain, case_of, needing_all, labels_of, longest, all_signed, all_faults, all_names}
 use Rattle.sv_typed.specs.declared.tree.Typed.{Typed}
 use Rattle.sv_typed.specs.Typed.{Stands, IsSound, worth, literal_of, names_of, names_together}
 use Rattle.sv_typed.proofs.Sound.{most_bits}
@@ -28,7 +28,7 @@ use Rattle.sv_actions.specs.declared.action.Case.{Case}
 use Rattle.sv_actions.specs.declared.statements.Acted.{Acted}
 use Rattle.sv_actions.specs.declared.labels.Labels.{Labels}
 use Rattle.sv_actions.specs.declared.arms.ActedArms.{ActedArms}
-use Rattle.sv_actions.specs.Doing.{label_matches, run, run_arms, run_row, run_all, writes, writes_arms, writes_row, writes_all, names, names_arms, names_row, names_all, LabelFits, CaseFits, Fits, FitsArms, FitsRow}
+use Rattle.sv_actions.specs.Doing.{label_matches, run, run_arms, run_row, writes, writes_arms, writes_row, names, names_arms, names_row, LabelFits, CaseFits, Fits, FitsArms}
 use Rattle.sv_actions.specs.Typing.{Does, IsActed}
 use Rattle.sv_actions.specs.Listing.{in_order, bodies, AreLabels, JudgesLabels, IsArm, AreArms, arms_faults}
 use Rattle.sv_actions.proofs.Orders.{after_assoc, idle_after, order_more, take_next, stands, joint, joint_in, joint_second, behind_more}

@@ -1,5 +1,5 @@
 -- The marks of statements as code lists them.
-use Rattle.std.proofs.Common.{◌≡◌, ℕ, ◌+◌, ◌<◌, ◌≤◌, suc, Bool, List, [], ◌∷◌, ◌++◌, length, take, get_or, Option, Some, None, Result, Ok, Err, refl, sym, ap, ◌∙◌, subst, arith, append_assoc}
+use Rattle.std.proofs.Common.{◌≡◌, ℕ, ◌+◌, ◌<◌, ◌≤◌, suc, Bool, List, [], ◌∷◌, ◌++◌, length, take, get_or, Option, Some, None, Result, refl, sym, ap, ◌∙◌, subst, arith, append_assoc}
 use Rattle.std.proofs.lemmas.List.{append-nil, take_all}
 use Rattle.std.proofs.Math.Seq.{take-suc}
 use Rattle.sv_outside.specs.declared.refusal.Place.{Place}
@@ -18,7 +18,7 @@ use Rattle.sv_tree.specs.declared.stmts.Arm.TheBlock.{shape-the_row-Stmt-0, hidd
 use Rattle.sv_tree.specs.declared.stmts.Arm.{Arm, Labels', Default'}
 use Rattle.sv_tree.specs.declared.stmts.Arm.TheVariants as ar
 use Rattle.sv_meaning.specs.Faults.{Faults}
-use Rattle.sv_meaning.specs.Blocks.{marks, marks_else, marks_of, marks_arms, mark_faults}
+use Rattle.sv_meaning.specs.Blocks.{marks, marks_of, marks_arms, mark_faults}
 use Rattle.sv_actions.specs.Listing.{JudgesFaults, else_marks, arm_marks, faults_in}
 
 faults_as : (f g : Faults) (r : Result Unit TextErr) → f ≡ g → JudgesFaults g r → JudgesFaults f r

@@ -1,5 +1,5 @@
 -- What actions do to a store. Sections are those of IEEE 1800-2017.
-use Rattle.std.specs.Prelude.{◌≡◌, ℕ, ◌≤◌, max, List, [], ◌∷◌, ◌++◌, take, drop, Option}
+use Rattle.std.specs.Prelude.{ℕ, ◌≤◌, max, List, [], ◌∷◌, ◌++◌, take, drop}
 use Rattle.std.specs.List.{All}
 use mathlib.Core.Former.{Count}
 use Rattle.fourvec.specs.declared.Bit.{Bit}
@@ -18,7 +18,6 @@ use Rattle.sv_targets.specs.declared.targets.TypedTarget.{TypedTarget}
 use Rattle.sv_targets.specs.Slots.{slots_of}
 use Rattle.sv_targets.specs.Targets.{width_of_all}
 use Rattle.sv_actions.specs.declared.action.Case.{Case}
-use Rattle.sv_actions.specs.declared.action.Arm.{Arm}
 use Rattle.sv_actions.specs.declared.action.Action.{Action, Assign, Choose', Match', Row_of-Action, end_of-Action, more_of-Action, Row_of-Arm, end_of-Arm, more_of-Arm}
 
 -- ---- values

@@ -1,4 +1,4 @@
-use Rattle.std.proofs.Common.{◌+◌, ◌++◌, map, take, refl, ◌∙◌, subst, arith, Ok}
+use Rattle.std.proofs.Common.{◌+◌, map, take, refl, ◌∙◌, subst, arith, Ok}
 use Rattle.std.proofs.lemmas.Result.{err_from_is_err_and}
 use Rattle.sv_tree.specs.declared.stmts.Stmt.{Stmt}
 use Rattle.sv_meaning.specs.Layouts.{Scope}
@@ -11,7 +11,7 @@ use Rattle.sv_loops.specs.Answers.{Gives}
 use Rattle.sv_loops.specs.Steps.{index_is}
 use Rattle.sv_loops.proofs.Frames.{entered}
 use Rattle.sv_actions.specs.Typing.{JudgesDeed}
-use Rattle.sv_actions.specs.Listing.{in_order, all_deeds, else_deed, turn_deed, arm_of, all_arms, rest_of, made_behind, arms_behind}
+use Rattle.sv_actions.specs.Listing.{in_order, else_deed, turn_deed, all_arms, rest_of, made_behind, arms_behind}
 use Rattle.sv_actions.proofs.Orders.{order_cause}
 use Rattle.sv_actions.proofs.Acting.{acted_ok, acted_err}
 use Rattle.sv_actions.proofs.Producing.{at_names, arms_at, loops_kept, done_empty, done_block, done_if, done_case, done_for, for_refused, done_assign, done_labels, done_default, arms_begin, arms_next, arms_end, arms_cause, rest_passed, rest_found, rest_absent, order_begin, order_goes, order_ends, arms_ok, arms_err, turn_made, turn_refused, targets_some}
