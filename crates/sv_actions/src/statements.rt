@@ -20,7 +20,7 @@ use sv_outside::{Place, TextErr};
 use sv_targets::typed_targets;
 use sv_tree::{Arm, CaseWord, Stmt, Word};
 
-/// Actions, and how many turns of loops were made when they begin anew.
+/// Actions, and how many turns of loops were made up to their end.
 #[derive(Drop)]
 pub struct Acted {
     pub actions: Items<Action>,
