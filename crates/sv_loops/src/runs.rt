@@ -21,7 +21,7 @@ const MOST_TURNS: usize = 4096;
 
 // Enters the loop, whose variable has these bits. Where memory is out, nothing changes.
 fn enter(names: &mut Names<'_>, variable: &Word, bits: Four) -> Result<(), TextErr>
-    ensures frames { OnOk result (frames_of names.new ≡ frames_of names.old) }
+    ensures frames { frames_of names.new ≡ frames_of names.old }
     ensures loops { OnOk result (loops_of names.new ≡ loops_of names.old ++ index_is variable.now.text bits ∷ []) }
     ensures err { OnErr result (entries_of names.new ≡ entries_of names.old) }
     ensures memory { IfErr result (λ why. why ≡ Memory) }
@@ -56,6 +56,7 @@ fn holds_at(
 ) -> Result<bool, TextErr>
     ensures is { Gives (holds_at (names_are names.old) variable.now.text test.now bits) result }
     ensures names { entries_of names.new ≡ entries_of names.old }
+    ensures frames { frames_of names.new ≡ frames_of names.old }
 {
     enter(names, variable, bits)?;
     let taken = condition(alloc, test, names);
@@ -74,6 +75,7 @@ fn following(
     requires { length bits ≡ 32 }
     ensures is { Gives (next_value (with_index (names_are names.old) variable.now.text bits) bits next.now) result }
     ensures names { entries_of names.new ≡ entries_of names.old }
+    ensures frames { frames_of names.new ≡ frames_of names.old }
     ensures width { IfOk result (λ value. length value ≡ 32) }
 {
     enter(names, variable, bits)?;
@@ -95,6 +97,7 @@ fn turns_from(
     requires { length first ≡ 32 }
     ensures is { Gives (turns_from most_turns place (names_are names.old) variable.now.text test.now next.now first) result }
     ensures names { entries_of names.new ≡ entries_of names.old }
+    ensures frames { frames_of names.new ≡ frames_of names.old }
 {
     let mut values = Items::new(alloc);
     let mut bits = first;
@@ -125,6 +128,7 @@ pub fn turns(
 ) -> Result<Items<Four>, TextErr>
     ensures is { Gives (turns place (names_are names.old) variable.now.text start.now test.now next.now) result }
     ensures names { entries_of names.new ≡ entries_of names.old }
+    ensures frames { frames_of names.new ≡ frames_of names.old }
 {
     let first = index_value(alloc, start, names)?;
     turns_from(alloc, place, names, variable, first, test, next)

@@ -7,4 +7,4 @@ use Rattle.sv_loops.proofs.runs.following.Goals as goal
 pub returns-clause-is : goal.returns-clause-is
 returns-clause-is c =
     subst (λ at. Gives (next_value at c.args.bits c.args.next.now) c.next_value-value.result)
-    (entered c.args.names.now c.enter.new.names c.args.variable.now.text c.args.bits c.in_ok-enter.ensures.frames c.in_ok-enter.ensures.loops) c.next_value-value.ensures.is
+    (entered c.args.names.now c.enter.new.names c.args.variable.now.text c.args.bits c.enter.ensures.frames c.in_ok-enter.ensures.loops) c.next_value-value.ensures.is

@@ -15,6 +15,7 @@ turns-init c = record {
   wide = c.requires;
   most = omega (arith, ap length c.new-values.ensures);
   names = c.in_ok-taken.ensures.names;
+  frames = c.in_ok-taken.ensures.frames;
   rest = turns_begin c.args.place (names_are c.args.names.now) c.args.variable.now.text c.args.test.now c.args.next.now c.args.first c.in_ok-taken.taken c.in_ok-taken.ensures.is
       ∙ ap (λ vs. behind vs (if_taken c.in_ok-taken.taken (4096 - length vs) c.args.place (names_are c.args.names.now) c.args.variable.now.text c.args.test.now c.args.next.now c.args.first)) (sym c.new-values.ensures);
 }
@@ -71,6 +72,7 @@ turns-preserved c =
       wide = c.in_ok-value.ensures.width;
       most = omega (arith, e, c.len.ensures, c.if-len-eq-MOST_TURNS.false, c.turns.invariant.most);
       names = c.holds_at-in-turns.ensures.names ∙ c.following.ensures.names ∙ c.turns.invariant.names;
+      frames = c.holds_at-in-turns.ensures.frames ∙ c.following.ensures.frames ∙ c.turns.invariant.frames;
       rest = turn_more (turns_from most_turns c.args.place (names_are c.args.names.now) c.args.variable.now.text c.args.test.now c.args.next.now c.args.first) c.turns.values (4096 - length c.turns.values) (4096 - length c.push.new.self) c.args.place (names_are c.args.names.now) c.args.variable.now.text c.args.test.now c.args.next.now c.turns.bits c.in_ok-value.value c.in_ok-taken-2.taken
           (omega (arith, e, c.len.ensures, c.if-len-eq-MOST_TURNS.false, c.turns.invariant.most)) (is_taken (turns_from most_turns c.args.place (names_are c.args.names.now) c.args.variable.now.text c.args.test.now c.args.next.now c.args.first) c.turns.values c.turns.taken (4096 - length c.turns.values) c.args.place (names_are c.args.names.now) c.args.variable.now.text c.args.test.now c.args.next.now c.turns.bits c.turns-test.true c.turns.invariant.rest)
           (subst (λ (a : Scope). Gives (next_value (with_index a c.args.variable.now.text c.turns.bits) c.turns.bits c.args.next.now) (Ok c.in_ok-value.value)) (same_names c.turns.names c.args.names.now c.turns.invariant.names) c.in_ok-value.ensures.is)
@@ -83,3 +85,18 @@ returns-clause-is c = all_taken (turns_from most_turns c.args.place (names_are c
 
 pub returns-clause-names : goal.returns-clause-names
 returns-clause-names c = c.turns.invariant.names
+
+pub returns-then-len-eq-MOST_TURNS-clause-frames : goal.returns-then-len-eq-MOST_TURNS-clause-frames
+returns-then-len-eq-MOST_TURNS-clause-frames c = c.turns.invariant.frames
+
+pub returns-in_err-push-clause-frames : goal.returns-in_err-push-clause-frames
+returns-in_err-push-clause-frames c = c.turns.invariant.frames
+
+pub returns-in_err-value-clause-frames : goal.returns-in_err-value-clause-frames
+returns-in_err-value-clause-frames c = c.following.ensures.frames ∙ c.turns.invariant.frames
+
+pub returns-in_err-taken-2-clause-frames : goal.returns-in_err-taken-2-clause-frames
+returns-in_err-taken-2-clause-frames c = c.holds_at-in-turns.ensures.frames ∙ c.following.ensures.frames ∙ c.turns.invariant.frames
+
+pub returns-clause-frames : goal.returns-clause-frames
+returns-clause-frames c = c.turns.invariant.frames

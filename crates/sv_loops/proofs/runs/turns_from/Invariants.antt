@@ -1,6 +1,6 @@
 use Rattle.std.proofs.Common.{◌≡◌, ◌≤◌, ◌-◌, length}
 use Rattle.sv_meaning.specs.Deeds.{turns_from, most_turns}
-use Rattle.sv_const.specs.Names.{names_are, entries_of}
+use Rattle.sv_const.specs.Names.{names_are, entries_of, frames_of}
 use Rattle.sv_loops.proofs.Chains.{behind, if_taken}
 use Rattle.sv_loops.proofs.runs.turns_from.Given as goal
 
@@ -9,6 +9,7 @@ invariant-turns l = record {
   wide : length l.bits ≡ 32;
   most : length l.values ≤ 4096;
   names : entries_of l.names ≡ entries_of l.fn.names;
+  frames : frames_of l.names ≡ frames_of l.fn.names;
   rest : turns_from most_turns l.place (names_are l.fn.names) l.variable.text l.test l.next l.fn.first ≡ behind l.values (if_taken l.taken (4096 - length l.values) l.place (names_are l.fn.names) l.variable.text l.test l.next l.bits);
 }
 

@@ -1,0 +1,5 @@
+pub mod Marking
+pub mod Orders
+pub mod Acting
+pub mod Casing
+pub mod Producing

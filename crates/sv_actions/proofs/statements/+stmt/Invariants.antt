@@ -1,0 +1,33 @@
+use Rattle.std.proofs.Common.{◌≡◌, take, drop}
+use Rattle.sv_const.specs.Names.{names_are, frames_of, loops_of}
+use Rattle.sv_actions.specs.Typing.{IsActed}
+use Rattle.sv_actions.specs.Listing.{AreArms, in_order, all_deeds, turn_deed, all_arms, rest_of}
+use Rattle.sv_actions.proofs.statements.+stmt.Given as goal
+
+abbrev pub invariant-typed_all-parts : goal.invariant-typed_all-parts
+invariant-typed_all-parts l = record {
+  frames : frames_of l.names ≡ frames_of l.fn.names;
+  loops : loops_of l.names ≡ loops_of l.fn.names;
+  done : IsActed (all_deeds (names_are l.fn.names) (take l.part-index l.all)) l.made l.found;
+}
+
+abbrev pub invariant-typed_arms-arms : goal.invariant-typed_arms-arms
+invariant-typed_arms-arms l = record {
+  frames : frames_of l.names ≡ frames_of l.fn.names;
+  loops : loops_of l.names ≡ loops_of l.fn.names;
+  done : AreArms (all_arms (names_are l.fn.names) (take l.arm-index l.all)) l.made l.found;
+}
+
+abbrev pub invariant-typed_rest-arms : goal.invariant-typed_rest-arms
+invariant-typed_rest-arms l = record {
+  frames : frames_of l.names ≡ frames_of l.fn.names;
+  loops : loops_of l.names ≡ loops_of l.fn.names;
+  rest : rest_of (names_are l.fn.names) l.all ≡ rest_of (names_are l.fn.names) (drop l.arm-index l.all);
+}
+
+abbrev pub invariant-typed_turns-turns : goal.invariant-typed_turns-turns
+invariant-typed_turns-turns l = record {
+  frames : frames_of l.names ≡ frames_of l.fn.names;
+  loops : loops_of l.names ≡ loops_of l.fn.names;
+  done : IsActed (in_order (turn_deed (names_are l.fn.names) l.place l.variable.text l.body) (take l.bits-index l.values)) l.made l.found;
+}
