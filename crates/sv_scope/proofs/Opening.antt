@@ -5,8 +5,6 @@ use Rattle.std.specs.Option.{option_map, option_copied}
 use Rattle.std.specs.Result.{IsErrAnd}
 use Rattle.std.specs.List.{slice_get, range_with_len}
 use Rattle.std.proofs.lemmas.Option.{slice_get-map, slice_get_read}
-use Rattle.std.proofs.Math.Numerals.{add-one}
-use Rattle.sv_outside.specs.declared.refusal.Place.{Place}
 use Rattle.sv_outside.specs.declared.refusal.Refusal.{Refusal}
 use Rattle.sv_outside.specs.declared.refusal.TextErr.{TextErr}
 use Rattle.sv_outside.specs.declared.refusal.TextErr.TheVariants.{No, Memory}
@@ -25,8 +23,7 @@ use Rattle.sv_meaning.specs.Params.{Connection, connections}
 use Rattle.sv_hierarchy.specs.Libraries.{IsLibraryOf}
 use Rattle.sv_hierarchy.specs.Scopes as m
 use Rattle.sv_hierarchy.specs.Scopes.{unused, module_named, walk_all, child}
-use Rattle.sv_loops.specs.Answers.{Answers, Gives}
-use Rattle.sv_loops.proofs.Chains.{gives_memory, answers_err}
+use Rattle.sv_loops.specs.Answers.{Answers}
 use Rattle.sv_modules.specs.Connections.{connection_is}
 use Rattle.sv_modules.specs.Naming.{holds}
 use Rattle.sv_modules.specs.declared.connect.Connection.{Connection as Coded}

@@ -1,8 +1,7 @@
 -- The file level, the top, and what is made of a walk's end.
-use Rattle.std.proofs.Common.{◌≡◌, ℕ, zero, suc, ◌+◌, ◌-◌, ◌<◌, ◌≤◌, Bool, true, false, List, [], ◌∷◌, ◌++◌, length, map, drop, get_or, Option, Some, None, Result, Ok, Err, refl, sym, ap, ◌∙◌, subst, arith, if◌then◌else◌}
-use Rattle.std.proofs.lemmas.List.{map-append, append-nil}
-use Rattle.std.specs.Option.{option_map, option_copied}
-use Rattle.std.specs.List.{slice_get, range_with_len}
+use Rattle.std.proofs.Common.{◌≡◌, ℕ, suc, ◌+◌, ◌-◌, ◌<◌, ◌≤◌, Bool, true, false, List, [], ◌∷◌, ◌++◌, length, map, drop, get_or, Option, Some, None, Result, Ok, Err, refl, sym, ap, ◌∙◌, subst, arith}
+use Rattle.std.proofs.lemmas.List.{map-append}
+use Rattle.std.specs.List.{slice_get}
 use Rattle.sv_outside.specs.declared.refusal.Refusal.{Refusal}
 use Rattle.sv_outside.specs.declared.refusal.TextErr.{TextErr}
 use Rattle.sv_outside.specs.declared.refusal.TextErr.TheVariants.{No, Memory}
@@ -14,12 +13,11 @@ use Rattle.sv_tree.specs.declared.design.SourcePart.TheVariants as part
 use Rattle.sv_tree.specs.declared.forms.Typedef.{Typedef}
 use Rattle.sv_meaning.specs.Faults.{Faults, Judged, ◌>>=◌, provided, fault_if, twice}
 use Rattle.sv_meaning.specs.Layouts.{Name}
-use Rattle.sv_meaning.specs.Names.{has_name}
-use Rattle.sv_hierarchy.specs.Libraries.{IsLibraryOf, modules_in, repeated}
+use Rattle.sv_hierarchy.specs.Libraries.{IsLibraryOf, modules_in}
 use Rattle.sv_hierarchy.specs.Scopes as m
 use Rattle.sv_hierarchy.specs.Scopes.{library, instances_from}
 use Rattle.sv_hierarchy.proofs.Found.{there_is, library_is, library_once}
-use Rattle.sv_loops.specs.Answers.{Answers, Gives}
+use Rattle.sv_loops.specs.Answers.{Answers}
 use Rattle.sv_modules.specs.Naming.{Adds, Holds, holds}
 use Rattle.sv_modules.specs.Libraries.{modules_once}
 use Rattle.sv_modules.specs.Listed.{modules_of}

@@ -1,6 +1,5 @@
 -- The scopes of a source as code holds them.
-use Rattle.std.specs.Prelude.{◌≡◌, ℕ, List, map, Option, slice_get, Result}
-use Rattle.std.specs.Option.{option_map}
+use Rattle.std.specs.Prelude.{◌≡◌, ℕ, List, map, Result}
 use Rattle.sv_outside.specs.declared.refusal.TextErr.{TextErr}
 use Rattle.sv_outside.specs.declared.text.Signal.{Signal}
 use Rattle.sv_meaning.specs.Designs.{Design}

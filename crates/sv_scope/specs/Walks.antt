@@ -1,11 +1,8 @@
 -- The walk of the program, and the walk of the definition that it stands for.
-use Rattle.std.specs.Prelude.{◌≡◌, ℕ, Bool, List, [], ◌∷◌, ◌++◌, map, Option, Some, None, Result, Ok, Err}
-use Rattle.std.specs.Option.{option_map}
+use Rattle.std.specs.Prelude.{◌≡◌, [], map, Option, Some, None, Result}
 use Rattle.std.specs.Borrow.{Bor}
 use Rattle.sv_outside.specs.declared.refusal.TextErr.{TextErr}
-use Rattle.sv_outside.specs.declared.text.Signal.{Signal}
 use Rattle.sv_tree.specs.declared.exprs.Expr.{Expr}
-use Rattle.sv_tree.specs.declared.design.Pins.{Pins}
 use Rattle.sv_meaning.specs.Faults.{Judged}
 use Rattle.sv_meaning.specs.Params.{name_alone}
 use Rattle.sv_const.specs.Kinds.{layout_is}

@@ -1,4 +1,4 @@
-use Rattle.std.proofs.Common.{◌≡◌, ◌++◌, ◌+◌, ◌-◌, take, refl}
+use Rattle.std.proofs.Common.{◌≡◌, ◌++◌, take, refl}
 use Rattle.sv_const.specs.Names.{frames_of}
 use Rattle.sv_scope.proofs.LevelsHeld.{got, not_got, done_as}
 use Rattle.sv_scope.proofs.LevelsSeen.{entered, not_entered}

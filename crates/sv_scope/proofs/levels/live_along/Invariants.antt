@@ -1,4 +1,4 @@
-use Rattle.std.proofs.Common.{◌≡◌, [], map, ◌-◌, take}
+use Rattle.std.proofs.Common.{◌≡◌, [], map, take}
 use Rattle.sv_const.specs.Kinds.{scope_is}
 use Rattle.sv_const.specs.Names.{loops_of, frames_of}
 use Rattle.sv_scope.specs.Levels.{level_is, live_frames}

@@ -1,4 +1,4 @@
-use Rattle.std.proofs.Common.{◌∙◌, sym, ap, length, ◌-◌, refl}
+use Rattle.std.proofs.Common.{◌∙◌, sym, ap, length, refl}
 use Rattle.std.proofs.lemmas.List.{length-map}
 use Rattle.sv_const.specs.Kinds.{entry_is}
 use Rattle.sv_hierarchy.specs.Scopes as m

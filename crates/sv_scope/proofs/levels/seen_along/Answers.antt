@@ -1,4 +1,4 @@
-use Rattle.std.proofs.Common.{◌∙◌, map, get_or, ◌-◌, arith}
+use Rattle.std.proofs.Common.{◌∙◌, map, get_or, arith}
 use Rattle.sv_const.specs.Kinds.{scope_is}
 use Rattle.sv_const.specs.Names.{frames_of}
 use Rattle.sv_scope.specs.declared.levels.Front.{Front}

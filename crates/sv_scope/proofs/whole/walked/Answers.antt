@@ -1,4 +1,4 @@
-use Rattle.std.proofs.Common.{◌≡◌, ◌∙◌, ℕ, List, Result, Ok, Err, ap, sym, subst}
+use Rattle.std.proofs.Common.{◌≡◌, ℕ, List, Result, Ok, Err, sym, subst}
 use Rattle.sv_outside.specs.declared.refusal.TextErr.{TextErr}
 use Rattle.std.specs.Option.{option_copied}
 use Rattle.sv_meaning.specs.Faults.{Judged}

@@ -1,4 +1,4 @@
-use Rattle.std.proofs.Common.{◌≡◌, [], ◌∷◌, ◌++◌, ◌+◌, ◌-◌, refl}
+use Rattle.std.proofs.Common.{◌≡◌, [], ◌∷◌, ◌++◌, refl}
 use Rattle.sv_const.specs.Kinds.{entry_is}
 use Rattle.sv_hierarchy.specs.Scopes as m
 use Rattle.sv_scope.proofs.LevelsHeld.{got, not_got, done_as, net_added, level_missed}

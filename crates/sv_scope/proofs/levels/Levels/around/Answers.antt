@@ -1,4 +1,4 @@
-use Rattle.std.proofs.Common.{◌∙◌, sym, ap, map, ◌-◌}
+use Rattle.std.proofs.Common.{◌∙◌, sym, ap, map}
 use Rattle.sv_hierarchy.specs.Scopes as m
 use Rattle.sv_scope.specs.Levels.{front_is}
 use Rattle.sv_scope.proofs.LevelsHeld.{got, not_got, level_found, level_past}

@@ -1,4 +1,3 @@
-use Rattle.std.proofs.Common.{◌-◌}
 use Rattle.sv_scope.proofs.LevelsHeld.{got, not_got, front_found, front_past}
 use Rattle.sv_scope.proofs.levels.Levels.front.Goals as goal
 

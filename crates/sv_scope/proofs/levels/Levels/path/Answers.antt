@@ -1,4 +1,4 @@
-use Rattle.std.proofs.Common.{◌∙◌, sym, ap, ◌++◌, ℕ, ◌+◌, ◌-◌, List}
+use Rattle.std.proofs.Common.{◌∙◌, sym, ap, ◌++◌, ℕ, List}
 use Rattle.sv_hierarchy.specs.Scopes as m
 use Rattle.sv_hierarchy.specs.Scopes.{level_at, prefix_of}
 use Rattle.sv_scope.specs.Levels.{levels_are}

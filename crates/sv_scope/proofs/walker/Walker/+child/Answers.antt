@@ -1,4 +1,4 @@
-use Rattle.std.proofs.Common.{◌≡◌, ◌∙◌, ◌-◌, ◌+◌, ◌*◌, ◌<◌, suc, List, Vec, Global, ap, sym, refl, subst, arith}
+use Rattle.std.proofs.Common.{◌≡◌, ◌∙◌, ◌-◌, suc, Vec, Global, ap, sym, refl, subst, arith}
 use Rattle.sv_meaning.specs.Faults.{Judged}
 use Rattle.sv_hierarchy.specs.Scopes as m
 use Rattle.sv_loops.specs.Answers.{Answers}

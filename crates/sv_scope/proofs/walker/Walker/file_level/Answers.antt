@@ -1,4 +1,4 @@
-use Rattle.std.proofs.Common.{◌≡◌, ◌∙◌, ◌+◌, ◌∷◌, ◌++◌, [], ℕ, List, map, ap, sym, refl, subst, arith}
+use Rattle.std.proofs.Common.{◌≡◌, ◌∙◌, ◌+◌, ◌∷◌, [], ℕ, List, map, ap, sym, refl, subst, arith}
 use Rattle.sv_meaning.specs.Layouts.{Name}
 use Rattle.sv_hierarchy.specs.Scopes as m
 use Rattle.sv_loops.proofs.Chains.{answers_ok}

@@ -1,13 +1,11 @@
 use Rattle.std.proofs.Common.{◌≡◌, ◌∙◌, false, List, map, Ok, Err, refl, sym, ap}
 use Rattle.std.specs.Option.{option_copied}
 use Rattle.sv_meaning.specs.Layouts.{Name}
-use Rattle.sv_meaning.specs.Params.{connections}
 use Rattle.sv_modules.specs.Connections.{connection_is}
 use Rattle.sv_modules.specs.Naming.{texts_of}
 use Rattle.sv_modules.specs.declared.connect.Connection.{Connection as Coded}
 use Rattle.sv_hierarchy.specs.Scopes as m
 use Rattle.sv_loops.proofs.Chains.{answers_ok}
-use Rattle.sv_scope.specs.Levels.{front_is}
 use Rattle.sv_scope.specs.Library.{child_alone, known_is}
 use Rattle.sv_scope.specs.Walks.{child_is, given_is, lent, state_of}
 use Rattle.sv_scope.proofs.Opening.{Reached, IsListed, passed_on, connected_as, connected_ok, lent_is, no_params, no_pins, no_room, counted_ok, counted_err, alone_ok, alone_refused, walked_to}
