@@ -175,15 +175,21 @@ fn refused(alloc: Global, why: TextErr) -> Result<String, TextErr> {
 }
 
 // What a statement does, in the form of the rows.
-fn told(alloc: Global, before: &str, text: &str) -> Result<String, TextErr> {
-    let scope = declared(alloc)?;
-    let mut names = Names::new(alloc);
-    names.push_scope(&scope, scope.len())?;
-    let tree = read(alloc, text)?;
-    match typed_body(alloc, &tree, &mut names, made_before(before)) {
+fn acted(
+    alloc: Global,
+    names: &mut Names<'_>,
+    tree: &Stmt,
+    before: &str,
+) -> Result<String, TextErr> {
+    match typed_body(alloc, tree, names, made_before(before)) {
         Ok(acted) => show(alloc, &acted),
         Err(why) => refused(alloc, why),
     }
+}
+
+fn told(alloc: Global, names: &mut Names<'_>, before: &str, text: &str) -> Result<String, TextErr> {
+    let tree = read(alloc, text)?;
+    acted(alloc, names, &tree, before)
 }
 
 fn marked(alloc: Global, kind: &str, text: &str) -> Result<String, TextErr> {
@@ -196,11 +202,14 @@ fn marked(alloc: Global, kind: &str, text: &str) -> Result<String, TextErr> {
 
 #[test]
 fn statements_do_as_worked_out_by_hand(rt: HostRuntime) -> Result<(), TextErr> {
+    let scope = declared(rt.alloc())?;
+    let mut names = Names::new(rt.alloc());
+    names.push_scope(&scope, scope.len())?;
     let mut count = 0u8;
     for row in ROWS.lines() {
         if let Some((head, want)) = row.split_once(" => ") {
             if let Some((before, text)) = head.split_once(" | ") {
-                let shown = told(rt.alloc(), before, text)?;
+                let shown = told(rt.alloc(), &mut names, before, text)?;
                 assert!(rt; shown.as_str() == want, "{row}: {shown}");
                 count = count.saturating_add(1);
             }
