@@ -8,7 +8,7 @@ use std::collections::HashMap;
 
 /// The places of names in a list, of which the first counts.
 #[derive(Drop)]
-pub(crate) struct NameIndex {
+pub struct NameIndex {
     alloc: Global,
     numbers: HashMap<Vec<u8>, usize>,
 }
@@ -16,7 +16,7 @@ pub(crate) struct NameIndex {
 impl NameIndex {
     /// Of no names.
     #[tactic(auto, using(crate::proofs::Indexes::indexes_none))]
-    pub(crate) fn new(alloc: Global) -> NameIndex
+    pub fn new(alloc: Global) -> NameIndex
         ensures { Indexes result [] }
     {
         NameIndex {
@@ -27,14 +27,14 @@ impl NameIndex {
 
     /// The number under a name.
     #[tactic(auto, unfolding(crate::specs::Naming::number_under))]
-    pub(crate) fn number(&self, name: &[u8]) -> Option<usize>
+    pub fn number(&self, name: &[u8]) -> Option<usize>
         ensures { result ≡ number_under self.now name.now }
     {
         self.numbers.get(name).copied()
     }
 
     /// Goes on with one more name, at the end of the list.
-    pub(crate) fn note(&mut self, name: &[u8], number: usize) -> Result<(), AllocError>
+    pub fn note(&mut self, name: &[u8], number: usize) -> Result<(), AllocError>
         ensures { OnOk result ((names : List Bytes) → Indexes self.old names → number ≡ length names → Indexes self.new (names ++ name.now ∷ [])) }
     {
         if self.number(name).is_some() {
