@@ -5,6 +5,7 @@ pub mod DeclaringParams
 pub mod DeclaringWires
 pub mod LevelsHeld
 pub mod LevelsSeen
+pub mod PortsIndexed
 pub mod PortsLists
 pub mod Walking
 pub mod WalkingBlocks

@@ -1,7 +1,11 @@
 -- Ports and connections in lists that loops go through.
-use Rattle.std.proofs.Common.{◌≡◌, ℕ, ◌+◌, ◌<◌, ◌≤◌, List, [], ◌∷◌, ◌++◌, length, take, drop, get_or, map, bytes_eq, Bool, true, false, ◌&&◌, Option, Some, None, Result, Ok, Err, refl, sym, ap, ◌∙◌, subst, append_assoc, if◌then◌else◌, Bor}
+use Rattle.std.proofs.Common.{◌≡◌, ℕ, ◌+◌, ◌<◌, ◌≤◌, List, [], ◌∷◌, ◌++◌, length, take, drop, get_or, map, bytes_eq, Bool, true, false, cond, ◌&&◌, Option, Some, None, Result, Ok, Err, refl, sym, ap, ◌∙◌, subst, append_assoc, if◌then◌else◌, Bor}
 use Rattle.std.specs.Result.{IsErrAnd}
-use Rattle.std.specs.Option.{unwrap_or}
+use Rattle.std.specs.List.{find, slice_get}
+use Rattle.std.specs.Option.{unwrap_or, option_map, option_copied, IfSome}
+use Rattle.std.specs.Slice.{IsItemAt}
+use Rattle.std.proofs.lemmas.Option.{slice_get_past, slice_get_read}
+use Rattle.std.specs.Cmp.Lexicographic.{nat_list_eq_equiv}
 use Rattle.sv_outside.specs.declared.refusal.TextErr.{TextErr}
 use Rattle.sv_tree.specs.declared.forms.TypeTree.{TypeTree}
 use Rattle.sv_const.specs.declared.layout.Layout.{Layout as Coded}
@@ -18,7 +22,9 @@ use Rattle.sv_meaning.specs.Faults.{Judged, ◌>>=◌}
 use Rattle.sv_meaning.specs.Layouts.{Name, Layout, scalar}
 use Rattle.sv_modules.specs.declared.connect.Connection.{Connection}
 use Rattle.sv_modules.specs.Connections.{connection_is, joined_is}
-use Rattle.sv_modules.specs.Naming.{texts_of}
+use Rattle.sv_modules.specs.declared.name_index.NameIndex.{NameIndex}
+use Rattle.sv_modules.specs.Naming.{Indexes, number_under, texts_of}
+use Rattle.sv_scope.proofs.PortsIndexed.{first_at, first_missing}
 use Rattle.sv_modules.proofs.Turns.{take_next, drop_next, drop_none}
 use Rattle.sv_hierarchy.specs.Scopes as m
 use Rattle.sv_scope.specs.declared.header.OpenPort.{OpenPort}
@@ -29,29 +35,39 @@ use Rattle.sv_scope.specs.declared.walker.Work.{Work}
 use Rattle.sv_scope.specs.declared.walker.Task.TheVariants.{Connecting}
 use Rattle.sv_scope.specs.Levels.{front_is}
 use Rattle.sv_scope.specs.Walks.{actual_is, given_is, work_is}
-use Rattle.sv_scope.specs.Ports.{port_is, PortsAreSound, one_port}
+use Rattle.sv_scope.specs.Ports.{port_is, port_name, PortsAreSound, one_port}
 use Rattle.sv_scope.proofs.Walking.{Ends, handed}
 
 -- ---- the first port of a name
 
-pub named_here : (n : Name) (all : List OpenPort) (i : ℕ) (x : OpenPort) (o : Option m.OpenPort) → i < length all → x ≡ get_or all i x → bytes_eq x.name.now.text n ≡ true →
-    m.port_named n (map port_is (drop i all)) ≡ o → Some (port_is x) ≡ o
+pub named_is : (n : Name) (all : List OpenPort) → option_map port_is (find (λ p. bytes_eq n (port_name p)) all) ≡ m.port_named n (map port_is all)
 unfolding m.port_named
-named_here n all i x o h e b k =
-    sym (ap (λ l. m.port_named n (map port_is l)) (drop_next all i x h e) ∙ ap (λ t. if t then Some (port_is x) else m.port_named n (map port_is (drop (i + 1) all))) b) ∙ k
+named_is n [] = refl
+named_is n (p ∷ all) = by_test (bytes_eq n (port_name p)) (bytes_eq (port_name p) n) (find (λ x. bytes_eq n (port_name x)) all) (m.port_named n (map port_is all)) (nat_list_eq_equiv.symm n (port_name p)) (named_is n all)
+  where
+    by_test : (b c : Bool) (o : Option OpenPort) (w : Option m.OpenPort) → b ≡ c → option_map port_is o ≡ w → option_map port_is (cond b (Some p) o) ≡ (if c then Some (port_is p) else w)
+    by_test true true o w e h = refl
+    by_test true false o w e h = cc
+    by_test false true o w e h = cc
+    by_test false false o w e h = h
 
-pub named_next : (n : Name) (all : List OpenPort) (i : ℕ) (x : OpenPort) (o : Option m.OpenPort) → i < length all → x ≡ get_or all i x → bytes_eq x.name.now.text n ≡ false →
-    m.port_named n (map port_is (drop i all)) ≡ o → m.port_named n (map port_is (drop (i + 1) all)) ≡ o
-unfolding m.port_named
-named_next n all i x o h e b k =
-    sym (ap (λ l. m.port_named n (map port_is l)) (drop_next all i x h e) ∙ ap (λ t. if t then Some (port_is x) else m.port_named n (map port_is (drop (i + 1) all))) b) ∙ k
+-- the port of a number, by an index of the names
+pub port_at : (index : NameIndex) (n : Name) (all : List OpenPort) (i : ℕ) (o : Option OpenPort) → Indexes index (map port_name all) → Some i ≡ number_under index n → o ≡ slice_get all i → option_map port_is o ≡ m.port_named n (map port_is all)
+port_at index n all i o indexed e g = ap (option_map port_is) (g ∙ first_at port_name index all n i indexed e) ∙ named_is n all
 
-pub named_none : (n : Name) (all : List OpenPort) (i : ℕ) (o : Option m.OpenPort) → length all ≤ i → m.port_named n (map port_is (drop i all)) ≡ o → None ≡ o
-unfolding m.port_named
-named_none n all i o h k = sym (ap (λ l. m.port_named n (map port_is l)) (drop_none all i h)) ∙ k
+pub no_port : (index : NameIndex) (n : Name) (all : List OpenPort) → Indexes index (map port_name all) → None ≡ number_under index n → None ≡ m.port_named n (map port_is all)
+no_port index n all indexed e = sym (ap (option_map port_is) (first_missing port_name index all n indexed e)) ∙ named_is n all
 
-pub port_sound : (all : List OpenPort) (i : ℕ) (x : OpenPort) → i < length all → x ≡ get_or all i x → PortsAreSound all → IsSound x.layout
+port_sound : (all : List OpenPort) (i : ℕ) (x : OpenPort) → i < length all → x ≡ get_or all i x → PortsAreSound all → IsSound x.layout
 port_sound all i x h e s = subst (λ (y : OpenPort). IsSound y.layout) (sym e) (All-get_or (λ (p : OpenPort). IsSound p.layout) all i x h s)
+
+pub got : {A : Type 0} (all : List A) (i : ℕ) (o : Option (Bor A)) → IsItemAt all i o → option_copied o ≡ slice_get all i
+got all i None h = sym (slice_get_past all i h.3)
+got all i (Some x) h = sym (slice_get_read all (length all) i x.now refl h.3.0 h.1)
+
+pub sound_got : (all : List OpenPort) (i : ℕ) (o : Option (Bor OpenPort)) → IsItemAt all i o → PortsAreSound all → IfSome o (λ p. IsSound p.now.layout)
+sound_got all i None h s = tt
+sound_got all i (Some x) h s = port_sound all i x.now h.3.0 h.1 s
 
 -- ---- works of ports
 

@@ -3,17 +3,17 @@ ghost use Rattle.std.specs.Prelude.{◌≡◌, [], ◌∷◌, ◌++◌, map, Som
 ghost use Rattle.std.specs.Option.{option_copied};
 ghost use Rattle.sv_const.specs.Kinds.{IsSound};
 ghost use Rattle.sv_modules.specs.Connections.{connection_is, joined_is};
-ghost use Rattle.sv_modules.specs.Naming.{texts_of};
+ghost use Rattle.sv_modules.specs.Naming.{Indexes, texts_of};
 ghost use Rattle.sv_hierarchy.specs.Scopes as m;
 ghost use Rattle.sv_scope.specs.Levels.{front_is};
-ghost use Rattle.sv_scope.specs.Ports.{PortsAreSound, port_is};
+ghost use Rattle.sv_scope.specs.Ports.{PortsAreSound, port_is, port_name};
 ghost use Rattle.sv_scope.specs.Walks.{actual_is, given_is, work_is};
 
 use crate::header::OpenPort;
 use crate::levels::Front;
 use crate::walker::{Actual, Given, Task, Work};
 use std::alloc::{AllocError, Global};
-use sv_modules::{Connection, Joined};
+use sv_modules::{Connection, Joined, NameIndex};
 use sv_tree::{Module, Port, Word};
 use sv_types::copy;
 
@@ -28,18 +28,32 @@ fn actual_of<'a>(connection: &Connection<'a>) -> Option<Actual<'a>>
     }
 }
 
+// Where each name stands first among the ports.
+fn index_of(alloc: Global, ports: &[OpenPort<'_>]) -> Result<NameIndex, AllocError>
+    ensures { IfOk result (λ index. Indexes index (map port_name ports.now)) }
+{
+    let mut index = NameIndex::new(alloc);
+    'ports: for (number, port) in ports.iter().enumerate() {
+        index.note(port.name.text.bytes(), number)?;
+    }
+    Ok(index)
+}
+
 // The first port of a name.
-fn port_named<'p, 'a>(name: &[u8], ports: &'p [OpenPort<'a>]) -> Option<&'p OpenPort<'a>>
-    requires { PortsAreSound ports.now }
+fn port_named<'p, 'a>(
+    index: &NameIndex,
+    name: &[u8],
+    ports: &'p [OpenPort<'a>],
+) -> Option<&'p OpenPort<'a>>
+    requires sound { PortsAreSound ports.now }
+    requires indexed { Indexes index.now (map port_name ports.now) }
     ensures is { option_map port_is (option_copied result) ≡ m.port_named name.now (map port_is ports.now) }
     ensures sound { IfSome result (λ port. IsSound port.now.layout) }
 {
-    'ports: for port in ports {
-        if port.name.text.bytes() == name {
-            return Some(port);
-        }
+    match index.number(name) {
+        Some(number) => ports.get(number),
+        None => None,
     }
-    None
 }
 
 /// One task more for each port that is connected, in the order of the connections.
@@ -53,8 +67,9 @@ pub(crate) fn add_port_works<'a>(
     requires { PortsAreSound ports.now }
     ensures { OnOk result (map work_is works.new.items ≡ map work_is works.old.items ++ m.port_works (front_is at) (map connection_is connections.now) (map port_is ports.now)) }
 {
+    let index = index_of(alloc, ports)?;
     'connections: for connection in connections {
-        add_port_work(alloc, at, connection, ports, works)?;
+        add_port_work(alloc, at, connection, &index, ports, works)?;
     }
     Ok(())
 }
@@ -64,14 +79,16 @@ fn add_port_work<'a>(
     alloc: Global,
     at: Front,
     connection: &Connection<'a>,
+    index: &NameIndex,
     ports: &[OpenPort<'a>],
     works: &mut Vec<Work<'a>>,
 ) -> Result<(), AllocError>
-    requires { PortsAreSound ports.now }
+    requires sound { PortsAreSound ports.now }
+    requires indexed { Indexes index.now (map port_name ports.now) }
     ensures { OnOk result (map work_is works.new.items ≡ map work_is works.old.items ++ m.connected (front_is at) (m.port_named connection.now.name.now.text (map port_is ports.now)) (joined_is connection.now.name.now connection.now.joined)) }
 {
     match actual_of(connection) {
-        Some(actual) => add_connected(alloc, at, connection.name, actual, ports, works),
+        Some(actual) => add_connected(alloc, at, connection.name, actual, index, ports, works),
         None => Ok(()),
     }
 }
@@ -82,13 +99,15 @@ fn add_connected<'a>(
     at: Front,
     name: &Word,
     actual: Actual<'a>,
+    index: &NameIndex,
     ports: &[OpenPort<'a>],
     works: &mut Vec<Work<'a>>,
 ) -> Result<(), AllocError>
-    requires { PortsAreSound ports.now }
+    requires sound { PortsAreSound ports.now }
+    requires indexed { Indexes index.now (map port_name ports.now) }
     ensures { OnOk result (map work_is works.new.items ≡ map work_is works.old.items ++ m.connected (front_is at) (m.port_named name.now.text (map port_is ports.now)) (Some (actual_is actual.entry))) }
 {
-    if let Some(port) = port_named(name.text.bytes(), ports) {
+    if let Some(port) = port_named(index, name.text.bytes(), ports) {
         let layout = copy(alloc, &port.layout)?;
         let task = Task::Connecting {
             way: port.way,
