@@ -1,6 +1,9 @@
 -- Parameters, and the entries of a module's list.
-use Rattle.std.proofs.Common.{◌≡◌, ℕ, ◌+◌, ◌<◌, ◌≤◌, true, false, List, [], ◌∷◌, length, map, drop, get_or, bytes_eq, Option, Result, Ok, Err, refl, sym, ap, ◌∙◌, subst, if◌then◌else◌}
+use Rattle.std.proofs.Common.{◌≡◌, ℕ, ◌+◌, ◌<◌, ◌≤◌, Bool, true, false, cond, List, [], ◌∷◌, length, map, drop, get_or, bytes_eq, Option, Some, None, Result, Ok, Err, refl, sym, ap, ◌∙◌, subst, if◌then◌else◌}
+use Rattle.std.specs.List.{find, slice_get}
+use Rattle.std.specs.Option.{unwrap_or}
 use Rattle.std.specs.Result.{IsErrAnd}
+use Rattle.std.specs.Cmp.Lexicographic.{nat_list_eq_equiv}
 use Rattle.sv_outside.specs.declared.refusal.TextErr.{TextErr}
 use Rattle.sv_tree.specs.declared.word.Word.{Word}
 use Rattle.sv_tree.specs.declared.exprs.Expr.{Expr}
@@ -19,34 +22,41 @@ use Rattle.sv_meaning.specs.Values.{mean}
 use Rattle.sv_const.specs.declared.layout.Known.{Known}
 use Rattle.sv_types.specs.Types.{Refused}
 use Rattle.sv_types.specs.Values.{JudgesValue}
+use Rattle.sv_modules.specs.declared.name_index.NameIndex.{NameIndex}
+use Rattle.sv_modules.specs.Naming.{Indexes, number_under}
+use Rattle.sv_scope.proofs.PortsIndexed.{first_at, first_missing}
 use Rattle.sv_modules.proofs.Turns.{drop_next, drop_none}
 use Rattle.sv_hierarchy.specs.Scopes as m
 use Rattle.sv_scope.specs.declared.walker.Walker.{Walker}
 use Rattle.sv_scope.specs.declared.walker.Open.{Open}
 use Rattle.sv_scope.specs.declared.walker.Given.{Given}
 use Rattle.sv_scope.specs.Levels.{levels_are}
+use Rattle.sv_scope.specs.Overriding.{given_name}
 use Rattle.sv_scope.specs.Walks.{state_of, given_is}
 use Rattle.sv_scope.proofs.Declaring.{Leads, led, leads, refused, refused_then, refused_by}
 
 -- ---- what is given
 
-pub given_here : (n : Name) (all : List Given) (i : ℕ) (g other : Given) → i < length all → g ≡ get_or all i g → bytes_eq (given_is g).name n ≡ true →
-    m.given_or n (map given_is (drop i all)) (given_is other) ≡ given_is g
+given_first : (n : Name) (all : List Given) (other : Given) → given_is (unwrap_or (find (λ g. bytes_eq n (given_name g)) all) other) ≡ m.given_or n (map given_is all) (given_is other)
 unfolding m.given_or
-given_here n all i g other h e t =
-    ap (λ (xs : List Given). m.given_or n (map given_is xs) (given_is other)) (drop_next all i g h e)
-    ∙ ap (λ b. if b then given_is g else m.given_or n (map given_is (drop (i + 1) all)) (given_is other)) t
+given_first n [] other = refl
+given_first n (g ∷ all) other = by_test (bytes_eq n (given_name g)) (bytes_eq (given_name g) n) (find (λ x. bytes_eq n (given_name x)) all) (m.given_or n (map given_is all) (given_is other)) (nat_list_eq_equiv.symm n (given_name g)) (given_first n all other)
+  where
+    by_test : (b c : Bool) (o : Option Given) (w : m.Given) → b ≡ c → given_is (unwrap_or o other) ≡ w → given_is (unwrap_or (cond b (Some g) o) other) ≡ (if c then given_is g else w)
+    by_test true true o w e h = refl
+    by_test true false o w e h = cc
+    by_test false true o w e h = cc
+    by_test false false o w e h = h
 
-pub given_on : (n : Name) (all : List Given) (i : ℕ) (g other : Given) → i < length all → g ≡ get_or all i g → bytes_eq (given_is g).name n ≡ false →
-    m.given_or n (map given_is (drop i all)) (given_is other) ≡ m.given_or n (map given_is (drop (i + 1) all)) (given_is other)
-unfolding m.given_or
-given_on n all i g other h e t =
-    ap (λ (xs : List Given). m.given_or n (map given_is xs) (given_is other)) (drop_next all i g h e)
-    ∙ ap (λ b. if b then given_is g else m.given_or n (map given_is (drop (i + 1) all)) (given_is other)) t
+-- what is given under a number, by an index of the names
+pub given_at : (index : NameIndex) (n : Name) (all : List Given) (i : ℕ) (o : Option Given) (other given : Given) → Indexes index (map given_name all) → Some i ≡ number_under index n → o ≡ slice_get all i → given ≡ unwrap_or o other →
+    given_is given ≡ m.given_or n (map given_is all) (given_is other)
+given_at index n all i o other given indexed e g h =
+    ap given_is h ∙ ap (λ (p : Option Given). given_is (unwrap_or p other)) (g ∙ first_at given_name index all n i indexed e) ∙ given_first n all other
 
-pub given_none : (n : Name) (all : List Given) (i : ℕ) (other : Given) → length all ≤ i → m.given_or n (map given_is (drop i all)) (given_is other) ≡ given_is other
-unfolding m.given_or
-given_none n all i other h = ap (λ (xs : List Given). m.given_or n (map given_is xs) (given_is other)) (drop_none all i h)
+pub not_given : (index : NameIndex) (n : Name) (all : List Given) (other : Given) → Indexes index (map given_name all) → None ≡ number_under index n → given_is other ≡ m.given_or n (map given_is all) (given_is other)
+not_given index n all other indexed e =
+    sym (ap (λ (p : Option Given). given_is (unwrap_or p other)) (first_missing given_name index all n indexed e)) ∙ given_first n all other
 
 pub given_local : (n : Name) (w : ParamWord) (all : List m.Given) (other : m.Given) → w ≡ param_word.Localparam → m.given_or n (m.overriding w all) other ≡ other
 unfolding m.given_or
@@ -97,11 +107,11 @@ header_end h all i j w o u l s = leads j w o u (s ∙ ap (λ (xs : List ParPort)
 -- the value by what is declared above
 pub value_is : (w : Walker) (o : Open) (form : Option ParamType) (word : ParamWord) (name : Word) (value x : Expr) (names value_names : Scope) (own given : Given) (r : Result Known TextErr) →
     JudgesValue (param_value names form (mean value_names x)) r → given_is own ≡ record { name = name.text; at = m.here (state_of w o); value = value } →
-    given_is given ≡ m.given_or (given_is own).name (m.overriding word (map given_is o.overridden.items)) (given_is own) →
+    given_is given ≡ m.given_or (given_is own).name (m.overriding word (map given_is o.overridden.list.items)) (given_is own) →
     names ≡ m.seen_at (levels_are w.levels) (m.here (state_of w o)) → value_names ≡ m.seen_at (levels_are w.levels) (given_is given).at → x ≡ (given_is given).value →
     JudgesValue (param_value (m.seen (state_of w o)) form (m.meant (levels_are w.levels) (m.given_to word name value (state_of w o)))) r
 value_is w o form word name value x names value_names own given r h a b c d e =
-    let g : given_is given ≡ m.given_to word name value (state_of w o) = b ∙ ap (λ (z : m.Given). m.given_or z.name (m.overriding word (map given_is o.overridden.items)) z) a in
+    let g : given_is given ≡ m.given_to word name value (state_of w o) = b ∙ ap (λ (z : m.Given). m.given_or z.name (m.overriding word (map given_is o.overridden.list.items)) z) a in
     let p : value_names ≡ m.seen_at (levels_are w.levels) (m.given_to word name value (state_of w o)).at = d ∙ ap (λ (z : m.Given). m.seen_at (levels_are w.levels) z.at) g in
     let q : x ≡ (m.given_to word name value (state_of w o)).value = e ∙ ap (λ (z : m.Given). z.value) g in
     let t : param_value names form (mean value_names x) ≡ param_value (m.seen (state_of w o)) form (m.meant (levels_are w.levels) (m.given_to word name value (state_of w o))) =

@@ -1,4 +1,5 @@
 pub mod Levels
+pub mod Overriding
 pub mod Walks
 pub mod Ports
 pub mod Looping

@@ -11,6 +11,7 @@ ghost use Rattle.sv_scope.specs.Walks.{Walks, state_of};
 
 use crate::levels::Level;
 use crate::loops::{Turns, index_scope};
+use crate::overrides::Overrides;
 use crate::texts::{block_name, block_place, turn_name};
 use crate::walker::{Open, Walker};
 use fourvec::Four;
@@ -77,7 +78,8 @@ impl<'a> Walker<'a> {
             nets,
             consts: Scope::new(self.alloc),
         })?;
-        Ok(Open::new(self.alloc, level, Vec::new(self.alloc)))
+        let overridden = Overrides::new(self.alloc, Vec::new(self.alloc))?;
+        Ok(Open::new(self.alloc, level, overridden))
     }
 
     /// A block with a label, or with the number of its construct, is declared and begun; or E13 (27.6).

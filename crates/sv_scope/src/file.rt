@@ -4,6 +4,7 @@ ghost use Rattle.sv_hierarchy.specs.Scopes as m;
 ghost use Rattle.sv_scope.specs.Walks.{Finds, IsNothing, state_of};
 
 use crate::levels::Level;
+use crate::overrides::Overrides;
 use crate::walker::{Open, Walker};
 use items::Items;
 use std::alloc::{AllocError, Global};
@@ -26,7 +27,8 @@ impl<'a> Walker<'a> {
             nets: Scope::new(self.alloc),
             consts: Scope::new(self.alloc),
         })?;
-        Ok(Open::new(self.alloc, 0, Vec::new(self.alloc)))
+        let overridden = Overrides::new(self.alloc, Vec::new(self.alloc))?;
+        Ok(Open::new(self.alloc, 0, overridden))
     }
 
     /// The parts of a text in order: for each module, how many names of the file level are declared above it. E13 at the second

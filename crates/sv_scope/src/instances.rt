@@ -9,6 +9,7 @@ ghost use Rattle.sv_scope.specs.declared.walker.Open.{Open as Opened};
 ghost use Rattle.sv_scope.specs.Walks.{Walks, child_is, given_is, state_of};
 
 use crate::levels::{Front, Level};
+use crate::overrides::Overrides;
 use crate::ports::{add_port_works, given_by, port_names, ports_of};
 use crate::walker::{Child, Given, Open, Walker};
 use items::Items;
@@ -87,7 +88,8 @@ impl<'a> Walker<'a> {
             consts: Scope::new(self.alloc),
         })?;
         self.children = Vec::new(self.alloc);
-        Ok(Open::new(self.alloc, level, given))
+        let overridden = Overrides::new(self.alloc, given)?;
+        Ok(Open::new(self.alloc, level, overridden))
     }
 
     /// What an instance has without its children, with its ports connected so.

@@ -13,6 +13,7 @@ mod header;
 mod instances;
 mod levels;
 mod loops;
+mod overrides;
 mod params;
 mod ports;
 mod tally;

@@ -1,5 +1,5 @@
 // Parameters (IEEE 1800-2017, 6.20).
-ghost use Rattle.std.specs.Prelude.{◌≡◌, None, Option, MatchOption, bytes_eq, map};
+ghost use Rattle.std.specs.Prelude.{◌≡◌, None, Option, MatchOption, IfOk, map};
 ghost use Rattle.std.specs.Option.{option_copied};
 ghost use Rattle.sv_tree.specs.declared.design.ParamType.{ParamType as TypeOfParam};
 ghost use Rattle.sv_tree.specs.declared.design.ParamWord.{ParamWord as WordOfParam};
@@ -10,12 +10,16 @@ ghost use Rattle.sv_meaning.specs.Values.{mean};
 ghost use Rattle.sv_types.specs.Values.{JudgesValue};
 ghost use Rattle.sv_hierarchy.specs.Scopes as m;
 ghost use Rattle.sv_hierarchy.specs.Scopes.{add_param, add_param_item, add_params, header_of, header_params, meant, seen, walk_all};
+ghost use Rattle.sv_modules.specs.Naming.{Indexes};
+ghost use Rattle.sv_scope.specs.Overriding.{given_name};
 ghost use Rattle.sv_scope.specs.Walks.{Walks, actual_is, given_is, state_of};
 
+use crate::overrides::Overrides;
 use crate::walker::{Actual, Given, Open, Walker};
 use items::Items;
-use std::alloc::Global;
+use std::alloc::{AllocError, Global};
 use sv_const::{Known, Names, What};
+use sv_modules::NameIndex;
 use sv_outside::TextErr;
 use sv_tree::{Expr, ParPort, Param, ParamItem, ParamType, ParamWord, Word};
 use sv_types::param_value;
@@ -53,32 +57,24 @@ fn value_named(
 }
 
 // What is given to a parameter, or else its own expression. A `localparam` is given nothing.
-fn given_to<'a>(given: &[Given<'a>], word: ParamWord, own: Given<'a>) -> Given<'a>
-    ensures { given_is result ≡ m.given_or (given_is own.entry).name (m.overriding word (map given_is given.now)) (given_is own.entry) }
+fn given_to<'a>(given: &Overrides<'a>, word: ParamWord, own: Given<'a>) -> Given<'a>
+    ensures { given_is result ≡ m.given_or (given_is own.entry).name (m.overriding word (map given_is given.now.list.items)) (given_is own.entry) }
 {
     match word {
-        ParamWord::Parameter => given_or(given, own),
+        ParamWord::Parameter => given.given_or(own),
         ParamWord::Localparam => own,
     }
 }
 
-// Whether an expression is given to a name.
-fn is_given(given: Given<'_>, name: &Word) -> bool
-    ensures { result ≡ bytes_eq (given_is given.entry).name name.now.text }
+// Where each name stands first among those to which something is given.
+fn index_of(alloc: Global, list: &[Given<'_>]) -> Result<NameIndex, AllocError>
+    ensures { IfOk result (λ index. Indexes index (map given_name list.now)) }
 {
-    given.name.text.bytes() == name.text.bytes()
-}
-
-// The first that is given to the name, or else another.
-fn given_or<'a>(given: &[Given<'a>], other: Given<'a>) -> Given<'a>
-    ensures { given_is result ≡ m.given_or (given_is other.entry).name (map given_is given.now) (given_is other.entry) }
-{
-    'given: for one in given {
-        if is_given(*one, other.name) {
-            return *one;
-        }
+    let mut index = NameIndex::new(alloc);
+    'list: for (number, given) in list.iter().enumerate() {
+        index.note(given.name.text.bytes(), number)?;
     }
-    other
+    Ok(index)
 }
 
 // The type of an entry of a module's list. With neither a word nor a type it is that of the entry before.
@@ -108,6 +104,26 @@ fn word_of(port: &ParPort, before: ParamWord) -> ParamWord
     match port.word {
         Some(word) => word,
         None => before,
+    }
+}
+
+impl<'a> Overrides<'a> {
+    /// These.
+    pub(crate) fn new(alloc: Global, list: Vec<Given<'a>>) -> Result<Overrides<'a>, AllocError>
+        ensures { IfOk result (λ all. all.list.items ≡ list.entry.items) }
+    {
+        let index = index_of(alloc, &list)?;
+        Ok(Overrides { list, index })
+    }
+
+    /// The first that is given to the name, or else another.
+    pub(crate) fn given_or(&self, other: Given<'a>) -> Given<'a>
+        ensures { given_is result ≡ m.given_or (given_is other.entry).name (map given_is self.now.list.items) (given_is other.entry) }
+    {
+        match self.index.number(other.name.text.bytes()) {
+            Some(number) => self.list.get(number).copied().unwrap_or(other),
+            None => other,
+        }
     }
 }
 

@@ -9,6 +9,7 @@ ghost use Rattle.sv_scope.specs.Levels.{front_is};
 ghost use Rattle.sv_scope.specs.Walks.{IsNothing, Walks, given_is, state_of, task_is};
 
 use crate::levels::{Front, Levels};
+use crate::overrides::Overrides;
 use crate::tally::Tally;
 use items::Items;
 use std::alloc::Global;
@@ -85,15 +86,15 @@ pub(crate) struct Open<'a> {
     pub level: usize,
     pub taken: NameSet,
     pub constructs: usize,
-    pub overridden: Vec<Given<'a>>,
+    pub overridden: Overrides<'a>,
 }
 
 impl<'a> Open<'a> {
     /// A scope with no names, to whose parameters this is given.
-    pub(crate) fn new(alloc: Global, level: usize, overridden: Vec<Given<'a>>) -> Open<'a>
+    pub(crate) fn new(alloc: Global, level: usize, overridden: Overrides<'a>) -> Open<'a>
         ensures level { result.level ≡ level }
         ensures constructs { result.constructs ≡ 0 }
-        ensures overridden { map given_is result.overridden.items ≡ map given_is overridden.entry.items }
+        ensures overridden { map given_is result.overridden.list.items ≡ map given_is overridden.entry.list.items }
         ensures taken { (name : Bytes) → holds result.taken name ≡ has_name name [] }
     {
         Open {

@@ -5,7 +5,7 @@ use Rattle.sv_scope.proofs.walker.Walker.begin_file.Goals as goal
 
 pub returns : goal.returns
 returns c =
-    file_is c.args.self.now c.push.new.self c.new-6.result
+    file_is c.args.self.now c.push.new.self c.new-7.result
     (record { path = c.in_ok-new.field-0; «module» = 0; parent = 0; around = c.new-2.result; nets = c.new-3.result; consts = c.new-4.result })
     c.requires c.in_ok-push.ensures c.in_ok-new.ensures refl refl c.new-2.ensures c.new-3.ensures c.new-4.ensures
-    c.new-6.ensures.level c.new-6.ensures.constructs (c.new-6.ensures.overridden ∙ ap (map given_is) c.new-5.ensures.items) c.new-6.ensures.taken
+    c.new-7.ensures.level c.new-7.ensures.constructs (c.new-7.ensures.overridden ∙ ap (map given_is) (c.in_ok-overridden.ensures ∙ c.new-5.ensures.items)) c.new-7.ensures.taken

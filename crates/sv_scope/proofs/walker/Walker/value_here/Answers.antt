@@ -1,11 +1,11 @@
-use Rattle.std.proofs.Common.{◌∙◌, List, map, refl, ap}
+use Rattle.std.proofs.Common.{◌∙◌, refl, ap}
 use Rattle.std.specs.Option.{option_copied}
 use Rattle.sv_const.specs.Names.{names_are}
 use Rattle.sv_hierarchy.specs.Scopes as m
 use Rattle.sv_scope.specs.declared.walker.Actual.TheVariants.{Written}
 use Rattle.sv_scope.specs.declared.walker.Given.{Given}
 use Rattle.sv_scope.specs.Levels.{levels_are}
-use Rattle.sv_scope.specs.Walks.{given_is, actual_is}
+use Rattle.sv_scope.specs.Walks.{actual_is}
 use Rattle.sv_scope.proofs.DeclaringParams.{value_is}
 use Rattle.sv_scope.proofs.walker.Walker.value_here.Goals as goal
 
@@ -14,5 +14,5 @@ returns c =
     let own : Given = record { name = c.args.name; at = c.here-at.result; value = Written c.args.value } in
     value_is c.args.self.now c.args.current.now (option_copied c.args.form) c.args.word c.args.name.now c.args.value.now (actual_is c.given_to-given.result.value) (names_are c.in_ok-names.names) (names_are c.in_ok-value_names.value_names) own c.given_to-given.result c.value_of.result
     c.value_of.ensures (λ i. record { name = c.args.name.now.text; at = c.here-at.ensures i; value = c.args.value.now })
-    (c.given_to-given.ensures ∙ ap (λ (all : List Given). m.given_or (given_is own).name (m.overriding c.args.word (map given_is all)) (given_is own)) c.deref.ensures.value)
+    c.given_to-given.ensures
     (c.in_ok-names.ensures.names ∙ ap (m.seen_at (levels_are c.args.self.now.levels)) c.here-at.ensures) c.in_ok-value_names.ensures.names refl
