@@ -10,7 +10,7 @@ use Rattle.sv_meaning.proofs.Declaring.{names-declared}
 use Rattle.sv_typed.specs.declared.tree.Typed.{Typed}
 use Rattle.sv_typed.specs.Typed.{worth, Stands}
 use Rattle.sv_stmt.specs.declared.look.Look.TheVariants.{Present}
-use Rattle.sv_stmt.specs.Lowering.{look_test, each_signal, HoldsOfDeclared, IsIn}
+use Rattle.sv_stmt.specs.Lowering.{look_test, each_signal, HoldsOfNames, HoldsOfDeclared, IsIn}
 use Rattle.sv_stmt.proofs.Naming.{look_holds}
 
 -- no wire has a node in the present
@@ -28,7 +28,9 @@ pub assigned_worth : (t : Typed) (m : Meaning) (read : Read) (w : ℕ) → Stand
 unfolding Stands
 assigned_worth t m read w h = sym (ap (λ x. assigned x read w) h.is)
 
-pub declared_hold : (at : Scope) (x : Expr) (t : Typed) (shapes : List Shape) (p : VarName → ℕ → Bool) → Stands t (mean at x) → HoldsOfDeclared at p → IsTrue (each_signal (look_test Present shapes p) t)
+pub names_hold : (m : Meaning) (t : Typed) (shapes : List Shape) (p : VarName → ℕ → Bool) → Stands t m → HoldsOfNames m.names p → IsTrue (each_signal (look_test Present shapes p) t)
 unfolding Stands
-declared_hold at x t shapes p h k =
-    look_holds Present shapes t p (λ s i. sym (present_test shapes p s.owner s.number s.width) ∙ k s (names-declared at x s (h.names s i)))
+names_hold m t shapes p h k = look_holds Present shapes t p (λ s i. sym (present_test shapes p s.owner s.number s.width) ∙ k s (h.names s i))
+
+pub declared_hold : (at : Scope) (x : Expr) (t : Typed) (shapes : List Shape) (p : VarName → ℕ → Bool) → Stands t (mean at x) → HoldsOfDeclared at p → IsTrue (each_signal (look_test Present shapes p) t)
+declared_hold at x t shapes p h k = names_hold (mean at x) t shapes p h (λ s i. k s (names-declared at x s i))

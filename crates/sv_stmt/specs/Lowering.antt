@@ -1,5 +1,5 @@
 -- What names read, and which nodes stand for typed expressions. Sections are those of IEEE 1800-2017.
-use Rattle.std.specs.Prelude.{◌≡◌, ℕ, ◌<◌, ◌≤◌, Bool, true, false, ◌&&◌, List, [], ◌∷◌, length, slice_index_or, Option, Some, None, IsTrue}
+use Rattle.std.specs.Prelude.{◌≡◌, ℕ, ◌<◌, ◌≤◌, ◌==◌, if◌then◌else◌, Bool, true, false, ◌&&◌, List, [], ◌∷◌, length, slice_get, slice_index_or, Option, Some, None, IsTrue, Contains}
 use mathlib.Core.Former.{Count}
 use Rattle.fourvec.specs.declared.Bit.{Bit}
 use Rattle.fourvec.specs.declared.Bit.TheVariants.{Unknown}
@@ -19,14 +19,20 @@ use Rattle.sv_typed.specs.declared.tree.Root.{Root}
 use Rattle.sv_typed.specs.declared.tree.Root.TheVariants.{Number, Signal}
 use Rattle.sv_typed.specs.Typed.{worth, together, picked, pick_place, root_bits, root_width, width_together, picked_width, origin_is, IsSound}
 use Rattle.sv_stmt.specs.declared.look.Look.{Look}
-use Rattle.sv_stmt.specs.declared.look.Look.TheVariants.{Present, Previous, Mixed}
+use Rattle.sv_stmt.specs.declared.look.Look.TheVariants.{Present, Previous, Clocked, Mixed, Placed}
 use Rattle.sv_stmt.specs.Nodes.{bits_at_node}
 
 -- ---- what names read
 
+-- the node at a place
+abbrev pub node_in : List ℕ → Option ℕ → Option ℕ
+node_in nodes None = None
+node_in nodes (Some i) = slice_get nodes i
+
 -- the node under the number of a wire
 abbrev pub node_of : Look → ℕ → Option ℕ
 node_of (Mixed nodes) n = entry_at nodes.now n
+node_of (Placed places nodes) n = node_in nodes.now (entry_at places.now n)
 node_of look n = None
 
 -- each node that a wire may read is there
@@ -36,6 +42,7 @@ pub record IsIn (look : Look) (shapes : List Shape) : Type 0 where
 -- the variable that a wire reads where it has no node
 abbrev pub wire_variable : Look → ℕ → VarName
 wire_variable Previous n = Prev n
+wire_variable (Clocked clock) n = if n == clock then Now n else Prev n
 wire_variable look n = Now n
 
 -- The bits of names, where variables have such bits. A wire with a node reads its bits, X past the last.
@@ -50,6 +57,10 @@ unfoldable pub look_test : Look → List Shape → (VarName → ℕ → Bool) �
 look_test look shapes p of_wires n w = given_or (each_variable p shapes) (p (wire_variable look n) w) (node_of look n)
 look_test look shapes p of_choice n w = p (Chosen n) w
 look_test look shapes p of_samples n w = p (Sampled n) w
+
+-- A test of variables holds of what each of these signals reads in the present.
+abbrev pub HoldsOfNames : List NamedSignal → (VarName → ℕ → Bool) → Type 0
+HoldsOfNames names p = (s : NamedSignal) → Contains names s → IsTrue (look_test Present [] p s.owner s.number s.width)
 
 -- A test of variables holds of what each signal that a scope declares reads in the present.
 abbrev pub HoldsOfDeclared : Scope → (VarName → ℕ → Bool) → Type 0

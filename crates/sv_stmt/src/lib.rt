@@ -12,6 +12,10 @@ mod sizes;
 mod source;
 mod steps;
 
+pub use constants::is_nameless;
 pub use expressions::{lower, lower_assigned};
 pub use look::Look;
+pub use parts::{Place, beside, place_at, sliced, unknown, windowed};
+pub use places::{part_at, place_of};
 pub use source::lower_expr;
+pub use steps::{binary, constant, make, unary};

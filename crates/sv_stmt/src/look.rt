@@ -6,9 +6,13 @@ use svex_arena::Node;
 pub enum Look<'a> {
     /// The present phase: in continuous and port assignments (IEEE 1800-2017, 10.3, 23.3.3).
     Present,
-    /// The phase before: in clocked blocks.
+    /// The phase before.
     Previous,
+    /// The phase before, but the wire with this number in the present phase: in clocked blocks, whose event names that wire (9.2.2.4).
+    Clocked(usize),
     /// The node under its number, or the present phase where there is none: in combinational blocks, where wires that the block
     /// writes have nodes as wide as they are.
     Mixed(&'a [Option<Node>]),
+    /// The same, where only some wires have places among the nodes: the place of each, by its number.
+    Placed(&'a [Option<usize>], &'a [Node]),
 }

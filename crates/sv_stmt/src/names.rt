@@ -4,7 +4,8 @@ ghost use Rattle.svex_arena.specs.Arenas.{Extends};
 ghost use Rattle.sv_typed.specs.declared.tree.Root.{Root};
 ghost use Rattle.sv_typed.specs.declared.tree.Origin.{Origin};
 ghost use Rattle.sv_typed.specs.Typed.{root_width, IsWidth};
-ghost use Rattle.sv_stmt.specs.Lowering.{node_of, wire_variable, IsIn, LowersRoot};
+ghost use Rattle.svex_arena.specs.Substs.{entry_at};
+ghost use Rattle.sv_stmt.specs.Lowering.{node_in, node_of, wire_variable, IsIn, LowersRoot};
 
 use crate::Look;
 use crate::parts::{place_at, windowed};
@@ -13,12 +14,25 @@ use std::alloc::{AllocError, Global};
 use sv_typed::{Origin, Root};
 use svex_arena::{Arena, Node, Shape, VarName};
 
+// The node at the place of a wire.
+fn node_in(places: &[Option<usize>], nodes: &[Node], number: usize) -> Option<Node>
+    ensures { result ≡ node_in nodes.now (entry_at places.now number) }
+{
+    if number >= places.len() {
+        return None;
+    }
+    match places[number] {
+        Some(at) if at < nodes.len() => Some(nodes[at]),
+        _ => None,
+    }
+}
+
 // The node under the number of a wire.
 fn node_of(look: &Look<'_>, number: usize) -> Option<Node>
     ensures { result ≡ node_of look.now number }
 {
     match look {
-        Look::Present | Look::Previous => None,
+        Look::Present | Look::Previous | Look::Clocked(_) => None,
         Look::Mixed(nodes) => {
             if number < nodes.len() {
                 nodes[number]
@@ -26,6 +40,7 @@ fn node_of(look: &Look<'_>, number: usize) -> Option<Node>
                 None
             }
         }
+        Look::Placed(places, nodes) => node_in(places, nodes, number),
     }
 }
 
@@ -34,8 +49,15 @@ fn variable(look: &Look<'_>, number: usize) -> VarName
     ensures { result ≡ wire_variable look.now number }
 {
     match look {
-        Look::Present | Look::Mixed(_) => VarName::Now(number),
+        Look::Present | Look::Mixed(_) | Look::Placed(_, _) => VarName::Now(number),
         Look::Previous => VarName::Prev(number),
+        Look::Clocked(clock) => {
+            if number == *clock {
+                VarName::Now(number)
+            } else {
+                VarName::Prev(number)
+            }
+        }
     }
 }
 

@@ -77,9 +77,9 @@ fn magnitude(index: &Four) -> u128
     }
 }
 
-// Where a part at a known index begins. None only where that is too far from 0.
+/// Where a part at a known index begins. None only where that is too far from 0.
 #[tactic(auto, using(fourvec::proofs::Places::places))]
-fn place_of(index: &Four, spot: &Spot) -> Option<Place>
+pub fn place_of(index: &Four, spot: &Spot) -> Option<Place>
     requires { IsTrue (is_known index.now) }
     ensures { IfSome result (λ p. place_of spot.now index.now ≡ reached p.below p.far) }
 {

@@ -11,7 +11,7 @@ ghost use Rattle.sv_meaning.specs.Values.{mean};
 ghost use Rattle.sv_const.specs.Judging.{IsCause};
 ghost use Rattle.sv_const.specs.Names.{names_are};
 ghost use Rattle.sv_stmt.specs.declared.look.Look.{Look};
-ghost use Rattle.sv_stmt.specs.Lowering.{look_read, HoldsOfDeclared};
+ghost use Rattle.sv_stmt.specs.Lowering.{look_read, HoldsOfNames};
 
 use crate::Look;
 use crate::expressions::lower_assigned;
@@ -45,9 +45,9 @@ pub fn lower_expr(
         → value_at (bitwise bits) arena.new n
         ≡ assigned (mean (names_are names.now) expr.now) (look_read Look.Present arena.old bits) width) }
 
-    // It mentions only signals that the names declare, at their widths.
+    // It mentions only signals that the expression names, at the widths that they are declared with.
     ensures mentions { IfOk result (λ n. (p : VarName → ℕ → Bool)
-        → HoldsOfDeclared (names_are names.now) p → IsTrue (each_variable p arena.new n)) }
+        → HoldsOfNames (mean (names_are names.now) expr.now).names p → IsTrue (each_variable p arena.new n)) }
     ensures cause { IfErr result (λ e. IsCause ((mean (names_are names.now) expr.now).faults false) e) }
 {
     match typed(alloc, expr, names, false) {

@@ -1,8 +1,9 @@
 -- The bits that constant selects name.
-use Rattle.std.proofs.Common.{◌≡◌, ℕ, zero, suc, ◌+◌, ◌-◌, ◌≤◌, ◌<◌, Bool, true, false, List, [], ◌∷◌, ◌++◌, length, drop, get_or, replicate, Option, Some, None, Result, Ok, Err, IfOk, All, refl, sym, ap, ◌∙◌, subst, arith}
-use Rattle.std.specs.Prelude.{ℤ, pos, negsuc, neg_ℤ, ◌+ℤ◌, unsigned_abs, slice_get, int_lt}
+use Rattle.std.proofs.Common.{◌≡◌, ℕ, zero, suc, ◌+◌, ◌-◌, ◌≤◌, ◌<◌, Bool, true, false, List, [], ◌∷◌, ◌++◌, length, take, drop, get_or, replicate, Option, Some, None, Result, Ok, Err, IfOk, All, refl, sym, ap, ◌∙◌, subst, arith}
+use Rattle.std.specs.Prelude.{◌&&◌, is_some, ℤ, pos, negsuc, neg_ℤ, ◌+ℤ◌, unsigned_abs, slice_get, int_lt}
 use Rattle.std.proofs.lemmas.Int.{ints}
 use Rattle.std.proofs.Math.Seq.{drop-cons, drop-nil}
+use Rattle.std.proofs.lemmas.List.{take_all}
 use Rattle.std.specs.List.{AllZip, AllByRecursion}
 use Rattle.std.specs.Prelude.{min, if◌then◌else◌}
 use Rattle.std.proofs.lemmas.List.Elements.{All-from_recursion, recursion_from_All}
@@ -17,13 +18,14 @@ use Rattle.lhs_alias.specs.Segs.{bit}
 use Rattle.sv_meaning.specs.Faults.{Faults}
 use Rattle.sv_meaning.specs.Layouts as m
 use Rattle.sv_meaning.specs.Meanings.{Meaning}
-use Rattle.sv_meaning.specs.Targets.{Target, bit_names, flat, slot_at, slots_from, slots, with_place, chain_slots}
+use Rattle.sv_meaning.specs.Targets.{Target, bit_names, flat, slot_at, slots_from, slots, with_place, chain_slots, are_fixed}
 use Rattle.sv_typed.specs.declared.tree.Pick.{Pick}
 use Rattle.sv_const.specs.Picks.{fixed_pick, picked_slots}
+use Rattle.sv_const.specs.Picks as picks
 use Rattle.sv_targets.specs.declared.targets.TypedTarget.{TypedTarget}
 use Rattle.sv_targets.specs.Targets.{StandsFor, TargetIsSound, JudgesTargets, AreNarrow, width_of_all}
 use Rattle.sv_targets.proofs.Targeting.{targets_ok, widths_are}
-use Rattle.sv_targets.specs.Slots.{Slots, IsNear, target_slots, slots_of, AreParts, IsLowered}
+use Rattle.sv_targets.specs.Slots.{Slots, IsNear, target_slots, slots_of, all_fixed, AreParts, IsLowered}
 
 next : (i : ℕ) → i + 1 ≡ suc i
 next i = omega arith
@@ -223,14 +225,89 @@ pub sound_targets : (judge : Meaning → Faults) (f : Faults) (ts : List Target)
 sound_targets judge f ts (Ok all) h = All-from_recursion TargetIsSound all (sound_of judge all ts h.stand)
 sound_targets judge f ts (Err e) h = tt
 
-pub lowered_ok : (f : Faults) (ts : List Target) (r : Result (List TypedTarget) TextErr) (all : List TypedTarget) (slots_now : Slots) (x : lowered.Target) (w : ℕ) → r ≡ Ok all → JudgesTargets fixed_faults f ts r → AreNarrow r → w ≡ min 255 (width_of_all all) → x.width ≡ w → slots_now ≡ slots_of all → AreParts slots_now x.parts → IsLowered f ts x
-lowered_ok f ts r all slots_now x w e h n k v s p =
+-- ---- indices that are constant and known
+
+sides : (a b : Bool) → (a && b) ≡ true → (a ≡ true) × (b ≡ true)
+sides true true e = (refl, refl)
+sides true false e = cc
+sides false b e = cc
+
+right_false : (a b : Bool) → b ≡ false → (a && b) ≡ false
+right_false true b e = e
+right_false false b e = refl
+
+known_first : (q : Pick) (more : List Pick) → picks.are_fixed (q ∷ more) ≡ (is_some (fixed_pick q) && picks.are_fixed more)
+unfolding picks.are_fixed
+known_first q more = go (fixed_pick q)
+  where
+    go : (o : Option ℤ) → with_place o false (λ i. picks.are_fixed more) ≡ (is_some o && picks.are_fixed more)
+    go None = refl
+    go (Some i) = refl
+
+pub none_known : true ≡ picks.are_fixed []
+unfolding picks.are_fixed
+none_known = refl
+
+known_next : (all : List Pick) (i : ℕ) (q : Pick) → i < length all → q ≡ get_or all i q → is_some (fixed_pick q) ≡ true → picks.are_fixed (take i all) ≡ true → picks.are_fixed (take (suc i) all) ≡ true
+known_next [] i q l e k h = absurd (omega arith)
+known_next (p ∷ more) zero q l e k h = known_first p [] ∙ ap (λ b. b && picks.are_fixed []) (ap (λ x. is_some (fixed_pick x)) (sym e) ∙ k) ∙ sym none_known
+known_next (p ∷ more) (suc i) q l e k h =
+    let own = sides (is_some (fixed_pick p)) (picks.are_fixed (take i more)) (sym (known_first p (take i more)) ∙ h) in
+    known_first p (take (suc i) more) ∙ ap (λ b. b && picks.are_fixed (take (suc i) more)) own.0 ∙ known_next more i q (omega arith) e k own.1
+
+pub known_more : (all : List Pick) (i : ℕ) (q : Pick) → i < length all → q ≡ get_or all i q → is_some (fixed_pick q) ≡ true → picks.are_fixed (take i all) ≡ true → picks.are_fixed (take (i + 1) all) ≡ true
+known_more all i q l e k h = ap (λ n. picks.are_fixed (take n all)) (next i) ∙ known_next all i q l e k h
+
+pub known_end : (all : List Pick) (i : ℕ) → length all ≤ i → picks.are_fixed (take i all) ≡ true → true ≡ picks.are_fixed all
+known_end all i l h = sym (ap picks.are_fixed (sym (take_all i all l)) ∙ h)
+
+pub unknown_one : (all : List Pick) (i : ℕ) (q : Pick) → i < length all → q ≡ get_or all i q → is_some (fixed_pick q) ≡ false → false ≡ picks.are_fixed all
+unfolding picks.are_fixed
+unknown_one [] i q l e k = absurd (omega arith)
+unknown_one (p ∷ more) zero q l e k = sym (known_first p more ∙ ap (λ b. b && picks.are_fixed more) (ap (λ x. is_some (fixed_pick x)) (sym e) ∙ k))
+unknown_one (p ∷ more) (suc i) q l e k = sym (known_first p more ∙ right_false (is_some (fixed_pick p)) (picks.are_fixed more) (sym (unknown_one more i q (omega arith) e k)))
+
+pub none_fixed : true ≡ all_fixed []
+unfolding all_fixed
+none_fixed = refl
+
+fixed_next : (all : List TypedTarget) (i : ℕ) (x : TypedTarget) → i < length all → x ≡ get_or all i x → picks.are_fixed x.picks ≡ true → all_fixed (take i all) ≡ true → all_fixed (take (suc i) all) ≡ true
+unfolding all_fixed
+fixed_next [] i x l e k h = absurd (omega arith)
+fixed_next (y ∷ more) zero x l e k h = ap (λ b. b && true) (ap (λ (z : TypedTarget). picks.are_fixed z.picks) (sym e) ∙ k)
+fixed_next (y ∷ more) (suc i) x l e k h =
+    let own = sides (picks.are_fixed y.picks) (all_fixed (take i more)) h in ap (λ b. b && all_fixed (take (suc i) more)) own.0 ∙ fixed_next more i x (omega arith) e k own.1
+
+pub fixed_more : (all : List TypedTarget) (i : ℕ) (x : TypedTarget) → i < length all → x ≡ get_or all i x → picks.are_fixed x.picks ≡ true → all_fixed (take i all) ≡ true → all_fixed (take (i + 1) all) ≡ true
+fixed_more all i x l e k h = ap (λ n. all_fixed (take n all)) (next i) ∙ fixed_next all i x l e k h
+
+pub fixed_end : (all : List TypedTarget) (i : ℕ) → length all ≤ i → all_fixed (take i all) ≡ true → true ≡ all_fixed all
+fixed_end all i l h = sym (ap all_fixed (sym (take_all i all l)) ∙ h)
+
+pub not_fixed_one : (all : List TypedTarget) (i : ℕ) (x : TypedTarget) → i < length all → x ≡ get_or all i x → picks.are_fixed x.picks ≡ false → false ≡ all_fixed all
+unfolding all_fixed
+not_fixed_one [] i x l e k = absurd (omega arith)
+not_fixed_one (y ∷ more) zero x l e k = sym (ap (λ b. b && all_fixed more) (ap (λ (z : TypedTarget). picks.are_fixed z.picks) (sym e) ∙ k))
+not_fixed_one (y ∷ more) (suc i) x l e k = sym (right_false (picks.are_fixed y.picks) (all_fixed more) (sym (not_fixed_one more i x (omega arith) e k)))
+
+fixed_are : (judge : Meaning → Faults) (all : List TypedTarget) (ts : List Target) → AllZip (StandsFor judge) all ts → are_fixed ts ≡ all_fixed all
+unfolding are_fixed all_fixed
+fixed_are judge [] [] h = refl
+fixed_are judge [] (t ∷ ts) h = absurd h
+fixed_are judge (x ∷ all) [] h = absurd h
+fixed_are judge (x ∷ all) (t ∷ ts) h = let s = h.0 in ap (λ b. b && are_fixed ts) s.follows.fixed ∙ ap (λ b. picks.are_fixed x.picks && b) (fixed_are judge all ts h.1)
+
+-- ---- all of it
+
+pub lowered_ok : (f : Faults) (ts : List Target) (r : Result (List TypedTarget) TextErr) (all : List TypedTarget) (slots_now : Slots) (x : lowered.Target) (w : ℕ) → r ≡ Ok all → JudgesTargets fixed_faults f ts r → AreNarrow r → w ≡ min 255 (width_of_all all) → x.width ≡ w → slots_now ≡ slots_of all → AreParts slots_now x.parts → x.fixed ≡ all_fixed all → IsLowered f ts x
+lowered_ok f ts r all slots_now x w e h n k v s p g =
     let a = targets_ok fixed_faults f ts r all e h in
     let most : width_of_all all ≤ 128 = subst AreNarrow e n in
     record {
       clear = a.clear;
       width = widths_are fixed_faults all ts a.stand ∙ (let i : width_of_all all ≡ x.width = small (width_of_all all) w x.width most k v in i);
       parts = subst (λ (z : Slots). AreParts z x.parts) (s ∙ sym (slots_are fixed_faults all ts a.stand)) p;
+      fixed = fixed_are fixed_faults all ts a.stand ∙ sym g;
     }
   where
     small : (n w v : ℕ) → n ≤ 128 → w ≡ min 255 n → v ≡ w → n ≡ v

@@ -1,12 +1,13 @@
 -- The bits that constant selects name, by their places.
-use Rattle.std.specs.Prelude.{◌≡◌, ℕ, ◌+◌, ◌-◌, ◌<◌, ◌≤◌, List, [], ◌∷◌, ◌++◌, length, take, map, replicate, Option, Some, None, Result, Ok, Err, ℤ, unsigned_abs}
+use Rattle.std.specs.Prelude.{◌≡◌, ℕ, Bool, true, ◌&&◌, ◌+◌, ◌-◌, ◌<◌, ◌≤◌, List, [], ◌∷◌, ◌++◌, length, take, map, replicate, Option, Some, None, Result, Ok, Err, ℤ, unsigned_abs}
 use Rattle.std.specs.List.{All}
 use Rattle.fourvec.specs.Spots.{reached}
 use Rattle.lhs_alias.specs.declared.segs.WireBit.{WireBit}
 use Rattle.lhs_alias.specs.Segs.{lhs_bits, AreSegs}
-use Rattle.sv_meaning.specs.Targets.{Target, slots, slots_from, widths, bit_names}
+use Rattle.sv_meaning.specs.Targets.{Target, slots, slots_from, widths, bit_names, are_fixed}
 use Rattle.sv_typed.specs.declared.tree.Pick.{Pick}
 use Rattle.sv_const.specs.Picks.{fixed_pick, picked_slots}
+use Rattle.sv_const.specs.Picks as picks
 use Rattle.sv_targets.specs.declared.places.Spotted.{Spotted}
 use Rattle.sv_targets.specs.declared.places.Spotted.TheVariants.{Moving, At, Far}
 use Rattle.sv_targets.specs.declared.targets.TypedTarget.{TypedTarget}
@@ -53,6 +54,11 @@ unfoldable pub slots_of : List TypedTarget → Slots
 slots_of [] = []
 slots_of (x ∷ more) = slots_of more ++ target_slots x
 
+-- each index is constant and known
+unfoldable pub all_fixed : List TypedTarget → Bool
+all_fixed [] = true
+all_fixed (x ∷ more) = picks.are_fixed x.picks && all_fixed more
+
 -- ---- parts
 
 -- The slots of parts from a place on, none between them.
@@ -85,11 +91,12 @@ pub record Runs (all : Slots) (at : ℕ) (parts : List Part) (run : List WireBit
   pub ascend : Ascend 0 parts
   pub segs : All (λ p. AreSegs p.to) parts
 
--- A target with its width and its bits that are there, against which nothing stands
+-- A target with its width, its bits that are there, and whether its indices are constant and known, against which nothing stands
 pub record IsLowered (f : Faults) (ts : List Target) (x : parts.Target) : Type 0 where
   pub clear : f ≡ []
   pub width : widths ts ≡ x.width
   pub parts : AreParts (slots ts) x.parts
+  pub fixed : are_fixed ts ≡ x.fixed
 
 abbrev pub JudgesParts : Faults → List Target → Result parts.Target TextErr → Type 0
 JudgesParts f ts (Ok x) = IsLowered f ts x

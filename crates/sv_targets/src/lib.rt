@@ -2,6 +2,7 @@
 #![tactic(auto)]
 
 mod actuals;
+mod fixed;
 mod parts;
 mod places;
 mod slots;
@@ -9,4 +10,5 @@ mod targets;
 
 pub use actuals::typed_actual;
 pub use parts::{Part, Target, target_of, target_of_actual};
+pub use slots::all_slots;
 pub use targets::{TypedTarget, typed_targets};

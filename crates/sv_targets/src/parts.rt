@@ -10,6 +10,7 @@ ghost use Rattle.sv_targets.specs.Slots.{Slots, IsNear, Runs, AreParts, JudgesPa
 ghost use Rattle.sv_targets.specs.Targets.{JudgesTargets, AreNarrow, TargetIsSound};
 
 use crate::actuals::typed_actual;
+use crate::fixed::are_fixed;
 use crate::slots::all_slots;
 use crate::targets::{TypedTarget, typed_targets, width_of_all};
 use items::Items;
@@ -26,11 +27,13 @@ pub struct Part {
     pub to: Lhs,
 }
 
-/// A target: how many bits it has, and its bits that are in range, from the least significant on.
+/// A target: how many bits it has, its bits that are in range, from the least significant on, and whether each of its indices is
+/// constant and known.
 #[derive(Drop)]
 pub struct Target {
     pub width: usize,
     pub parts: Items<Part>,
+    pub fixed: bool,
 }
 
 // Bits from the least significant on as segments, neighbours as one.
@@ -125,7 +128,12 @@ fn lowered(alloc: Global, targets: Result<Items<TypedTarget>, TextErr>) -> Resul
             let width = width_of_all(targets.as_slice()) as usize;
             let all = all_slots(alloc, targets.as_slice())?;
             let parts = parts_of(alloc, all.as_slice())?;
-            Ok(Target { width, parts })
+            let fixed = are_fixed(targets.as_slice());
+            Ok(Target {
+                width,
+                parts,
+                fixed,
+            })
         }
         Err(why) => Err(why),
     }

@@ -134,7 +134,7 @@ fn target_slots(alloc: Global, target: &TypedTarget) -> Result<Items<Option<Wire
 }
 
 /// The slots that targets name, of which the first is the most significant.
-pub(crate) fn all_slots(
+pub fn all_slots(
     alloc: Global,
     targets: &[TypedTarget],
 ) -> Result<Items<Option<WireBit>>, AllocError>

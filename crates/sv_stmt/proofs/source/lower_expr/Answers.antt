@@ -3,7 +3,7 @@ use Rattle.sv_meaning.specs.Values.{mean}
 use Rattle.sv_const.specs.Names.{names_are}
 use Rattle.sv_stmt.specs.declared.look.Look.TheVariants.{Present}
 use Rattle.sv_stmt.specs.Lowering.{look_read}
-use Rattle.sv_stmt.proofs.Sources.{assigned_worth, declared_hold}
+use Rattle.sv_stmt.proofs.Sources.{assigned_worth, names_hold}
 use Rattle.sv_stmt.proofs.source.lower_expr.Goals as goal
 
 pub returns-in_ok-node-in-Ok-clause-value : goal.returns-in_ok-node-in-Ok-clause-value
@@ -13,4 +13,4 @@ returns-in_ok-node-in-Ok-clause-value c = λ bits.
 
 pub returns-in_ok-node-in-Ok-clause-mentions : goal.returns-in_ok-node-in-Ok-clause-mentions
 returns-in_ok-node-in-Ok-clause-mentions c = λ p h.
-    c.in_ok-node-in-Ok.ensures.mentions p (declared_hold (names_are c.args.names.now) c.args.expr.now c.in-Ok.tree c.args.arena.now p c.in-Ok.ensures.stands h)
+    c.in_ok-node-in-Ok.ensures.mentions p (names_hold (mean (names_are c.args.names.now) c.args.expr.now) c.in-Ok.tree c.args.arena.now p c.in-Ok.ensures.stands h)
