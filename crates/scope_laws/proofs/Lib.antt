@@ -1,0 +1,4 @@
+pub mod Good
+pub mod Plain
+pub mod Keeping
+pub mod Seen

@@ -1,0 +1,116 @@
+-- The constants and types that declarations bring are no signals.
+use Rattle.std.proofs.Common.{◌≡◌, ℕ, Bool, List, [], ◌∷◌, ◌++◌, Option, Some, None, Ok, Err, refl, sym, ap, ◌∙◌, subst}
+use mathlib.Core.Former.{Count}
+use Rattle.std.specs.Prelude.{ℤ, ◌+ℤ◌, pos, ◌+◌}
+use Rattle.fourvec.specs.Bits.{signed_vector}
+use Rattle.sv_outside.specs.declared.text.Signal.{Signal}
+use Rattle.sv_tree.specs.declared.word.Word.{Word}
+use Rattle.sv_tree.specs.declared.forms.EnumLabel.{EnumLabel}
+use Rattle.sv_tree.specs.declared.forms.TypeTree.{TypeTree, Vector, Integer, Struct', Enum, Named, Row_of-Member, end_of-Member, more_of-Member}
+use Rattle.sv_tree.specs.declared.forms.Member.{Of', end_of-TypeTree, more_of-TypeTree}
+use Rattle.sv_tree.specs.declared.design.ParamType.{ParamType}
+use Rattle.sv_tree.specs.declared.design.ParamType.TheVariants as param_type
+use Rattle.sv_meaning.specs.Faults.{Faults, Judged, provided, ◌>>=◌}
+use Rattle.sv_meaning.specs.Layouts.{Name, Layout, width, Scope, What, number_is, type_is, signal_is, genvar_is, find}
+use Rattle.sv_meaning.specs.Meanings.{Meaning}
+use Rattle.sv_meaning.specs.Forms.{Declared, Formed, entry_of, entries_of, has_sign, option_to_list, vector_layout, struct_layout, named_layout, label_number, label_entry, labels, texts_of, bits_of, member_faults, members_of, alone, form, forms}
+use Rattle.sv_meaning.specs.Params.{untyped, with_sign, typed, range_width, param_value}
+use Rattle.scope_laws.proofs.Good.{IsGood}
+
+-- ---- what is judged
+
+-- what is found, and nothing against it
+abbrev Found : {A : Type 0} → Judged A → A → Type 0
+Found j y = j ≡ Ok y
+
+pub same_ok : {A : Type 0} (x y : A) → Found (Ok x) y → x ≡ y
+same_ok x y h = cc
+
+pub bind_ok : {A B : Type 0} (j : Judged A) (f : A → Judged B) (y : B) → (j >>= f) ≡ Ok y → (x : A) × (j ≡ Ok x) × (f x ≡ Ok y)
+bind_ok (Ok x) f y h = (x, refl, h)
+bind_ok (Err e) f y h = cc
+
+pub provided_ok : {A : Type 0} (all : Faults) (x y : A) → provided all x ≡ Ok y → x ≡ y
+provided_ok [] x y h = same_ok x y h
+provided_ok (f ∷ all) x y h = cc
+
+-- ---- no signals
+
+abbrev pub IsPlain : What → Type 0
+IsPlain x = (wires : List Signal) → IsGood wires x
+
+unfoldable pub ArePlain : List Declared → Type 0
+ArePlain [] = Unit {0}
+ArePlain (d ∷ more) = IsPlain d.1 × ArePlain more
+
+none_plain : ArePlain []
+unfolding ArePlain
+none_plain = tt
+
+both_plain : (a b : List Declared) → ArePlain a → ArePlain b → ArePlain (a ++ b)
+unfolding ArePlain
+both_plain [] b f g = g
+both_plain (d ∷ a) b f g = (f.0, both_plain a b f.1 g)
+
+-- ---- types
+
+labels_plain : (at : Scope) (w : ℕ) (s : Bool) (next : ℤ) (all : List EnumLabel) (y : List Declared) → labels at w s next all ≡ Ok y → ArePlain y
+unfolding labels ArePlain
+labels_plain at w s next [] y h = subst ArePlain (same_ok [] y h) none_plain
+labels_plain at w s next (x ∷ more) y h =
+    let a = bind_ok (label_number at w next x.value) _ y h in
+    let b = bind_ok (label_entry w s x.name a.0) _ y a.2 in
+    let c = bind_ok (labels (at ++ entry_of b.0 ∷ []) w s (a.0 +ℤ pos 1) more) _ y b.2 in
+    let e : (x.name, number_is (signed_vector w a.0) s) ≡ b.0 = provided_ok _ (x.name, number_is (signed_vector w a.0) s) b.0 b.1 in
+    let p : IsPlain (number_is (signed_vector w a.0) s) = λ wires. tt in
+    let q : IsPlain b.0.1 = subst (λ (d : Declared). IsPlain d.1) e p in
+    subst ArePlain (same_ok (b.0 ∷ c.0) y c.2) (q, labels_plain (at ++ entry_of b.0 ∷ []) w s (a.0 +ℤ pos 1) more c.0 c.1)
+
+no_names : (j : Judged Layout) (y : Formed) → (j >>= λ x. Ok (alone x)) ≡ Ok y → ArePlain y.1
+no_names j y h = let a = bind_ok j (λ x. Ok (alone x)) y h in subst (λ (z : Formed). ArePlain z.1) (same_ok (alone a.0) y a.2) none_plain
+
+mutual
+  unfolding form
+
+  pub form_plain : (at : Scope) (t : TypeTree) (y : Formed) → form at t ≡ Ok y → ArePlain y.1
+  form_plain at (Vector word s ranges) y h = no_names (vector_layout at (has_sign s) ranges) y h
+  form_plain at Integer y h = subst (λ (z : Formed). ArePlain z.1) (same_ok _ y h) none_plain
+  form_plain at (Named w ranges) y h = no_names (named_layout at w (find w.text at) ranges) y h
+  form_plain at (Enum word s r all) y h =
+      let a = bind_ok (vector_layout at (has_sign s) (option_to_list r)) _ y h in
+      let b = bind_ok (labels at (width a.0) (has_sign s) (pos 0) all) _ y a.2 in
+      subst (λ (z : Formed). ArePlain z.1) (same_ok (a.0, b.0) y b.2) (labels_plain at (width a.0) (has_sign s) (pos 0) all b.0 b.1)
+  form_plain at (Struct' s r all ranges) y h =
+      let a = bind_ok (forms at [] 0 all) _ y h in
+      let b = bind_ok (struct_layout (at ++ entries_of a.0.1) (has_sign s) ranges a.0.0) _ y a.2 in
+      subst (λ (z : Formed). ArePlain z.1) (same_ok (b.0, a.0.1) y b.2) (forms_plain at [] 0 all a.0 a.1)
+
+  forms_plain : {m : Count} (at : Scope) (used : List Name) (bits : ℕ) (all : Row_of-Member m) (y : _) → forms at used bits all ≡ Ok y → ArePlain y.1
+  forms_plain at used bits end_of-Member y h = subst (λ z. ArePlain z.1) (same_ok _ y h) none_plain
+  forms_plain at used bits (more_of-Member (Of' r (more_of-TypeTree t end_of-TypeTree) names) all) y h =
+      let a = bind_ok (form at t) _ y h in
+      let b = bind_ok (provided (member_faults used bits (width a.0.0) names) a.0) _ y a.2 in
+      let c = bind_ok (forms (at ++ entries_of b.0.1) (used ++ texts_of names) (bits + bits_of names (width b.0.0)) all) _ y b.2 in
+      let same : a.0 ≡ b.0 = provided_ok (member_faults used bits (width a.0.0) names) a.0 b.0 b.1 in
+      let own : ArePlain b.0.1 = subst (λ (z : Formed). ArePlain z.1) same (form_plain at t a.0 a.1) in
+      subst (λ z. ArePlain z.1) (same_ok _ y c.2) (both_plain b.0.1 c.0.1 own (forms_plain (at ++ entries_of b.0.1) (used ++ texts_of names) (bits + bits_of names (width b.0.0)) all c.0 c.1))
+
+-- ---- parameters
+
+number_plain : (all : Faults) (v : _) (s : Bool) (y : What) → provided all (number_is v s) ≡ Ok y → IsPlain y
+number_plain all v s y h = let p : IsPlain (number_is v s) = λ wires. tt in subst IsPlain (provided_ok all (number_is v s) y h) p
+
+ranged_plain : (j : Judged ℕ) (s : Bool) (m : Meaning) (y : What) → (j >>= λ w. typed w s m) ≡ Ok y → IsPlain y
+ranged_plain j s m y h = let a = bind_ok j (λ w. typed w s m) y h in number_plain _ _ s y a.2
+
+pub param_plain : (at : Scope) (t : Option ParamType) (m : Meaning) (y : What) → param_value at t m ≡ Ok y → IsPlain y
+param_plain at None m y h = number_plain _ _ _ y h
+param_plain at (Some (param_type.Whole word s)) m y h = number_plain _ _ _ y h
+param_plain at (Some (param_type.Bits None None None)) m y h = number_plain _ _ _ y h
+param_plain at (Some (param_type.Bits None (Some s) None)) m y h = number_plain _ _ _ y h
+param_plain at (Some (param_type.Bits (Some word) None None)) m y h = number_plain _ _ _ y h
+param_plain at (Some (param_type.Bits (Some word) (Some s) None)) m y h = number_plain _ _ _ y h
+param_plain at (Some (param_type.Bits None None (Some r))) m y h = ranged_plain (range_width at r) _ m y h
+param_plain at (Some (param_type.Bits None (Some s) (Some r))) m y h = ranged_plain (range_width at r) _ m y h
+param_plain at (Some (param_type.Bits (Some word) None (Some r))) m y h = ranged_plain (range_width at r) _ m y h
+param_plain at (Some (param_type.Bits (Some word) (Some s) (Some r))) m y h = ranged_plain (range_width at r) _ m y h
