@@ -1,0 +1,37 @@
+use Rattle.std.proofs.Common.{refl, ◌∙◌}
+use Rattle.svex_arena.proofs.Keeping.{extends_self, extends_on}
+use Rattle.sv_blocks.proofs.Stores.{state_kept}
+use Rattle.sv_blocks.proofs.Assigning.{wrote_none, wrote_more, wrote_end, left_on, part_room}
+use Rattle.sv_blocks.proofs.assigns.write_targets.Goals as goal
+
+pub targets-init : goal.targets-init
+targets-init c = record {
+  stays = extends_self _;
+  state = c.requires.state;
+  left = c.width-left.ensures.is ∙ c.requires.wide;
+  made = wrote_none _ _ _ _ _ _ c.len.ensures.arena c.requires.whole c.width-left.ensures.is;
+}
+
+pub overflow_sub-left : goal.overflow_sub-left
+overflow_sub-left c = (left_on _ _ _ _ c.targets-test.true c.target-item.is c.targets.invariant.left).0
+
+pub sliced-requires-clause-within : goal.sliced-requires-clause-within
+sliced-requires-clause-within c = part_room _ _ _ _ _ _ _ c.targets.invariant.stays c.requires.whole c.requires.wide c.targets-test.true c.target-item.is c.targets.invariant.left
+
+pub write_target-requires-clause-state : goal.write_target-requires-clause-state
+write_target-requires-clause-state c = state_kept _ _ _ _ c.in_ok-part.ensures.stays c.targets.invariant.state
+
+pub targets-preserved : goal.targets-preserved
+targets-preserved c =
+    let i = c.targets.invariant in
+    record {
+      stays = extends_on _ _ _ (extends_on _ _ _ i.stays c.in_ok-part.ensures.stays) c.in_ok-write_target.ensures.stays;
+      state = c.in_ok-write_target.ensures.state;
+      left = (left_on _ _ _ _ c.targets-test.true c.target-item.is i.left).1;
+      made =
+          wrote_more _ _ _ _ _ _ _ _ _ _ _ _ _ _ _ c.requires.scene c.targets-test.true c.target-item.is i.left refl c.requires.whole i.state.nodes i.stays c.in_ok-part.ensures.stays
+          i.made c.in_ok-part.ensures.ok c.in_ok-write_target.ensures.wrote;
+    }
+
+pub returns-clause-wrote : goal.returns-clause-wrote
+returns-clause-wrote c = wrote_end _ _ _ _ _ _ _ _ _ c.targets-test.false c.targets.invariant.made

@@ -1,0 +1,13 @@
+use Rattle.std.proofs.Common.{◌≡◌, ◌<◌, ◌≤◌, Bool, true, false, List, length, set, get_or, sym, subst, ap, ◌∙◌, arith}
+use Rattle.std.proofs.lemmas.List.{get_or_read}
+use Rattle.sv_blocks.proofs.Marking.{so_far_new, so_far_same}
+use Rattle.sv_blocks.proofs.bits.mark_bit.Goals as goal
+
+pub returns-in_ok-push : goal.returns-in_ok-push
+returns-in_ok-push c = λ all start sc s.
+    so_far_new start c.args.scene.now all c.args.bits.now.items c.push.new.self.items c.set.new.self c.args.bit.now c.in-Some.place sc s c.in-Some.ensures
+    (omega (arith, c.if-place-len.false, c.len.ensures)) (subst (λ (z : List Bool). get_or z c.in-Some.place false ≡ false) c.as_slice.ensures c.if-not-as_slice-place.true) c.set.ensures c.in_ok-push.ensures.items
+
+pub returns-else-not-as_slice-place : goal.returns-else-not-as_slice-place
+returns-else-not-as_slice-place c = λ all start sc s.
+    so_far_same start c.args.scene.now all c.args.bits.now.items c.args.bit.now c.in-Some.place s c.in-Some.ensures (subst (λ (z : List Bool). get_or z c.in-Some.place false ≡ true) c.as_slice.ensures c.if-not-as_slice-place.false)

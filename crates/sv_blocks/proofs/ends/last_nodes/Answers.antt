@@ -1,0 +1,16 @@
+use Rattle.std.proofs.Common.{◌≡◌, List, ℕ, refl, sym, ◌∙◌, subst}
+use Rattle.svex_arena.specs.Arenas.{Extends}
+use Rattle.svex_arena.proofs.Keeping.{extends_on}
+use Rattle.sv_blocks.specs.Scenes.{AreNodes, Ran}
+use Rattle.sv_blocks.proofs.Stores.{nodes_kept}
+use Rattle.sv_blocks.proofs.Ending.{ended_ok}
+use Rattle.sv_blocks.proofs.ends.last_nodes.Goals as goal
+
+pub ended-requires-clause-start : goal.ended-requires-clause-start
+ended-requires-clause-start c =
+    subst (λ xs. AreNodes c.args.scene.now c.run_actions.new.arena xs) (sym c.as_slice-2.ensures)
+    (nodes_kept _ _ _ _ c.in_ok-start.ensures.ok.nodes_are (extends_on _ _ _ c.in_ok-state.ensures.stays c.in_ok-run_actions.ensures.stays))
+
+pub returns-clause-ok : goal.returns-clause-ok
+returns-clause-ok c = ended_ok c.ended.result c.args.scene.now c.start_nodes.new.arena c.state_of.new.arena c.run_actions.new.arena c.ended.new.arena c.args.clock c.args.actions.now c.in_ok-start.start c.as_slice-2.result.now c.in_ok-state.state.nodes c.run_actions.new.state.nodes c.requires.scene c.requires.clock
+    c.in_ok-start.ensures.ok (c.in_ok-state.ensures.nodes ∙ c.from_vec-nodes.ensures ∙ c.in_ok-to_vec.ensures.items_if_clones_equal (λ x y h. h) ∙ c.as_slice.ensures) c.in_ok-state.ensures.stays c.in_ok-run_actions.ensures.stays c.in_ok-run_actions.ensures.ran c.as_slice-2.ensures c.ended.ensures.ok

@@ -1,0 +1,17 @@
+use Rattle.std.proofs.Common.{refl}
+use Rattle.sv_blocks.proofs.Stores.{state_kept}
+use Rattle.sv_blocks.proofs.Labeling.{label_yields, same_width, mask_width}
+use Rattle.sv_blocks.proofs.labels.label_equals.Goals as goal
+
+pub lowered-requires-2-clause-state : goal.lowered-requires-2-clause-state
+lowered-requires-2-clause-state c = state_kept _ _ _ _ c.in_ok-value.ensures.stays c.requires.state
+
+pub equal-requires-clause-same : goal.equal-requires-clause-same
+equal-requires-clause-same c = same_width _ _ _ _ _ _ _ _ _ _ _ _ c.in_ok-other.ensures.stays c.in_ok-value.ensures.ok c.in_ok-other.ensures.ok
+
+pub equal-requires-clause-mask : goal.equal-requires-clause-mask
+equal-requires-clause-mask c = mask_width _ _ _ _ _ _ _ _ _ _ c.in_ok-other.ensures.stays c.in_ok-value.ensures.ok c.mask_of.ensures.wide
+
+pub returns-clause-ok : goal.returns-clause-ok
+returns-clause-ok c =
+    label_yields _ _ _ _ _ _ c.args.case.now c.args.case.now.value c.args.label.now _ _ _ _ c.requires.scene c.requires.state.nodes c.in_ok-value.ensures.stays c.in_ok-other.ensures.stays refl c.mask_of.ensures.equal c.in_ok-value.ensures.ok c.in_ok-other.ensures.ok c.in_ok-node.ensures.ok

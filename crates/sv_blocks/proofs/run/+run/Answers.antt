@@ -1,0 +1,192 @@
+use Rattle.std.proofs.Common.{◌≡◌, ◌+◌, ◌-◌, ◌<◌, length, refl, sym, ap, ◌∙◌, subst, arith, All}
+use Rattle.svex_arena.proofs.Keeping.{extends_self, extends_on}
+use Rattle.svex_arena.proofs.Steps.{width-extends}
+use Rattle.sv_stmt.proofs.Lowered.{element}
+use Rattle.sv_actions.specs.Doing.{Fits, LabelFits}
+use Rattle.sv_blocks.specs.Running.{ArmFits}
+use Rattle.sv_blocks.proofs.Stores.{state_kept}
+use Rattle.sv_blocks.proofs.Acting.{fits_assign_by, fits_choose_by, fits_match_by}
+use Rattle.sv_blocks.proofs.Falling.{choose_left, choose_right, match_other, match_arms, action_less, arm_less, body_less}
+use Rattle.sv_blocks.proofs.Running.{on_ok, state_as, ran_assign, ran_choose, ran_match, ran_arm_by, some_none, some_more, some_end, arms_none, arms_more, arms_end}
+use Rattle.sv_blocks.proofs.run.+run.Goals as goal
+
+-- ---- an assignment
+
+pub run_action-assign-requires-clause-value : goal.run_action-assign-requires-clause-value
+run_action-assign-requires-clause-value t c = (fits_assign_by _ _ _ _ c.in-Assign.is c.as_slice.ensures c.requires.fits).value
+
+pub run_action-assign-requires-clause-targets : goal.run_action-assign-requires-clause-targets
+run_action-assign-requires-clause-targets t c = (fits_assign_by _ _ _ _ c.in-Assign.is c.as_slice.ensures c.requires.fits).targets
+
+pub run_action-assign-requires-clause-some : goal.run_action-assign-requires-clause-some
+run_action-assign-requires-clause-some t c = (fits_assign_by _ _ _ _ c.in-Assign.is c.as_slice.ensures c.requires.fits).some
+
+pub run_action-assign-requires-clause-most : goal.run_action-assign-requires-clause-most
+run_action-assign-requires-clause-most t c = (fits_assign_by _ _ _ _ c.in-Assign.is c.as_slice.ensures c.requires.fits).most
+
+pub run_action-returns-in-Assign-clause-ran : goal.run_action-returns-in-Assign-clause-ran
+run_action-returns-in-Assign-clause-ran t c = on_ok _ _ _ (λ k. ran_assign _ _ _ _ _ c.args.action.now _ _ _ c.in-Assign.is c.as_slice.ensures k) c.assign.ensures.ran
+
+-- ---- a choice
+
+pub run_action-truth-requires-clause-sound : goal.run_action-truth-requires-clause-sound
+run_action-truth-requires-clause-sound t c = (fits_choose_by _ _ _ _ _ _ c.in-Choose.is refl refl c.requires.fits).condition
+
+pub run_action-run_actions-requires : goal.run_action-run_actions-requires
+run_action-run_actions-requires t c = (
+  choose_left _ _ _ _ _ t c.in-Choose.is c.as_slice-in-Choose.ensures c.decreases,
+  (
+    c.requires.scene,
+    (
+      state_as _ _ _ _ c.in_ok-taken-in-Choose.ensures.nodes c.in_ok-taken-in-Choose.ensures.seen (state_kept _ _ _ _ c.in_ok-truth-in-Choose.ensures.stays c.requires.state),
+      (fits_choose_by _ _ _ _ _ _ c.in-Choose.is c.as_slice-in-Choose.ensures refl c.requires.fits).taken,
+    ),
+  ),
+)
+
+pub run_action-run_actions-requires-in-Choose : goal.run_action-run_actions-requires-in-Choose
+run_action-run_actions-requires-in-Choose t c = (
+  choose_right _ _ _ _ _ t c.in-Choose.is c.as_slice-in-Choose-2.ensures c.decreases,
+  (
+    c.requires.scene,
+    (
+      state_kept _ _ _ _ (extends_on _ _ _ c.in_ok-truth-in-Choose.ensures.stays c.in_ok-run_actions-in-Choose.ensures.stays) c.requires.state,
+      (fits_choose_by _ _ _ _ _ _ c.in-Choose.is refl c.as_slice-in-Choose-2.ensures c.requires.fits).other,
+    ),
+  ),
+)
+
+pub run_action-merge-requires-clause-one : goal.run_action-merge-requires-clause-one
+run_action-merge-requires-clause-one t c =
+    width-extends _ _ _ (extends_on _ _ _ c.in_ok-run_actions-in-Choose.ensures.stays c.in_ok-run_actions-in-Choose-2.ensures.stays) c.in_ok-truth-in-Choose.ensures.ok.within ∙ c.in_ok-truth-in-Choose.ensures.ok.width
+
+pub run_action-merge-requires-clause-taken : goal.run_action-merge-requires-clause-taken
+run_action-merge-requires-clause-taken t c = state_kept _ _ _ _ c.in_ok-run_actions-in-Choose-2.ensures.stays c.in_ok-run_actions-in-Choose.ensures.state
+
+pub run_action-returns-in_ok-run_actions-in-Choose-2-clause-ran : goal.run_action-returns-in_ok-run_actions-in-Choose-2-clause-ran
+run_action-returns-in_ok-run_actions-in-Choose-2-clause-ran t c =
+    on_ok _ _ _ (λ m.
+    ran_choose _ _ _ _ _ _ _ _ _ _ _ c.args.action.now _ _ _ _ _ _ c.requires.scene c.requires.state.nodes c.in_ok-taken-in-Choose.ensures.nodes c.in-Choose.is c.as_slice-in-Choose.ensures c.as_slice-in-Choose-2.ensures
+    c.in_ok-truth-in-Choose.ensures.stays c.in_ok-run_actions-in-Choose.ensures.stays c.in_ok-run_actions-in-Choose-2.ensures.stays c.in_ok-run_actions-in-Choose.ensures.state.nodes
+    c.in_ok-truth-in-Choose.ensures.ok c.in_ok-run_actions-in-Choose.ensures.ran c.in_ok-run_actions-in-Choose-2.ensures.ran m)
+    c.merge.ensures.merged
+
+-- ---- a case statement
+
+pub run_action-run_actions-requires-in-Match : goal.run_action-run_actions-requires-in-Match
+run_action-run_actions-requires-in-Match t c = (
+  match_other _ _ _ _ _ t c.in-Match.is c.as_slice-in-Match.ensures c.decreases,
+  (c.requires.scene, (c.requires.state, (fits_match_by _ _ _ _ _ _ c.in-Match.is refl c.as_slice-in-Match.ensures c.requires.fits).other)),
+)
+
+pub run_action-run_arms-requires : goal.run_action-run_arms-requires
+run_action-run_arms-requires t c = (
+  match_arms _ _ _ _ _ t c.in-Match.is c.as_slice-in-Match-2.ensures c.decreases,
+  (
+    c.requires.scene,
+    (
+      state_as _ _ _ _ c.in_ok-start-in-Match.ensures.nodes c.in_ok-start-in-Match.ensures.seen (state_kept _ _ _ _ c.in_ok-run_actions-in-Match.ensures.stays c.requires.state),
+      (
+        c.in_ok-run_actions-in-Match.ensures.state,
+        ((fits_match_by _ _ _ _ _ _ c.in-Match.is refl refl c.requires.fits).case, (fits_match_by _ _ _ _ _ _ c.in-Match.is c.as_slice-in-Match-2.ensures refl c.requires.fits).each),
+      ),
+    ),
+  ),
+)
+
+pub run_action-returns-in_ok-run_actions-in-Match-clause-ran : goal.run_action-returns-in_ok-run_actions-in-Match-clause-ran
+run_action-returns-in_ok-run_actions-in-Match-clause-ran t c =
+    on_ok _ _ _ (λ m.
+    ran_match _ _ _ _ _ _ _ _ c.args.action.now _ _ _ _ _ c.requires.scene c.requires.state.nodes c.in_ok-start-in-Match.ensures.nodes c.in-Match.is c.as_slice-in-Match-2.ensures c.as_slice-in-Match.ensures
+    c.in_ok-run_actions-in-Match.ensures.stays c.in_ok-run_actions-in-Match.ensures.ran m)
+    c.run_arms.ensures.ran
+
+-- ---- actions, one after another
+
+pub run_actions-actions-init : goal.run_actions-actions-init
+run_actions-actions-init t c = record { stays = extends_self _; state = c.requires.state; made = some_none _ _ _ _ }
+
+pub run_actions-run_action-requires : goal.run_actions-run_action-requires
+run_actions-run_action-requires t c =
+    (action_less _ _ _ t c.actions-test.true c.action-item.is c.decreases, (c.requires.scene, (c.actions.invariant.state, element Fits _ _ _ c.requires.fits c.actions-test.true c.action-item.is)))
+
+pub run_actions-actions-preserved : goal.run_actions-actions-preserved
+run_actions-actions-preserved t c =
+    let i = c.actions.invariant in
+    record {
+      stays = extends_on _ _ _ i.stays c.in_ok-run_action.ensures.stays;
+      state = c.in_ok-run_action.ensures.state;
+      made = some_more _ _ _ _ _ _ _ _ _ _ c.actions-test.true c.action-item.is i.made c.in_ok-run_action.ensures.ran;
+    }
+
+pub run_actions-returns-clause-state : goal.run_actions-returns-clause-state
+run_actions-returns-clause-state t c = c.actions.invariant.state
+
+pub run_actions-returns-clause-ran : goal.run_actions-returns-clause-ran
+run_actions-returns-clause-ran t c = some_end _ _ _ _ _ _ _ c.actions-test.false c.actions.invariant.made
+
+-- ---- arms, from the last backwards
+
+pub run_arms-arms-init : goal.run_arms-arms-init
+run_arms-arms-init t c =
+    record { stays = extends_self _; within = omega arith; state = c.requires.state; made = arms_none c.args.scene.now _ c.args.case.now c.args.arms.now _ _ _ refl }
+
+pub run_arms-run_arm-requires : goal.run_arms-run_arm-requires
+run_arms-run_arm-requires t c =
+    let i = c.arms.invariant in
+    let l : c.arms.at - 1 < length c.args.arms.now = let a = c.arms-test.true in let b = i.within in omega arith in (
+      arm_less _ _ _ t l c.index-arms-at.is c.decreases,
+      (c.requires.scene, (state_kept _ _ _ _ i.stays c.requires.start, (i.state, (c.requires.case, element (ArmFits c.args.case.now) _ _ _ c.requires.arms l c.index-arms-at.is)))),
+    )
+
+pub run_arms-arms-preserved : goal.run_arms-arms-preserved
+run_arms-arms-preserved t c =
+    let i = c.arms.invariant in
+    let l : c.arms.at - 1 < length c.args.arms.now = let a = c.arms-test.true in let b = i.within in omega arith in
+    let next : c.arms.at ≡ c.arms.at - 1 + 1 = let a = c.arms-test.true in omega arith in
+    record {
+      stays = extends_on _ _ _ i.stays c.in_ok-run_arm.ensures.stays;
+      within = let b = i.within in omega arith;
+      state = c.in_ok-run_arm.ensures.state;
+      made =
+          arms_more c.args.scene.now _ _ _ c.args.case.now c.args.arms.now (c.arms.at - 1) c.arms.at c.index-arms-at.result _ _ _ _ c.requires.scene c.requires.start.nodes i.stays l next c.index-arms-at.is
+          i.made c.in_ok-run_arm.ensures.ran;
+    }
+
+pub run_arms-returns-clause-state : goal.run_arms-returns-clause-state
+run_arms-returns-clause-state t c = c.arms.invariant.state
+
+pub run_arms-returns-clause-ran : goal.run_arms-returns-clause-ran
+run_arms-returns-clause-ran t c =
+    let none : c.arms.at ≡ 0 = let a = c.arms-test.false in omega arith in
+    arms_end c.args.scene.now _ _ c.args.case.now c.args.arms.now c.arms.at _ _ _ none c.arms.invariant.made
+
+-- ---- one arm
+
+pub run_arm-label_matches-requires-clause-labels : goal.run_arm-label_matches-requires-clause-labels
+run_arm-label_matches-requires-clause-labels t c = subst (All (LabelFits c.args.case.now)) (sym c.as_slice.ensures) c.requires.arm.labels
+
+pub run_arm-run_actions-requires : goal.run_arm-run_actions-requires
+run_arm-run_actions-requires t c = (
+  body_less c.args.arm.now _ t c.as_slice-2.ensures c.decreases,
+  (
+    c.requires.scene,
+    (
+      state_as _ _ _ _ c.in_ok-taken.ensures.nodes c.in_ok-taken.ensures.seen (state_kept _ _ _ _ c.in_ok-truth.ensures.stays c.requires.start),
+      subst (All Fits) (sym c.as_slice-2.ensures) c.requires.arm.body,
+    ),
+  ),
+)
+
+pub run_arm-merge-requires-clause-one : goal.run_arm-merge-requires-clause-one
+run_arm-merge-requires-clause-one t c = width-extends _ _ _ c.in_ok-run_actions.ensures.stays c.in_ok-truth.ensures.ok.within ∙ c.in_ok-truth.ensures.ok.width
+
+pub run_arm-merge-requires-clause-state : goal.run_arm-merge-requires-clause-state
+run_arm-merge-requires-clause-state t c = state_kept _ _ _ _ (extends_on _ _ _ c.in_ok-truth.ensures.stays c.in_ok-run_actions.ensures.stays) c.requires.state
+
+pub run_arm-returns-clause-ran : goal.run_arm-returns-clause-ran
+run_arm-returns-clause-ran t c =
+    on_ok _ _ _ (λ m.
+    ran_arm_by _ _ _ _ _ _ _ _ _ _ c.args.case.now c.args.arm.now _ _ _ c.requires.scene c.requires.start.nodes c.requires.state.nodes c.in_ok-taken.ensures.nodes c.as_slice.ensures c.as_slice-2.ensures
+    c.in_ok-truth.ensures.stays c.in_ok-run_actions.ensures.stays c.in_ok-run_actions.ensures.state.nodes c.in_ok-truth.ensures.ok c.in_ok-run_actions.ensures.ran m)
+    c.merge.ensures.merged

@@ -1,0 +1,37 @@
+use Rattle.std.proofs.Common.{◌≤◌, suc, length, drop}
+use Rattle.sv_blocks.proofs.Falling.{size, all_size, arms_size}
+use Rattle.svex_arena.specs.Arenas.{Extends}
+use Rattle.sv_blocks.specs.Scenes.{IsState}
+use Rattle.sv_blocks.specs.Running.{RanArms}
+use Rattle.sv_blocks.proofs.Running.{RanSome}
+use Rattle.sv_blocks.proofs.run.+run.Given as goal
+
+abbrev pub invariant-run_actions-actions : goal.invariant-run_actions-actions
+invariant-run_actions-actions l = record {
+  stays : Extends l.fn.arena l.arena;
+  state : IsState l.scene l.arena l.state;
+  made : RanSome l.scene l.fn.arena l.arena l.fn.state.nodes l.state.nodes l.actions l.action-index;
+}
+
+abbrev pub invariant-run_arms-arms : goal.invariant-run_arms-arms
+invariant-run_arms-arms l = record {
+  stays : Extends l.fn.arena l.arena;
+  within : l.at ≤ length l.arms;
+  state : IsState l.scene l.arena l.state;
+  made : RanArms l.scene l.fn.arena l.arena l.case (drop l.at l.arms) l.start.nodes l.fn.state.nodes l.state.nodes;
+}
+
+abbrev pub decreases-run_arms-arms : goal.decreases-run_arms-arms
+decreases-run_arms-arms l = l.at
+
+abbrev pub decreases-run_action : goal.decreases-run_action
+decreases-run_action l = size l.action.now
+
+abbrev pub decreases-run_actions : goal.decreases-run_actions
+decreases-run_actions l = all_size l.actions.now
+
+abbrev pub decreases-run_arms : goal.decreases-run_arms
+decreases-run_arms l = arms_size l.arms.now
+
+abbrev pub decreases-run_arm : goal.decreases-run_arm
+decreases-run_arm l = suc (all_size l.arm.now.body)

@@ -1,0 +1,6 @@
+use Rattle.sv_blocks.proofs.Stores.{put_comb}
+use Rattle.sv_blocks.proofs.states.put_node.Goals as goal
+
+pub returns-in_ok-seen-in-None-clause-state : goal.returns-in_ok-seen-in-None-clause-state
+returns-in_ok-seen-in-None-clause-state c =
+    put_comb _ _ _ _ _ _ _ _ _ c.in-None.is c.requires.state c.in_ok-seen-in-None.ensures.stays c.requires.at c.requires.node c.requires.width c.in_ok-seen-in-None.ensures.ok c.set.ensures c.set-in-None.ensures

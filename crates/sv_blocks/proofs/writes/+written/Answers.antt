@@ -1,0 +1,62 @@
+use Rattle.std.proofs.Common.{◌≡◌, ◌-◌, ◌<◌, true, false, eqb, length, take, drop, subst, sym, arith, length-take, length-drop}
+use Rattle.std.proofs.lemmas.List.{nil_from_length, take_rest}
+use Rattle.std.proofs.lemmas.List.Elements.{All-take, All-drop}
+use Rattle.std.proofs.lemmas.Bool.Decides.{nat_tests}
+use Rattle.svex_arena.proofs.Keeping.{extends_on}
+use Rattle.sv_typed.specs.Typed.{PickIsSound}
+use Rattle.sv_typed.proofs.Below as below
+use Rattle.sv_stmt.proofs.Lowered.{element}
+use Rattle.sv_blocks.specs.Parts.{IsWritten}
+use Rattle.sv_blocks.proofs.Stores.{state_kept}
+use Rattle.sv_blocks.proofs.Writing.{written_none, written_last, written_more, spot_later}
+use Rattle.sv_blocks.proofs.writes.+written.Goals as goal
+
+pub returns-then-is_empty-clause-ok : goal.returns-then-is_empty-clause-ok
+returns-then-is_empty-clause-ok t c =
+    let e : true ≡ eqb (length c.args.picks.now) 0 = c.if-is_empty.ensures in
+    let z : length c.args.picks.now ≡ 0 = grind (arith, nat_tests, e) in
+    written_none _ _ _ _ _ _ c.requires.value (nil_from_length c.args.picks.now z)
+
+pub returns-then-picks-eq1-clause-ok : goal.returns-then-picks-eq1-clause-ok
+returns-then-picks-eq1-clause-ok t c =
+    let one : length c.args.picks.now ≡ 1 = c.if-picks-eq1.true in
+    written_last _ _ _ _ _ _ _ _ _ _ _ (omega arith) c.index-picks-0.is one c.requires.of c.requires.value c.in_ok-at.ensures.stays c.in_ok-at.ensures.ok c.in_ok-node.ensures.ok
+
+pub read_part-requires-clause-some : goal.read_part-requires-clause-some
+read_part-requires-clause-some t c =
+    let e : false ≡ eqb (length c.args.picks.now) 0 = c.if-is_empty.ensures in
+    let some : 0 < length c.args.picks.now = grind (arith, nat_tests, e) in
+    below.some_picked _ (element PickIsSound c.args.picks.now 0 c.index-picks-0.result c.requires.sound some c.index-picks-0.is)
+
+pub read_part-requires-clause-most : goal.read_part-requires-clause-most
+read_part-requires-clause-most t c =
+    let e : false ≡ eqb (length c.args.picks.now) 0 = c.if-is_empty.ensures in
+    let some : 0 < length c.args.picks.now = grind (arith, nat_tests, e) in
+    below.most_picked _ (element PickIsSound c.args.picks.now 0 c.index-picks-0.result c.requires.sound some c.index-picks-0.is)
+
+pub written-requires : goal.written-requires
+written-requires t c =
+    let e : false ≡ eqb (length c.args.picks.now) 0 = c.if-is_empty.ensures in
+    let some : 0 < length c.args.picks.now = grind (arith, nat_tests, e) in
+    let grown = extends_on _ _ _ c.in_ok-at.ensures.stays c.in_ok-part.ensures.stays in (
+      (let d = c.decreases in omega (arith, length-take (length c.args.picks.now - 1) (drop 1 c.args.picks.now), length-drop 1 c.args.picks.now)),
+      (
+        c.requires.scene,
+        (
+          state_kept _ _ _ _ grown c.requires.state,
+          (
+            All-take PickIsSound (length c.args.picks.now - 1) (drop 1 c.args.picks.now) (All-drop PickIsSound 1 c.args.picks.now c.requires.sound),
+            (c.in_ok-part.ensures.ok.within, (let a = grown.longer in let b = c.requires.value in omega arith)),
+          ),
+        ),
+      ),
+    )
+
+pub returns-clause-ok : goal.returns-clause-ok
+returns-clause-ok t c =
+    let e : false ≡ eqb (length c.args.picks.now) 0 = c.if-is_empty.ensures in
+    let some : 0 < length c.args.picks.now = grind (arith, nat_tests, e) in
+    written_more _ _ _ _ _ _ _ _ _ _ _ _ _ _ _ some c.index-picks-0.is c.requires.scene c.requires.state.nodes c.requires.of c.requires.value c.in_ok-at.ensures.stays c.in_ok-part.ensures.stays c.in_ok-inner.ensures.stays
+    c.in_ok-at.ensures.ok c.in_ok-part.ensures.ok
+    (subst (λ xs. IsWritten c.args.scene.now c.read_part.new.arena c.written.new.arena c.args.state.now.nodes xs c.in_ok-part.part c.args.value c.in_ok-inner.inner) (take_rest c.args.picks.now 1) c.in_ok-inner.ensures.ok)
+    c.in_ok-node-2.ensures.ok

@@ -1,0 +1,132 @@
+// Assignments in blocks (IEEE 1800-2017, 10.4).
+ghost use Rattle.std.specs.Prelude.{◌≡◌, ℕ, ◌<◌, ◌≤◌, All, length, IfOk, OnOk};
+ghost use Rattle.fourvec.specs.declared.Bit.{Bit};
+ghost use Rattle.svex_arena.specs.declared.shape.VarName.{VarName};
+ghost use Rattle.svex_arena.specs.Shapes.{width_at};
+ghost use Rattle.svex_arena.specs.Arenas.{Extends};
+ghost use Rattle.sv_typed.specs.Typed.{IsSound, names_of};
+ghost use Rattle.sv_targets.specs.Targets.{width_of_all};
+ghost use Rattle.sv_actions.specs.Doing.{TargetFits};
+ghost use Rattle.sv_blocks.specs.Scenes.{IsScene, IsState, Ran};
+ghost use Rattle.sv_blocks.specs.Writing.{Wrote, WroteAll, assigns, assign_names};
+
+use crate::look::assigned;
+use crate::narrow::place_in;
+use crate::states::put_node;
+use crate::writes::written;
+use crate::{Scene, State};
+use std::alloc::{AllocError, Global};
+use sv_stmt::sliced;
+use sv_targets::TypedTarget;
+use sv_typed::Typed;
+use svex_arena::{Arena, Node};
+
+// Writes a node into a target.
+fn write_target(
+    alloc: Global,
+    arena: &mut Arena,
+    scene: &Scene,
+    state: &mut State,
+    target: &TypedTarget,
+    part: Node,
+) -> Result<(), AllocError>
+    requires scene { IsScene scene.now }
+    requires state { IsState scene.now arena.old state.old }
+    requires target { TargetFits target.now }
+    requires part { part < length arena.old }
+    ensures stays { Extends arena.old arena.new }
+    ensures state { OnOk result (IsState scene.now arena.new state.new) }
+    ensures wrote { OnOk result (Wrote scene.now arena.old arena.new state.old.nodes state.new.nodes target.now part) }
+{
+    let _ = arena.len();
+    let Some(at) = place_in(scene, target.wire) else {
+        return Err(AllocError);
+    };
+    if scene.widths.as_slice()[at] != target.wire_width {
+        return Err(AllocError);
+    }
+    let old = state.nodes.as_slice()[at];
+    let node = written(
+        alloc,
+        arena,
+        scene,
+        state,
+        target.picks.as_slice(),
+        old,
+        part,
+    )?;
+    if arena.width(node) != target.wire_width {
+        return Err(AllocError);
+    }
+    put_node(alloc, arena, scene, state, at, node)?;
+    let _ = arena.len();
+    Ok(())
+}
+
+// The bits of all targets together.
+#[tactic(auto, using(crate::proofs::Assigning::width_taken, crate::proofs::Assigning::width_room, crate::proofs::Assigning::width_all, crate::proofs::Assigning::width_zero))]
+fn total(targets: &[TypedTarget]) -> u8
+    requires { width_of_all targets.now ≤ 128 }
+    ensures { result ≡ width_of_all targets.now }
+{
+    let mut width = 0u8;
+    'targets: for target in targets {
+        width += target.width;
+    }
+    width
+}
+
+// Writes a node into targets, the first the most significant.
+#[tactic(auto, using(svex_arena::proofs::Keeping::extends_on))]
+fn write_targets(
+    alloc: Global,
+    arena: &mut Arena,
+    scene: &Scene,
+    state: &mut State,
+    targets: &[TypedTarget],
+    whole: Node,
+) -> Result<(), AllocError>
+    requires scene { IsScene scene.now }
+    requires state { IsState scene.now arena.old state.old }
+    requires targets { All TargetFits targets.now }
+    requires whole { whole < length arena.old }
+    requires wide { width_at arena.old whole ≡ width_of_all targets.now }
+    ensures stays { Extends arena.old arena.new }
+    ensures state { OnOk result (IsState scene.now arena.new state.new) }
+    ensures wrote { OnOk result (WroteAll scene.now arena.old arena.new state.old.nodes state.new.nodes targets.now whole) }
+{
+    let _ = arena.len();
+    let mut left = arena.width(whole);
+    'targets: for target in targets {
+        if target.width == 0 {
+            return Err(AllocError);
+        }
+        left -= target.width;
+        let part = sliced(alloc, arena, whole, left, target.width)?;
+        write_target(alloc, arena, scene, state, target, part)?;
+    }
+    Ok(())
+}
+
+/// An assignment: the value, as by an assignment to so many bits as the targets have together, is written into the targets.
+pub fn assign(
+    alloc: Global,
+    arena: &mut Arena,
+    scene: &Scene,
+    state: &mut State,
+    targets: &[TypedTarget],
+    value: &Typed,
+) -> Result<(), AllocError>
+    requires scene { IsScene scene.now }
+    requires state { IsState scene.now arena.old state.old }
+    requires value { IsSound value.now }
+    requires targets { All TargetFits targets.now }
+    requires some { 1 ≤ width_of_all targets.now }
+    requires most { width_of_all targets.now ≤ 128 }
+    ensures stays { Extends arena.old arena.new }
+    ensures state { OnOk result (IsState scene.now arena.new state.new) }
+    ensures ran { OnOk result (Ran scene.now arena.old arena.new state.old.nodes state.new.nodes (assigns targets.now value.now) (assign_names targets.now value.now)) }
+{
+    let node = assigned(alloc, arena, scene, state, value, total(targets))?;
+    write_targets(alloc, arena, scene, state, targets, node)
+}

@@ -1,0 +1,106 @@
+// Drivers of the bits that a block writes.
+ghost use Rattle.std.specs.Prelude.{◌≡◌, ◌+◌, ◌<◌, ◌≤◌, length, take, slice_index_or, IsTrue, IfOk};
+ghost use Rattle.lhs_alias.specs.declared.segs.WireBit.{WireBit};
+ghost use Rattle.lhs_alias.specs.Segs.{seg_bits};
+ghost use Rattle.svex_arena.specs.Arenas.{Extends};
+ghost use Rattle.sv_blocks.specs.Scenes.{IsScene, AreNodes};
+ghost use Rattle.sv_blocks.specs.Driving.{Drives, DriveAll, run_seg};
+
+use crate::Scene;
+use crate::narrow::place_in;
+use driver_resolve::Driver;
+use items::Items;
+use lhs_alias::{Lhs, Seg, WireBit};
+use std::alloc::{AllocError, Global};
+use sv_stmt::sliced;
+use svex_arena::{Arena, Node};
+
+// Whether a bit lies so many places above another of the same wire.
+fn is_above(first: &WireBit, bit: &WireBit, count: usize) -> bool
+    requires { count < 128 }
+    ensures wire { IsTrue result → bit.now.wire ≡ first.now.wire }
+    ensures at { IsTrue result → bit.now.at ≡ first.now.at + count }
+{
+    bit.wire == first.wire && bit.at as usize == first.at as usize + count
+}
+
+// How many bits follow one another in one wire, from the first on.
+fn run_of(bits: &[WireBit]) -> u8
+    requires { 0 < length bits.now }
+    ensures some { 1 ≤ result }
+    ensures most { result ≤ 128 }
+    ensures within { result ≤ length bits.now }
+    ensures bits { (d : WireBit) → take result bits.now ≡ seg_bits (run_seg (slice_index_or bits.now 0 d) result) }
+{
+    let first = bits[0];
+    let mut count: u8 = 1;
+    'bits: while count < 128 && (count as usize) < bits.len() {
+        if !is_above(&first, &bits[count as usize], count as usize) {
+            return count;
+        }
+        count += 1;
+    }
+    count
+}
+
+// The driver of so many bits that follow one another in one wire.
+fn driver_of(
+    alloc: Global,
+    arena: &mut Arena,
+    scene: &Scene,
+    nodes: &[Node],
+    first: WireBit,
+    count: u8,
+) -> Result<Driver, AllocError>
+    requires scene { IsScene scene.now }
+    requires nodes { AreNodes scene.now arena.old nodes.now }
+    requires some { 1 ≤ count }
+    requires most { count ≤ 128 }
+    ensures stays { Extends arena.old arena.new }
+    ensures ok { IfOk result (λ d. Drives scene.now arena.old arena.new nodes.now (seg_bits (run_seg first count)) d) }
+{
+    let _ = arena.len();
+    let Some(place) = place_in(scene, first.wire) else {
+        return Err(AllocError);
+    };
+    let width = scene.widths.as_slice()[place];
+    if first.at > width || count > width - first.at {
+        return Err(AllocError);
+    }
+    let value = sliced(alloc, arena, nodes[place], first.at, count)?;
+    let mut segs = Vec::new(alloc);
+    segs.push(Seg {
+        wire: first.wire,
+        lo: first.at,
+        width: count,
+    })?;
+    Ok(Driver {
+        target: Lhs::from_vec(segs),
+        value,
+    })
+}
+
+/// The drivers of bits of the wires of a block, one for each run of bits that follow one another in one wire.
+#[tactic(auto, using(svex_arena::proofs::Keeping::extends_on))]
+pub fn drivers_of(
+    alloc: Global,
+    arena: &mut Arena,
+    scene: &Scene,
+    nodes: &[Node],
+    bits: &[WireBit],
+) -> Result<Items<Driver>, AllocError>
+    requires scene { IsScene scene.now }
+    requires nodes { AreNodes scene.now arena.old nodes.now }
+    ensures stays { Extends arena.old arena.new }
+    ensures ok { IfOk result (λ all. DriveAll scene.now arena.old arena.new nodes.now bits.now all) }
+{
+    let mut all = Items::new(alloc);
+    let mut at = 0;
+    'bits: while at < bits.len() {
+        let count = run_of(&bits[at..]);
+        let driver = driver_of(alloc, arena, scene, nodes, bits[at], count)?;
+        all.push(driver)?;
+        at += count as usize;
+    }
+    Ok(all)
+}

@@ -1,0 +1,103 @@
+// What the actions of a block leave in its wires, as drivers.
+ghost use Rattle.std.specs.Prelude.{◌≡◌, All, IfOk, None};
+ghost use Rattle.svex_arena.specs.Arenas.{Extends};
+ghost use Rattle.lhs_alias.specs.declared.segs.WireBit.{WireBit};
+ghost use Rattle.sv_actions.specs.Doing.{Fits};
+ghost use Rattle.sv_blocks.specs.Scenes.{IsScene, AreNodes};
+ghost use Rattle.sv_blocks.specs.Ending.{clock_wire, Ends, Runs, Finishes};
+
+use crate::Scene;
+use crate::drivers::drivers_of;
+use crate::run::run_actions;
+use crate::start::{start_nodes, trigger};
+use crate::states::{merged, state_of};
+use driver_resolve::Driver;
+use items::Items;
+use lhs_alias::WireBit;
+use std::alloc::{AllocError, Global};
+use sv_actions::Action;
+use sv_tree::Edge;
+use svex_arena::{Arena, Node};
+
+/// The event of a clocked block: its edge, and the wire that it names.
+#[derive(Clone, Copy)]
+pub struct Clock {
+    pub edge: Edge,
+    pub wire: usize,
+}
+
+/// The wire of an event.
+pub fn wire_of(clock: Option<Clock>) -> Option<usize>
+    ensures { result ≡ clock_wire clock }
+{
+    match clock {
+        Some(clock) => Some(clock.wire),
+        None => None,
+    }
+}
+
+// What a block contributes: in a clocked block what its actions leave where the event takes place, and else what was before.
+fn ended(
+    alloc: Global,
+    arena: &mut Arena,
+    scene: &Scene,
+    clock: Option<Clock>,
+    start: &[Node],
+    nodes: Items<Node>,
+) -> Result<Items<Node>, AllocError>
+    requires scene { IsScene scene.now }
+    requires start { AreNodes scene.now arena.old start.now }
+    requires nodes { AreNodes scene.now arena.old nodes }
+    ensures stays { Extends arena.old arena.new }
+    ensures ok { IfOk result (λ ends. Ends scene.now arena.old arena.new clock start.now nodes ends) }
+{
+    match clock {
+        None => Ok(nodes),
+        Some(clock) => {
+            let event = trigger(alloc, arena, clock.edge, clock.wire)?;
+            let ends = merged(alloc, arena, scene, event, nodes.as_slice(), start)?;
+            Ok(ends)
+        }
+    }
+}
+
+// The nodes of the wires at the end of a block.
+fn last_nodes(
+    alloc: Global,
+    arena: &mut Arena,
+    scene: &Scene,
+    clock: Option<Clock>,
+    actions: &[Action],
+) -> Result<Items<Node>, AllocError>
+    requires scene { IsScene scene.now }
+    requires clock { scene.now.clock ≡ clock_wire clock }
+    requires fits { All Fits actions.now }
+    ensures stays { Extends arena.old arena.new }
+    ensures ok { IfOk result (λ ends. Runs scene.now arena.new clock actions.now ends) }
+{
+    let start = start_nodes(alloc, arena, scene)?;
+    let nodes = Items::from_vec(start.as_slice().to_vec(alloc)?);
+    let mut state = state_of(alloc, arena, scene, nodes)?;
+    run_actions(alloc, arena, scene, actions, &mut state)?;
+    ended(alloc, arena, scene, clock, start.as_slice(), state.nodes)
+}
+
+/// The drivers of these bits of the wires of a block.
+pub fn scene_drivers(
+    alloc: Global,
+    arena: &mut Arena,
+    scene: &Scene,
+    clock: Option<Clock>,
+    actions: &[Action],
+    bits: &[WireBit],
+) -> Result<Items<Driver>, AllocError>
+    requires scene { IsScene scene.now }
+    requires clock { scene.now.clock ≡ clock_wire clock }
+    requires fits { All Fits actions.now }
+    ensures stays { Extends arena.old arena.new }
+    ensures ok { IfOk result (λ all. Finishes scene.now arena.new clock actions.now bits.now all) }
+{
+    let nodes = last_nodes(alloc, arena, scene, clock, actions)?;
+    let all = drivers_of(alloc, arena, scene, nodes.as_slice(), bits)?;
+    Ok(all)
+}

@@ -1,0 +1,160 @@
+// Actions as steps over nodes (IEEE 1800-2017, 10.4, 12.4, 12.5).
+ghost use Rattle.std.specs.Prelude.{◌≡◌, ◌<◌, All, length, OnOk};
+ghost use Rattle.svex_arena.specs.Shapes.{width_at};
+ghost use Rattle.svex_arena.specs.Arenas.{Extends};
+ghost use Rattle.sv_actions.specs.Doing.{run, run_all, names, names_all, Fits, CaseFits};
+ghost use Rattle.sv_blocks.specs.Scenes.{IsScene, IsState, Ran};
+ghost use Rattle.sv_blocks.specs.Sides.{Merges};
+ghost use Rattle.sv_blocks.specs.Running.{RanArm, RanArms, ArmFits};
+
+use crate::assigns::assign;
+use crate::labels::label_matches;
+use crate::look::truth;
+use crate::states::{copied, merged, state_of};
+use crate::{Scene, State};
+use std::alloc::{AllocError, Global};
+use sv_actions::{Action, Arm, Case};
+use svex_arena::{Arena, Node};
+
+// One of two states, by a truth.
+fn merge(
+    alloc: Global,
+    arena: &mut Arena,
+    scene: &Scene,
+    truth: Node,
+    taken: &State,
+    state: &mut State,
+) -> Result<(), AllocError>
+    requires scene { IsScene scene.now }
+    requires truth { truth < length arena.old }
+    requires one { width_at arena.old truth ≡ 1 }
+    requires taken { IsState scene.now arena.old taken.now }
+    requires state { IsState scene.now arena.old state.old }
+    ensures stays { Extends arena.old arena.new }
+    ensures state { OnOk result (IsState scene.now arena.new state.new) }
+    ensures merged { OnOk result (Merges scene.now arena.old arena.new truth taken.now.nodes state.old.nodes state.new.nodes) }
+{
+    let nodes = merged(
+        alloc,
+        arena,
+        scene,
+        truth,
+        taken.nodes.as_slice(),
+        state.nodes.as_slice(),
+    )?;
+    *state = state_of(alloc, arena, scene, nodes)?;
+    Ok(())
+}
+
+#[tactic(auto, using(svex_arena::proofs::Keeping::extends_on))]
+#[cycle(run)]
+fn run_action(
+    alloc: Global,
+    arena: &mut Arena,
+    scene: &Scene,
+    action: &Action,
+    state: &mut State,
+) -> Result<(), AllocError>
+    requires scene { IsScene scene.now }
+    requires state { IsState scene.now arena.old state.old }
+    requires fits { Fits action.now }
+    ensures stays { Extends arena.old arena.new }
+    ensures state { OnOk result (IsState scene.now arena.new state.new) }
+    ensures ran { OnOk result (Ran scene.now arena.old arena.new state.old.nodes state.new.nodes (run action.now) (names action.now)) }
+{
+    match action {
+        Action::Assign(targets, value) => {
+            assign(alloc, arena, scene, state, targets.as_slice(), value)
+        }
+        Action::Choose(condition, a, b) => {
+            let truth = truth(alloc, arena, scene, state, condition)?;
+            let mut taken = copied(alloc, state)?;
+            run_actions(alloc, arena, scene, a.as_slice(), &mut taken)?;
+            run_actions(alloc, arena, scene, b.as_slice(), state)?;
+            merge(alloc, arena, scene, truth, &taken, state)
+        }
+        Action::Match(case, arms, other) => {
+            let start = copied(alloc, state)?;
+            run_actions(alloc, arena, scene, other.as_slice(), state)?;
+            run_arms(alloc, arena, scene, case, arms.as_slice(), &start, state)
+        }
+    }
+}
+
+/// Runs actions one after the other.
+#[tactic(auto, using(svex_arena::proofs::Keeping::extends_on))]
+#[cycle(run)]
+pub fn run_actions(
+    alloc: Global,
+    arena: &mut Arena,
+    scene: &Scene,
+    actions: &[Action],
+    state: &mut State,
+) -> Result<(), AllocError>
+    requires scene { IsScene scene.now }
+    requires state { IsState scene.now arena.old state.old }
+    requires fits { All Fits actions.now }
+    ensures stays { Extends arena.old arena.new }
+    ensures state { OnOk result (IsState scene.now arena.new state.new) }
+    ensures ran { OnOk result (Ran scene.now arena.old arena.new state.old.nodes state.new.nodes (run_all actions.now) (names_all actions.now)) }
+{
+    'actions: for action in actions {
+        run_action(alloc, arena, scene, action, state)?;
+    }
+    Ok(())
+}
+
+// The arms of a case statement from the last backwards, each from the store at its start, over what is left where none is taken.
+#[tactic(auto, using(svex_arena::proofs::Keeping::extends_on))]
+#[cycle(run)]
+fn run_arms(
+    alloc: Global,
+    arena: &mut Arena,
+    scene: &Scene,
+    case: &Case,
+    arms: &[Arm],
+    start: &State,
+    state: &mut State,
+) -> Result<(), AllocError>
+    requires scene { IsScene scene.now }
+    requires start { IsState scene.now arena.old start.now }
+    requires state { IsState scene.now arena.old state.old }
+    requires case { CaseFits case.now }
+    requires arms { All (ArmFits case.now) arms.now }
+    ensures stays { Extends arena.old arena.new }
+    ensures state { OnOk result (IsState scene.now arena.new state.new) }
+    ensures ran { OnOk result (RanArms scene.now arena.old arena.new case.now arms.now start.now.nodes state.old.nodes state.new.nodes) }
+{
+    let mut at = arms.len();
+    'arms: while at > 0 {
+        at -= 1;
+        run_arm(alloc, arena, scene, case, &arms[at], start, state)?;
+    }
+    Ok(())
+}
+
+#[tactic(auto, using(svex_arena::proofs::Keeping::extends_on))]
+#[cycle(run)]
+fn run_arm(
+    alloc: Global,
+    arena: &mut Arena,
+    scene: &Scene,
+    case: &Case,
+    arm: &Arm,
+    start: &State,
+    state: &mut State,
+) -> Result<(), AllocError>
+    requires scene { IsScene scene.now }
+    requires start { IsState scene.now arena.old start.now }
+    requires state { IsState scene.now arena.old state.old }
+    requires case { CaseFits case.now }
+    requires arm { ArmFits case.now arm.now }
+    ensures stays { Extends arena.old arena.new }
+    ensures state { OnOk result (IsState scene.now arena.new state.new) }
+    ensures ran { OnOk result (RanArm scene.now arena.old arena.new case.now arm.now start.now.nodes state.old.nodes state.new.nodes) }
+{
+    let truth = label_matches(alloc, arena, scene, start, case, arm.labels.as_slice())?;
+    let mut taken = copied(alloc, start)?;
+    run_actions(alloc, arena, scene, arm.body.as_slice(), &mut taken)?;
+    merge(alloc, arena, scene, truth, &taken, state)
+}
