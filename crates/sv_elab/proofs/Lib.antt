@@ -1,0 +1,9 @@
+pub mod Lists
+pub mod Wires
+pub mod Slotting
+pub mod Parting
+pub mod Supplying
+pub mod Joining
+pub mod Working
+pub mod Making
+pub mod Wholes

@@ -1,0 +1,82 @@
+// Ports that are joined to their actuals (IEEE 1800-2017, 23.3.3).
+ghost use Rattle.std.specs.Prelude.{◌≡◌, ◌==◌, ◌&&◌, ◌≤◌, ◌∷◌, [], List, All, length, IfOk, IfSome};
+ghost use Rattle.lhs_alias.specs.Segs.{lhs_bits, AreSegs};
+ghost use Rattle.sv_meaning.specs.Faults.{Faults};
+ghost use Rattle.sv_meaning.specs.Targets as t;
+ghost use Rattle.sv_meaning.specs.Designs.{are_present};
+ghost use Rattle.sv_targets.specs.Slots.{IsLowered};
+ghost use Rattle.sv_elab.specs.Working.{JoinsTo, parts_bits, wire_seg};
+
+use crate::parts::bits_of;
+use flat_net::Join;
+use lhs_alias::{Lhs, Seg};
+use std::alloc::{AllocError, Global};
+use sv_targets::{Part, Target};
+
+// How many bits parts have together.
+fn bits_in(parts: &[Part]) -> Option<usize>
+    ensures { IfSome result (λ n. n ≡ length (parts_bits parts.now)) }
+{
+    let mut count = 0usize;
+    'parts: for part in parts {
+        let more = bits_of(&part.to)?;
+        count = count.checked_add(more as usize)?;
+    }
+    Some(count)
+}
+
+/// Whether a port of so many bits is joined to an actual that is such a target: as wide, with all selects constant and in range.
+pub(crate) fn is_joined(target: &Target, width: u8) -> Result<bool, AllocError>
+    ensures { (f : Faults) (ts : List t.Target) → IsLowered f ts target.now
+        → IfOk result (λ b. b ≡ (t.widths ts == width && (t.are_fixed ts && are_present (t.slots ts)))) }
+{
+    if target.width != width as usize || !target.fixed {
+        return Ok(false);
+    }
+    match bits_in(target.parts.as_slice()) {
+        Some(count) => Ok(count == target.width),
+        None => Err(AllocError),
+    }
+}
+
+// The bits of parts as one target.
+fn together(alloc: Global, parts: &[Part]) -> Result<Lhs, AllocError>
+    ensures { IfOk result (λ to. lhs_bits to ≡ parts_bits parts.now) }
+{
+    let mut all = Lhs::new(alloc);
+    'parts: for part in parts {
+        all = part.to.concat(&all)?;
+    }
+    Ok(all)
+}
+
+/// A whole wire as a target.
+pub(crate) fn whole_wire(alloc: Global, wire: usize, width: u8) -> Result<Lhs, AllocError>
+    ensures { IfOk result (λ to. to ≡ wire_seg wire width ∷ []) }
+{
+    let mut segs = Vec::new(alloc);
+    segs.push(Seg { wire, lo: 0, width })?;
+    Ok(Lhs::from_vec(segs))
+}
+
+/// The join of a port and the bits of its actual.
+pub(crate) fn join_of(
+    alloc: Global,
+    widths: &[u8],
+    wire: usize,
+    width: u8,
+    parts: &[Part],
+) -> Result<Join, AllocError>
+    requires { 1 ≤ width }
+    ensures { IfOk result (λ x. JoinsTo widths.now wire width parts.now x) }
+{
+    let child = whole_wire(alloc, wire, width)?;
+    let parent = together(alloc, parts)?;
+    if !child.lies_in(widths) || !parent.lies_in(widths) {
+        return Err(AllocError);
+    }
+    if !child.falls_to(&parent) {
+        return Err(AllocError);
+    }
+    Ok(Join { child, parent })
+}

@@ -1,0 +1,173 @@
+// Ports and their actuals (IEEE 1800-2017, 23.3.3).
+ghost use Rattle.std.specs.Prelude.{◌≡◌, ◌≤◌, ◌∷◌, [], List, false, Some, IsTrue, IfOk};
+ghost use Rattle.svex_arena.specs.Arenas.{Extends};
+ghost use Rattle.driver_resolve.specs.Drivers.{is_wire};
+ghost use Rattle.sv_const.specs.Names.{names_are};
+ghost use Rattle.sv_meaning.specs.Faults.{Faults};
+ghost use Rattle.sv_meaning.specs.Layouts as m;
+ghost use Rattle.sv_meaning.specs.Layouts.{signal_is, of_wires, Layout as Meant};
+ghost use Rattle.sv_meaning.specs.Meanings.{named};
+ghost use Rattle.sv_meaning.specs.Values.{mean};
+ghost use Rattle.sv_meaning.specs.Targets as t;
+ghost use Rattle.sv_meaning.specs.Designs as d;
+ghost use Rattle.sv_meaning.specs.Designs.{port_gives, assigned_to, no_word, wires_named, as_targets, actual_faults};
+ghost use Rattle.sv_tree.specs.declared.design.Way.TheVariants as ways;
+ghost use Rattle.sv_outside.specs.declared.text.Signal.{Signal};
+ghost use Rattle.driver_resolve.specs.Drivers.{widths_of};
+ghost use Rattle.sv_targets.specs.Slots.{IsLowered};
+ghost use Rattle.sv_blocks.specs.Blocks.{AreWires};
+ghost use Rattle.sv_elab.specs.Working.{JudgesSupply, Supplies, JudgesWork};
+
+use crate::joins::{is_joined, join_of, whole_wire};
+use crate::parts::part_drivers;
+use crate::works::{Parts, given};
+use driver_resolve::Driver;
+use items::Items;
+use std::alloc::{AllocError, Global};
+use sv_const::{Names, refusal, start};
+use sv_outside::TextErr;
+use sv_stmt::{Look, lower_assigned, lower_expr};
+use sv_targets::{Target, target_of_actual};
+use sv_tree::{Expr, Way};
+use sv_typed::{Origin, Root, Typed};
+use svex_arena::Arena;
+
+/// A port: its direction, its wire, how many bits it has and whether it is signed.
+#[derive(Clone, Copy)]
+pub(crate) struct Port {
+    pub way: Way,
+    pub wire: usize,
+    pub width: u8,
+    pub signed: bool,
+}
+
+// The driver of an input port that takes the value of an expression.
+fn input(
+    alloc: Global,
+    arena: &mut Arena,
+    widths: &[u8],
+    port: Port,
+    actual: &Expr,
+    names: &Names<'_>,
+) -> Result<Items<Driver>, TextErr>
+    requires names { AreWires (names_are names.now) widths.now }
+    requires some { 1 ≤ port.width }
+    requires most { port.width ≤ 128 }
+    ensures stays { Extends arena.old arena.new }
+    ensures is { (x : Meant) → m.width x ≡ port.width
+        → JudgesSupply widths.now (wires_named (mean (names_are names.now) actual.now).names) arena.new (port_gives ways.Input (names_are names.now) port.wire x actual.now) ((mean (names_are names.now) actual.now).faults false) result }
+{
+    let _ = arena.len();
+    let target = whole_wire(alloc, port.wire, port.width)?;
+    if !target.lies_in(widths) {
+        return Err(TextErr::Memory);
+    }
+    let value = lower_expr(alloc, arena, actual, names, port.width)?;
+    let mut all = Items::new(alloc);
+    all.push(Driver { target, value })?;
+    Ok(all)
+}
+
+// The drivers of a target that takes the value of an output port.
+fn output(
+    alloc: Global,
+    arena: &mut Arena,
+    widths: &[u8],
+    port: Port,
+    target: &Target,
+) -> Result<Items<Driver>, AllocError>
+    requires wire { IsTrue (is_wire widths.now port.wire port.width) }
+    requires some { 1 ≤ port.width }
+    requires most { port.width ≤ 128 }
+    ensures stays { Extends arena.old arena.new }
+    ensures is { (f : Faults) (ts : List t.Target) (x : Meant) → IsLowered f ts target.now → m.width x ≡ port.width → m.is_signed x ≡ port.signed
+        → IfOk result (λ all. Supplies widths.now (port.wire ∷ []) arena.new (assigned_to ts (named no_word (Some (signal_is of_wires port.wire x)) [])) all) }
+{
+    let _ = arena.len();
+    if target.width == 0 || target.width > 128 {
+        return Err(AllocError);
+    }
+    let root = Root::Signal {
+        origin: Origin::Wires,
+        number: port.wire,
+        width: port.width,
+    };
+    let typed = Typed::named(root, Items::new(alloc), port.signed);
+    let node = lower_assigned(alloc, arena, &typed, &Look::Present, target.width as u8)?;
+    let all = part_drivers(alloc, arena, widths, target.parts.as_slice(), node)?;
+    Ok(all)
+}
+
+// A port whose actual is a target, which it is joined to or else assigned.
+fn to_target(
+    alloc: Global,
+    arena: &mut Arena,
+    widths: &[u8],
+    port: Port,
+    target: &Target,
+    actual: &Expr,
+    names: &Names<'_>,
+    made: u64,
+) -> Result<Parts, TextErr>
+    requires names { AreWires (names_are names.now) widths.now }
+    requires wire { IsTrue (is_wire widths.now port.wire port.width) }
+    requires some { 1 ≤ port.width }
+    requires most { port.width ≤ 128 }
+    ensures stays { Extends arena.old arena.new }
+    ensures is { (wires : List Signal) (x : Meant) → widths_of wires ≡ widths.now → m.width x ≡ port.width → m.is_signed x ≡ port.signed
+        → IsLowered (actual_faults (names_are names.now) actual.now) (as_targets (names_are names.now) actual.now) target.now
+        → JudgesWork wires (d.port (names_are names.now) port.way port.wire x actual.now) made arena.new result }
+{
+    if is_joined(target, port.width)? {
+        let join = join_of(
+            alloc,
+            widths,
+            port.wire,
+            port.width,
+            target.parts.as_slice(),
+        )?;
+        return Ok(Parts {
+            drivers: Items::new(alloc),
+            join: Some(join),
+            made,
+        });
+    }
+    match port.way {
+        Way::Input => given(input(alloc, arena, widths, port, actual, names), made),
+        Way::Output => {
+            let all = output(alloc, arena, widths, port, target)?;
+            given(Ok(all), made)
+        }
+        Way::Inout => Err(TextErr::No(refusal(19, start(actual)))),
+    }
+}
+
+/// What is made of a connected port, or why it is refused.
+pub(crate) fn connected(
+    alloc: Global,
+    arena: &mut Arena,
+    widths: &[u8],
+    port: Port,
+    actual: &Expr,
+    names: &Names<'_>,
+    made: u64,
+) -> Result<Parts, TextErr>
+    requires names { AreWires (names_are names.now) widths.now }
+    requires wire { IsTrue (is_wire widths.now port.wire port.width) }
+    requires some { 1 ≤ port.width }
+    requires most { port.width ≤ 128 }
+    ensures stays { Extends arena.old arena.new }
+    ensures is { (wires : List Signal) (x : Meant) → widths_of wires ≡ widths.now → m.width x ≡ port.width → m.is_signed x ≡ port.signed
+        → JudgesWork wires (d.port (names_are names.now) port.way port.wire x actual.now) made arena.new result }
+{
+    let _ = arena.len();
+    match target_of_actual(alloc, actual, names) {
+        Ok(target) => to_target(alloc, arena, widths, port, &target, actual, names, made),
+        Err(TextErr::Memory) => Err(TextErr::Memory),
+        Err(TextErr::No(why)) => match port.way {
+            Way::Input => given(input(alloc, arena, widths, port, actual, names), made),
+            Way::Output => Err(TextErr::No(why)),
+            Way::Inout => Err(TextErr::No(why)),
+        },
+    }
+}

@@ -1,0 +1,145 @@
+// The flat design of a source.
+ghost use Rattle.std.specs.Prelude.{◌≡◌, ◌≤◌, ℕ, ◌++◌, ◌∷◌, [], List, All, IfOk, IfErr, OnOk};
+ghost use Rattle.std.specs.Option.{option_copied};
+ghost use Rattle.driver_resolve.specs.Drivers.{widths_of};
+ghost use Rattle.sv_outside.specs.declared.text.Signal.{Signal};
+ghost use Rattle.lhs_alias.specs.Joined as j;
+ghost use Rattle.flat_net.specs.Flats.{IsFlat, IsJoin, links_of};
+ghost use Rattle.sv_const.specs.Judging.{IsCause};
+ghost use Rattle.sv_loops.specs.Answers.{Answers};
+ghost use Rattle.sv_meaning.specs.Designs as d;
+ghost use Rattle.sv_meaning.specs.Designs.{design_faults, work_faults};
+ghost use Rattle.sv_hierarchy.specs.Scopes.{work_at};
+ghost use Rattle.sv_scope.specs.Scoped.{design_is, levels_of, wires_of, works_of};
+ghost use Rattle.sv_scope.specs.Walks.{work_is};
+ghost use Rattle.sv_elab.specs.Elaborated.{IsElaborated, sound_design};
+ghost use Rattle.sv_elab.specs.Working.{AreSound, IsMade, TaskFits, join_list};
+
+use crate::signals::{copied, widths};
+use crate::works::{Parts, work_parts};
+use driver_resolve::Driver;
+use flat_net::{Flat, Join};
+use items::Items;
+use lhs_alias::Joins;
+use std::alloc::{AllocError, Global};
+use sv_outside::{Name, TextErr};
+use sv_scope::{DesignScopes, Work, scopes};
+use sv_tree::Source;
+use svex_arena::Arena;
+
+/// What was made of the tasks so far.
+#[derive(Drop)]
+struct Making {
+    arena: Arena,
+    drivers: Items<Driver>,
+    list: Items<Join>,
+    /// The same joins, by which no bit is joined twice.
+    joins: Joins,
+    /// The turns of loops.
+    made: u64,
+}
+
+// One join more, if there is one.
+fn add_join(list: &mut Items<Join>, joins: &mut Joins, join: Option<Join>) -> Result<(), AllocError>
+    requires { All (IsJoin (j.widths_of joins.old)) (join_list join) }
+    ensures list { OnOk result (list.new ≡ list.old ++ join_list join) }
+    ensures widths { j.widths_of joins.new ≡ j.widths_of joins.old }
+    ensures stands { OnOk result (j.Stands joins.old (links_of list.old) → j.Stands joins.new (links_of list.new)) }
+{
+    if let Some(join) = join {
+        if joins.join(&join.child, &join.parent).is_err() {
+            return Err(AllocError);
+        }
+        list.push(join)?;
+    }
+    Ok(())
+}
+
+// One task more.
+fn add_work(
+    alloc: Global,
+    making: &mut Making,
+    scopes: &DesignScopes<'_>,
+    widths: &[u8],
+    work: &Work<'_>,
+) -> Result<(), TextErr>
+    requires scopes { AreSound scopes.now }
+    requires widths { widths.now ≡ widths_of (wires_of scopes.now) }
+    requires task { TaskFits widths.now (work_is work.now).task }
+    requires joins { j.widths_of making.old.joins ≡ widths_of (wires_of scopes.now) }
+    ensures ok { (works : List d.Work) (before : ℕ) → IsMade (wires_of scopes.now) works before making.old
+        → OnOk result (IsMade (wires_of scopes.now) (works ++ work_at (levels_of scopes.now) (work_is work.now) ∷ []) before making.new) }
+    ensures err { (works : List d.Work) (before : ℕ) → IsMade (wires_of scopes.now) works before making.old
+        → IfErr result (λ e. IsCause (work_faults (work_at (levels_of scopes.now) (work_is work.now)) making.old.made) e) }
+{
+    let mut names = scopes.names(alloc, work.at)?;
+    let Parts {
+        drivers,
+        join,
+        made,
+    } = work_parts(
+        alloc,
+        &mut making.arena,
+        widths,
+        &mut names,
+        &work.task,
+        making.made,
+    )?;
+    making.drivers.append(drivers)?;
+    add_join(&mut making.list, &mut making.joins, join)?;
+    making.made = made;
+    Ok(())
+}
+
+// Nothing is made.
+fn begun(alloc: Global, widths: &[u8], turns: u64) -> Result<Making, AllocError>
+    requires { All (λ width. (1 ≤ width) × (width ≤ 128)) widths.now }
+    ensures { (wires : List Signal) → widths_of wires ≡ widths.now → IfOk result (λ making. IsMade wires [] turns making) }
+{
+    Ok(Making {
+        arena: Arena::new(alloc),
+        drivers: Items::new(alloc),
+        list: Items::new(alloc),
+        joins: Joins::new(alloc, widths)?,
+        made: turns,
+    })
+}
+
+// The flat design of scopes.
+fn flattened(alloc: Global, scopes: &DesignScopes<'_>) -> Result<Flat, TextErr>
+    requires { AreSound scopes.now }
+    ensures ok { IfOk result (λ flat. IsElaborated (design_is scopes.now) flat) }
+    ensures err { IfErr result (λ e. IsCause (design_faults (design_is scopes.now)) e) }
+{
+    let wires = copied(alloc, scopes.wires())?;
+    let widths = widths(alloc, scopes.wires())?;
+    let mut making = begun(alloc, &widths, scopes.turns())?;
+    'works: for work in scopes.works() {
+        add_work(alloc, &mut making, scopes, &widths, work)?;
+    }
+    let Making {
+        arena,
+        drivers,
+        list,
+        ..
+    } = making;
+    Ok(Flat {
+        arena,
+        wires,
+        drivers,
+        joins: list,
+    })
+}
+
+/// The flat design of a source with a top: the module of a given name or, where none is given, the one module that no module
+/// instantiates. Its settlings are exactly those of the source; or why the source is refused: E2 and E10 to E25.
+///
+/// Wires are numbered as `scopes` numbers them. The drivers follow the order in which the text of each instance has its
+/// assignments, blocks and ports, an instance's ports before its items.
+pub fn elaborate(alloc: Global, source: &Source, top: Option<&Name>) -> Result<Flat, TextErr>
+    ensures is { Answers (λ d flat. IsElaborated d flat) (sound_design source.now (option_copied top.entry)) result }
+    ensures sound { IfOk result IsFlat }
+{
+    let found = scopes(alloc, source, top)?;
+    flattened(alloc, &found)
+}
