@@ -1,0 +1,6 @@
+pub mod OneWord
+pub mod Budgets
+pub mod Sound
+pub mod Complete
+pub mod Commands
+pub mod Turns
