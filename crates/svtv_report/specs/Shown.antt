@@ -1,0 +1,11 @@
+-- The names of variables and samples.
+use Rattle.std.specs.Prelude.{List, map}
+use Rattle.svtv_report.specs.Texts.{Text}
+use Rattle.svtv_table.specs.declared.bound.Sample.{Sample}
+use Rattle.svtv_table.specs.declared.bound.VarDecl.{VarDecl}
+
+abbrev pub var_texts : List VarDecl → List Text
+var_texts vars = map (λ v. v.name) vars
+
+abbrev pub sample_texts : List Sample → List Text
+sample_texts samples = map (λ s. s.name) samples

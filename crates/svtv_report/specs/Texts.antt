@@ -1,0 +1,46 @@
+-- What is printed of values and verdicts (this project's rules).
+use Rattle.std.specs.Prelude.{ℕ, List, [], ◌∷◌, ◌++◌, length, map, reverse, codes, decimal}
+use Rattle.fourvec.specs.declared.Bit.{Bit}
+use Rattle.fourvec.specs.declared.Bit.TheVariants.{Zero, One, Unknown, Floating}
+use Rattle.svtv_report.specs.declared.verdicts.Verdict.{Verdict}
+use Rattle.svtv_report.specs.declared.verdicts.Verdict.TheVariants.{Proved, Vacuous, Failed}
+
+abbrev pub Text : Type 0
+Text = List ℕ
+
+abbrev pub line_feed : Text
+line_feed = 10 ∷ []
+
+-- ---- values
+
+abbrev pub digit : Bit → ℕ
+digit Zero = 48
+digit One = 49
+digit Unknown = 120
+digit Floating = 122
+
+-- the width, `'b`, and all bits from the most significant on
+abbrev pub value_text : List Bit → Text
+value_text v = decimal (length v) ++ (codes "'b" ++ map digit (reverse v))
+
+-- a name with its value, after so much
+abbrev pub value_line : Text → Text → List Bit → Text
+value_line before name v = before ++ (name ++ (codes " = " ++ (value_text v ++ line_feed)))
+
+-- a line for each name that has a value
+unfoldable pub value_lines : Text → List Text → List (List Bit) → Text
+value_lines before (name ∷ names) (v ∷ values) = value_line before name v ++ value_lines before names values
+value_lines before names values = []
+
+-- ---- verdicts
+
+-- the lines of one goal: its verdict and, where it failed, the choice and the samples
+abbrev pub verdict_text : List Text → List Text → Text → Verdict → List (List Bit) → Text
+verdict_text vars samples name Proved shown = name ++ (codes ": proved" ++ line_feed)
+verdict_text vars samples name Vacuous shown = name ++ (codes ": vacuous" ++ line_feed)
+verdict_text vars samples name (Failed choice) shown = name ++ (codes ": failed" ++ (line_feed ++ (value_lines (codes "  var ") vars choice ++ value_lines (codes "  sample ") samples shown)))
+
+-- the lines of all goals, in order
+unfoldable pub report : List Text → List Text → List Text → List Verdict → List (List (List Bit)) → Text
+report vars samples (name ∷ names) (v ∷ verdicts) (s ∷ shown) = verdict_text vars samples name v s ++ report vars samples names verdicts shown
+report vars samples names verdicts shown = []

@@ -1,0 +1,52 @@
+// Values as they are printed.
+ghost use Rattle.std.specs.Prelude.{◌≡◌, ◌++◌, IfOk, OnOk};
+ghost use Rattle.svtv_report.specs.Texts.{digit, value_line, value_lines, value_text};
+
+use fourvec::{Bit, Four};
+use itoa::Buffer;
+use std::alloc::AllocError;
+use sv_outside::Name;
+
+// The digit of a bit.
+fn digit(bit: Bit) -> u8
+    ensures { result ≡ digit bit }
+{
+    match bit {
+        Bit::Zero => b'0',
+        Bit::One => b'1',
+        Bit::Unknown => b'x',
+        Bit::Floating => b'z',
+    }
+}
+
+// A value: its width and its bits.
+fn push_value(text: &mut Vec<u8>, value: &Four) -> Result<(), AllocError>
+    ensures { OnOk result (text.new.items ≡ text.old.items ++ value_text value.now) }
+{
+    let mut buffer = Buffer::new();
+    text.extend_from_slice(buffer.format(value.width()).as_bytes())?;
+    text.extend_from_slice(b"'b")?;
+    let mut at = value.width();
+    'bits: while at > 0 {
+        at -= 1;
+        text.push(digit(value.bit(at)))?;
+    }
+    Ok(())
+}
+
+/// A name with its value, after so much.
+pub(crate) fn push_line(
+    text: &mut Vec<u8>,
+    before: &[u8],
+    name: &Name,
+    value: &Four,
+) -> Result<(), AllocError>
+    ensures { OnOk result (text.new.items ≡ text.old.items ++ value_line before.now name.now value.now) }
+{
+    text.extend_from_slice(before)?;
+    text.extend_from_slice(name.bytes())?;
+    text.extend_from_slice(b" = ")?;
+    push_value(text, value)?;
+    text.push(b'\n')?;
+    Ok(())
+}

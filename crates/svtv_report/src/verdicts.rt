@@ -1,0 +1,110 @@
+// The report of verdicts, and the text of samples.
+ghost use Rattle.std.specs.Prelude.{◌≡◌, ◌++◌, [], IfOk, OnOk, codes, length};
+ghost use Rattle.svtv_report.specs.Texts as t;
+ghost use Rattle.svtv_report.specs.Texts.{value_lines, verdict_text};
+ghost use Rattle.svtv_report.specs.Shown.{sample_texts, var_texts};
+
+use crate::value::push_line;
+use fourvec::Four;
+use items::Items;
+use std::alloc::{AllocError, Global};
+use sv_outside::Name;
+use svtv_table::{Sample, VarDecl};
+
+/// What is decided of a goal: each claim holds in every run under every choice that meets the hypotheses, and some choice does; no
+/// choice meets them; or this choice meets them and some claim fails in its least run.
+#[derive(Drop)]
+pub enum Verdict {
+    Proved,
+    Vacuous,
+    Failed(Items<Four>),
+}
+
+// A line for each variable that has a value.
+fn push_vars(text: &mut Vec<u8>, vars: &[VarDecl], values: &[Four]) -> Result<(), AllocError>
+    ensures { OnOk result (text.new.items ≡ text.old.items ++ value_lines (codes "  var ") (var_texts vars.now) values.now) }
+{
+    'vars: for (var, value) in vars.iter().zip(values) {
+        push_line(text, b"  var ", &var.name, value)?;
+    }
+    Ok(())
+}
+
+// A line for each sample that has a value, after so much.
+fn push_samples(
+    text: &mut Vec<u8>,
+    before: &[u8],
+    samples: &[Sample],
+    values: &[Four],
+) -> Result<(), AllocError>
+    ensures { OnOk result (text.new.items ≡ text.old.items ++ value_lines before.now (sample_texts samples.now) values.now) }
+{
+    'samples: for (sample, value) in samples.iter().zip(values) {
+        push_line(text, before, &sample.name, value)?;
+    }
+    Ok(())
+}
+
+// The lines of one goal.
+fn push_verdict(
+    text: &mut Vec<u8>,
+    vars: &[VarDecl],
+    samples: &[Sample],
+    name: &Name,
+    verdict: &Verdict,
+    shown: &[Four],
+) -> Result<(), AllocError>
+    ensures { OnOk result (text.new.items ≡ text.old.items ++ verdict_text (var_texts vars.now) (sample_texts samples.now) name.now verdict.now shown.now) }
+{
+    text.extend_from_slice(name.bytes())?;
+    match verdict {
+        Verdict::Proved => text.extend_from_slice(b": proved\n"),
+        Verdict::Vacuous => text.extend_from_slice(b": vacuous\n"),
+        Verdict::Failed(choice) => {
+            text.extend_from_slice(b": failed\n")?;
+            push_vars(text, vars, choice.as_slice())?;
+            push_samples(text, b"  sample ", samples, shown)
+        }
+    }
+}
+
+/// The report of verdicts, a line or more for each goal in order; `shown` has the samples of the least run for a goal that failed.
+/// The three lists have equal lengths.
+pub fn report(
+    alloc: Global,
+    names: &[Name],
+    verdicts: &[Verdict],
+    vars: &[VarDecl],
+    samples: &[Sample],
+    shown: &[Items<Four>],
+) -> Result<Vec<u8>, AllocError>
+    requires verdicts { length verdicts.now ≡ length names.now }
+    requires shown { length shown.now ≡ length names.now }
+    ensures { IfOk result (λ text. text.items ≡ t.report (var_texts vars.now) (sample_texts samples.now) names.now verdicts.now shown.now) }
+{
+    let mut text = Vec::new(alloc);
+    'goals: for at in 0..names.len() {
+        push_verdict(
+            &mut text,
+            vars,
+            samples,
+            &names[at],
+            &verdicts[at],
+            shown[at].as_slice(),
+        )?;
+    }
+    Ok(text)
+}
+
+/// A line for each sample, in order.
+pub fn samples_text(
+    alloc: Global,
+    samples: &[Sample],
+    values: &[Four],
+) -> Result<Vec<u8>, AllocError>
+    ensures { IfOk result (λ text. text.items ≡ value_lines [] (sample_texts samples.now) values.now) }
+{
+    let mut text = Vec::new(alloc);
+    push_samples(&mut text, b"", samples, values)?;
+    Ok(text)
+}
