@@ -15,7 +15,8 @@ use svex_arena::{Arena, Env};
 
 // A combinational block, the values of c, d, i, y, z, k and t, and behind `=>` its drivers: of each the number of its wire, its first
 // bit, and the value.
-static COMBS: &str = "always_comb if (c) y = 1'bz; else y = 1'bz; | x 0 0000 00000000 0000 0 00000000 => 3.0=0000000z
+static COMBS: &str =
+    "always_comb if (c) y = 1'bz; else y = 1'bz; | x 0 0000 00000000 0000 0 00000000 => 3.0=0000000z
 always_comb begin y = 8'h0f; y[i] = 1'b1; end | 0 0 xxxx 00000000 0000 0 00000000 => 3.0=xxxx1111
 always_comb begin y = 8'h0f; y[i] = 1'b1; end | 0 0 1001 00000000 0000 0 00000000 => 3.0=00001111
 always_comb begin y = 8'h0f; y[i] = 1'b1; end | 0 0 0111 00000000 0000 0 00000000 => 3.0=10001111
@@ -51,7 +52,8 @@ always_comb c <= 1'b1; | 0 0 0000 00000000 0000 0 00000000 => E24 15
 always_comb c = q; | 0 0 0000 00000000 0000 0 00000000 => E12 17";
 
 // The same of a clocked block, with the values in the phase before, and those in the present one.
-static REGISTERS: &str = "always_ff @(posedge k) z <= i; | 0 0 0011 00000000 1111 0 00000000 | 0 0 0101 00000000 0000 1 00000000 => 4.0=0011
+static REGISTERS: &str =
+    "always_ff @(posedge k) z <= i; | 0 0 0011 00000000 1111 0 00000000 | 0 0 0101 00000000 0000 1 00000000 => 4.0=0011
 always_ff @(posedge k) z <= i; | 0 0 0011 00000000 1111 1 00000000 | 0 0 0101 00000000 0000 1 00000000 => 4.0=1111
 always_ff @(posedge k) z <= i; | 0 0 0011 00000000 1111 x 00000000 | 0 0 0101 00000000 0000 1 00000000 => 4.0=xx11
 always_ff @(posedge k) z <= i; | 0 0 0011 00000000 1111 0 00000000 | 0 0 0101 00000000 0000 x 00000000 => 4.0=xx11
@@ -140,12 +142,7 @@ fn refused(alloc: Global, why: TextErr) -> Result<String, TextErr> {
 }
 
 // The drivers of a block, in the form of the rows.
-fn told(
-    alloc: Global,
-    names: &mut Names<'_>,
-    env: &Env,
-    text: &str,
-) -> Result<String, TextErr> {
+fn told(alloc: Global, names: &mut Names<'_>, env: &Env, text: &str) -> Result<String, TextErr> {
     let block = read(alloc, text)?;
     let mut arena = Arena::new(alloc);
     match block_drivers(alloc, &mut arena, &block, names, 0) {

@@ -75,10 +75,9 @@ constants_keep (d ∷ more) p st last i h = let b = bind_ok (add_constant d st) 
 wire_seen : (input : Bool) (x : Layout) (n : Name) (s : State) → Inv s → Inv (with_wire input x n s)
 wire_seen input x n s i =
     let w : Signal = record { path = path_of s n; width = width x; input = input } in
-    let e : Entry = (n, signal_is of_wires (length s.wires) x) in
-    (
+    let e : Entry = (n, signal_is of_wires (length s.wires) x) in (
       levels_with (s.wires ++ w ∷ []) s.me (with_net e) s.levels
-      (λ y h. record { nets = both_good (s.wires ++ w ∷ []) y.nets (e ∷ []) h.nets (one_good (s.wires ++ w ∷ []) e (last_good s.wires w x refl)); consts = h.consts }) (levels_wider s.wires w s.levels i.0),
+          (λ y h. record { nets = both_good (s.wires ++ w ∷ []) y.nets (e ∷ []) h.nets (one_good (s.wires ++ w ∷ []) e (last_good s.wires w x refl)); consts = h.consts }) (levels_wider s.wires w s.levels i.0),
       works_wider s.wires w s.works i.1,
     )
 
@@ -280,8 +279,7 @@ port_keeps top d x w st y i h =
     let b = bind_ok (add_wire (top && is_input d) x w st) _ y h in
     let a = wire_added (top && is_input d) x w st b.0 b.1 in
     let p : OpenPort = record { name = w.text; way = d; wire = length st.wires; layout = x } in
-    subst (Ported st) (same_ok (p, b.0) y b.2)
-    (
+    subst (Ported st) (same_ok (p, b.0) y b.2) (
       wire_keeps (top && is_input d) x w st b.0 i b.1,
       added_wider x st b.0 a,
       subst (λ ws. IsPort ws p) (sym a.is) (last_good st.wires a.wire x a.wide),
@@ -325,8 +323,7 @@ ports_keep top before x (p ∷ more) st y i h =
     let form = port_form_keeps p x st a.0 i a.1 in
     let one = port_keeps top (or_way p.way before) a.0.0 p.name a.0.1 b.0 form.0 b.1 in
     let rest = ports_keep top (or_way p.way before) a.0.0 more b.0.1 c.0 one.0 c.1 in
-    subst (PortsFound st) (same_ok (b.0.0 ∷ c.0.0, c.0.1) y c.2)
-    (
+    subst (PortsFound st) (same_ok (b.0.0 ∷ c.0.0, c.0.1) y c.2) (
       rest.0,
       (λ n z g. rest.1 n z (one.1 n z (subst (λ ws. IsGood ws (signal_is of_wires n z)) (sym form.1) g))),
       (rest.1 b.0.0.wire b.0.0.layout one.2, rest.2),

@@ -151,9 +151,9 @@ allows_wires : (at : Scope) (widths : List ℕ) (scene : Scene) (names : List Na
 allows_wires at widths scene names sc w d all s i =
     name_allows scene (is_of_wires widths) s.owner s.number s.width (w.owner s (all s i))
     (wire_allows scene.clock scene (is_of_wires widths) s.number s.width (place_in scene s.number) refl
-      (λ e f. w.wire s (all s i))
-      (λ j e f g. let own = (sc.back s.number j f).1 in subst (λ n. IsTrue (is_wire widths n (width_in scene j))) own (w.wire (wire_signal (get_or scene.wires j 0) (width_in scene j)) (d j (sc.back s.number j f).0)))
-      (λ c e f. w.wire s (all s i)) (λ c e. w.wire s (all s i)))
+    (λ e f. w.wire s (all s i))
+    (λ j e f g. let own = (sc.back s.number j f).1 in subst (λ n. IsTrue (is_wire widths n (width_in scene j))) own (w.wire (wire_signal (get_or scene.wires j 0) (width_in scene j)) (d j (sc.back s.number j f).0)))
+    (λ c e f. w.wire s (all s i)) (λ c e. w.wire s (all s i)))
 
 sound_driver : (widths : List ℕ) (new : List Shape) (drivers : List Driver) → All (λ d. LieIn widths d.target) drivers → All (IsPlaced new) drivers → All (λ d. IsTrue (each_variable (is_of_wires widths) new d.value)) drivers → All (IsDriver widths new) drivers
 sound_driver widths new drivers a b c = λ k d l. record { lies = a k d l; there = (b k d l).there; wide = (b k d l).wide; mentions = c k d l }
@@ -226,8 +226,7 @@ open_bit marks i (suc w) h = elim (cases_Bool (mark_at marks i w)) [
 event_reads : (scene : Scene) (p : VarName → ℕ → Bool) (wires : List Signal) (all : List Action) (targets : List NamedSignal) (clock : Option Clock) → SceneAmong targets scene → Reads (named_in all targets clock) (now_names wires clock all) p → EventHolds clock scene p
 event_reads scene p wires all targets None d r = tt
 event_reads scene p wires all targets (Some k) d r =
-    let c = in_clock all targets k in
-    (
+    let c = in_clock all targets k in (
       r.present (wire_signal k.wire 1) c (0, omega arith, refl),
       r.previous (wire_signal k.wire 1) c,
       λ i l. r.previous (wire_signal (get_or scene.wires i 0) (width_in scene i)) (in_targets all targets (Some k) _ (d i l)),
@@ -246,26 +245,26 @@ allows_reads None at wires scene all targets p sc c tells a among declared some 
     let named = declared s own in
     name_allows scene p s.owner s.number s.width (a.owner s named)
     (wire_allows scene.clock scene p s.number s.width (place_in scene s.number) refl
-      (λ e f. r.present s own (comb_now at wires scene all s 0 s.width a named h (a.wire s named) (some s h) (sym (tells s.number 0) ∙ written_none scene s.number 0 f)))
-      (λ i e f g.
-        let l = (sc.back s.number i f).0 in
-        let same = (sc.back s.number i f).1 in
-        let there : Contains targets (wire_signal s.number (width_in scene i)) = subst (λ n. Contains targets (wire_signal n (width_in scene i))) same (among i l) in
-        let known = in_targets all targets None (wire_signal s.number (width_in scene i)) there in
-        let o = open_bit scene.marks i (width_in scene i) g in
-        r.present (wire_signal s.number (width_in scene i)) known
-        (comb_now at wires scene all s o.0 (width_in scene i) a named h (a.wire (wire_signal s.number (width_in scene i)) (declared _ known)) o.1 (sym (tells s.number o.0) ∙ written_at scene s.number o.0 i f ∙ o.2)))
-      (λ n e f. let g : Some n ≡ None = sym e ∙ c in cc)
-      (λ n e. r.previous s own))
+    (λ e f. r.present s own (comb_now at wires scene all s 0 s.width a named h (a.wire s named) (some s h) (sym (tells s.number 0) ∙ written_none scene s.number 0 f)))
+    (λ i e f g.
+    let l = (sc.back s.number i f).0 in
+    let same = (sc.back s.number i f).1 in
+    let there : Contains targets (wire_signal s.number (width_in scene i)) = subst (λ n. Contains targets (wire_signal n (width_in scene i))) same (among i l) in
+    let known = in_targets all targets None (wire_signal s.number (width_in scene i)) there in
+    let o = open_bit scene.marks i (width_in scene i) g in
+    r.present (wire_signal s.number (width_in scene i)) known
+    (comb_now at wires scene all s o.0 (width_in scene i) a named h (a.wire (wire_signal s.number (width_in scene i)) (declared _ known)) o.1 (sym (tells s.number o.0) ∙ written_at scene s.number o.0 i f ∙ o.2)))
+    (λ n e f. let g : Some n ≡ None = sym e ∙ c in cc)
+    (λ n e. r.previous s own))
 allows_reads (Some k) at wires scene all targets p sc c tells a among declared some r s h =
     let own = in_names all targets (Some k) s h in
     let named = declared s own in
     name_allows scene p s.owner s.number s.width (a.owner s named)
     (wire_allows scene.clock scene p s.number s.width (place_in scene s.number) refl
-      (λ e f. let g : Some k.wire ≡ None = sym c ∙ e in cc)
-      (λ i e f g. let z : Some k.wire ≡ None = sym c ∙ e in cc)
-      (λ n e f. let same : k.wire ≡ n = some_same k.wire n (sym c ∙ e) in r.present s own (0, omega arith, same ∙ sym f))
-      (λ n e. r.previous s own))
+    (λ e f. let g : Some k.wire ≡ None = sym c ∙ e in cc)
+    (λ i e f g. let z : Some k.wire ≡ None = sym c ∙ e in cc)
+    (λ n e f. let same : k.wire ≡ n = some_same k.wire n (sym c ∙ e) in r.present s own (0, omega arith, same ∙ sym f))
+    (λ n e. r.previous s own))
   where
     some_same : (x y : ℕ) → Some x ≡ Some y → x ≡ y
     some_same x y e = cc
@@ -280,7 +279,7 @@ contributes at targets clock all start m bits new drivers b e k some h = record 
       let known = scene_declared d in
       sound_driver widths new drivers (h.lies widths (fits_in at widths m.scene w known)) h.placed
       (h.mentions (is_of_wires widths) (event_wires at widths m.scene clock w known (clock_declared at all targets clock d))
-        (allows_wires at widths m.scene (names_all all) sound w known (λ s i. d s (in_names all targets clock s i))));
+      (allows_wires at widths m.scene (names_all all) sound w known (λ s i. d s (in_names all targets clock s i))));
   mentions = λ wires p w d r. h.mentions p (event_reads m.scene p wires all targets clock among r) (allows_reads clock at wires m.scene all targets p sound on_clock tells w among d some r);
 }
   where

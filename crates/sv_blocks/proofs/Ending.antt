@@ -62,7 +62,7 @@ runs_all scene one two three new clock all start before left ends sc e s same f 
       let start_is : (shapes : List Shape) → Extends one shapes → store_of scene shapes bits start ≡ base scene.clock bits = λ shapes x. store_kept scene one shapes bits start sc s.nodes_are x ∙ s.value bits in
       h.value bits
       ∙ ap (λ t. end_store clock bits t (store_of scene three bits start))
-          (r.value bits ∙ ap (λ t. run_all all (reads_in scene bits) t) (ap (λ xs. store_of scene two bits xs) same ∙ start_is two f))
+      (r.value bits ∙ ap (λ t. run_all all (reads_in scene bits) t) (ap (λ xs. store_of scene two bits xs) same ∙ start_is two f))
       ∙ ap (λ t. end_store clock bits (run_all all (reads_in scene bits) (base scene.clock bits)) t) (start_is three (extends_on one two three f g));
   mentions = λ p a b.
       let begun : HoldsIn p one start = s.mentions p (λ i l. ap (λ o. start_test o p (get_or scene.wires i 0) (width_in scene i)) e ∙ start_holds clock scene p a i l) in

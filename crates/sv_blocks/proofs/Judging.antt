@@ -143,6 +143,7 @@ filter_out f (x ∷ xs) n h = elim (cases_Bool (f x)) [
   | inl t ↦ kept f xs x n (λ g. filter_out f xs n g) t (subst (λ ys. Contains ys n) (ap (λ b. cond b (x ∷ filter f xs) (filter f xs)) t) h)
   | inr t ↦ let rest = filter_out f xs n (subst (λ ys. Contains ys n) (ap (λ b. cond b (x ∷ filter f xs) (filter f xs)) t) h) in let i = rest.0 in ((suc i.0, omega (arith, i.1), i.2), rest.1)
 ]
+
 now_in : (wires : List Signal) (clock : Option Clock) (all : List Action) (d : Deed) (n : ℕ) → Does all d → Contains (now_names wires clock all) n → Contains (block_names wires (clock_manner clock) d) n
 now_in wires None all d n h i =
     let g = filter_out (is_read_now wires (writes_all all)) (wires_named (names_all all)) n i in

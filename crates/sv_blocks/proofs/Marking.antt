@@ -221,6 +221,7 @@ so_far_same start scene all bits b m s h on = record {
   marked = λ n k. s.marked n k ∙ sym (or_keeps (same_bit b (bit n k)) (has_bit (bit n k) all) (λ t. ap (λ x. has_bit x all) (sym (bit_is b n k t)) ∙ unmarked scene all b m true s.marked h on));
   bits_are = s.bits_are ∙ sym (ap (λ x. cond x (distinct all) (b ∷ distinct all)) (unmarked scene all b m true s.marked h on));
 }
+
 pub so_far_none : (start : Scene) (all : List WireBit) (at : ℕ) → ((n k : ℕ) → is_written start n k ≡ false) → at ≡ length all → IsSoFar start start (drop at all) []
 unfolding distinct has_bit
 so_far_none start all at clear e =

@@ -21,9 +21,6 @@ use Rattle.sv_meaning.specs.Deeds.{Deed, deed, deed_else, deeds, arms, with_inde
 use Rattle.sv_meaning.proofs.Declaring.{names-declared}
 use Rattle.sv_blocks.specs.Blocks.{AreDeclared}
 
-
-
-
 none : (at : Scope) → AreDeclared at []
 none at s h = absurd (omega (arith, h.1))
 

@@ -20,8 +20,7 @@ use Rattle.sv_blocks.specs.Declaring.{wire_is, maybe_wire, wires_are, HasBits, I
 
 pub wire_kept : (number : ℕ) (x : Laid) (w : What) (y : Wire) → w ≡ signal_is of_wires number (layout_is x) → IsSound x → y ≡ record { number = number; width = x.width } → (maybe_wire (Some y) ≡ signal_of (Some w)) × HasBits y
 wire_kept number x w y e h f =
-    let g = sound_width x h in
-    (
+    let g = sound_width x h in (
       ap (λ z. maybe_wire (Some z)) f ∙ ap (λ n. wire_signal number n ∷ []) g.0 ∙ sym (ap (λ z. signal_of (Some z)) e),
       subst HasBits (sym f) (record { some = g.1; most = g.2 }),
     )
@@ -102,7 +101,7 @@ places_more named all new mid w same room declared p d f h = record {
         let P : ℕ → Type 0 = λ m. IsAmong named (record { number = get_or new.wires.items m 0; width = get_or new.widths.items m 0 }) in
         subst P (sym e)
         (subst (λ x. IsAmong named (record { number = x; width = get_or new.widths.items (length all.wires.items) 0 })) (sym last_wire)
-          (subst (λ x. IsAmong named (record { number = w.number; width = x })) (sym last_width) declared))
+        (subst (λ x. IsAmong named (record { number = w.number; width = x })) (sym last_width) declared))
 
 -- ---- a scene with nothing marked
 

@@ -1,7 +1,6 @@
 -- Blocks as drivers: what they contribute, and which names are wires.
 use Rattle.std.specs.Prelude.{◌≡◌, ℕ, Bool, List, [], ◌∷◌, ◌++◌, filter, Option, Some, None, Result, Ok, Err, IsTrue}
 use Rattle.std.specs.List.{All, Contains}
-
 use Rattle.sv_outside.specs.declared.text.Signal.{Signal}
 use Rattle.sv_outside.specs.declared.refusal.TextErr.{TextErr}
 use Rattle.svex_arena.specs.declared.shape.VarName.{VarName}

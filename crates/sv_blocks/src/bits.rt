@@ -36,11 +36,7 @@ fn target_bits(
 }
 
 #[cycle(bits)]
-fn action_bits(
-    alloc: Global,
-    action: &Action,
-    bits: &mut Vec<WireBit>,
-) -> Result<(), AllocError>
+fn action_bits(alloc: Global, action: &Action, bits: &mut Vec<WireBit>) -> Result<(), AllocError>
     requires { Fits action.now }
     ensures { OnOk result (bits.new.items ≡ bits.old.items ++ writes action.now) }
 {
@@ -109,11 +105,7 @@ fn mark_place(scene: &Scene, bit: &WireBit) -> Option<usize>
 }
 
 // Marks a bit, and puts it behind others where it was not marked before.
-fn mark_bit(
-    scene: &mut Scene,
-    bit: &WireBit,
-    bits: &mut Vec<WireBit>,
-) -> Result<(), AllocError>
+fn mark_bit(scene: &mut Scene, bit: &WireBit, bits: &mut Vec<WireBit>) -> Result<(), AllocError>
     ensures { (all : List WireBit) → (start : Scene) → IsScene start → IsSoFar start scene.old all bits.old.items → OnOk result (IsSoFar start scene.new (bit.now ∷ all) bits.new.items) }
 {
     let Some(place) = mark_place(scene, bit) else {

@@ -62,11 +62,7 @@ fn name_wire(name: &[u8], names: &Names<'_>, wires: &mut Vec<Wire>) -> Result<()
 }
 
 #[cycle(lvalue)]
-fn target_wires(
-    target: &Lvalue,
-    names: &Names<'_>,
-    wires: &mut Vec<Wire>,
-) -> Result<(), AllocError>
+fn target_wires(target: &Lvalue, names: &Names<'_>, wires: &mut Vec<Wire>) -> Result<(), AllocError>
     requires { All HasBits wires.old.items }
     ensures is { OnOk result (wires_are wires.new.items ≡ wires_are wires.old.items ++ root_signals (names_are names.now) target.now) }
     ensures bits { All HasBits wires.new.items }
@@ -95,11 +91,7 @@ fn all_target_wires(
 
 /// The wires that the targets of a statement name, behind others.
 #[cycle(statement)]
-pub fn stmt_wires(
-    stmt: &Stmt,
-    names: &Names<'_>,
-    wires: &mut Vec<Wire>,
-) -> Result<(), AllocError>
+pub fn stmt_wires(stmt: &Stmt, names: &Names<'_>, wires: &mut Vec<Wire>) -> Result<(), AllocError>
     requires { All HasBits wires.old.items }
     ensures is { OnOk result (wires_are wires.new.items ≡ wires_are wires.old.items ++ target_signals (names_are names.now) stmt.now) }
     ensures bits { All HasBits wires.new.items }
@@ -134,11 +126,7 @@ fn other_wires(
 }
 
 #[cycle(statement)]
-fn all_stmt_wires(
-    all: &[Stmt],
-    names: &Names<'_>,
-    wires: &mut Vec<Wire>,
-) -> Result<(), AllocError>
+fn all_stmt_wires(all: &[Stmt], names: &Names<'_>, wires: &mut Vec<Wire>) -> Result<(), AllocError>
     requires { All HasBits wires.old.items }
     ensures is { OnOk result (wires_are wires.new.items ≡ wires_are wires.old.items ++ of_each (target_signals (names_are names.now)) all.now) }
     ensures bits { All HasBits wires.new.items }
@@ -150,11 +138,7 @@ fn all_stmt_wires(
 }
 
 #[cycle(statement)]
-fn arms_wires(
-    arms: &[Arm],
-    names: &Names<'_>,
-    wires: &mut Vec<Wire>,
-) -> Result<(), AllocError>
+fn arms_wires(arms: &[Arm], names: &Names<'_>, wires: &mut Vec<Wire>) -> Result<(), AllocError>
     requires { All HasBits wires.old.items }
     ensures is { OnOk result (wires_are wires.new.items ≡ wires_are wires.old.items ++ of_each (arm_signals (names_are names.now)) arms.now) }
     ensures bits { All HasBits wires.new.items }
@@ -212,11 +196,7 @@ fn add_wire(all: &mut Places, wire: Wire) -> Result<(), AllocError>
 }
 
 /// The scene with a place for each of these wires, and no bit marked.
-pub fn scene_of(
-    alloc: Global,
-    found: &[Wire],
-    clock: Option<usize>,
-) -> Result<Scene, AllocError>
+pub fn scene_of(alloc: Global, found: &[Wire], clock: Option<usize>) -> Result<Scene, AllocError>
     ensures { (named : List NamedSignal) → All (IsAmong named) found.now → IfOk result (λ scene. IsBegun named clock scene) }
 {
     let mut all = Places {

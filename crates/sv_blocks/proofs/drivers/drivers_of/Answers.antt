@@ -29,7 +29,7 @@ bits-preserved c =
       made =
           subst (λ xs. DriveAll c.args.scene.now c.args.arena.now c.driver_of.new.arena c.args.nodes.now (take (c.bits.at + c.run_of-count.result) c.args.bits.now) xs) (sym c.in_ok-push.ensures.ok)
           (drive_more c.args.scene.now c.args.arena.now _ _ c.args.nodes.now c.args.bits.now c.bits.at c.run_of-count.result (c.bits.at + c.run_of-count.result) _ c.bits.all c.in_ok-driver.driver c.requires.scene c.requires.nodes i.stays c.in_ok-driver.ensures.stays
-            (subst (λ (z : List WireBit). take c.run_of-count.result z ≡ seg_bits (run_seg (get_or z 0 none) c.run_of-count.result)) (take_rest c.args.bits.now c.bits.at) (c.run_of-count.ensures.bits none)
-              ∙ ap (λ b. seg_bits (run_seg b c.run_of-count.result)) (get_or-drop c.bits.at c.args.bits.now 0 none ∙ (let z : c.bits.at + 0 ≡ c.bits.at = omega arith in ap (λ n. get_or c.args.bits.now n none) z)))
-            refl within i.made c.in_ok-driver.ensures.ok);
+          (subst (λ (z : List WireBit). take c.run_of-count.result z ≡ seg_bits (run_seg (get_or z 0 none) c.run_of-count.result)) (take_rest c.args.bits.now c.bits.at) (c.run_of-count.ensures.bits none)
+          ∙ ap (λ b. seg_bits (run_seg b c.run_of-count.result)) (get_or-drop c.bits.at c.args.bits.now 0 none ∙ (let z : c.bits.at + 0 ≡ c.bits.at = omega arith in ap (λ n. get_or c.args.bits.now n none) z)))
+          refl within i.made c.in_ok-driver.ensures.ok);
     }

@@ -11,4 +11,4 @@ returns-in_ok-node-in-Some-clause-ok c =
     let i = c.args.at in
     start_clocked c.args.scene.now _ _ i _ _ _ c.in-Some.is refl
     (subst (λ (z : List ℕ). IsMade c.args.arena.now (Var (Prev (get_or c.args.scene.now.wires i 0)) (get_or z i 0)) c.make.new.arena c.in_ok-node-in-Some.node) c.as_slice.ensures
-      (subst (λ (z : List ℕ). IsMade c.args.arena.now (Var (Prev (get_or z i 0)) (get_or c.as_slice.result.now i 0)) c.make.new.arena c.in_ok-node-in-Some.node) c.as_slice-in-Some.ensures c.in_ok-node-in-Some.ensures.ok))
+    (subst (λ (z : List ℕ). IsMade c.args.arena.now (Var (Prev (get_or z i 0)) (get_or c.as_slice.result.now i 0)) c.make.new.arena c.in_ok-node-in-Some.node) c.as_slice-in-Some.ensures c.in_ok-node-in-Some.ensures.ok))
