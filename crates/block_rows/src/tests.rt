@@ -70,12 +70,12 @@ always_ff @(posedge k) c = 1'b1; | 0 0 0000 00000000 0000 0 00000000 | 0 0 0000 
 always_ff @(posedge q) c <= 1'b1; | 0 0 0000 00000000 0000 0 00000000 | 0 0 0000 00000000 0000 1 00000000 => E12 21
 always_ff @(posedge i) c <= 1'b1; | 0 0 0000 00000000 0000 0 00000000 | 0 0 0000 00000000 0000 1 00000000 => E14 21";
 
-fn read(alloc: Global, text: &str) -> Result<Block, TextErr> {
+fn read(alloc: Global, text: &str) -> Result<Item, TextErr> {
     let tokens = lex(alloc, 0, text.as_bytes())?;
     let mut cursor = Cursor::new(tokens.as_slice());
     match item(alloc, &mut cursor, 200) {
-        Ok(Item::Always(block)) => Ok(block),
-        _ => Err(TextErr::Memory),
+        Ok(tree) => Ok(tree),
+        Err(_) => Err(TextErr::Memory),
     }
 }
 
@@ -142,13 +142,53 @@ fn refused(alloc: Global, why: TextErr) -> Result<String, TextErr> {
 }
 
 // The drivers of a block, in the form of the rows.
-fn told(alloc: Global, names: &mut Names<'_>, env: &Env, text: &str) -> Result<String, TextErr> {
-    let block = read(alloc, text)?;
+fn driven(
+    alloc: Global,
+    names: &mut Names<'_>,
+    env: &Env,
+    block: &Block,
+) -> Result<String, TextErr> {
     let mut arena = Arena::new(alloc);
-    match block_drivers(alloc, &mut arena, &block, names, 0) {
+    match block_drivers(alloc, &mut arena, block, names, 0) {
         Ok((drivers, _)) => show(alloc, &arena, env, &drivers),
         Err(why) => refused(alloc, why),
     }
+}
+
+fn of_item(
+    alloc: Global,
+    names: &mut Names<'_>,
+    env: &Env,
+    item: &Item,
+) -> Result<String, TextErr> {
+    match item {
+        Item::Always(block) => driven(alloc, names, env, block),
+        _ => Err(TextErr::Memory),
+    }
+}
+
+fn told(alloc: Global, names: &mut Names<'_>, env: &Env, text: &str) -> Result<String, TextErr> {
+    let item = read(alloc, text)?;
+    of_item(alloc, names, env, &item)
+}
+
+// Whether a block of `COMBS` has the drivers of its row.
+fn drives(alloc: Global, names: &mut Names<'_>, row: &str) -> Result<bool, Fail> {
+    let (text, rest) = row.split_once(" | ").ok_or("row")?;
+    let (now, _) = rest.split_once(" => ").ok_or("row")?;
+    let env = phases(alloc, now, now)?;
+    let shown = told(alloc, names, &env, text)?;
+    Ok(row.ends_with(shown.as_str()))
+}
+
+// Whether a block of `REGISTERS` has the drivers of its row.
+fn registers(alloc: Global, names: &mut Names<'_>, row: &str) -> Result<bool, Fail> {
+    let (text, rest) = row.split_once(" | ").ok_or("row")?;
+    let (before, rest) = rest.split_once(" | ").ok_or("row")?;
+    let (now, _) = rest.split_once(" => ").ok_or("row")?;
+    let env = phases(alloc, before, now)?;
+    let shown = told(alloc, names, &env, text)?;
+    Ok(row.ends_with(shown.as_str()))
 }
 
 #[test]
@@ -159,11 +199,7 @@ fn combinational_blocks_drive_as_worked_out_by_hand(rt: HostRuntime) -> Result<(
     names.push_scope(&scope, scope.len())?;
     let mut count = 0u8;
     for row in COMBS.lines() {
-        let (text, rest) = row.split_once(" | ").ok_or("row")?;
-        let (now, _) = rest.split_once(" => ").ok_or("row")?;
-        let env = phases(alloc, now, now)?;
-        let shown = told(alloc, &mut names, &env, text)?;
-        assert!(rt; row.ends_with(shown.as_str()), "{row}: {shown}");
+        assert!(rt; drives(alloc, &mut names, row)?, "{row}");
         count = count.saturating_add(1);
     }
     assert_eq!(rt; count, 34);
@@ -178,12 +214,7 @@ fn clocked_blocks_drive_as_worked_out_by_hand(rt: HostRuntime) -> Result<(), Fai
     names.push_scope(&scope, scope.len())?;
     let mut count = 0u8;
     for row in REGISTERS.lines() {
-        let (text, rest) = row.split_once(" | ").ok_or("row")?;
-        let (before, rest) = rest.split_once(" | ").ok_or("row")?;
-        let (now, _) = rest.split_once(" => ").ok_or("row")?;
-        let env = phases(alloc, before, now)?;
-        let shown = told(alloc, &mut names, &env, text)?;
-        assert!(rt; row.ends_with(shown.as_str()), "{row}: {shown}");
+        assert!(rt; registers(alloc, &mut names, row)?, "{row}");
         count = count.saturating_add(1);
     }
     assert_eq!(rt; count, 16);
