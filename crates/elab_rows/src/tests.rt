@@ -1,4 +1,4 @@
-ghost use Rattle.std.specs.Prelude.{◌≡◌, ◌≤◌, length};
+ghost use Rattle.std.specs.Prelude.{◌≡◌, ◌≤◌, length, IfOk};
 ghost use Rattle.driver_resolve.specs.Drivers.{widths_of};
 ghost use Rattle.flat_net.specs.Flats.{IsFlat};
 ghost use Rattle.event_sim.specs.Sims.{IsValuation, now_values, Fits};
@@ -36,7 +36,9 @@ fn tokens_of(alloc: Global, text: &[u8]) -> Result<Tokens, TextErr> {
 }
 
 // The flat design of a text.
-fn flat_of(alloc: Global, text: &str) -> Result<Flat, TextErr> {
+fn flat_of(alloc: Global, text: &str) -> Result<Flat, TextErr>
+    ensures { IfOk result IsFlat }
+{
     let lines = lines_of(alloc, text.as_bytes())?;
     let tokens = tokens_of(alloc, &lines)?;
     let source = parse(alloc, &tokens)?;
