@@ -1,0 +1,3 @@
+pub mod Stimuli
+pub mod Runs
+pub mod Truths

@@ -1,0 +1,135 @@
+-- There is one least run.
+use Rattle.std.proofs.Common.{◌≡◌, ℕ, zero, suc, ◌+◌, ◌<◌, List, [], ◌∷◌, length, get_or, refl, ap, ◌∙◌, subst, arith, IsTrue}
+use Rattle.fourvec.specs.declared.Bit.{Bit}
+use Rattle.fourvec.specs.declared.Bit.TheVariants.{Zero, One, Unknown, Floating}
+use Rattle.fourvec.specs.Bits.{bit_below}
+use Rattle.settling.specs.Settling.{Store}
+use Rattle.settling.specs.Least.{Under}
+use Rattle.settling.proofs.Rounds.{under-trans, no_value, no_value-under}
+use Rattle.sv_meaning.specs.Designs.{Design}
+use Rattle.sv_meaning.specs.Laws.{IsLeastSettling}
+use Rattle.sv_meaning.proofs.Leasts.{least_settling_exists, least_settling_rises}
+use Rattle.svtv_runs.specs.Runs.{Asked, AreApart, Run, Follows, UnderEach, IsLeastRun}
+use Rattle.svtv_runs.specs.Laws.{LeastRunStands, LeastRunIsOne}
+use Rattle.svtv_runs.specs.Leasts.{least_stimulus}
+use Rattle.svtv_runs.proofs.Stimuli.{least_under, least_allowed}
+
+-- ---- it stands
+
+-- from a phase on, so many least settlings over the least stimuli
+unfoldable pub least_later : Design → Asked → ℕ → Store → ℕ → List Store
+least_later d rows phase prev zero = []
+least_later d rows phase prev (suc phases) =
+    let now = (least_settling_exists d (least_stimulus rows phase) prev).0 in
+    now ∷ least_later d rows (suc phase) now phases
+
+later_follows : (d : Design) (rows : Asked) → AreApart rows → (phase : ℕ) (prev : Store) (phases : ℕ) → Follows d rows phase prev (least_later d rows phase prev phases)
+unfolding least_later
+later_follows d rows apart phase prev zero = tt
+later_follows d rows apart phase prev (suc phases) =
+    let e = least_settling_exists d (least_stimulus rows phase) prev in
+    ((least_stimulus rows phase, least_allowed rows phase apart, e.1.settles), later_follows d rows apart (suc phase) e.0 phases)
+
+later_long : (d : Design) (rows : Asked) (phase : ℕ) (prev : Store) (phases : ℕ) → length (least_later d rows phase prev phases) ≡ phases
+unfolding least_later
+later_long d rows phase prev zero = refl
+later_long d rows phase prev (suc phases) = ap suc (later_long d rows (suc phase) (least_settling_exists d (least_stimulus rows phase) prev).0 phases)
+
+later_under : (d : Design) (rows : Asked) (phase : ℕ) (prev before : Store) (phases : ℕ) (all : List Store) → length all ≡ phases → Under prev before → Follows d rows phase before all → UnderEach (least_later d rows phase prev phases) all
+unfolding least_later
+later_under d rows phase prev before zero [] l u h = tt
+later_under d rows phase prev before zero (t ∷ all) l u h = absurd (omega arith)
+later_under d rows phase prev before (suc phases) [] l u h = absurd (omega arith)
+later_under d rows phase prev before (suc phases) (t ∷ all) l u h =
+    let e = least_settling_exists d (least_stimulus rows phase) prev in
+    let stim = h.0.0 in
+    let other = least_settling_exists d stim before in
+    let one : Under e.0 t =
+    under-trans e.0 other.0 t
+    (least_settling_rises d (least_stimulus rows phase) prev stim before e.0 other.0 (least_under rows phase stim h.0.1) u e.1 other.1)
+    (other.1.least t h.0.2) in
+    (one, later_under d rows (suc phase) e.0 t phases all (omega arith) one h.1)
+
+pub least_run_stands : LeastRunStands
+least_run_stands d rows phases apart = (
+  record { first = no_value; later = least_later d rows 0 no_value phases },
+  record {
+    run = record { even = λ b c l. refl; follows = later_follows d rows apart 0 no_value phases; long = later_long d rows 0 no_value phases };
+    least = λ s h. (no_value-under s.first, later_under d rows 0 no_value s.first phases s.later h.long (no_value-under s.first) h.follows);
+  },
+)
+
+-- ---- it is one
+
+both_ways : (a b : Bit) → IsTrue (bit_below a b) → IsTrue (bit_below b a) → a ≡ b
+both_ways Zero Zero h k = refl
+both_ways One One h k = refl
+both_ways Floating Floating h k = refl
+both_ways Unknown Unknown h k = refl
+both_ways Unknown Zero h k = cc
+both_ways Unknown One h k = cc
+both_ways Unknown Floating h k = cc
+both_ways Zero One h k = cc
+both_ways Zero Unknown h k = cc
+both_ways Zero Floating h k = cc
+both_ways One Zero h k = cc
+both_ways One Unknown h k = cc
+both_ways One Floating h k = cc
+both_ways Floating Zero h k = cc
+both_ways Floating One h k = cc
+both_ways Floating Unknown h k = cc
+
+pub same_store : (s t : Store) → Under s t → Under t s → s ≡ t
+same_store s t h k = λ i n m. both_ways (s n m) (t n m) (h n m) (k n m) i
+
+same_stores : (a b : List Store) → UnderEach a b → UnderEach b a → a ≡ b
+same_stores [] [] h k = refl
+same_stores [] (t ∷ b) h k = absurd h
+same_stores (s ∷ a) [] h k = absurd h
+same_stores (s ∷ a) (t ∷ b) h k = let e = same_store s t h.0 k.0 in let f = same_stores a b h.1 k.1 in λ i. e i ∷ f i
+
+pub least_run_is_one : LeastRunIsOne
+least_run_is_one d rows phases r s h k =
+    let a = h.least s k.run in
+    let b = k.least r h.run in
+    let e = same_store r.first s.first a.0 b.0 in
+    let f = same_stores r.later s.later a.1 b.1 in
+    λ i. record { first = e i; later = f i }
+
+-- ---- its valuations by phase
+
+-- the valuation before a phase
+unfoldable pub least_at : Design → Asked → ℕ → Store
+least_at d rows zero = no_value
+least_at d rows (suc phase) = (least_settling_exists d (least_stimulus rows phase) (least_at d rows phase)).0
+
+-- a settling that is least is the one of that phase
+pub least_next : (d : Design) (rows : Asked) (phase : ℕ) (prev now : Store) → prev ≡ least_at d rows phase → IsLeastSettling d (least_stimulus rows phase) prev now → now ≡ least_at d rows (suc phase)
+unfolding least_at
+least_next d rows phase prev now e h =
+    let own : IsLeastSettling d (least_stimulus rows phase) (least_at d rows phase) now = subst (λ p. IsLeastSettling d (least_stimulus rows phase) p now) e h in
+    let that = least_settling_exists d (least_stimulus rows phase) (least_at d rows phase) in
+    same_store now that.0 (own.least that.0 that.1.settles) (that.1.least now own.settles)
+
+later_at : (d : Design) (rows : Asked) (phase : ℕ) (prev : Store) (phases i : ℕ) → prev ≡ least_at d rows phase → i < phases → get_or (least_later d rows phase prev phases) i no_value ≡ least_at d rows (suc (phase + i))
+unfolding least_later
+later_at d rows phase prev zero i e l = absurd (omega arith)
+later_at d rows phase prev (suc phases) zero e l =
+    let that = least_settling_exists d (least_stimulus rows phase) prev in
+    least_next d rows phase prev that.0 e that.1 ∙ (let z : suc phase ≡ suc (phase + 0) = omega arith in ap (least_at d rows) z)
+later_at d rows phase prev (suc phases) (suc i) e l =
+    let that = least_settling_exists d (least_stimulus rows phase) prev in
+    later_at d rows (suc phase) that.0 phases i (least_next d rows phase prev that.0 e that.1) (omega arith)
+    ∙ (let z : suc (suc phase + i) ≡ suc (phase + suc i) = omega arith in ap (least_at d rows) z)
+
+first_at : (d : Design) (rows : Asked) → no_value ≡ least_at d rows 0
+unfolding least_at
+first_at d rows = refl
+
+-- the valuations of the least run
+pub least_run_at : (d : Design) (rows : Asked) (phases : ℕ) → AreApart rows → (r : Run) → IsLeastRun d rows phases r → (i : ℕ) → i < phases → get_or r.later i no_value ≡ least_at d rows (suc i)
+unfolding least_run_stands
+least_run_at d rows phases apart r h i l =
+    let that = least_run_stands d rows phases apart in
+    let same : r ≡ that.0 = least_run_is_one d rows phases r that.0 h that.1 in
+    ap (λ (x : Run). get_or x.later i no_value) same ∙ later_at d rows 0 no_value phases i (first_at d rows) l ∙ (let z : suc (0 + i) ≡ suc i = omega arith in ap (least_at d rows) z)

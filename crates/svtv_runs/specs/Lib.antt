@@ -1,0 +1,4 @@
+pub mod Runs
+pub mod Truths
+pub mod Leasts
+pub mod Laws
