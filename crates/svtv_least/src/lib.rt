@@ -1,0 +1,8 @@
+//! The least run of a flat design under the stimuli of a table, phase by phase, and its samples.
+#![tactic(auto)]
+
+mod runner;
+mod samples;
+mod stimulus;
+
+pub use runner::Runner;
