@@ -1,10 +1,6 @@
-pub mod Choices
-pub mod Cutting
+pub mod Designs
+pub mod Tables
+pub mod Benches
+pub mod Verdicts
+pub mod Turns
 pub mod Ends
-pub mod Fields
-pub mod Law
-pub mod Reading
-pub mod Stopping
-pub mod Told
-pub mod Unique
-pub mod Words

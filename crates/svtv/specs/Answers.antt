@@ -1,88 +1,95 @@
 -- Which answer comes when, and what it writes.
-use Rattle.std.specs.Prelude.{◌≡◌, ◌<◌, ◌⊎◌, ◌^◌, ℕ, Bool, true, false, List, [], ◌∷◌, length, Option, IfSome, codes}
-use Rattle.svtv.specs.declared.tree.Module.{Module}
-use Rattle.svtv.specs.Table.{IsTable}
-use Rattle.svtv.specs.declared.row.Row.{Row}
-use Rattle.svtv.specs.declared.goal.Goal.{Goal}
+use Rattle.std.specs.Prelude.{◌≡◌, ⊤, ℕ, Bool, true, false, List, [], ◌∷◌, map, Option}
+use Rattle.std.specs.List.{list_all}
+use Rattle.fourvec.specs.declared.Bit.{Bit}
+use Rattle.goal_tree.specs.declared.tree.GoalTree.{GoalTree}
+use Rattle.sv_meaning.specs.Designs.{Design}
+use Rattle.sv_outside.specs.declared.refusal.Place.{Place}
+use Rattle.sv_outside.specs.declared.refusal.Refusal.{Refusal}
+use Rattle.svtv_decide.specs.Verdicts.{Bench, IsLeastUnder, IsRight, sampled_in}
+use Rattle.svtv_report.specs.Refusals.{memory_text, read_fault_text, refusal_text, usage_text}
+use Rattle.svtv_report.specs.Shown.{sample_texts, var_texts}
+use Rattle.svtv_report.specs.Texts.{report, value_lines}
+use Rattle.svtv_report.specs.declared.verdicts.Verdict.{Verdict}
+use Rattle.svtv_report.specs.declared.verdicts.Verdict.TheVariants as v
+use Rattle.svtv_runs.specs.Runs.{Run}
+use Rattle.svtv_table.specs.declared.table.Table.{Table}
+use Rattle.svtv_words.specs.Commands.{Command, IsCommand, prove, sim}
+use Rattle.svtv.specs.Files.{Text, Told, AreGoalsFile, IsValuesFile, bench_of, samples_in, vars_of}
+use Rattle.svtv.specs.Refusals.{IsSetup, Refuses, LeavesUnread}
 use Rattle.svtv.specs.declared.status.Status.{Status}
 use Rattle.svtv.specs.declared.status.Status.TheVariants.{AllProved, Done, NotAll, Usage, Refused, ReadFault, WriteFault, Memory}
-use Rattle.svtv.specs.Meaning.{IsLegal, Fits, ReadsTable, Verdict, Proved, Failed, Right}
-use Rattle.svtv.specs.Report.{report, usage_text, memory_text, read_fault_text, too_long_text, unbuilt_text}
-use Rattle.svtv.specs.Texts.{IsDesignText, IsGoalText}
 
--- the words are the command with these three files
-abbrev pub IsCommand : List (List ℕ) → List ℕ → List ℕ → List ℕ → Type 0
-IsCommand words design table goals = words ≡ codes "prove" ∷ design ∷ table ∷ goals ∷ []
-
--- ---- the files
-
--- the text stands for this design, which is legal
-abbrev pub IsDesign : List ℕ → Module → Type 0
-IsDesign text design = IsDesignText text design × IsLegal design
-
--- the text stands for this table, which fits the design
-abbrev pub IsTableOf : List ℕ → Module → List Row → Type 0
-IsTableOf text design rows = IsTable rows text × Fits design rows
-
--- the text stands for this goal, which reads the table
-abbrev pub IsGoalOf : List ℕ → List Row → Goal → Type 0
-IsGoalOf text rows goal = IsGoalText text goal × ReadsTable rows goal
-
--- a design's file is legal, where its contents are told
-abbrev pub DesignStands : Option (List ℕ) → Type 0
-DesignStands d = IfSome d (λ text. (design : Module) × IsDesign text design)
-
--- and the table's too
-abbrev pub TableStands : Option (List ℕ) → Option (List ℕ) → Type 0
-TableStands d t = IfSome d (λ x. IfSome t (λ y. (design : Module) × (rows : List Row) × IsDesign x design × IsTableOf y design rows))
-
--- the files that the words name are read in order, and those before this one are legal
-abbrev pub IsInTurn : (List ℕ → Option (List ℕ)) → List (List ℕ) → List ℕ → Type 0
-IsInTurn told words name = (d : List ℕ) × (t : List ℕ) × (g : List ℕ) × IsCommand words d t g
-    × ((name ≡ d) ⊎ ((name ≡ t) × DesignStands (told d)) ⊎ ((name ≡ g) × TableStands (told d) (told t)))
-
--- ---- the answers
+-- ---- proofs
 
 abbrev pub is_proved : Verdict → Bool
-is_proved Proved = true
-is_proved (Failed choice shown) = false
+is_proved v.Proved = true
+is_proved v.Vacuous = false
+is_proved (v.Failed choice) = false
 
--- The text is the report of one verdict, which is right for what the three texts stand for.
-abbrev pub Headline : List ℕ → List ℕ → List ℕ → Bool → List ℕ → Type 0
-Headline design_text table_text goals_text all text = (design : Module) × (rows : List Row) × (goal : Goal)
-    × IsDesign design_text design × IsTableOf table_text design rows × IsGoalOf goals_text rows goal
-    × (verdict : Verdict) × Right design rows goal verdict × (text ≡ report goal.name rows verdict) × (all ≡ is_proved verdict)
+-- for each goal, in order, a verdict that is right
+abbrev pub AreRight : Bench → List GoalTree → List Verdict → List (List (List Bit)) → Type 0
+AreRight b [] [] [] = ⊤
+AreRight b (goal ∷ goals) (verdict ∷ verdicts) (values ∷ shown) = IsRight b goal verdict values × AreRight b goals verdicts shown
+AreRight b goals verdicts shown = ⊥
 
--- the same of the files that the words name, where their contents are told
-abbrev pub Reports : (List ℕ → Option (List ℕ)) → List (List ℕ) → Bool → List ℕ → Type 0
-Reports told words all text = (d : List ℕ) × (t : List ℕ) × (g : List ℕ) × IsCommand words d t g
-    × IfSome (told d) (λ design. IfSome (told t) (λ table. IfSome (told g) (λ goals. Headline design table goals all text)))
+abbrev pub goal_names : List GoalTree → List Text
+goal_names goals = map (λ g. g.name.text) goals
 
--- a file is too long, or is not of the form that is read
-abbrev pub Refuses : (List ℕ → Option (List ℕ)) → List (List ℕ) → List ℕ → Type 0
-Refuses told words message = (name : List ℕ) × IsInTurn told words name
-    × (((message ≡ too_long_text name) × IfSome (told name) (λ bytes. 2 ^ 24 < length bytes)) ⊎ (message ≡ unbuilt_text name))
+-- The headline: the text is the report of right verdicts, one for each goal in order, on what the three files stand for.
+pub record Proves (told : Told) (d t g : Text) (top : Option Text) (all : Bool) (text : Text) : Type 0 where
+  pub design : Design
+  pub table : Table
+  pub setup : IsSetup told d t top design table
+  pub goals : List GoalTree
+  pub are_goals : AreGoalsFile told g (vars_of design table) (samples_in design table) goals
+  pub verdicts : List Verdict
+  pub shown : List (List (List Bit))
+  pub right : AreRight (bench_of design table) goals verdicts shown
+  pub printed : text ≡ report (var_texts (vars_of design table)) (sample_texts (samples_in design table)) (goal_names goals) verdicts shown
+  pub whole : all ≡ list_all is_proved verdicts
+
+-- ---- simulations
+
+-- The text has the samples of the least run under the values of a file.
+pub record Simulates (told : Told) (d t v : Text) (top : Option Text) (text : Text) : Type 0 where
+  pub design : Design
+  pub table : Table
+  pub setup : IsSetup told d t top design table
+  pub choice : List (List Bit)
+  pub is_choice : IsValuesFile told v (vars_of design table) choice
+  pub run : Run
+  pub least : IsLeastUnder (bench_of design table) choice run
+  pub printed : text ≡ value_lines [] (sample_texts (samples_in design table)) (sampled_in (samples_in design table) run)
+
+-- ---- answers
+
+-- what a command that is done prints
+abbrev pub Prints : Told → Command → Status → Text → Type 0
+Prints told (prove d t g top budget) AllProved text = Proves told d t g top true text
+Prints told (prove d t g top budget) NotAll text = Proves told d t g top false text
+Prints told (sim d t v top) Done text = Simulates told d t v top text
+Prints told command status text = ⊥
+
+abbrev pub PrintsIf : Told → List Text → Status → Text → Type 0
+PrintsIf told words status text = (command : Command) × IsCommand words command × Prints told command status text
+
+abbrev pub RefusesIf : Told → List Text → Text → Type 0
+RefusesIf told words message = (command : Command) × IsCommand words command × (file : Text) × (r : Refusal) × Refuses told command file r × (message ≡ refusal_text file r)
+
+abbrev pub UnreadIf : Told → List Text → Text → Type 0
+UnreadIf told words message = (command : Command) × IsCommand words command × (file : Text) × (place : Place) × LeavesUnread told command file place × (message ≡ read_fault_text file place)
 
 -- what each answer but a write fault writes on the output and on the errors, and why it comes
-abbrev pub Answers : (List ℕ → Option (List ℕ)) → List (List ℕ) → Status → List ℕ → List ℕ → Type 0
-Answers told words AllProved text message = (message ≡ []) × Reports told words true text
-Answers told words NotAll text message = (message ≡ []) × Reports told words false text
-Answers told words Usage text message = (text ≡ []) × (message ≡ usage_text) × ((d t g : List ℕ) → IsCommand words d t g → ⊥)
-Answers told words Refused text message = (text ≡ []) × Refuses told words message
-Answers told words ReadFault text message = (text ≡ []) × (name : List ℕ) × IsInTurn told words name × (message ≡ read_fault_text name)
+abbrev pub Answers : Told → List Text → Status → Text → Text → Type 0
+Answers told words AllProved text message = (message ≡ []) × PrintsIf told words AllProved text
+Answers told words NotAll text message = (message ≡ []) × PrintsIf told words NotAll text
+Answers told words Done text message = (message ≡ []) × PrintsIf told words Done text
+Answers told words Usage text message = (text ≡ []) × (message ≡ usage_text) × ((command : Command) → IsCommand words command → ⊥)
+Answers told words Refused text message = (text ≡ []) × RefusesIf told words message
+Answers told words ReadFault text message = (text ≡ []) × UnreadIf told words message
 Answers told words Memory text message = (text ≡ []) × (message ≡ memory_text)
-Answers told words Done text message = ⊥
 Answers told words WriteFault text message = ⊥
-
-abbrev pub all_proved : Status → Bool
-all_proved AllProved = true
-all_proved NotAll = false
-all_proved Done = false
-all_proved Usage = false
-all_proved Refused = false
-all_proved ReadFault = false
-all_proved WriteFault = false
-all_proved Memory = false
 
 -- the exit code of the process
 abbrev pub exit_code : Status → ℕ

@@ -1,11 +1,6 @@
+pub mod Files
+pub mod Refusals
 pub mod Answers
-pub mod Bits
-pub mod Grammar
-pub mod Meaning
-pub mod Names
-pub mod Outcome
-pub mod Report
-pub mod Table
-pub mod Texts
-pub mod Tokens
-pub mod Tries
+pub mod Stopping
+pub mod Goals
+pub mod Outcomes

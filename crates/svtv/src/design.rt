@@ -1,77 +1,80 @@
-// Reads a module of one assignment.
-ghost use Rattle.std.specs.Prelude.{◌≡◌, ◌∷◌, ◌++◌, [], ℕ, List, IfOk, IfErr, IsTrue, codes};
-ghost use Rattle.svtv.specs.Grammar.{Begins, IsPort, ArePorts, IsModule};
-ghost use Rattle.svtv.specs.Table.{IsUnbuilt};
-ghost use Rattle.svtv.specs.Texts.{IsDesignText};
-ghost use Rattle.svtv.specs.Tokens.{IsText};
+// The design: its text, its tree, its flat form.
+ghost use Rattle.std.specs.Prelude.{◌≡◌, ◌≤◌, ℕ, List, IfOk, IfErr};
+ghost use Rattle.std.specs.Option.{option_copied};
+ghost use Rattle.flat_net.specs.Flats.{IsFlat};
+ghost use Rattle.sv_elab.specs.Elaborated.{IsElaborated};
+ghost use Rattle.sv_meaning.specs.Designs.{Design};
+ghost use Rattle.sv_outside.specs.Outside.{Rose};
+ghost use Rattle.sv_preproc.specs.Directives.{IsWholeText};
+ghost use Rattle.sv_preproc.specs.Laws.{Possible};
+ghost use Rattle.svtv.specs.Files.{IsDesignFile};
+ghost use Rattle.svtv.specs.Refusals.{RefusesDesign, UnreadDesign};
+ghost use Rattle.svtv.specs.Stopping.{IfUnread, IsInFile, Stops, StopsText};
 
-use crate::expr::{after, expr_at, name_at};
-use crate::row::unbuilt;
-use crate::token::tokens_of;
-use crate::tree::{Module, Port};
+use crate::stop::Stop;
+use flat_net::Flat;
 use std::alloc::Global;
-use sv_outside::{Name, TextErr};
+use sv_elab::elaborate;
+use sv_outside::{Files, Name, TextErr, Tokens};
+use sv_parser::parse;
+use sv_preproc::{PreErr, preprocess};
 
-fn port_at(tokens: &[Name]) -> Result<(Port, &[Name]), TextErr>
-    ensures ok { IfOk result (λ x. Begins tokens.now x.1.now (IsPort x.0)) }
-    ensures err { IfErr result IsUnbuilt }
+// The tokens of the design's text.
+fn tokens_of<F: Files>(alloc: Global, files: &mut F, name: &Name) -> Result<Tokens, Stop>
+    ensures text { IfOk result (λ tokens. IsWholeText (Possible (F.contents files.old)) name.now tokens) }
+    ensures stop { IfErr result (StopsText (F.contents files.old) name.now) }
+    ensures rose { IfErr result (IfUnread (Rose (F.faults files.old) (F.faults files.new))) }
+    ensures unchanged { (other : List ℕ) → F.contents files.new other ≡ F.contents files.old other }
+    ensures counts_up { F.faults files.old ≤ F.faults files.new }
 {
-    let (input, rest) = match after(tokens, b"input") {
-        Ok(rest) => (true, rest),
-        Err(_) => (false, after(tokens, b"output")?),
+    match preprocess(alloc, files, name) {
+        Ok(tokens) => Ok(tokens),
+        Err(PreErr::No(refusal, file)) => Err(Stop::Refused(file, refusal)),
+        Err(PreErr::Read(place, file)) => Err(Stop::Unread(file, place)),
+        Err(PreErr::Memory) => Err(Stop::Memory),
+    }
+}
+
+// The refusal of a text, with the name of the file of its place.
+fn in_file(tokens: &Tokens, error: TextErr) -> Stop
+    ensures { IsInFile tokens.now error result }
+{
+    let TextErr::No(refusal) = error else {
+        return Stop::Memory;
     };
-    let rest = after(rest, b"logic")?;
-    let (name, rest) = name_at(rest)?;
-    Ok((Port { input, name }, rest))
-}
-
-fn ports_at(alloc: Global, tokens: &[Name]) -> Result<(Vec<Port>, &[Name]), TextErr>
-    ensures ok { IfOk result (λ x. Begins tokens.now x.1.now (ArePorts x.0.items)) }
-    ensures err { IfErr result IsUnbuilt }
-{
-    let (port, mut rest) = port_at(tokens)?;
-    let mut ports = Vec::new(alloc);
-    ports.push(port)?;
-    'ports: while let Ok(beyond) = after(rest, b",") {
-        let (port, beyond) = port_at(beyond)?;
-        ports.push(port)?;
-        rest = beyond;
+    let Some(name) = tokens.files.get(refusal.place.file) else {
+        return Stop::Memory;
+    };
+    match name.copy() {
+        Ok(file) => Stop::Refused(file, refusal),
+        Err(_) => Stop::Memory,
     }
-    Ok((ports, rest))
 }
 
-fn module_at(alloc: Global, tokens: &[Name]) -> Result<Module, TextErr>
-    ensures ok { IfOk result (λ design. IsModule design tokens.now) }
-    ensures err { IfErr result IsUnbuilt }
+/// The flat form of the design that the file of that name is the text of, with the files that it includes.
+pub fn load_design<F: Files>(
+    alloc: Global,
+    files: &mut F,
+    name: &Name,
+    top: Option<&Name>,
+) -> Result<Flat, Stop>
+    ensures design { IfOk result (λ flat. (design : Design) × IsDesignFile (F.contents files.old) name.now (option_copied top.entry) design × IsElaborated design flat) }
+    ensures sound { IfOk result IsFlat }
+    ensures stop { IfErr result (Stops (RefusesDesign (F.contents files.old) name.now (option_copied top.entry)) (UnreadDesign (F.contents files.old) name.now)) }
+    ensures rose { IfErr result (IfUnread (Rose (F.faults files.old) (F.faults files.new))) }
+    ensures unchanged { (other : List ℕ) → F.contents files.new other ≡ F.contents files.old other }
+    ensures counts_up { F.faults files.old ≤ F.faults files.new }
 {
-    let rest = after(tokens, b"module")?;
-    let (_name, rest) = name_at(rest)?;
-    let rest = after(rest, b"(")?;
-    let (ports, rest) = ports_at(alloc, rest)?;
-    let rest = after(rest, b")")?;
-    let rest = after(rest, b";")?;
-    let rest = after(rest, b"assign")?;
-    let (target, rest) = name_at(rest)?;
-    let rest = after(rest, b"=")?;
-    let (value, rest) = expr_at(alloc, rest, false)?;
-    let rest = after(rest, b";")?;
-    let rest = after(rest, b"endmodule")?;
-    if !rest.is_empty() {
-        return Err(unbuilt());
+    let tokens = match tokens_of(alloc, files, name) {
+        Ok(tokens) => tokens,
+        Err(stop) => return Err(stop),
+    };
+    let tree = match parse(alloc, &tokens) {
+        Ok(tree) => tree,
+        Err(error) => return Err(in_file(&tokens, error)),
+    };
+    match elaborate(alloc, &tree, top) {
+        Ok(flat) => Ok(flat),
+        Err(error) => Err(in_file(&tokens, error)),
     }
-    Ok(Module {
-        ports,
-        target,
-        value,
-    })
-}
-
-/// The module that a text stands for.
-pub fn read_design(alloc: Global, text: &[u8]) -> Result<Module, TextErr>
-    ensures ok { IfOk result (λ design. IsDesignText text.now design) }
-    ensures err { IfErr result IsUnbuilt }
-{
-    let tokens = tokens_of(alloc, text)?;
-    let design = module_at(alloc, &tokens)?;
-    Ok(design)
 }

@@ -1,22 +1,16 @@
-//! Proves claims about a design, in every run under every choice of a table's variables.
+//! The top call: the words, the files, the proofs or the simulation, the text.
 #![tactic(auto)]
 
-mod bind;
-mod command;
-mod decide;
 mod design;
-mod expr;
-mod goal;
-mod lists;
-mod records;
-mod report;
-mod row;
+mod goals;
+mod proving;
+mod setup;
+mod simulation;
 mod status;
-mod token;
+mod stop;
+mod table;
 mod top;
-mod tree;
-mod value;
-mod verdict;
+mod values;
 mod work;
 
 pub use status::Status;

@@ -1,0 +1,45 @@
+// The goals.
+ghost use Rattle.std.specs.Prelude.{◌≡◌, ◌≤◌, ℕ, List, All, IfOk, IfErr};
+ghost use Rattle.goal_text.specs.Goals.{AreGoalsOf};
+ghost use Rattle.goal_tree.specs.declared.tree.GoalTree.{GoalTree};
+ghost use Rattle.sv_outside.specs.Outside.{Rose};
+ghost use Rattle.svtv_table.specs.Binding.{HasWidth};
+ghost use Rattle.svtv.specs.Files.{AreGoalsFile};
+ghost use Rattle.svtv.specs.Goals.{AreGoalsIn};
+ghost use Rattle.svtv.specs.Refusals.{RefusesGoals, at_first};
+ghost use Rattle.svtv.specs.Stopping.{IfUnread, Stops};
+
+use crate::stop::{Stop, read, refused};
+use goal_text::{Goal, read_goals};
+use items::Items;
+use std::alloc::Global;
+use sv_outside::{Files, Name};
+use svex_arena::Arena;
+use svtv_table::{Sample, VarDecl};
+
+/// The goals of the file of that name, over variables and samples.
+pub fn load_goals<F: Files>(
+    alloc: Global,
+    files: &mut F,
+    name: &Name,
+    vars: &[VarDecl],
+    samples: &[Sample],
+    arena: &mut Arena,
+) -> Result<Items<Goal>, Stop>
+    requires vars { All (λ var. HasWidth var.width) vars.now }
+    requires samples { All (λ sample. HasWidth sample.width) samples.now }
+    ensures goals { IfOk result (AreGoalsIn (F.contents files.old) name.now vars.now samples.now arena.new) }
+    ensures stop { IfErr result (Stops (λ file r. (file ≡ name.now) × RefusesGoals (F.contents files.old) name.now vars.now samples.now r) (λ file place. (file ≡ name.now) × (place ≡ at_first))) }
+    ensures rose { IfErr result (IfUnread (Rose (F.faults files.old) (F.faults files.new))) }
+    ensures unchanged { (other : List ℕ) → F.contents files.new other ≡ F.contents files.old other }
+    ensures counts_up { F.faults files.old ≤ F.faults files.new }
+{
+    let text = match read(alloc, files, name) {
+        Ok(text) => text,
+        Err(stop) => return Err(stop),
+    };
+    match read_goals(alloc, 0, &text, vars, samples, arena) {
+        Ok(goals) => Ok(goals),
+        Err(error) => Err(refused(name, error)),
+    }
+}

@@ -1,0 +1,4 @@
+pub mod Numbers
+pub mod Turns
+pub mod Apart
+pub mod Values

@@ -1,0 +1,41 @@
+-- Tables of so many variable bits that their choices are not tried (this project's limit for now).
+use Rattle.std.specs.Prelude.{ℕ, ◌+◌, nat_lt, List, [], ◌∷◌, Option, Some, None, if◌then◌else◌}
+use Rattle.std.specs.Str.{bytes_eq}
+use Rattle.sv_outside.specs.declared.refusal.Refusal.{Refusal}
+use Rattle.svtv_table.specs.Faults.{fault, fault_if, at_each}
+use Rattle.svtv_table.specs.declared.bound.VarDecl.{VarDecl}
+use Rattle.svtv_table.specs.declared.table.Cell.{Cell}
+use Rattle.svtv_table.specs.declared.table.Cell.TheVariants as cell
+use Rattle.svtv_table.specs.declared.table.Row.{Row}
+use Rattle.svtv_table.specs.declared.table.RowKind.{RowKind}
+use Rattle.svtv_table.specs.declared.table.RowKind.TheVariants.{In, Out}
+
+-- the most bits of all variables of a table
+abbrev pub most_bits : ℕ
+most_bits = 16
+
+-- The name of the first variable at which the sum of bits, in the order of variables and behind so many, exceeds the most.
+unfoldable pub exceeding : ℕ → List VarDecl → Option (List ℕ)
+exceeding before [] = None
+exceeding before (v ∷ more) = if nat_lt most_bits (before + v.width) then Some v.name else exceeding (before + v.width) more
+
+-- E40 at a cell with that name
+abbrev pub cell_naming : List ℕ → ℕ → ℕ → Cell → List Refusal
+cell_naming name line phase (cell.Named own) = fault_if (bytes_eq own name) (fault 40 line (phase + 3))
+cell_naming name line phase _ = []
+
+-- at each such cell of an `in` row
+abbrev pub naming_by : List ℕ → RowKind → ℕ → List Cell → List Refusal
+naming_by name In line cells = at_each (cell_naming name line) 0 cells
+naming_by name Out line cells = []
+
+abbrev pub row_naming : List ℕ → ℕ → Row → List Refusal
+row_naming name at row = naming_by name row.kind (at + 1) row.cells
+
+abbrev pub naming : List Row → Option (List ℕ) → List Refusal
+naming rows None = []
+naming rows (Some name) = at_each (row_naming name) 0 rows
+
+-- E40 at each cell of the first variable that exceeds the most
+unfoldable pub room_faults : List Row → List VarDecl → List Refusal
+room_faults rows vars = naming rows (exceeding 0 vars)

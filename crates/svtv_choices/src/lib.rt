@@ -1,0 +1,8 @@
+//! The choices of a table's variables: by number, for tables of few variable bits.
+#![tactic(auto)]
+
+mod choice;
+mod rooms;
+
+pub use choice::{all_numbered, choice_of};
+pub use rooms::room;
