@@ -4,3 +4,6 @@ pub mod Benches
 pub mod Verdicts
 pub mod Turns
 pub mod Ends
+pub mod Records
+pub mod Legal
+pub mod Complete

@@ -1,5 +1,6 @@
 pub mod Files
 pub mod Refusals
+pub mod Legal
 pub mod Answers
 pub mod Stopping
 pub mod Goals

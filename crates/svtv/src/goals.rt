@@ -1,10 +1,7 @@
 // The goals.
 ghost use Rattle.std.specs.Prelude.{◌≡◌, ◌≤◌, ℕ, List, All, IfOk, IfErr};
-ghost use Rattle.goal_text.specs.Goals.{AreGoalsOf};
-ghost use Rattle.goal_tree.specs.declared.tree.GoalTree.{GoalTree};
 ghost use Rattle.sv_outside.specs.Outside.{Rose};
 ghost use Rattle.svtv_table.specs.Binding.{HasWidth};
-ghost use Rattle.svtv.specs.Files.{AreGoalsFile};
 ghost use Rattle.svtv.specs.Goals.{AreGoalsIn};
 ghost use Rattle.svtv.specs.Refusals.{RefusesGoals, at_first};
 ghost use Rattle.svtv.specs.Stopping.{IfUnread, Stops};

@@ -1,7 +1,6 @@
 // The table, over the wires of the design.
 ghost use Rattle.std.specs.Prelude.{◌≡◌, ◌≤◌, ℕ, List, All, IfOk, IfErr};
 ghost use Rattle.sv_outside.specs.Outside.{Rose};
-ghost use Rattle.sv_preproc.specs.Laws.{Possible};
 ghost use Rattle.svtv_table.specs.Binding as binding;
 ghost use Rattle.svtv_table.specs.Binding.{HasWidth};
 ghost use Rattle.svtv_table.specs.Faults as faults;

@@ -1,5 +1,5 @@
 // The choice of a number.
-ghost use Rattle.std.specs.Prelude.{◌≡◌, ◌≤◌, ◌<◌, ◌%◌, ◌/◌, ◌^◌, All, IfOk};
+ghost use Rattle.std.specs.Prelude.{◌≡◌, ◌≤◌, ◌<◌, ◌%◌, ◌/◌, All, IfOk};
 ghost use Rattle.fourvec.specs.Bits.{vector};
 ghost use Rattle.svtv_choices.specs.Choices as spec;
 ghost use Rattle.svtv_choices.specs.Choices.{AreNumbered, bits_of};

@@ -1,10 +1,9 @@
 // How many bits the variables of a table have.
-ghost use Rattle.std.specs.Prelude.{◌≡◌, ◌≤◌, ◌<◌, ◌+◌, ◌^◌, [], length, IfErr, IfOk, IfNone, IfSome, OnOk, Some};
+ghost use Rattle.std.specs.Prelude.{◌≡◌, ◌≤◌, ◌<◌, ◌+◌, ◌^◌, IfErr, IfOk, Some};
 ghost use Rattle.svtv_choices.specs.Choices.{bits_of};
 ghost use Rattle.svtv_choices.specs.Rooms as spec;
 ghost use Rattle.svtv_choices.specs.Rooms.{cell_naming, exceeding, naming, row_naming};
 ghost use Rattle.svtv_table.specs.Faults.{Stops, at_each, first_of};
-ghost use Rattle.svtv_table.specs.Reading.{IsWellFormed};
 
 use sv_outside::{Name, Place, Refusal, TextErr};
 use svtv_table::{Cell, Row, RowKind, Table, VarDecl};

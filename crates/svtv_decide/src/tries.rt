@@ -1,7 +1,6 @@
 // One choice.
-ghost use Rattle.std.specs.Prelude.{◌≡◌, ◌<◌, ◌≤◌, All, IfOk, IfSome, length};
+ghost use Rattle.std.specs.Prelude.{◌≡◌, ◌<◌, ◌≤◌, All, IfOk, length};
 ghost use Rattle.flat_net.specs.Flats.{IsFlat};
-ghost use Rattle.svex_arena.specs.Arenas.{IsArena};
 ghost use Rattle.svtv_choices.specs.Choices as c;
 ghost use Rattle.svtv_choices.specs.Choices.{bits_of};
 ghost use Rattle.svtv_decide.specs.Trials as spec;

@@ -86,6 +86,10 @@ unfolding command_in
 command_given words c (proving {words = more} {settings = s} {t = t} {n = n} d a g reads are sets) = found_command proves more d a g s t n reads are sets
 command_given words c (simulating {words = more} {settings = s} {t = t} d a v reads are sets) = found_command sims more d a v s t None reads are sets
 
+-- words are one command at most
+pub one_command : (words : List Text) (c d : Command) → IsCommand words c → IsCommand words d → c ≡ d
+one_command words c d h k = let same : Some c ≡ Some d = sym (command_given words c h) ∙ command_given words d k in cc
+
 -- ---- the clauses of `command_of`
 
 pub some_is : (words : List Text) (r : Option Told) → option_map command_is r ≡ command_in words → IfSome r (λ c. IsCommand words (command_is c))

@@ -75,11 +75,14 @@ fn command_in(words: &[String]) -> Option<Command<'_>>
 }
 
 /// The command that words are, if they are one.
-#[tactic(auto, using(crate::proofs::Commands::some_is, crate::proofs::Commands::none_is))]
+#[tactic(auto, using(crate::proofs::Commands::some_is, crate::proofs::Commands::none_is, crate::proofs::Commands::one_command))]
 pub fn command_of(words: &[String]) -> Option<Command<'_>>
     ensures some { IfSome result (λ c. IsCommand (map string_bytes words.now) (command_is c)) }
     ensures none { IfNone result ((c : m.Command) → IsCommand (map string_bytes words.now) c → ⊥) }
     ensures alone { IfSome result (λ c. MayHave c.verb c.budget) }
+
+    // They are one command at most.
+    ensures one { (c d : m.Command) → IsCommand (map string_bytes words.now) c → IsCommand (map string_bytes words.now) d → c ≡ d }
 {
     command_in(words)
 }

@@ -1,6 +1,10 @@
-use Rattle.std.proofs.Common.{[], refl, sym}
+use Rattle.std.proofs.Common.{◌≡◌, ◌⊎◌, [], refl, subst, sym}
 use Rattle.std.proofs.lemmas.List.{append-nil}
 use Rattle.svtv.specs.Outcomes.{status_of, text_of, message_of}
+use Rattle.svtv.specs.Legal.{IsDone}
+use Rattle.svtv.specs.declared.status.Status.{Status}
+use Rattle.svtv.specs.declared.status.Status.TheVariants.{Memory}
+use Rattle.svtv.proofs.Complete.{ends, left}
 use Rattle.svtv.proofs.Ends.{with_text-nothing}
 use Rattle.svtv.proofs.top.svtv.Goals as goal
 
@@ -25,3 +29,15 @@ returns-in-Err-put_all-clause-cut_off g c e =
       (text_of outcome, [], sym (append-nil (text_of outcome)), rw c.text.ensures at c.in-Ok.ensures.whole),
       rw c.message.ensures at c.in-Err-put_all.ensures.part,
     )
+
+pub returns-in-Err-clause-complete : goal.returns-in-Err-clause-complete
+returns-in-Err-clause-complete g c command is legal no_file no_out no_err = absurd (no_out c.in-Err.ensures.failed)
+
+pub returns-in-Err-put_all-clause-complete : goal.returns-in-Err-put_all-clause-complete
+returns-in-Err-put_all-clause-complete g c command is legal no_file no_out no_err = absurd (no_err c.in-Err-put_all.ensures.failed)
+
+pub returns-clause-complete : goal.returns-clause-complete
+returns-clause-complete g c command is legal no_file no_out no_err =
+    let outcome = c.answer-outcome.result in
+    subst (λ (s : Status). IsDone command s ⊎ (s ≡ Memory)) (sym c.status.ensures)
+    (ends (g.F.Files.contents c.args.files.now) _ (status_of outcome) (text_of outcome) (message_of outcome) command is legal c.answer-outcome.ensures.answers (λ e. no_file (left _ outcome c.answer-outcome.ensures.fault e)))

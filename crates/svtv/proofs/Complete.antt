@@ -1,0 +1,65 @@
+-- A command with legal files is done, but for faults and want of memory.
+use Rattle.std.proofs.Common.{◌≡◌, ◌⊎◌, List, true, false, refl, subst, inl, inr}
+use Rattle.sv_outside.specs.declared.refusal.Refusal.{Refusal}
+use Rattle.svtv_words.specs.Commands.{Command, IsCommand, prove, sim}
+use Rattle.svtv_words.proofs.Commands.{one_command}
+use Rattle.svtv.specs.Answers.{Answers, PrintsIf, Prints}
+use Rattle.svtv.specs.Files.{Text, Told}
+use Rattle.svtv.specs.Legal.{AreLegal, IsDone}
+use Rattle.svtv.specs.Outcomes.{IfLeft, status_of}
+use Rattle.svtv.specs.Refusals.{Refuses}
+use Rattle.svtv.specs.declared.status.Status.{Status}
+use Rattle.svtv.specs.declared.status.Status.TheVariants.{AllProved, Done, NotAll, Usage, Refused, ReadFault, WriteFault, Memory}
+use Rattle.svtv.specs.declared.work.Outcome.{Outcome}
+use Rattle.svtv.specs.declared.work.Outcome.TheVariants as outcome
+use Rattle.svtv.proofs.Legal.{proof_stands, simulation_stands}
+
+legal_stands : (told : Told) (c : Command) (file : Text) (r : Refusal) → AreLegal told c → Refuses told c file r → ⊥
+legal_stands told (prove d t g top budget) file r l h = proof_stands told d t g top l.0 l.1 l.4 l.2 l.3 l.5 file r h
+legal_stands told (sim d t v top) file r l h = simulation_stands told d t v top l.0 l.1 l.3 l.2 l.4 file r h
+
+-- what a command prints, it is done with
+printed : (told : Told) (c : Command) (status : Status) (text : Text) → Prints told c status text → IsDone c status
+printed told (prove d t g top budget) AllProved text h = tt
+printed told (prove d t g top budget) NotAll text h = tt
+printed told (sim d t v top) Done text h = tt
+printed told (prove d t g top budget) Done text h = absurd h
+printed told (prove d t g top budget) Usage text h = absurd h
+printed told (prove d t g top budget) Refused text h = absurd h
+printed told (prove d t g top budget) ReadFault text h = absurd h
+printed told (prove d t g top budget) WriteFault text h = absurd h
+printed told (prove d t g top budget) Memory text h = absurd h
+printed told (sim d t v top) AllProved text h = absurd h
+printed told (sim d t v top) NotAll text h = absurd h
+printed told (sim d t v top) Usage text h = absurd h
+printed told (sim d t v top) Refused text h = absurd h
+printed told (sim d t v top) ReadFault text h = absurd h
+printed told (sim d t v top) WriteFault text h = absurd h
+printed told (sim d t v top) Memory text h = absurd h
+
+done : (told : Told) (words : List Text) (status : Status) (text : Text) (c : Command) → IsCommand words c → PrintsIf told words status text → IsDone c status
+done told words status text c is h = subst (λ (x : Command). IsDone x status) (one_command words h.0 c h.1 is) (printed told h.0 status text h.2)
+
+-- how a command with legal files ends
+pub ends : (told : Told) (words : List Text) (status : Status) (text message : Text) (c : Command) → IsCommand words c → AreLegal told c → Answers told words status text message
+    → (status ≡ ReadFault → ⊥) → IsDone c status ⊎ (status ≡ Memory)
+ends told words AllProved text message c is l h n = inl (done told words AllProved text c is h.1)
+ends told words NotAll text message c is l h n = inl (done told words NotAll text c is h.1)
+ends told words Done text message c is l h n = inl (done told words Done text c is h.1)
+ends told words Usage text message c is l h n = absurd (h.2 c is)
+ends told words Refused text message c is l h n =
+    let why = h.1 in
+    absurd (legal_stands told c why.2 why.3 l (subst (λ (x : Command). Refuses told x why.2 why.3) (one_command words why.0 c why.1 is) why.4))
+ends told words ReadFault text message c is l h n = absurd (n refl)
+ends told words WriteFault text message c is l h n = absurd h
+ends told words Memory text message c is l h n = inr refl
+
+-- only a file that was not read ends in a read fault
+pub left : (P : Type 0) (outcome : Outcome) → IfLeft P outcome → status_of outcome ≡ ReadFault → P
+left P (outcome.Proved true text) h e = cc
+left P (outcome.Proved false text) h e = cc
+left P (outcome.Simulated text) h e = cc
+left P (outcome.Refused message) h e = cc
+left P (outcome.Unread message) h e = h
+left P outcome.Misused h e = cc
+left P outcome.Memory h e = cc

@@ -1,0 +1,204 @@
+-- Legal files are not refused.
+use Rattle.std.proofs.Common.{◌≡◌, ◌⊎◌, ℕ, ◌+◌, ◌-◌, ◌≤◌, ◌<◌, ◌^◌, List, [], ◌∷◌, length, Bool, cond, Option, Some, None, Ok, Err, refl, sym, ◌∙◌, ap, subst, inl, inr, arith}
+use Rattle.std.specs.Prelude.{IfSome, Contains}
+use Rattle.std.proofs.lemmas.Bool.{le-ltb}
+use Rattle.fourvec.specs.declared.Bit.{Bit}
+use Rattle.goal_text.specs.Faults.{goal_faults}
+use Rattle.goal_text.specs.Goals.{HasCause, IsCut}
+use Rattle.goal_tree.specs.Goals.{IsGoals, goals_depths}
+use Rattle.goal_tree.specs.Parsed as goals
+use Rattle.goal_tree.specs.Reading as goals_reading
+use Rattle.goal_tree.specs.declared.tree.GoalTree.{GoalTree}
+use Rattle.goal_tree.proofs.Laws as goals_laws
+use Rattle.sv_cursor.specs.Parsers.{Outcome}
+use Rattle.sv_cursor.specs.declared.error.ParseErr.TheVariants.{Memory, Syntax, TooDeep}
+use Rattle.sv_elab.specs.Elaborated.{sound_design}
+use Rattle.sv_meaning.specs.Designs.{Design}
+use Rattle.sv_outside.specs.Text.{TokenList}
+use Rattle.sv_outside.specs.declared.refusal.Place.{Place}
+use Rattle.sv_outside.specs.declared.refusal.Refusal.{Refusal}
+use Rattle.sv_outside.specs.declared.refusal.TextErr.TheVariants.{No}
+use Rattle.sv_outside.specs.declared.text.Signal.{Signal}
+use Rattle.sv_outside.specs.declared.text.Token.{Token}
+use Rattle.sv_parser.specs.Answers.{IsSpelled, Decides}
+use Rattle.sv_parser.specs.Source.{source}
+use Rattle.sv_parser.specs.Whole.{IsSyntax, IsDeep}
+use Rattle.sv_parser.proofs.Laws.{decides}
+use Rattle.sv_preproc.specs.Directives.{IsWholeText}
+use Rattle.sv_preproc.specs.Laws as laws
+use Rattle.sv_preproc.proofs.Refusals.{none_stops}
+use Rattle.sv_preproc.proofs.Unique.{one_list, possible_told}
+use Rattle.sv_token.specs.Cut.{past, start}
+use Rattle.sv_token.proofs.Cutting.{lines_within, none_refused, one_list_of}
+use Rattle.sv_tree.specs.Nesting.{Depths, IsTooDeep}
+use Rattle.sv_tree.specs.NestingDesign.{source_depths}
+use Rattle.sv_tree.specs.declared.design.Source.{Source}
+use Rattle.svtv_choices.specs.Choices.{bits_of}
+use Rattle.svtv_choices.specs.Rooms.{exceeding, naming, room_faults}
+use Rattle.svtv_table.specs.Binding.{bind_faults}
+use Rattle.svtv_table.specs.Faults.{first_of}
+use Rattle.svtv_table.specs.Fields.{IsRecords}
+use Rattle.svtv_table.specs.Reading.{table_faults, table_of}
+use Rattle.svtv_table.specs.Valuing.{values_faults}
+use Rattle.svtv_table.specs.declared.bound.Sample.{Sample}
+use Rattle.svtv_table.specs.declared.bound.VarDecl.{VarDecl}
+use Rattle.svtv_table.specs.declared.table.Table.{Table}
+use Rattle.svtv.specs.Files.{Text, Told, IsDesignFile, IsTableText, samples_in, vars_of}
+use Rattle.svtv.specs.Legal.{IsShallow, IsShort, IsLegalDesign, IsLegalTable, IsLegalSetup, AreLegalGoals, AreLegalValues}
+use Rattle.svtv.specs.Refusals.{BehindSetup, HasNoRoom, HasRoom, IsFirstFault, RefusesDesign, RefusesGoals, RefusesProof, RefusesSetup, RefusesSimulation, RefusesTable, RefusesValues, TooLong}
+use Rattle.svtv.proofs.Records.{one_records}
+
+-- ---- texts
+
+short : (told : Told) (name text : Text) (r : Refusal) → IsShort told name text → TooLong told name r → ⊥
+short told name text r s h =
+    let long = subst (λ (o : Option Text). IfSome o (λ bytes. 2 ^ 24 < length bytes)) s.is h.1 in omega (arith, long, s.most)
+
+-- the text that is told is the only one
+one_text : (told : Told) (name own text : Text) → IsShort told name text → laws.Possible told name own → own ≡ text
+one_text told name own text s h = possible_told told name own text h s.is
+
+-- what lies too deep in every tree lies so in this one
+too_deep : {A : Type 0} (P : A → List Token → Type 0) (depths : A → Depths) (tokens : List Token) (k : ℕ) (x : A) → P x tokens → IsShallow (depths x) → IsTooDeep P depths tokens k → ⊥
+too_deep P depths tokens k x p s h = s k (h.4 x tokens p refl)
+
+-- ---- designs
+
+one_tree : (tokens : List Token) (x y : Source) (o : Outcome Source) → Decides tokens o → IsSpelled x tokens → IsShallow (source_depths x) → IsSpelled y tokens → y ≡ x
+one_tree tokens x y (Ok p) d h s k = d.2 y k ∙ sym (d.2 x h)
+one_tree tokens x y (Err (Syntax left)) d h s k = absurd (d.1 x h)
+one_tree tokens x y (Err (TooDeep deep left)) d h s k = absurd (too_deep IsSpelled source_depths tokens (length tokens - deep) x h s d)
+one_tree tokens x y (Err Memory) d h s k = absurd d
+
+same_tokens : (told : Told) (name : Text) (a b : TokenList) → IsWholeText (laws.Possible told) name a → IsWholeText (laws.Told told) name b → a ≡ b
+same_tokens told name a b h k = one_list (laws.Possible told) (laws.Told told) (possible_told told) name a b h.last k.last h.whole k.whole
+
+same_tree : (told : Told) (name : Text) (top : Option Text) (design : Design) (tokens : TokenList) (tree : Source) → (l : IsLegalDesign told name top design) → IsWholeText (laws.Possible told) name tokens
+    → IsSpelled tree tokens.list → sound_design tree top ≡ Ok design
+same_tree told name top design tokens tree l text spelled =
+    let e = same_tokens told name tokens l.file.tokens text l.text in
+    let one : tree ≡ l.file.tree = one_tree l.file.tokens.list l.file.tree tree (source l.file.tokens.list) (decides l.file.tokens.list) l.file.spelled l.shallow (subst (λ (x : TokenList). IsSpelled tree x.list) e spelled) in
+    ap (λ (x : Source). sound_design x top) one ∙ l.file.means
+
+one_design : (told : Told) (name : Text) (top : Option Text) (design other : Design) → IsLegalDesign told name top design → IsDesignFile told name top other → other ≡ design
+one_design told name top design other l d =
+    let j = sound_design d.tree top in
+    let same : Ok other ≡ Ok design = sym d.means ∙ same_tree told name top design d.tokens d.tree l d.text d.spelled in cc
+
+unparsed : (tokens : TokenList) (r : Refusal) (tree : Source) → IsSpelled tree tokens.list → IsShallow (source_depths tree) → IsSyntax tokens.list tokens.end (No r) ⊎ IsDeep tokens.list tokens.end (No r) → ⊥
+unparsed tokens r tree spelled s (inl h) = h.none tree spelled
+unparsed tokens r tree spelled s (inr h) = too_deep IsSpelled source_depths tokens.list h.number tree spelled s h.deep
+
+design_stands : (told : Told) (name : Text) (top : Option Text) (design : Design) → IsLegalDesign told name top design → (file : Text) (r : Refusal) → RefusesDesign told name top file r → ⊥
+design_stands told name top design l file r (inl h) = none_stops (possible_told told) h r refl l.file.tokens l.text.last l.text.whole l.text.within
+design_stands told name top design l file r (inr (inl u)) =
+    let e = same_tokens told name u.tokens l.file.tokens u.text l.text in
+    unparsed l.file.tokens r l.file.tree l.file.spelled l.shallow (subst (λ (x : TokenList). IsSyntax x.list x.end (No r) ⊎ IsDeep x.list x.end (No r)) e u.why)
+design_stands told name top design l file r (inr (inr f)) =
+    let bad : Err f.faults ≡ Ok design = sym f.means ∙ same_tree told name top design f.tokens f.tree l f.text f.spelled in cc
+
+-- ---- tables and values
+
+none_first : (faults : List Refusal) (r : Refusal) → faults ≡ [] → first_of faults ≡ Some r → ⊥
+none_first faults r e h = let bad : Some r ≡ None = sym h ∙ ap first_of e in cc
+
+no_fault : (told : Told) (name text : Text) (records : List (List Text)) (faults : List (List Text) → List Refusal) (r : Refusal) → IsShort told name text → IsRecords text records → faults records ≡ []
+    → IsFirstFault told name faults r → ⊥
+no_fault told name text records faults r s cut clear f =
+    let e = one_text told name f.text text s f.stands in
+    let same = one_records text f.records records (subst (λ (x : Text). IsRecords x f.records) e f.cut) cut in
+    none_first (faults f.records) r (ap faults same ∙ clear) f.first
+
+one_table : (told : Told) (name : Text) (wires : List Signal) (table other : Table) → IsLegalTable told name wires table → IsTableText told name other → other ≡ table
+one_table told name wires table other l o =
+    let e = one_text told name o.text l.file.read.text l.text o.stands in
+    let same = one_records l.file.read.text o.records l.file.read.records (subst (λ (x : Text). IsRecords x o.records) e o.cut) l.file.read.cut in
+    o.is ∙ ap table_of same ∙ sym l.file.read.is
+
+table_stands : (told : Told) (name : Text) (wires : List Signal) (table : Table) → IsLegalTable told name wires table → (r : Refusal) → RefusesTable told name wires r → ⊥
+table_stands told name wires table l r (inl h) = short told name l.file.read.text r l.text h
+table_stands told name wires table l r (inr (inl f)) = no_fault told name l.file.read.text l.file.read.records table_faults r l.text l.file.read.cut l.file.read.clear f
+table_stands told name wires table l r (inr (inr u)) = none_first (bind_faults wires u.table) r (ap (bind_faults wires) (one_table told name wires table u.table l u.read) ∙ l.file.clear) u.first
+
+values_stand : (told : Told) (name : Text) (vars : List VarDecl) (choice : List (List Bit)) → AreLegalValues told name vars choice → (r : Refusal) → RefusesValues told name vars r → ⊥
+values_stand told name vars choice l r (inl h) = short told name l.file.text r l.text h
+values_stand told name vars choice l r (inr f) = no_fault told name l.file.text l.file.records (values_faults vars) r l.text l.file.cut l.file.clear f
+
+-- ---- goals
+
+none_there : (r : Refusal) → Contains [] r → ⊥
+none_there r h = omega (arith, h.1)
+
+same_goals : (tokens : List Token) (x y : List GoalTree) (o : Outcome (List GoalTree)) → goals.Decides tokens o → IsGoals x tokens → IsShallow (goals_depths x) → IsGoals y tokens → y ≡ x
+same_goals tokens x y (Ok p) d h s k = d.2 y k ∙ sym (d.2 x h)
+same_goals tokens x y (Err (Syntax left)) d h s k = absurd (d.1 x h)
+same_goals tokens x y (Err (TooDeep deep left)) d h s k = absurd (too_deep IsGoals goals_depths tokens (length tokens - deep) x h s d)
+same_goals tokens x y (Err Memory) d h s k = absurd d
+
+unread_goals : (tokens : List Token) (end : Place) (r : Refusal) (trees : List GoalTree) → IsGoals trees tokens → IsShallow (goals_depths trees) → goals.IsSyntax tokens end (No r) ⊎ goals.IsDeep tokens end (No r) → ⊥
+unread_goals tokens end r trees spelled s (inl h) = h.none trees spelled
+unread_goals tokens end r trees spelled s (inr h) = too_deep IsGoals goals_depths tokens h.number trees spelled s h.deep
+
+module _ (text : Text) (vars : List VarDecl) (samples : List Sample) (trees : List GoalTree) (tokens : List Token) (cut : IsCut 0 text tokens) (spelled : IsGoals trees tokens)
+    (s : IsShallow (goals_depths trees)) (clear : goal_faults vars samples trees ≡ []) where
+  no_cause : (r : Refusal) → HasCause 0 text vars samples r → ⊥
+  no_cause r (inl h) = none_refused cut.lexes.1 (lines_within text cut.lexes.0 tokens cut.lexes.2 cut.within) h
+  no_cause r (inr (inl u)) =
+      let e = one_list_of u.cut.lexes cut.lexes in
+      unread_goals tokens (past (start 0) text) r trees spelled s (subst (λ (x : List Token). goals.IsSyntax x (past (start 0) text) (No r) ⊎ goals.IsDeep x (past (start 0) text) (No r)) e u.why)
+  no_cause r (inr (inr f)) =
+      let e = one_list_of f.spell.cut.lexes cut.lexes in
+      let same = same_goals tokens trees f.trees (goals_reading.source tokens) (goals_laws.decides tokens) spelled s (subst (λ (x : List Token). IsGoals f.trees x) e f.spell.spelled) in
+      none_there r (subst (λ (x : List Refusal). Contains x r) (ap (goal_faults vars samples) same ∙ clear) f.stands)
+
+goals_stand : (told : Told) (name : Text) (vars : List VarDecl) (samples : List Sample) (trees : List GoalTree) → AreLegalGoals told name vars samples trees → (r : Refusal) → RefusesGoals told name vars samples r → ⊥
+goals_stand told name vars samples trees l r (inl h) = short told name l.file.text r l.text h
+goals_stand told name vars samples trees l r (inr b) =
+    let e = one_text told name b.text l.file.text l.text b.stands in
+    no_cause l.file.text vars samples trees l.file.spell.tokens l.file.spell.cut l.file.spell.spelled l.shallow l.file.clear r (subst (λ (x : Text). HasCause 0 x vars samples r) e b.cause)
+
+-- ---- room
+
+abbrev exceeding_at : VarDecl → ℕ → List VarDecl → Bool → Option (List ℕ)
+exceeding_at x sum more b = cond b (Some x.name) (exceeding (sum + x.width) more)
+
+none_exceeds : (before : ℕ) (vars : List VarDecl) → before + bits_of vars ≤ 16 → exceeding before vars ≡ None
+unfolding exceeding bits_of
+none_exceeds before [] h = refl
+none_exceeds before (v ∷ more) h = ap (exceeding_at v before more) (le-ltb 16 (before + v.width) (omega (arith, h))) ∙ none_exceeds (before + v.width) more (omega (arith, h))
+
+room_stands : (design : Design) (table : Table) (r : Refusal) → HasRoom design table → HasNoRoom design table r → ⊥
+unfolding room_faults
+room_stands design table r h n = none_first (naming table.rows (exceeding 0 (vars_of design table))) r (ap (naming table.rows) (none_exceeds 0 (vars_of design table) (omega (arith, h)))) n
+
+-- ---- turns
+
+setup_stands : (told : Told) (d t : Text) (top : Option Text) (design : Design) (table : Table) → IsLegalSetup told d t top design table → (file : Text) (r : Refusal) → RefusesSetup told d t top file r → ⊥
+setup_stands told d t top design table l file r (inl h) = design_stands told d top design l.is_design file r h
+setup_stands told d t top design table l file r (inr h) =
+    let e = one_design told d top design h.1 l.is_design h.2 in
+    table_stands told t design.wires table l.is_table r (subst (λ (x : Design). RefusesTable told t x.wires r) e h.3)
+
+-- what is said behind the design and the table is said of these
+pub behind : (told : Told) (d t : Text) (top : Option Text) (design : Design) (table : Table) (Then : Design → Table → Type 0) → IsLegalSetup told d t top design table → BehindSetup told d t top Then → Then design table
+behind told d t top design table Then l b =
+    let e = one_design told d top design b.0 l.is_design b.2.is_design in
+    let f = one_table told t design.wires table b.1 l.is_table b.2.is_table.read in
+    subst (λ (y : Table). Then design y) f (subst (λ (x : Design). Then x b.1) e b.3)
+
+pub proof_stands : (told : Told) (d t g : Text) (top : Option Text) (design : Design) (table : Table) (trees : List GoalTree) → IsLegalSetup told d t top design table → HasRoom design table
+    → AreLegalGoals told g (vars_of design table) (samples_in design table) trees → (file : Text) (r : Refusal) → RefusesProof told d t g top file r → ⊥
+proof_stands told d t g top design table trees l room goals file r (inl h) = setup_stands told d t top design table l file r h
+proof_stands told d t g top design table trees l room goals file r (inr b) =
+    after (behind told d t top design table
+    (λ design table. ((file ≡ t) × HasNoRoom design table r) ⊎ ((file ≡ g) × HasRoom design table × RefusesGoals told g (vars_of design table) (samples_in design table) r)) l b)
+  where
+    after : ((file ≡ t) × HasNoRoom design table r) ⊎ ((file ≡ g) × HasRoom design table × RefusesGoals told g (vars_of design table) (samples_in design table) r) → ⊥
+    after (inl h) = room_stands design table r room h.1
+    after (inr h) = goals_stand told g (vars_of design table) (samples_in design table) trees goals r h.2
+
+pub simulation_stands : (told : Told) (d t v : Text) (top : Option Text) (design : Design) (table : Table) (choice : List (List Bit)) → IsLegalSetup told d t top design table
+    → AreLegalValues told v (vars_of design table) choice → (file : Text) (r : Refusal) → RefusesSimulation told d t v top file r → ⊥
+simulation_stands told d t v top design table choice l values file r (inl h) = setup_stands told d t top design table l file r h
+simulation_stands told d t v top design table choice l values file r (inr b) =
+    values_stand told v (vars_of design table) choice values r (behind told d t top design table (λ design table. (file ≡ v) × RefusesValues told v (vars_of design table) r) l b).1

@@ -1,0 +1,65 @@
+-- Files that are legal by what is told of their contents, and the answer that a command then has.
+use Rattle.std.specs.Prelude.{◌≡◌, ◌≤◌, ◌^◌, ⊤, ℕ, List, length, Option, Some}
+use Rattle.fourvec.specs.declared.Bit.{Bit}
+use Rattle.goal_tree.specs.Goals.{goals_depths}
+use Rattle.goal_tree.specs.declared.tree.GoalTree.{GoalTree}
+use Rattle.sv_meaning.specs.Designs.{Design}
+use Rattle.sv_outside.specs.declared.text.Signal.{Signal}
+use Rattle.sv_preproc.specs.Directives.{IsWholeText}
+use Rattle.sv_preproc.specs.Laws as laws
+use Rattle.sv_tree.specs.Nesting.{Depths, IsOverAt}
+use Rattle.sv_tree.specs.NestingDesign.{source_depths}
+use Rattle.svtv_table.specs.declared.bound.Sample.{Sample}
+use Rattle.svtv_table.specs.declared.bound.VarDecl.{VarDecl}
+use Rattle.svtv_table.specs.declared.table.Table.{Table}
+use Rattle.svtv_words.specs.Commands.{Command, prove, sim}
+use Rattle.svtv.specs.Files.{Text, Told, IsDesignFile, IsTableFile, AreGoalsFile, IsValuesFile, samples_in, vars_of}
+use Rattle.svtv.specs.Refusals.{HasRoom}
+use Rattle.svtv.specs.declared.status.Status.{Status}
+use Rattle.svtv.specs.declared.status.Status.TheVariants.{AllProved, Done, NotAll}
+
+-- no token lies in over 200 parts of one kind
+abbrev pub IsShallow : Depths → Type 0
+IsShallow depths = (k : ℕ) → IsOverAt depths k → ⊥
+
+-- This text is told of the file of that name, and it has at most 16,777,216 bytes.
+pub record IsShort (told : Told) (name : Text) (text : Text) : Type 0 where
+  pub is : told name ≡ Some text
+  pub most : length text ≤ 2 ^ 24
+
+-- The file of that name is this design, and what it needs of its text and of the files that it includes is told.
+pub record IsLegalDesign (told : Told) (name : Text) (top : Option Text) (design : Design) : Type 0 where
+  pub file : IsDesignFile told name top design
+  pub text : IsWholeText (laws.Told told) name file.tokens
+  pub shallow : IsShallow (source_depths file.tree)
+
+pub record IsLegalTable (told : Told) (name : Text) (wires : List Signal) (table : Table) : Type 0 where
+  pub file : IsTableFile told name wires table
+  pub text : IsShort told name file.read.text
+
+pub record IsLegalSetup (told : Told) (d t : Text) (top : Option Text) (design : Design) (table : Table) : Type 0 where
+  pub is_design : IsLegalDesign told d top design
+  pub is_table : IsLegalTable told t design.wires table
+
+pub record AreLegalGoals (told : Told) (name : Text) (vars : List VarDecl) (samples : List Sample) (trees : List GoalTree) : Type 0 where
+  pub file : AreGoalsFile told name vars samples trees
+  pub text : IsShort told name file.text
+  pub shallow : IsShallow (goals_depths trees)
+
+pub record AreLegalValues (told : Told) (name : Text) (vars : List VarDecl) (choice : List (List Bit)) : Type 0 where
+  pub file : IsValuesFile told name vars choice
+  pub text : IsShort told name file.text
+
+-- The files of a command are legal. Those of a proof have at most 16 variable bits.
+abbrev pub AreLegal : Told → Command → Type 0
+AreLegal told (prove d t g top budget) = (design : Design) × (table : Table) × IsLegalSetup told d t top design table × HasRoom design table
+    × (trees : List GoalTree) × AreLegalGoals told g (vars_of design table) (samples_in design table) trees
+AreLegal told (sim d t v top) = (design : Design) × (table : Table) × IsLegalSetup told d t top design table
+    × (choice : List (List Bit)) × AreLegalValues told v (vars_of design table) choice
+
+-- the answers of a command that is done
+abbrev pub IsDone : Command → Status → Type 0
+IsDone (prove d t g top budget) AllProved = ⊤
+IsDone (prove d t g top budget) NotAll = ⊤
+IsDone (sim d t v top) Done = ⊤
+IsDone command status = ⊥
