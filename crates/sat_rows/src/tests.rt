@@ -213,6 +213,17 @@ a ring through a negation | 4 | 1 2; -1 3; -2 3; -3 4; -3 -4; | - | unsat
 facts and rules | 4 | 1; 2; -1 -2 3; -3 -1 4; | - | sat
 facts and rules against a goal | 4 | 1; 2; -1 -2 3; -3 -1 4; -4; | - | unsat
 a rule that lacks a fact | 4 | 1; -1 -2 3; -3 -1 4; -4; | - | sat
+implications both ways | 3 | 1 -2; -1 2; 2 -3; -2 3; 1; | - | sat
+implications both ways against one false | 3 | 1 -2; -1 2; 2 -3; -2 3; 1; -3; | - | unsat
+a choice between two chains | 5 | 1 2; -1 3; -2 4; -3 5; -4 5; | - | sat
+a choice between two chains that end false | 5 | 1 2; -1 3; -2 4; -3 5; -4 5; -5; | - | unsat
+a choice between a chain and a false one | 5 | 1 2; -1 3; -2 4; -3 5; -5; | - | sat
+a choice between two chains, each with a false end | 5 | 1 2; -1 3; -2 4; -3 5; -4; -5; | - | unsat
+two of four | 4 | 1 2 3; 1 2 4; 1 3 4; 2 3 4; | - | sat
+two of four, two of them false | 4 | 1 2 3; 1 2 4; 1 3 4; 2 3 4; -1; -2; | - | sat
+two of four, three of them false | 4 | 1 2 3; 1 2 4; 1 3 4; 2 3 4; -1; -2; -3; | - | unsat
+two of four, at most two | 4 | 1 2 3; 1 2 4; 1 3 4; 2 3 4; -1 -2 -3; -1 -2 -4; -1 -3 -4; -2 -3 -4; | - | sat
+two of four, at most one | 4 | 1 2 3; 1 2 4; 1 3 4; 2 3 4; -1 -2; -1 -3; -1 -4; -2 -3; -2 -4; -3 -4; | - | unsat
 one of eight | 8 | 1 2 3 4 5 6 7 8; -1; -2; -3; -4; -5; -6; -7; | - | sat
 none of eight | 8 | 1 2 3 4 5 6 7 8; -1; -2; -3; -4; -5; -6; -7; -8; | - | unsat
 all of eight | 8 | -1 -2 -3 -4 -5 -6 -7 -8; 1; 2; 3; 4; 5; 6; 7; 8; | - | unsat
@@ -263,7 +274,7 @@ fn each_formula_has_the_answer_found_by_hand(rt: HostRuntime) -> Result<(), Fail
         solve_row(&rt, rt.alloc(), row)?;
         count = count.saturating_add(1);
     }
-    assert_eq!(rt; count, 89);
+    assert_eq!(rt; count, 100);
     Ok(())
 }
 
