@@ -82,10 +82,16 @@ impl Report {
         let status = self.compare("status", word_of(status).as_bytes(), case.status)?;
         let out = self.compare("out", out, &case.out)?;
         let err = self.compare("err", err, &case.err)?;
-        if status && out && err && case.strange == 0 {
+        let form = case.strange == 0;
+        if status && out && err && form {
             self.good = self.good.saturating_add(1);
             return Ok(());
         }
+        self.put(if form {
+            b""
+        } else {
+            b"behind a line of no form, "
+        })?;
         self.put(b"in the case ")?;
         self.put(case.name)?;
         self.put(b"\n")
