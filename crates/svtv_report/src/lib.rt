@@ -8,6 +8,3 @@ mod verdicts;
 
 pub use message::{memory_text, read_fault_text, refusal_text, usage_text};
 pub use verdicts::{Verdict, report, samples_text};
-
-#[cfg(test)]
-mod tests;

@@ -6,6 +6,3 @@ mod scan;
 mod settings;
 
 pub use command::{Command, Verb, command_of};
-
-#[cfg(test)]
-mod tests;
