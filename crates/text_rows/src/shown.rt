@@ -1,4 +1,5 @@
 // Trees with parentheses around each operation; parentheses of the text are written as angles.
+use crate::printed::Printed;
 use std::alloc::AllocError;
 use sv_tree::{BinaryOp, Expr, RangeMark, Select, Sign, SystemName, UnaryOp};
 
@@ -72,46 +73,45 @@ fn sign(sign: Sign) -> &'static [u8] {
 }
 
 #[cycle(show)]
-fn show_within(open: u8, x: &Expr, close: u8, out: &mut Vec<u8>) -> Result<(), AllocError> {
-    out.push(open)?;
+fn show_within(open: &[u8], x: &Expr, close: &[u8], out: &mut Printed) -> Result<(), AllocError> {
+    out.text(open)?;
     show(x, out)?;
-    out.push(close)?;
-    Ok(())
+    out.text(close)
 }
 
 #[cycle(show)]
-fn show_all(open: u8, all: &[Expr], out: &mut Vec<u8>) -> Result<(), AllocError> {
+fn show_all(open: &[u8], all: &[Expr], out: &mut Printed) -> Result<(), AllocError> {
     let mut before = open;
     for x in all {
-        out.push(before)?;
+        out.text(before)?;
         show(x, out)?;
-        before = b',';
+        before = b",";
     }
-    out.push(b'}')?;
+    out.text(b"}")?;
     Ok(())
 }
 
 #[cycle(show)]
-fn show_select(select: &Select, out: &mut Vec<u8>) -> Result<(), AllocError> {
+fn show_select(select: &Select, out: &mut Printed) -> Result<(), AllocError> {
     match select {
         Select::Member(_, name) => {
-            out.push(b'.')?;
-            out.extend_from_slice(name.text.bytes())?;
+            out.text(b".")?;
+            out.text(name.text.bytes())?;
         }
-        Select::Index(_, at) => show_within(b'[', at.get(), b']', out)?,
+        Select::Index(_, at) => show_within(b"[", at.get(), b"]", out)?,
         Select::Range(_, first, mark, last) => {
-            out.push(b'[')?;
+            out.text(b"[")?;
             show(first.get(), out)?;
-            out.extend_from_slice(range(*mark))?;
+            out.text(range(*mark))?;
             show(last.get(), out)?;
-            out.push(b']')?;
+            out.text(b"]")?;
         }
     }
     Ok(())
 }
 
 #[cycle(show)]
-fn show_selects(all: &[Select], out: &mut Vec<u8>) -> Result<(), AllocError> {
+fn show_selects(all: &[Select], out: &mut Printed) -> Result<(), AllocError> {
     for select in all {
         show_select(select, out)?;
     }
@@ -119,57 +119,57 @@ fn show_selects(all: &[Select], out: &mut Vec<u8>) -> Result<(), AllocError> {
 }
 
 #[cycle(show)]
-fn show_cast(size: &[u8], x: &Expr, out: &mut Vec<u8>) -> Result<(), AllocError> {
-    out.extend_from_slice(size)?;
-    out.push(b'\'')?;
-    show_within(b'(', x, b')', out)
+fn show_cast(size: &[u8], x: &Expr, out: &mut Printed) -> Result<(), AllocError> {
+    out.text(size)?;
+    out.text(b"'")?;
+    show_within(b"(", x, b")", out)
 }
 
 #[cycle(show)]
-pub fn show(x: &Expr, out: &mut Vec<u8>) -> Result<(), AllocError> {
+pub fn show(x: &Expr, out: &mut Printed) -> Result<(), AllocError> {
     match x {
         Expr::Literal(word) => {
-            out.extend_from_slice(word.text.bytes())?;
+            out.text(word.text.bytes())?;
             Ok(())
         }
         Expr::Name(word, all) => {
-            out.extend_from_slice(word.text.bytes())?;
+            out.text(word.text.bytes())?;
             show_selects(all.as_slice(), out)
         }
-        Expr::Paren(_, inner) => show_within(b'<', inner.get(), b'>', out),
-        Expr::Concat(_, all) => show_all(b'{', all.as_slice(), out),
+        Expr::Paren(_, inner) => show_within(b"<", inner.get(), b">", out),
+        Expr::Concat(_, all) => show_all(b"{", all.as_slice(), out),
         Expr::Repeat(_, count, all) => {
-            out.push(b'{')?;
+            out.text(b"{")?;
             show(count.get(), out)?;
-            show_all(b'{', all.as_slice(), out)?;
-            out.push(b'}')?;
+            show_all(b"{", all.as_slice(), out)?;
+            out.text(b"}")?;
             Ok(())
         }
         Expr::CastLiteral(size, inner) => show_cast(size.text.bytes(), inner.get(), out),
         Expr::CastName(size, inner) => show_cast(size.text.bytes(), inner.get(), out),
         Expr::CastParen(_, size, inner) => {
-            show_within(b'<', size.get(), b'>', out)?;
+            show_within(b"<", size.get(), b">", out)?;
             show_cast(b"", inner.get(), out)
         }
         Expr::CastSign(word, _, inner) => show_cast(sign(*word), inner.get(), out),
         Expr::System(name, _, inner) => {
-            out.extend_from_slice(system(*name))?;
-            show_within(b'(', inner.get(), b')', out)
+            out.text(system(*name))?;
+            show_within(b"(", inner.get(), b")", out)
         }
         Expr::Unary(op, _, operand) => {
-            out.push(b'(')?;
-            out.extend_from_slice(unary(*op))?;
-            show_within(b' ', operand.get(), b')', out)
+            out.text(b"(")?;
+            out.text(unary(*op))?;
+            show_within(b" ", operand.get(), b")", out)
         }
         Expr::Binary(left, op, _, right) => {
-            show_within(b'(', left.get(), b' ', out)?;
-            out.extend_from_slice(binary(*op))?;
-            show_within(b' ', right.get(), b')', out)
+            show_within(b"(", left.get(), b" ", out)?;
+            out.text(binary(*op))?;
+            show_within(b" ", right.get(), b")", out)
         }
         Expr::Choose(test, first, second) => {
-            show_within(b'(', test.get(), b'?', out)?;
+            show_within(b"(", test.get(), b"?", out)?;
             show(first.get(), out)?;
-            show_within(b':', second.get(), b')', out)
+            show_within(b":", second.get(), b")", out)
         }
     }
 }
