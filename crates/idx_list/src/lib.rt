@@ -4,6 +4,3 @@
 mod list;
 
 pub use list::IdxList;
-
-#[cfg(test)]
-mod tests;

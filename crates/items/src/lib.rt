@@ -12,6 +12,3 @@ mod items;
 pub use boxed::Boxed;
 pub use held::both;
 pub use items::Items;
-
-#[cfg(test)]
-mod tests;

@@ -12,6 +12,3 @@ pub use joins::{JoinErr, Joins};
 pub use laws::{first_is_unique, linked_is_equivalence};
 pub use lhs::Lhs;
 pub use segs::{Seg, WireBit};
-
-#[cfg(test)]
-mod tests;

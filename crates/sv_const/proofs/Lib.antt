@@ -18,3 +18,5 @@ pub mod Counts
 pub mod Steps
 pub mod Spans
 pub mod Valued
+pub mod Ends
+pub mod Differences

@@ -1,6 +1,7 @@
 -- Rules of typing.
-use Rattle.std.proofs.Common.{◌≡◌, ℕ, Bool, true, false, ◌&&◌, not, List, [], ◌++◌, length, if◌then◌else◌, refl, sym, ap, ◌∙◌, subst, int_lt, pos}
+use Rattle.std.proofs.Common.{◌≡◌, ℕ, Bool, true, false, ◌&&◌, not, List, [], ◌++◌, length, if◌then◌else◌, refl, sym, ap, ◌∙◌, subst, int_lt, pos, nat_abs, Result, Ok, Err, IfOk, IfErr, ◌⊎◌, inl, inr}
 use Rattle.std.specs.List.{Contains}
+use Rattle.fourvec.specs.declared.Bit.{Bit}
 use Rattle.fourvec.specs.Bits.{is_known}
 use Rattle.sv_outside.specs.declared.refusal.Place.{Place}
 use Rattle.sv_outside.specs.declared.refusal.TextErr.{TextErr}
@@ -8,16 +9,17 @@ use Rattle.sv_outside.specs.Literals.{is_number, is_based}
 use Rattle.sv_literal.specs.declared.meaning.Literal.{Literal}
 use Rattle.sv_literal.specs.Meaning.{meaning_of, number_of as number_literal, based_of, fill_of}
 use Rattle.sv_tree.specs.declared.word.Word.{Word}
-use Rattle.sv_meaning.specs.Faults.{Faults, or_then, not_constant, out_of_scope}
-use Rattle.sv_meaning.specs.Meanings.{Meaning, of_literal, literal_meaning, literal_faults, power, power_faults, constant_of, number_of, nowhere, whole}
+use Rattle.sv_meaning.specs.Faults.{Faults, fault_if, or_then, bad_width, not_constant, out_of_scope}
+use Rattle.sv_meaning.specs.Meanings.{Meaning, of_literal, literal_meaning, literal_faults, power, power_faults, constant_of, number_of, fixed_faults, sized_by, is_width, nowhere, whole}
 use Rattle.sv_typed.specs.declared.tree.Typed.{Typed}
+use Rattle.sv_const.specs.declared.fixed.Fixed.{Fixed}
 use Rattle.sv_typed.specs.declared.ops.Pair.{Pair}
 use Rattle.sv_typed.specs.declared.ops.Pair.TheVariants.{Computed, Moved, Compared, Combined}
 use Rattle.sv_typed.specs.Ops.{pair_meaning}
 use Rattle.sv_typed.specs.Typed.{Stands, IsSound, LiteralIsSound, own}
-use Rattle.sv_const.specs.Judging.{IsTyped, IsCause}
+use Rattle.sv_const.specs.Judging.{IsTyped, IsCause, IsExponent, Judges, JudgesBoth, Fixes}
 use Rattle.sv_const.proofs.Lists.{in_left, in_right, in_first, in_second, in_fault, no_fault, both_clear, then_clear}
-use Rattle.sv_const.proofs.Judged.{cause_from}
+use Rattle.sv_const.proofs.Judged.{cause_from, typed_ok, typed_err, fixed_err}
 
 -- ---- literals
 
@@ -51,6 +53,10 @@ pair_faults (Combined op) m n c = refl
 pub pair_cause : (op : Pair) (m n : Meaning) (c : Bool) (e : TextErr) → IsCause (m.faults c ++ n.faults c) e → IsCause ((pair_meaning op m n).faults c) e
 pair_cause op m n c e h = subst (λ f. IsCause f e) (sym (pair_faults op m n c)) h
 
+-- what stands against a size
+abbrev wide_count : Meaning → Faults
+wide_count n = fault_if (not (int_lt (pos 0) (number_of n) && is_width (nat_abs (number_of n)))) bad_width n.start
+
 pub cause_left : (a b : Faults) (e : TextErr) → IsCause a e → IsCause (a ++ b) e
 cause_left a b e h = cause_from a (a ++ b) (in_left a b) e h
 
@@ -60,7 +66,35 @@ cause_right a b e h = cause_from b (a ++ b) (in_right a b) e h
 pub cause_first : (a b : Faults) (e : TextErr) → IsCause a e → IsCause (or_then a b) e
 cause_first a b e h = cause_from a (or_then a b) (in_first a b) e h
 
+-- two that are judged each by itself
+pub both_judged : (m n : Meaning) (c : Bool) (x y : Result Typed TextErr) (r : Result (Typed × Typed) TextErr)
+    → IfOk r (λ p. (x ≡ Ok p.0) × (y ≡ Ok p.1)) → IfErr r (λ e. (x ≡ Err e) ⊎ (y ≡ Err e)) → Judges m c x → Judges n c y → JudgesBoth m n c r
+both_judged m n c x y (Ok t) p q h k = (typed_ok m (m.faults c) x t.0 p.0 h, typed_ok n (n.faults c) y t.1 p.1 k)
+both_judged m n c x y (Err e) p (inl q) h k = cause_left (m.faults c) (n.faults c) e (typed_err m (m.faults c) x e q h)
+both_judged m n c x y (Err e) p (inr q) h k = cause_right (m.faults c) (n.faults c) e (typed_err n (n.faults c) y e q k)
+
+-- why one of two is refused
+pub both_cause : (m n : Meaning) (c : Bool) (x y : Result Typed TextErr) (e : TextErr) → (x ≡ Err e) ⊎ (y ≡ Err e) → Judges m c x → Judges n c y → IsCause (m.faults c ++ n.faults c) e
+both_cause m n c x y e (inl p) h k = cause_left (m.faults c) (n.faults c) e (typed_err m (m.faults c) x e p h)
+both_cause m n c x y e (inr p) h k = cause_right (m.faults c) (n.faults c) e (typed_err n (n.faults c) y e p k)
+
+pub third_cause : (l m n : Meaning) (c : Bool) (x : Result (Typed × Typed) TextErr) (y : Result Typed TextErr) (e : TextErr) → (x ≡ Err e) ⊎ (y ≡ Err e) → JudgesBoth l m c x → Judges n c y
+    → IsCause ((l.faults c ++ m.faults c) ++ n.faults c) e
+third_cause l m n c x y e (inl p) h k = cause_left (l.faults c ++ m.faults c) (n.faults c) e (subst (JudgesBoth l m c) p h)
+third_cause l m n c x y e (inr p) h k = cause_right (l.faults c ++ m.faults c) (n.faults c) e (typed_err n (n.faults c) y e p k)
+
+pub cast_cause : (n m : Meaning) (c : Bool) (count : Result Fixed TextErr) (x : Result Typed TextErr) (e : TextErr) → (count ≡ Err e) ⊎ (x ≡ Err e) → Fixes n count → Judges m c x
+    → IsCause ((sized_by n m).faults c) e
+cast_cause n m c count x e (inl p) h k = cause_first (fixed_faults n ++ m.faults c) (wide_count n) e (cause_left (fixed_faults n) (m.faults c) e (fixed_err n count e p h))
+cast_cause n m c count x e (inr p) h k = cause_first (fixed_faults n ++ m.faults c) (wide_count n) e (cause_right (fixed_faults n) (m.faults c) e (typed_err m (m.faults c) x e p k))
+
 -- ---- powers
+
+pub power_cause : (p : Place) (m n : Meaning) (c : Bool) (r : Result (List Bit) TextErr) (e : TextErr) → r ≡ Err e → IfErr r (λ x. IsCause ((power p m n).faults c) x) → IsCause ((power p m n).faults c) e
+power_cause p m n c r e q h = let P : Result (List Bit) TextErr → Type 0 = λ x. IfErr x (λ y. IsCause ((power p m n).faults c) y) in subst P q h
+
+pub exponent_ok : (x y : Typed) (r : Result (List Bit) TextErr) (bits : List Bit) → r ≡ Ok bits → IfOk r (λ b. IsExponent x y b) → IsExponent x y bits
+exponent_ok x y r bits q h = let P : Result (List Bit) TextErr → Type 0 = λ z. IfOk z (λ b. IsExponent x y b) in subst P q h
 
 constants : (m n : Meaning) (x y : Typed) → Stands x m → Stands y n → (m.constant && n.constant) ≡ (x.constant && y.constant)
 unfolding Stands

@@ -1,14 +1,16 @@
 -- What an expression is typed as, and why it is refused.
-use Rattle.std.specs.Prelude.{◌≡◌, Bool, false, not, ◌||◌, List, [], ◌∷◌, ◌++◌, Option, Some, None, Result, Ok, Err}
+use Rattle.std.specs.Prelude.{◌≡◌, Bool, true, false, not, ◌&&◌, int_lt, pos, ◌||◌, List, [], ◌∷◌, ◌++◌, Option, Some, None, Result, Ok, Err}
 use Rattle.std.specs.List.{Contains, All, AllZip}
 use Rattle.sv_outside.specs.declared.refusal.Place.{Place}
 use Rattle.sv_outside.specs.declared.refusal.TextErr.{TextErr}
 use Rattle.sv_outside.specs.declared.refusal.TextErr.TheVariants.{No, Memory}
 use Rattle.sv_literal.specs.declared.meaning.Literal.{Literal}
 use Rattle.sv_typed.specs.declared.tree.Typed.{Typed}
-use Rattle.sv_typed.specs.Typed.{Stands, IsSound, literal_of}
+use Rattle.fourvec.specs.declared.Bit.{Bit}
+use Rattle.fourvec.specs.Bits.{is_known}
+use Rattle.sv_typed.specs.Typed.{Stands, IsSound, literal_of, own}
 use Rattle.sv_meaning.specs.Faults.{Faults, bad_width}
-use Rattle.sv_meaning.specs.Meanings.{Meaning, constant_of, fixed_faults, parts, all_loose}
+use Rattle.sv_meaning.specs.Meanings.{Meaning, nowhere, whole, constant_of, fixed_faults, parts, all_loose}
 use Rattle.sv_const.specs.declared.fixed.Fixed.{Fixed}
 
 -- one of these refusals, or want of memory
@@ -33,6 +35,12 @@ Judges m c r = Types m (m.faults c) r
 abbrev pub JudgesBoth : Meaning → Meaning → Bool → Result (Typed × Typed) TextErr → Type 0
 JudgesBoth m n c (Ok t) = IsTyped m (m.faults c) t.0 × IsTyped n (n.faults c) t.1
 JudgesBoth m n c (Err e) = IsCause (m.faults c ++ n.faults c) e
+
+-- the bits of the exponent of `**`, where both operands are constant and it is not below 0
+pub record IsExponent (x y : Typed) (bits : List Bit) : Type 0 where
+  pub is : bits ≡ own y nowhere
+  pub constant : (x.constant && y.constant) ≡ true
+  pub natural : (is_known bits && int_lt (whole y.signed bits) (pos 0)) ≡ false
 
 -- the parts of a concatenation
 pub record AreTyped (all : List Meaning) (c : Bool) (list : List Typed) : Type 0 where

@@ -11,7 +11,7 @@ use sv_outside::{Place, TextErr};
 use sv_typed::Typed;
 
 // Whether both hold.
-pub(crate) fn both(a: bool, b: bool) -> bool
+pub(crate) fn both_hold(a: bool, b: bool) -> bool
     ensures { result ≡ (a && b) }
 {
     a && b
@@ -25,14 +25,14 @@ pub(crate) fn fixed_of(start: Place, x: Result<Typed, TextErr>) -> Result<Fixed,
 {
     let x = x?;
     let value = x.own();
+    let known = Known {
+        value,
+        signed: x.signed,
+    };
+    let constant = x.constant;
+    drop(x);
     if value.is_bool() {
-        Ok(Fixed::new(
-            Known {
-                value,
-                signed: x.signed,
-            },
-            x.constant,
-        ))
+        Ok(Fixed::new(known, constant))
     } else {
         Err(TextErr::No(refusal(15, start)))
     }
@@ -48,6 +48,7 @@ pub(crate) fn fixed_index(start: Place, x: Result<Typed, TextErr>) -> Result<Typ
     if x.own().is_bool() {
         Ok(x)
     } else {
+        drop(x);
         Err(TextErr::No(refusal(15, start)))
     }
 }

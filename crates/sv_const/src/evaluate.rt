@@ -32,11 +32,10 @@ fn constant_of(start: Place, width: u8, x: Result<Typed, TextErr>) -> Result<Kno
 {
     let x = x?;
     let value = x.value(width.max(x.width), x.signed);
+    let signed = x.signed;
+    drop(x);
     if value.is_bool() {
-        Ok(Known {
-            value,
-            signed: x.signed,
-        })
+        Ok(Known { value, signed })
     } else {
         Err(TextErr::No(refusal(15, start)))
     }
@@ -47,10 +46,12 @@ fn size_of(x: Result<Typed, TextErr>) -> Result<Size, TextErr>
     ensures { (m : Meaning) → Judges m false x → JudgesSize m result }
 {
     let x = x?;
-    Ok(Size {
+    let size = Size {
         width: x.width,
         signed: x.signed,
-    })
+    };
+    drop(x);
+    Ok(size)
 }
 
 /// The value of a constant expression at the larger of a width (0 to 128 bits) and its own length, wholly 0 and 1; or why

@@ -7,6 +7,7 @@ mod constants;
 mod cursor;
 mod evaluate;
 mod fixed;
+mod held;
 mod layout;
 mod links;
 mod literals;

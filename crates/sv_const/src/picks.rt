@@ -14,14 +14,14 @@ ghost use Rattle.sv_const.specs.Judging.{Types, Fixes, IsFixed};
 ghost use Rattle.sv_const.specs.Picks.{Leads, offset_of, spot_of};
 ghost use Rattle.sv_const.specs.Ranges.{is_to, each_width, lowest_of};
 
-use crate::constants::both;
+use crate::constants::both_hold;
 use crate::cursor::{Cursor, Each, Row};
 use crate::fixed::Fixed;
 use crate::numbers::small;
 use crate::ranges::{between_count, lowest, many_count, shift};
 use crate::refusals::refusal;
 use fourvec::Spot;
-use items::Boxed;
+use items::{Boxed, both};
 use std::alloc::{AllocError, Global};
 use sv_outside::{Place, Refusal, TextErr};
 use sv_tree::RangeMark;
@@ -114,6 +114,7 @@ pub(crate) fn index_pick<'a>(
 {
     let index = index?;
     let Some(row) = at.row() else {
+        drop(index);
         return Err(TextErr::No(refusal(23, place)));
     };
     let width = row.each.width();
@@ -163,7 +164,7 @@ pub(crate) fn between_pick<'a>(
     let count = between_count(place, &row, a, b)?;
     let pick = Pick {
         width: count * row.each.width(),
-        constant: both(left.constant, right.constant),
+        constant: both_hold(left.constant, right.constant),
         place: lowest_place(&row, a, b),
     };
     Ok((
@@ -191,13 +192,14 @@ pub(crate) fn many_pick<'a>(
     ensures { (j : Meaning → Faults) (m n : Meaning) → Types m (j m) left → Fixes n right → Leads j (cursor_is at.entry) (to_range place m mark n) result }
 {
     let left = left?;
-    let right = right?;
+    let (left, right) = both(left, right)?;
     let Some(row) = at.row() else {
+        drop(left);
         return Err(TextErr::No(refusal(23, place)));
     };
-    let count = many_count(place, &row, &right.known)?;
+    let (left, count) = both(left, many_count(place, &row, &right.known))?;
     let width = count * row.each.width();
-    let constant = both(left.constant, right.constant);
+    let constant = both_hold(left.constant, right.constant);
     let spot = moving(
         alloc,
         &row,

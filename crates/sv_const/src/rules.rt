@@ -1,18 +1,20 @@
 // Rules of typing: what is made of typed parts, or why it is refused.
-ghost use Rattle.std.specs.Prelude.{◌≡◌, ◌&&◌, Bool, IfOk, pos, int_lt};
+ghost use Rattle.std.specs.Prelude.{◌≡◌, ◌&&◌, Bool, IfOk, IfErr, pos, int_lt};
 ghost use Rattle.fourvec.specs.Bits.{is_known};
 ghost use Rattle.sv_outside.specs.declared.refusal.Place.{Place};
 ghost use Rattle.sv_typed.specs.Ops.{one_meaning, pair_meaning};
 ghost use Rattle.sv_typed.specs.Typed.{IsSound};
 ghost use Rattle.sv_meaning.specs.Meanings.{Meaning, from, of_literal, to_sign, log_up, chosen, power, whole};
-ghost use Rattle.sv_const.specs.Judging.{Judges, JudgesBoth, Fixes, IsTyped};
+ghost use Rattle.sv_const.specs.Judging.{Judges, JudgesBoth, Fixes, IsCause, IsTyped, IsExponent};
 
-use crate::constants::both;
+use crate::constants::both_hold;
 use crate::fixed::Fixed;
+use crate::held::both_made;
 use crate::literals::read;
 use crate::numbers::is_negative;
 use crate::refusals::refusal;
 use fourvec::Four;
+use items::both;
 use std::alloc::Global;
 use sv_outside::{Place, TextErr};
 use sv_tree::Word;
@@ -40,16 +42,14 @@ pub(crate) fn one_typed(alloc: Global, op: One, x: Result<Typed, TextErr>) -> Re
 }
 
 /// Two that are judged each by itself.
-#[tactic(auto, using(crate::proofs::Lists::in_left, crate::proofs::Lists::in_right))]
+#[tactic(auto, using(crate::proofs::OfRules::both_judged))]
 fn both_typed(
     x: Result<Typed, TextErr>,
     y: Result<Typed, TextErr>,
 ) -> Result<(Typed, Typed), TextErr>
     ensures { (m n : Meaning) (c : Bool) → Judges m c x → Judges n c y → JudgesBoth m n c result }
 {
-    let x = x?;
-    let y = y?;
-    Ok((x, y))
+    both_made(x, y)
 }
 
 /// An operator on two operands, but for `**`.
@@ -79,8 +79,7 @@ pub(crate) fn chosen_typed(
 ) -> Result<Typed, TextErr>
     ensures { (l m n : Meaning) (c : Bool) → Judges l c condition → Judges m c x → Judges n c y → Judges (chosen l m n) c result }
 {
-    let (condition, x) = both_typed(condition, x)?;
-    let y = y?;
+    let ((condition, x), y) = both_made(both_typed(condition, x), y)?;
     Ok(Typed::chosen(alloc, condition, x, y)?)
 }
 
@@ -111,13 +110,14 @@ fn is_below_zero(bits: &Four, signed: bool) -> bool
     bits.is_bool() && signed && is_negative(bits)
 }
 
-/// `**` of typed operands, or E25 or E15.
-fn power_of(alloc: Global, place: Place, start: Place, x: Typed, y: Typed) -> Result<Typed, TextErr>
-    requires { IsSound y }
-    ensures { (m n : Meaning) (c : Bool) → m.start ≡ start → IsTyped m (m.faults c) x → IsTyped n (n.faults c) y → Judges (power place m n) c result }
+/// The bits of the exponent of `**`, or E25 or E15.
+fn exponent_bits(place: Place, start: Place, x: &Typed, y: &Typed) -> Result<Four, TextErr>
+    requires { IsSound y.now }
+    ensures is { IfOk result (λ bits. IsExponent x.now y.now bits) }
+    ensures cause { (m n : Meaning) (c : Bool) → m.start ≡ start → IsTyped m (m.faults c) x.now → IsTyped n (n.faults c) y.now → IfErr result (λ e. IsCause ((power place m n).faults c) e) }
 {
     let bits = y.own();
-    let constant = both(x.constant, y.constant);
+    let constant = both_hold(x.constant, y.constant);
     if !constant {
         return Err(TextErr::No(refusal(25, place)));
     }
@@ -125,7 +125,23 @@ fn power_of(alloc: Global, place: Place, start: Place, x: Typed, y: Typed) -> Re
     if below {
         return Err(TextErr::No(refusal(15, start)));
     }
-    Ok(Typed::power(alloc, x, &y, &bits)?)
+    Ok(bits)
+}
+
+// `**` of typed operands, or E25 or E15.
+fn power_of(
+    alloc: Global,
+    place: Place,
+    start: Place,
+    x: Typed,
+    y: &Typed,
+) -> Result<Typed, TextErr>
+    requires { IsSound y.now }
+    ensures { (m n : Meaning) (c : Bool) → m.start ≡ start → IsTyped m (m.faults c) x → IsTyped n (n.faults c) y.now → Judges (power place m n) c result }
+{
+    let bits = exponent_bits(place, start, &x, y);
+    let (x, bits) = both(x, bits)?;
+    Ok(Typed::power(alloc, x, y, &bits)?)
 }
 
 /// `**`, or E25 or E15.
@@ -139,7 +155,8 @@ pub(crate) fn power_typed(
     requires { IfOk y (λ t. IsSound t) }
     ensures { (m n : Meaning) (c : Bool) → m.start ≡ start → Judges m c x → Judges n c y → Judges (power place m n) c result }
 {
-    let x = x?;
-    let y = y?;
-    power_of(alloc, place, start, x, y)
+    let (x, y) = both_made(x, y)?;
+    let made = power_of(alloc, place, start, x, &y);
+    drop(y);
+    made
 }

@@ -7,6 +7,7 @@ ghost use Rattle.sv_meaning.specs.Layouts.{find};
 
 use crate::What;
 use crate::links::Links;
+use items::both;
 use std::alloc::{AllocError, Global};
 use std::marker::Model;
 use sv_outside::Name;
@@ -59,8 +60,9 @@ impl Scope {
         ensures ok { OnOk result (self.new ≡ self.old ++ (name, what) ∷ []) }
         ensures err { OnErr result (self.new ≡ self.old) }
     {
-        self.list.reserve(1)?;
-        self.links.note(name.bytes())?;
+        let room = self.list.reserve(1);
+        let (what, _) = both(what, room)?;
+        let (what, _) = both(what, self.links.note(name.bytes()))?;
         self.list.push_reserved((name, what));
         Ok(())
     }
@@ -85,7 +87,7 @@ impl Scope {
         ensures { self.new ≡ take count self.old }
     {
         'declared: while self.len() > count {
-            let _ = self.pop();
+            drop(self.pop());
         }
     }
 

@@ -14,6 +14,7 @@ ghost use Rattle.sv_const.specs.Casts.{LayoutUnder, CountUnder};
 
 use crate::begins::start;
 use crate::fixed::Fixed;
+use crate::held::both_made;
 use crate::numbers::small;
 use crate::ranges::fits;
 use crate::refusals::refusal;
@@ -151,12 +152,14 @@ pub(crate) fn cast_typed(
     ensures judged { (n m : Meaning) (c : Bool) → n.start ≡ start → Fixes n count → Judges m c x → Judges (sized_by n m) c result }
     ensures stops { IfErr count (λ e. result ≡ Err e) }
 {
-    let count = count?;
-    let x = x?;
+    let (count, x) = both_made(count, x)?;
     let signed = x.signed;
     match copies(&count, 1) {
         Some(width) => Ok(Typed::fitted(alloc, width, signed, x)?),
-        None => Err(TextErr::No(refusal(14, start))),
+        None => {
+            drop(x);
+            Err(TextErr::No(refusal(14, start)))
+        }
     }
 }
 

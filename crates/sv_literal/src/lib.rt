@@ -42,6 +42,3 @@ pub fn literal(text: &[u8]) -> Result<Literal, LitErr>
         Err(LitErr::Shape)
     }
 }
-
-#[cfg(test)]
-mod tests;

@@ -208,6 +208,3 @@ impl Sink for MemSink {
         Ok(taken)
     }
 }
-
-#[cfg(test)]
-mod tests;

@@ -1,5 +1,5 @@
 // The files and the streams of the system: the edge that is trusted. Their contracts tell nothing of what they
-// hold, so only tests show that they read and write the bytes that the system has.
+// hold, so only runs show that they read and write the bytes that the system has (`crates/text_rows`).
 ghost use Rattle.std.specs.Prelude.{◌≡◌, ◌≤◌, ◌<◌, ◌^◌, ℕ, length, IfOk};
 
 use crate::{FileErr, Files, Name, Sink, SinkErr};
@@ -98,6 +98,3 @@ impl<W: Write> Sink for RealSink<W> {
         }
     }
 }
-
-#[cfg(test)]
-mod tests;

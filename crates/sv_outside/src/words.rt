@@ -179,6 +179,3 @@ pub fn is_id(text: &[u8]) -> bool
 {
     is_word(text) && !is_reserved(text)
 }
-
-#[cfg(test)]
-mod tests;

@@ -52,7 +52,9 @@ pub fn lower_expr(
 {
     match typed(alloc, expr, names, false) {
         Ok(tree) => {
-            let node = lower_assigned(alloc, arena, &tree, &Look::Present, width)?;
+            let node = lower_assigned(alloc, arena, &tree, &Look::Present, width);
+            drop(tree);
+            let node = node?;
             Ok(node)
         }
         Err(e) => Err(e),

@@ -13,7 +13,7 @@ returns-then-is_bool c = λ m h.
     (ap (λ (k : Known). k.value) c.new.ensures.known ∙ c.own-value.ensures.is) (ap (λ (k : Known). k.signed) c.new.ensures.known) c.new.ensures.constant
     (ap is_known (sym c.own-value.ensures.is) ∙ sym c.is_bool.ensures ∙ c.if-is_bool.true)
 
-pub returns : goal.returns
-returns c = λ m h.
+pub returns-else-is_bool : goal.returns-else-is_bool
+returns-else-is_bool c = λ m h.
     subst (Contains (fixed_faults (from c.args.start m))) (sym c.refusal.ensures)
     (unknown_cause c.args.start m c.in_ok-x.x (typed_ok m (m.faults true) c.args.x c.in_ok-x.x c.in_ok-x.was h) (ap is_known (sym c.own-value.ensures.is) ∙ sym c.is_bool.ensures ∙ c.if-is_bool.false))

@@ -18,8 +18,8 @@ returns-then-is_bool c = λ m s h.
     constant_ok c.args.width m c.in_ok-x.x _ (typed_ok m (m.faults true) c.args.x c.in_ok-x.x c.in_ok-x.was h)
     (c.value-value.ensures.is ∙ ap (λ n. worth c.in_ok-x.x nowhere n c.in_ok-x.x.signed) c.max.ensures) refl (sym c.is_bool.ensures ∙ c.if-is_bool.true)
 
-pub returns : goal.returns
-returns c = λ m s h.
+pub returns-else-is_bool : goal.returns-else-is_bool
+returns-else-is_bool c = λ m s h.
     subst (Contains (fixed_faults_at c.args.width m)) (sym c.refusal.ensures)
     (constant_unknown c.args.width m c.in_ok-x.x c.args.start (typed_ok m (m.faults true) c.args.x c.in_ok-x.x c.in_ok-x.was h) s
     (ap is_known (sym (c.value-value.ensures.is ∙ ap (λ n. worth c.in_ok-x.x nowhere n c.in_ok-x.x.signed) c.max.ensures)) ∙ sym c.is_bool.ensures ∙ c.if-is_bool.false))

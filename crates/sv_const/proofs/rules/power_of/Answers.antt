@@ -1,26 +1,22 @@
 use Rattle.std.proofs.Common.{◌∙◌, ◌&&◌, sym, subst, ap, int_lt, pos}
-use Rattle.std.specs.List.{Contains}
+use Rattle.std.proofs.lemmas.Result.{err_from_is_err_and}
 use Rattle.fourvec.specs.Bits.{is_known}
-use Rattle.sv_outside.specs.declared.refusal.Place.{Place}
-use Rattle.sv_meaning.specs.Meanings.{power, whole}
-use Rattle.sv_meaning.specs.Faults.{not_constant}
-use Rattle.sv_const.proofs.OfRules.{power_free, power_below, power_ok}
+use Rattle.sv_meaning.specs.Meanings.{whole}
+use Rattle.sv_typed.specs.declared.tree.Typed.{Typed}
+use Rattle.sv_const.specs.Judging.{IsTyped}
+use Rattle.sv_const.proofs.OfRules.{power_cause, power_ok, exponent_ok}
 use Rattle.sv_const.proofs.rules.power_of.Goals as goal
 
-pub returns-then-not-constant : goal.returns-then-not-constant
-returns-then-not-constant c = λ m n d s h k.
-    subst (Contains ((power c.args.place m n).faults d)) (sym c.refusal.ensures)
-    (power_free c.args.place m n d c.args.x c.args.y h k (sym c.both-constant.ensures ∙ c.if-not-constant.true))
-
-pub returns-then-below : goal.returns-then-below
-returns-then-below c = λ m n d s h k.
-    let P : Place → Type 0 = λ q. Contains ((power c.args.place m n).faults d) (record { number = not_constant; place = q; count = 0 }) in
-    subst (Contains ((power c.args.place m n).faults d)) (sym c.refusal-then-below.ensures)
-    (subst P s (power_below c.args.place m n d c.args.x c.args.y h k (sym c.both-constant.ensures ∙ c.if-not-constant.false)
-    (ap (λ b. is_known b && int_lt (whole c.args.y.signed b) (pos 0)) (sym c.own-bits.ensures.is) ∙ sym c.is_below_zero-below.ensures ∙ c.if-below.true)))
+pub returns-in_err-x : goal.returns-in_err-x
+returns-in_err-x c = λ m n d s h k.
+    let p = err_from_is_err_and c.from_residual.result c.from_residual.ensures.1 in
+    rw (p.1, p.2) (power_cause c.args.place m n d c.exponent_bits-bits.result c.in_err-x.field-0.0 c.in_err-x.ensures.failed (c.exponent_bits-bits.ensures.cause m n d s h k))
 
 pub returns : goal.returns
 returns c = λ m n d s h k.
-    power_ok c.args.place m n d c.args.x c.args.y c.in_ok-power.field-0 h k (sym c.both-constant.ensures ∙ c.if-not-constant.false)
-    (ap (λ b. is_known b && int_lt (whole c.args.y.signed b) (pos 0)) (sym c.own-bits.ensures.is) ∙ sym c.is_below_zero-below.ensures ∙ c.if-below.false)
-    (c.in_ok-power.ensures.stands m n c.args.place h.stands k.stands c.own-bits.ensures.is) (c.in_ok-power.ensures.sound h.sound)
+    let P : Typed → Type 0 = λ t. IsTyped m (m.faults d) t in
+    let x : IsTyped m (m.faults d) c.in_ok-x.x = subst P (sym c.in_ok-x.ensures.pair.0) h in
+    let e = exponent_ok c.args.x c.args.y.now c.exponent_bits-bits.result c.in_ok-x.bits c.in_ok-x.ensures.pair.1 c.exponent_bits-bits.ensures.is in
+    power_ok c.args.place m n d c.args.x c.args.y.now c.in_ok-power.field-0 h k e.constant
+    (ap (λ b. is_known b && int_lt (whole c.args.y.now.signed b) (pos 0)) (sym e.is) ∙ e.natural)
+    (c.in_ok-power.ensures.stands m n c.args.place x.stands k.stands e.is) (c.in_ok-power.ensures.sound x.sound)

@@ -1,0 +1,19 @@
+//! Case files, in which values that were worked out by hand stand as text, and what judges them by.
+//!
+//! A file has cases, each begun by a line `case NAME`. Below it stand lines `KEY WORDS`, each with a block of rows behind it, and a row is a
+//! line `| text`. Lines that begin with `#` and empty lines are passed over. What a case does not give is as in the case before it.
+//! Most rows are `question => answer`. What a key means, the program says that judges by it.
+#![tactic(auto)]
+
+mod expressions;
+mod judging;
+mod vectors;
+mod words;
+
+pub use expressions::built;
+pub use judging::{Bench, Judge, Report, each_row, judge_text};
+pub use vectors::{digits, put_digits, put_vectors};
+pub use words::{
+    Fault, named, number, part, put, put_number, rows_of, sides, signed, small, trimmed, word,
+    words_from,
+};

@@ -1,0 +1,70 @@
+//! Judges what the crates of clauses, of the judge of refutations and of the solver give, by answers that were found by hand. They stand in
+//! data/; what they mean stands at the head of each module.
+#![tactic(auto)]
+
+mod formulas;
+mod gates;
+mod logs;
+mod random;
+mod scanning;
+mod solving;
+
+use case_rows::{Bench, Fault, Report, each_row, judge_text, named, word};
+use gates::judge_gates;
+use logs::Logs;
+use random::Random;
+use solving::Formulas;
+use std::alloc::Global;
+use std::io::Write;
+use std::{env, fs, io};
+
+#[derive(Clone, Copy)]
+enum Key {
+    Logs,
+    Solve,
+    Random,
+    Gates,
+}
+
+static KEYS: [(&[u8], Key); 4] = [
+    (b"logs", Key::Logs),
+    (b"solve", Key::Solve),
+    (b"random", Key::Random),
+    (b"gates", Key::Gates),
+];
+
+/// What judges by the keys of the files.
+#[derive(Drop)]
+struct Keys {
+    alloc: Global,
+}
+
+impl Bench for Keys {
+    fn key(&mut self, line: &[u8], block: &[u8], report: &mut Report) -> Result<(), Fault> {
+        match named(&KEYS, word(line, 0)) {
+            Some(Key::Logs) => each_row(&mut Logs::new(self.alloc), block, report),
+            Some(Key::Solve) => each_row(&mut Formulas::new(self.alloc), block, report),
+            Some(Key::Random) => each_row(&mut Random::new(self.alloc), block, report),
+            Some(Key::Gates) => judge_gates(self.alloc, block, report),
+            None => report.take(line, Err(Fault::Form)),
+        }
+    }
+}
+
+fn judge_file(rt: &HostRuntime, name: &str, report: &mut Report) -> io::Result<()> {
+    let text = fs::read(rt, name)?;
+    let mut keys = Keys { alloc: rt.alloc() };
+    match judge_text(&mut keys, name.as_bytes(), &text, report) {
+        Ok(()) => Ok(()),
+        Err(_) => Err(io::ErrorKind::OutOfMemory.into()),
+    }
+}
+
+fn main(rt: HostRuntime) -> io::Result<()> {
+    let mut report = Report::new(rt.alloc());
+    for name in env::args(&rt)?.skip(1) {
+        judge_file(&rt, name.as_str(), &mut report)?;
+    }
+    rt.stdout().write_all(report.out())?;
+    Ok(())
+}

@@ -1,0 +1,93 @@
+//! Judges flat designs: how they settle, and the least runs of tables over them, by values that were found by hand. They stand in data/;
+//! what they mean stands at the head of each module.
+#![tactic(auto)]
+
+mod design;
+mod least;
+mod settling;
+mod sound;
+
+use case_rows::{Bench, Fault, Report, judge_text, named, put, word};
+use least::{Given, judge_run};
+use settling::judge_settling;
+use std::alloc::Global;
+use std::io::Write;
+use std::{env, fs, io};
+
+#[derive(Clone, Copy)]
+enum Key {
+    Design,
+    Drives,
+    Samples,
+    Settle,
+    Run,
+}
+
+static KEYS: [(&[u8], Key); 5] = [
+    (b"design", Key::Design),
+    (b"drives", Key::Drives),
+    (b"samples", Key::Samples),
+    (b"settle", Key::Settle),
+    (b"run", Key::Run),
+];
+
+/// The texts of what other keys stand on.
+#[derive(Drop)]
+struct Keys {
+    alloc: Global,
+    design: Vec<u8>,
+    drives: Vec<u8>,
+    samples: Vec<u8>,
+}
+
+fn keep(kept: &mut Vec<u8>, block: &[u8]) -> Result<(), Fault> {
+    kept.clear();
+    put(kept, block)
+}
+
+impl Keys {
+    fn given(&self) -> Given<'_> {
+        Given {
+            design: self.design.as_slice(),
+            drives: self.drives.as_slice(),
+            samples: self.samples.as_slice(),
+        }
+    }
+}
+
+impl Bench for Keys {
+    fn key(&mut self, line: &[u8], block: &[u8], report: &mut Report) -> Result<(), Fault> {
+        match named(&KEYS, word(line, 0)) {
+            Some(Key::Design) => keep(&mut self.design, block),
+            Some(Key::Drives) => keep(&mut self.drives, block),
+            Some(Key::Samples) => keep(&mut self.samples, block),
+            Some(Key::Settle) => judge_settling(self.alloc, &self.design, block, report),
+            Some(Key::Run) => judge_run(self.alloc, &self.given(), line, block, report),
+            None => report.take(line, Err(Fault::Form)),
+        }
+    }
+}
+
+fn judge_file(rt: &HostRuntime, name: &str, report: &mut Report) -> io::Result<()> {
+    let text = fs::read(rt, name)?;
+    let alloc = rt.alloc();
+    let mut keys = Keys {
+        alloc,
+        design: Vec::new(alloc),
+        drives: Vec::new(alloc),
+        samples: Vec::new(alloc),
+    };
+    match judge_text(&mut keys, name.as_bytes(), &text, report) {
+        Ok(()) => Ok(()),
+        Err(_) => Err(io::ErrorKind::OutOfMemory.into()),
+    }
+}
+
+fn main(rt: HostRuntime) -> io::Result<()> {
+    let mut report = Report::new(rt.alloc());
+    for name in env::args(&rt)?.skip(1) {
+        judge_file(&rt, name.as_str(), &mut report)?;
+    }
+    rt.stdout().write_all(report.out())?;
+    Ok(())
+}

@@ -1,0 +1,135 @@
+//! Judges what the crates of vectors, graphs of nodes, gates, lists and joined wires give, by values that were worked out by hand. They
+//! stand in data/; what they mean stands at the head of each module.
+#![tactic(auto)]
+
+mod circuits;
+mod gates;
+mod joins;
+mod lists;
+mod nodes;
+mod trees;
+mod values;
+
+use case_rows::{Bench, Fault, Report, each_row, judge_text, named, word};
+use circuits::{Circuits, Swapped};
+use gates::judge_gates;
+use joins::{Cut, judge_joins};
+use lists::{Calls, judge_ring};
+use nodes::{Becomes, Nodes, Substituted};
+use std::alloc::Global;
+use std::io::Write;
+use std::{env, fs, io};
+use svex_arena::Env;
+use trees::Trees;
+use values::{Entries, Planes, Values};
+
+#[derive(Clone, Copy)]
+enum Key {
+    Planes,
+    Entries,
+    Values,
+    Nodes,
+    Becomes,
+    Substitute,
+    Circuits,
+    Swapped,
+    Gates,
+    Calls,
+    Trees,
+    Cut,
+    Ring,
+    Joins,
+}
+
+static KEYS: [(&[u8], Key); 14] = [
+    (b"planes", Key::Planes),
+    (b"entries", Key::Entries),
+    (b"values", Key::Values),
+    (b"nodes", Key::Nodes),
+    (b"becomes", Key::Becomes),
+    (b"substitute", Key::Substitute),
+    (b"circuits", Key::Circuits),
+    (b"swapped", Key::Swapped),
+    (b"gates", Key::Gates),
+    (b"calls", Key::Calls),
+    (b"trees", Key::Trees),
+    (b"cut", Key::Cut),
+    (b"ring", Key::Ring),
+    (b"joins", Key::Joins),
+];
+
+/// What the entries of variables have.
+#[derive(Drop)]
+struct Keys {
+    alloc: Global,
+    env: Env,
+}
+
+impl Keys {
+    fn new(alloc: Global) -> Keys {
+        Keys {
+            alloc,
+            env: Env {
+                present: Vec::new(alloc),
+                previous: Vec::new(alloc),
+                stim: Vec::new(alloc),
+                chosen: Vec::new(alloc),
+                sampled: Vec::new(alloc),
+            },
+        }
+    }
+
+    // Keys of vectors and of the graph of expressions.
+    fn expressions(&mut self, key: Key, block: &[u8], report: &mut Report) -> Result<(), Fault> {
+        match key {
+            Key::Planes => each_row(&mut Planes, block, report),
+            Key::Entries => each_row(&mut Entries { env: &mut self.env }, block, report),
+            Key::Values => each_row(&mut Values::new(self.alloc, &self.env), block, report),
+            Key::Nodes => each_row(&mut Nodes::new(self.alloc), block, report),
+            Key::Becomes => each_row(&mut Becomes::new(self.alloc), block, report),
+            Key::Substitute => each_row(&mut Substituted::new(self.alloc), block, report),
+            _ => self.gates(key, block, report),
+        }
+    }
+
+    // Keys of gates, and of lists.
+    fn gates(&mut self, key: Key, block: &[u8], report: &mut Report) -> Result<(), Fault> {
+        match key {
+            Key::Circuits => each_row(&mut Circuits { alloc: self.alloc }, block, report),
+            Key::Swapped => each_row(&mut Swapped { alloc: self.alloc }, block, report),
+            Key::Gates => judge_gates(self.alloc, block, report),
+            Key::Calls => each_row(&mut Calls::new(self.alloc), block, report),
+            Key::Trees => each_row(&mut Trees { alloc: self.alloc }, block, report),
+            _ => each_row(&mut Cut { alloc: self.alloc }, block, report),
+        }
+    }
+}
+
+impl Bench for Keys {
+    fn key(&mut self, line: &[u8], block: &[u8], report: &mut Report) -> Result<(), Fault> {
+        match named(&KEYS, word(line, 0)) {
+            Some(Key::Ring) => judge_ring(self.alloc, line, block, report),
+            Some(Key::Joins) => judge_joins(self.alloc, line, block, report),
+            Some(key) => self.expressions(key, block, report),
+            None => report.take(line, Err(Fault::Form)),
+        }
+    }
+}
+
+fn judge_file(rt: &HostRuntime, name: &str, report: &mut Report) -> io::Result<()> {
+    let text = fs::read(rt, name)?;
+    let mut keys = Keys::new(rt.alloc());
+    match judge_text(&mut keys, name.as_bytes(), &text, report) {
+        Ok(()) => Ok(()),
+        Err(_) => Err(io::ErrorKind::OutOfMemory.into()),
+    }
+}
+
+fn main(rt: HostRuntime) -> io::Result<()> {
+    let mut report = Report::new(rt.alloc());
+    for name in env::args(&rt)?.skip(1) {
+        judge_file(&rt, name.as_str(), &mut report)?;
+    }
+    rt.stdout().write_all(report.out())?;
+    Ok(())
+}

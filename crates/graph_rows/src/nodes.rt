@@ -1,0 +1,220 @@
+//! The graph of expressions.
+//!
+//! - `nodes`: one graph. An expression is made, and the answer is its node: nodes are numbered from 0 as they are made, operands before
+//!   what is computed from them and the last operand first, and an equal shape is the same node. The other rows answer how many nodes there
+//!   are then: `many 200` makes variables of that many entries, `cut 2` cuts off all nodes from that one on, `copy` keeps a copy of the
+//!   graph, and `back` puts the copy in the place of the graph.
+//! - `becomes`: an expression, and what it is once it is simplified.
+//! - `substitute`: `replace now 1 001` and `replace prev 1 001` put a node in the place of an entry. The other rows are an expression, how
+//!   many nodes its substitution makes, and what it becomes: `not now0.4 => 0 not now1.4`. Where it makes none, what it becomes is there
+//!   before.
+
+use case_rows::{Fault, Judge, built, named, number, put, put_number, word, words_from};
+use std::alloc::Global;
+use svex_arena::{Arena, Node, Shape, Subst, VarName};
+use svex_rewrite::simplify;
+
+#[derive(Clone, Copy)]
+enum Call {
+    Many,
+    Cut,
+    Copy,
+    Back,
+}
+
+static CALLS: [(&[u8], Call); 4] = [
+    (b"many", Call::Many),
+    (b"cut", Call::Cut),
+    (b"copy", Call::Copy),
+    (b"back", Call::Back),
+];
+
+#[derive(Drop)]
+pub struct Nodes {
+    alloc: Global,
+    arena: Arena,
+    copy: Arena,
+}
+
+pub fn size(word: &[u8]) -> Result<usize, Fault> {
+    let value = number(word).ok_or(Fault::Form)?;
+    Ok(usize::try_from(value).unwrap_or(0))
+}
+
+fn put_size(said: &mut Vec<u8>, size: usize) -> Result<(), Fault> {
+    put_number(said, size as u64)
+}
+
+impl Nodes {
+    pub fn new(alloc: Global) -> Nodes {
+        Nodes {
+            alloc,
+            arena: Arena::new(alloc),
+            copy: Arena::new(alloc),
+        }
+    }
+
+    fn many(&mut self, count: usize) -> Result<usize, Fault> {
+        for at in 0..count {
+            let shape = Shape::Var(VarName::Now(at), 7);
+            if self.arena.fits(&shape) {
+                self.arena.intern(self.alloc, shape)?;
+            }
+        }
+        Ok(self.arena.len())
+    }
+
+    fn cut(&mut self, len: usize) -> Result<usize, Fault> {
+        if len > self.arena.len() {
+            return Err(Fault::Form);
+        }
+        self.arena.cut(len);
+        Ok(self.arena.len())
+    }
+
+    fn keep(&mut self) -> Result<usize, Fault> {
+        self.copy = self.arena.copy(self.alloc)?;
+        Ok(self.arena.len())
+    }
+
+    fn back(&mut self) -> Result<usize, Fault> {
+        self.arena = self.copy.copy(self.alloc)?;
+        Ok(self.arena.len())
+    }
+
+    fn node(&mut self, text: &[u8]) -> Result<usize, Fault> {
+        let node = built(&mut self.arena, self.alloc, text)?;
+        Ok(node.index())
+    }
+
+    fn answer(&mut self, question: &[u8]) -> Result<usize, Fault> {
+        match named(&CALLS, word(question, 0)) {
+            Some(Call::Many) => self.many(size(word(question, 1))?),
+            Some(Call::Cut) => self.cut(size(word(question, 1))?),
+            Some(Call::Copy) => self.keep(),
+            Some(Call::Back) => self.back(),
+            None => self.node(question),
+        }
+    }
+}
+
+impl Judge for Nodes {
+    fn row(&mut self, question: &[u8], wanted: &[u8], said: &mut Vec<u8>) -> Result<bool, Fault> {
+        let answer = self.answer(question)?;
+        put_size(said, answer)?;
+        Ok(said.as_slice() == wanted)
+    }
+}
+
+// Tells of two nodes, and whether they are one.
+fn is_node(said: &mut Vec<u8>, is: Node, wanted: Node) -> Result<bool, Fault> {
+    put(said, b"node ")?;
+    put_size(said, is.index())?;
+    put(said, b" and not node ")?;
+    put_size(said, wanted.index())?;
+    Ok(is == wanted)
+}
+
+#[derive(Drop)]
+pub struct Becomes {
+    alloc: Global,
+    arena: Arena,
+}
+
+impl Becomes {
+    pub fn new(alloc: Global) -> Becomes {
+        Becomes {
+            alloc,
+            arena: Arena::new(alloc),
+        }
+    }
+}
+
+impl Judge for Becomes {
+    fn row(&mut self, question: &[u8], wanted: &[u8], said: &mut Vec<u8>) -> Result<bool, Fault> {
+        let root = built(&mut self.arena, self.alloc, question)?;
+        let wanted = built(&mut self.arena, self.alloc, wanted)?;
+        if root.index() >= self.arena.len() {
+            return Err(Fault::Form);
+        }
+        let simple = simplify(&mut self.arena, self.alloc, root)?;
+        is_node(said, simple, wanted)
+    }
+}
+
+#[derive(Drop)]
+pub struct Substituted {
+    alloc: Global,
+    arena: Arena,
+    by: Subst,
+}
+
+// Puts a node at a place of a list, with none before it where there was none.
+fn set_entry(list: &mut Vec<Option<Node>>, at: usize, node: Node) -> Result<bool, Fault> {
+    for _ in list.len()..at {
+        list.push(None)?;
+    }
+    list.push(Some(node))?;
+    Ok(true)
+}
+
+fn answer_of(arena: &mut Arena, alloc: Global, root: Node, by: &Subst) -> Result<Node, Fault> {
+    if root.index() >= arena.len() {
+        return Err(Fault::Form);
+    }
+    let roots = [root];
+    let answers = arena.substitute(alloc, &roots, by)?;
+    answers.first().copied().ok_or(Fault::Form)
+}
+
+impl Substituted {
+    pub fn new(alloc: Global) -> Substituted {
+        Substituted {
+            alloc,
+            arena: Arena::new(alloc),
+            by: Subst {
+                present: Vec::new(alloc),
+                previous: Vec::new(alloc),
+                stim: Vec::new(alloc),
+                chosen: Vec::new(alloc),
+                sampled: Vec::new(alloc),
+            },
+        }
+    }
+
+    fn replace(&mut self, row: &[u8]) -> Result<bool, Fault> {
+        let node = built(&mut self.arena, self.alloc, words_from(row, 3))?;
+        let at = size(word(row, 2))?;
+        if word(row, 1) == b"now".as_slice() {
+            set_entry(&mut self.by.present, at, node)
+        } else {
+            set_entry(&mut self.by.previous, at, node)
+        }
+    }
+
+    // How many nodes a substitution made, and whether it gives what is wanted.
+    fn meets(&mut self, root: Node, wanted: &[u8], said: &mut Vec<u8>) -> Result<bool, Fault> {
+        let before = self.arena.len();
+        let answer = answer_of(&mut self.arena, self.alloc, root, &self.by)?;
+        let made = self.arena.len().saturating_sub(before);
+        put_size(said, made)?;
+        put(said, b" made, ")?;
+        let text = words_from(wanted, 1);
+        let wanted_node = built(&mut self.arena, self.alloc, text)?;
+        let is = is_node(said, answer, wanted_node)?;
+        Ok(is && made == size(word(wanted, 0))?)
+    }
+}
+
+impl Judge for Substituted {
+    fn row(&mut self, question: &[u8], wanted: &[u8], said: &mut Vec<u8>) -> Result<bool, Fault> {
+        if word(question, 0) == b"replace".as_slice() {
+            return self.replace(question);
+        }
+        let root = built(&mut self.arena, self.alloc, question)?;
+        if word(wanted, 0) == b"0".as_slice() {
+            built(&mut self.arena, self.alloc, words_from(wanted, 1))?;
+        }
+        self.meets(root, wanted, said)
+    }
+}

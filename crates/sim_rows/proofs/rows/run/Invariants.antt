@@ -1,9 +1,0 @@
-use Rattle.driver_resolve.specs.Drivers.{widths_of}
-use Rattle.event_sim.specs.Sims.{Fits, IsValuation}
-use Rattle.sim_rows.proofs.rows.run.Given as goal
-
-abbrev pub invariant-lines : goal.invariant-lines
-invariant-lines l = record {
-  fits : Fits l.flat l.sim;
-  prev : IsValuation (widths_of l.flat.wires) l.prev.values;
-}

@@ -1,5 +1,0 @@
-use Rattle.event_sim.specs.Sims.{Fits}
-use Rattle.sim_rows.proofs.rows.step_all.Given as goal
-
-abbrev pub invariant-turns : goal.invariant-turns
-invariant-turns l = Fits l.flat l.sim

@@ -1,0 +1,245 @@
+// How a case is written. A line is
+//   case NAME       begins a case; what it does not give is as in the case before it in this file
+//   file NAME       the contents of that file follow, in place of those that it had
+//   also NAME       the contents of one more file with that name follow
+//   out             what is printed follows
+//   | text          a line of the contents, with its line end (one blank behind the mark is no part of it)
+//   \ text          the same without a line end
+//   repeat N text   so many times that text, without a line end
+//   gone NAME       that file is not there
+//   read N ..       the reads with these numbers fail
+//   write N ..      the writes with these numbers fail
+//   most N          a sink takes so many bytes at once
+//   each            each line of the file d.sv is a text of its own, and has its line in what is printed
+//   whole           that file is one text
+//   KEY WORDS       what is done, which acts.rt tells
+//   # text          a remark; an empty line is passed over
+use std::alloc::{AllocError, Global};
+use sv_outside::Name;
+
+/// A file of a case.
+#[derive(Drop)]
+pub struct File {
+    pub name: Name,
+    pub text: Vec<u8>,
+}
+
+/// What is known of a case, from the lines read so far.
+#[derive(Drop)]
+pub struct Case {
+    pub alloc: Global,
+    pub name: Vec<u8>,
+    pub key: Vec<u8>,
+    pub words: Vec<u8>,
+    pub files: Vec<File>,
+    pub out: Vec<u8>,
+    pub failing_reads: Vec<u64>,
+    pub failing_writes: Vec<u64>,
+    pub most: usize,
+    pub is_each: bool,
+    // Whether contents are of what is printed, and not of the last file.
+    is_out: bool,
+}
+
+/// The parts between two bytes of that kind. Behind the last of these is none where the text ends.
+pub fn parts<'a>(alloc: Global, text: &'a [u8], by: u8) -> Result<Vec<&'a [u8]>, AllocError> {
+    let mut parts = Vec::new(alloc);
+    let mut start = 0;
+    for at in 0..text.len() {
+        if text[at] == by {
+            parts.push(text.get(start..at).unwrap_or(b""))?;
+            start = at + 1;
+        }
+    }
+    if start < text.len() {
+        parts.push(&text[start..])?;
+    }
+    Ok(parts)
+}
+
+/// The first word of a line, and what stands behind the blank at its end.
+pub fn word_and_rest(line: &[u8]) -> (&[u8], &[u8]) {
+    for at in 0..line.len() {
+        if line[at] == b' ' {
+            return (&line[..at], &line[at + 1..]);
+        }
+    }
+    (line, b"")
+}
+
+/// Whether a word is that key.
+pub fn is(word: &[u8], key: &str) -> bool {
+    word == key.as_bytes()
+}
+
+fn number(word: &[u8]) -> u64 {
+    let mut number = 0u64;
+    for b in word {
+        if b.is_ascii_digit() {
+            number = number
+                .saturating_mul(10)
+                .saturating_add(u64::from(*b - b'0'));
+        }
+    }
+    number
+}
+
+fn numbers(alloc: Global, words: &[u8]) -> Result<Vec<u64>, AllocError> {
+    let mut numbers = Vec::new(alloc);
+    for word in &parts(alloc, words, b' ')? {
+        numbers.push(number(word))?;
+    }
+    Ok(numbers)
+}
+
+impl Case {
+    pub fn new(alloc: Global) -> Case {
+        Case {
+            alloc,
+            name: Vec::new(alloc),
+            key: Vec::new(alloc),
+            words: Vec::new(alloc),
+            files: Vec::new(alloc),
+            out: Vec::new(alloc),
+            failing_reads: Vec::new(alloc),
+            failing_writes: Vec::new(alloc),
+            most: 1000,
+            is_each: false,
+            is_out: false,
+        }
+    }
+
+    /// The contents of the file d.sv.
+    pub fn text(&self) -> &[u8] {
+        for file in &self.files {
+            if is(file.name.bytes(), "d.sv") {
+                return &file.text;
+            }
+        }
+        b""
+    }
+
+    /// Takes one line.
+    pub fn take(&mut self, line: &[u8]) -> Result<(), AllocError> {
+        match line {
+            [] | [b'#', ..] => Ok(()),
+            [b'|', b' ', text @ ..] | [b'|', text @ ..] => {
+                self.add(text)?;
+                self.add(b"\n")
+            }
+            [b'\\', b' ', text @ ..] | [b'\\', text @ ..] => self.add(text),
+            _ => {
+                let (word, rest) = word_and_rest(line);
+                self.take_word(word, rest)
+            }
+        }
+    }
+
+    fn take_word(&mut self, word: &[u8], rest: &[u8]) -> Result<(), AllocError> {
+        if is(word, "file") {
+            self.remove(rest);
+            self.begin_file(rest)
+        } else if is(word, "also") {
+            self.begin_file(rest)
+        } else if is(word, "out") {
+            self.is_out = true;
+            self.out.clear();
+            Ok(())
+        } else if is(word, "gone") {
+            self.remove(rest);
+            Ok(())
+        } else if is(word, "repeat") {
+            let (times, text) = word_and_rest(rest);
+            self.repeat(number(times), text)
+        } else {
+            self.set(word, rest)
+        }
+    }
+
+    fn set(&mut self, word: &[u8], rest: &[u8]) -> Result<(), AllocError> {
+        if is(word, "case") {
+            replace(&mut self.name, rest)
+        } else if is(word, "read") {
+            self.failing_reads = numbers(self.alloc, rest)?;
+            Ok(())
+        } else if is(word, "write") {
+            self.failing_writes = numbers(self.alloc, rest)?;
+            Ok(())
+        } else if is(word, "most") {
+            self.most = usize::try_from(number(rest)).unwrap_or(1);
+            Ok(())
+        } else if is(word, "each") || is(word, "whole") {
+            self.is_each = is(word, "each");
+            Ok(())
+        } else {
+            replace(&mut self.key, word)?;
+            replace(&mut self.words, rest)
+        }
+    }
+
+    fn begin_file(&mut self, name: &[u8]) -> Result<(), AllocError> {
+        self.is_out = false;
+        let name = Name::new(self.alloc, name)?;
+        self.files.push(File {
+            name,
+            text: Vec::new(self.alloc),
+        })?;
+        Ok(())
+    }
+
+    fn remove(&mut self, name: &[u8]) {
+        let at = place_of(&self.files, name);
+        if at < self.files.len() {
+            self.files.remove(at);
+        }
+    }
+
+    // By doubling, since texts of 16 MiB are made so.
+    fn repeat(&mut self, times: u64, text: &[u8]) -> Result<(), AllocError> {
+        let mut left = times;
+        let mut piece = text.to_vec(self.alloc)?;
+        for _ in 0..64 {
+            if left % 2 == 1 {
+                self.add(&piece)?;
+            }
+            left /= 2;
+            if left == 0 {
+                return Ok(());
+            }
+            piece = twice(self.alloc, &piece)?;
+        }
+        Ok(())
+    }
+
+    // Puts a text behind the contents.
+    fn add(&mut self, text: &[u8]) -> Result<(), AllocError> {
+        if self.is_out {
+            return self.out.extend_from_slice(text);
+        }
+        match self.files.last_mut() {
+            Some(file) => file.text.extend_from_slice(text),
+            None => Ok(()),
+        }
+    }
+}
+
+// The place of the first file with that name, or how many there are.
+fn place_of(files: &[File], name: &[u8]) -> usize {
+    for (at, file) in files.iter().enumerate() {
+        if file.name.bytes() == name {
+            return at;
+        }
+    }
+    files.len()
+}
+
+fn twice(alloc: Global, text: &[u8]) -> Result<Vec<u8>, AllocError> {
+    let mut both = text.to_vec(alloc)?;
+    both.extend_from_slice(text)?;
+    Ok(both)
+}
+
+fn replace(old: &mut Vec<u8>, new: &[u8]) -> Result<(), AllocError> {
+    old.clear();
+    old.extend_from_slice(new)
+}

@@ -1,0 +1,66 @@
+// What is printed.
+use std::alloc::{AllocError, Global};
+use sv_outside::Place;
+
+/// Bytes, one behind the other, and the number of the file whose places are printed without it.
+#[derive(Drop)]
+pub struct Printed {
+    alloc: Global,
+    bytes: Vec<u8>,
+    file: usize,
+}
+
+impl Printed {
+    pub fn new(alloc: Global) -> Printed {
+        Printed {
+            alloc,
+            bytes: Vec::new(alloc),
+            file: 0,
+        }
+    }
+
+    pub fn bytes(&self) -> &[u8] {
+        &self.bytes
+    }
+
+    pub fn text(&mut self, text: &[u8]) -> Result<(), AllocError> {
+        self.bytes.extend_from_slice(text)
+    }
+
+    /// From here on the places of that file are printed without it.
+    pub fn of_file(&mut self, file: usize) {
+        self.file = file;
+    }
+
+    /// Ends a line in which something stands.
+    pub fn line(&mut self) -> Result<(), AllocError> {
+        match self.bytes.last() {
+            None | Some(b'\n') => Ok(()),
+            Some(_) => self.text(b"\n"),
+        }
+    }
+
+    /// A text behind what was printed in this line, with a blank between.
+    pub fn next(&mut self, text: &[u8]) -> Result<(), AllocError> {
+        if !matches!(self.bytes.last(), None | Some(b'\n')) {
+            self.text(b" ")?;
+        }
+        self.text(text)
+    }
+
+    pub fn number(&mut self, number: usize) -> Result<(), AllocError> {
+        let digits = format!(in self.alloc; "{number}")?;
+        self.bytes.extend_from_slice(digits.as_bytes())
+    }
+
+    /// `LINE:COLUMN`, behind `FILE/` where that is another file.
+    pub fn place(&mut self, place: Place) -> Result<(), AllocError> {
+        if place.file != self.file {
+            self.number(place.file)?;
+            self.text(b"/")?;
+        }
+        self.number(place.line)?;
+        self.text(b":")?;
+        self.number(place.column)
+    }
+}

@@ -1,0 +1,113 @@
+// Files of cases, one after another.
+use crate::acts::act;
+use crate::cases::{Case, is, parts, word_and_rest};
+use crate::printed::Printed;
+use std::alloc::{AllocError, Global};
+use sv_outside::{Files, Name};
+
+// What is printed of all files, and of one file how many cases there were, and how many others than they should be.
+#[derive(Drop)]
+struct Report {
+    printed: Printed,
+    cases: usize,
+    others: usize,
+}
+
+/// Runs the files of cases with these names.
+pub fn run<F: Files>(
+    alloc: Global,
+    names: &[String],
+    files: &mut F,
+) -> Result<Printed, AllocError> {
+    let mut report = Report {
+        printed: Printed::new(alloc),
+        cases: 0,
+        others: 0,
+    };
+    for name in names {
+        report.run_file(alloc, name.as_bytes(), files)?;
+    }
+    Ok(report.printed)
+}
+
+impl Report {
+    fn run_file<F: Files>(
+        &mut self,
+        alloc: Global,
+        name: &[u8],
+        files: &mut F,
+    ) -> Result<(), AllocError> {
+        self.cases = 0;
+        self.others = 0;
+        let read = files.read(alloc, &Name::new(alloc, name)?);
+        match read {
+            Ok(text) => self.run_text(alloc, &text, files)?,
+            Err(_) => self.differs(name, b"", b"a file of cases\n")?,
+        }
+        self.end(name)
+    }
+
+    fn run_text<F: Files>(
+        &mut self,
+        alloc: Global,
+        text: &[u8],
+        files: &mut F,
+    ) -> Result<(), AllocError> {
+        let lines = parts(alloc, text, b'\n')?;
+        let mut case = Case::new(alloc);
+        self.run_lines(&lines, &mut case, files)
+    }
+
+    fn run_lines<F: Files>(
+        &mut self,
+        lines: &[&[u8]],
+        case: &mut Case,
+        files: &mut F,
+    ) -> Result<(), AllocError> {
+        for line in lines {
+            let (word, _) = word_and_rest(line);
+            if is(word, "case") {
+                self.judge(case, files)?;
+            }
+            case.take(line)?;
+        }
+        self.judge(case, files)
+    }
+
+    // Runs the case that was read, where there is one.
+    fn judge<F: Files>(&mut self, case: &Case, files: &mut F) -> Result<(), AllocError> {
+        if case.name.is_empty() {
+            return Ok(());
+        }
+        self.cases = self.cases.saturating_add(1);
+        let mut printed = Printed::new(case.alloc);
+        act(case, files, &mut printed)?;
+        if printed.bytes() == case.out.as_slice() {
+            return Ok(());
+        }
+        self.differs(&case.name, printed.bytes(), &case.out)
+    }
+
+    fn differs(&mut self, name: &[u8], came: &[u8], wanted: &[u8]) -> Result<(), AllocError> {
+        self.others = self.others.saturating_add(1);
+        self.printed.text(name)?;
+        self.printed.text(b"\ncame:\n")?;
+        self.printed.text(came)?;
+        self.printed.text(b"\nshould have come:\n")?;
+        self.printed.text(wanted)?;
+        self.printed.text(b"\n")
+    }
+
+    // The line of a file.
+    fn end(&mut self, name: &[u8]) -> Result<(), AllocError> {
+        self.printed.text(name)?;
+        self.printed.text(b": ")?;
+        self.printed.number(self.cases)?;
+        if self.others == 0 {
+            return self.printed.text(b" cases as they should be\n");
+        }
+        self.printed.text(b" cases, ")?;
+        self.printed.number(self.others)?;
+        self.printed.text(b" of them others than they should be\n")
+    }
+}

@@ -1,0 +1,98 @@
+// What is printed of trees.
+use crate::printed::Printed;
+use crate::shown::show;
+use crate::texts::{print_error, print_lexeme, tokens_of};
+use items::Items;
+use std::alloc::{AllocError, Global};
+use sv_expr_parser::parse_expr;
+use sv_outside::{TextErr, Tokens};
+use sv_parser::parse;
+use sv_spell::{Lexeme, spell};
+use sv_tree::Expr;
+
+/// The tree that the tokens begin with, and how many of them it takes; of a brief one whether it takes all.
+pub fn print_expression(
+    alloc: Global,
+    tokens: &Tokens,
+    is_brief: bool,
+    out: &mut Printed,
+) -> Result<(), AllocError> {
+    match parse_expr(alloc, tokens.list.as_slice(), tokens.end, 0) {
+        Ok((tree, len)) => {
+            if is_brief {
+                print_extent(len == tokens.list.len(), out)
+            } else {
+                print_tree(&tree, len, out)
+            }
+        }
+        Err(error) => print_error(error, is_brief, out),
+    }
+}
+
+fn print_extent(is_whole: bool, out: &mut Printed) -> Result<(), AllocError> {
+    out.text(if is_whole { b"whole" } else { b"a part" })
+}
+
+fn print_tree(tree: &Expr, len: usize, out: &mut Printed) -> Result<(), AllocError> {
+    show(tree, out)?;
+    out.text(b" ")?;
+    out.number(len)
+}
+
+/// Whether the tokens are a whole source text.
+pub fn print_source(
+    alloc: Global,
+    tokens: &Tokens,
+    is_brief: bool,
+    out: &mut Printed,
+) -> Result<(), AllocError> {
+    match parse(alloc, tokens) {
+        Ok(_) => out.text(b"read"),
+        Err(error) => print_error(error, is_brief, out),
+    }
+}
+
+fn spelled(alloc: Global, tokens: &Tokens) -> Result<Items<Lexeme>, TextErr> {
+    let source = parse(alloc, tokens)?;
+    match spell(alloc, &source) {
+        Ok(all) => Ok(all),
+        Err(_) => Err(TextErr::Memory),
+    }
+}
+
+// The lexemes, and the same as a text, with a blank between two of them.
+fn print_lexemes(all: &[Lexeme], text: &mut Printed, out: &mut Printed) -> Result<(), AllocError> {
+    for lexeme in all {
+        print_lexeme(lexeme.kind, lexeme.text.bytes(), out)?;
+        text.next(lexeme.text.bytes())?;
+    }
+    Ok(())
+}
+
+fn print_spelled(
+    alloc: Global,
+    tokens: &Tokens,
+    text: &mut Printed,
+    out: &mut Printed,
+) -> Result<(), AllocError> {
+    match spelled(alloc, tokens) {
+        Ok(all) => print_lexemes(all.as_slice(), text, out),
+        Err(error) => print_error(error, false, out),
+    }
+}
+
+/// What the tree of the tokens is written with, and in a second line what the tree of that is written with.
+pub fn print_spelling(alloc: Global, tokens: &Tokens, out: &mut Printed) -> Result<(), AllocError> {
+    let mut text = Printed::new(alloc);
+    print_spelled(alloc, tokens, &mut text, out)?;
+    out.text(b"\n")?;
+    print_again(alloc, text.bytes(), out)
+}
+
+fn print_again(alloc: Global, text: &[u8], out: &mut Printed) -> Result<(), AllocError> {
+    let mut again = Printed::new(alloc);
+    match tokens_of(alloc, text) {
+        Ok(tokens) => print_spelled(alloc, &tokens, &mut again, out),
+        Err(error) => print_error(error, false, out),
+    }
+}
