@@ -5,7 +5,7 @@ ghost use Rattle.sv_cursor.specs.Parsers.{Reads};
 
 use crate::reader::Reader;
 use crate::tree::GoalTree;
-use items::Items;
+use items::{Items, both};
 use std::alloc::{AllocError, Global};
 use sv_cursor::{Mark, ParseErr};
 use sv_tree::Expr;
@@ -27,7 +27,7 @@ fn statement(alloc: Global, tokens: &mut Reader<'_>, word: &[u8]) -> Result<Expr
 {
     tokens.word(word)?;
     let inner = tokens.expression(alloc)?;
-    tokens.mark(Mark::Semicolon)?;
+    let (inner, _) = both(inner, tokens.mark(Mark::Semicolon))?;
     Ok(inner)
 }
 
@@ -56,7 +56,7 @@ fn some_statements(
     ensures { Reads (spec.some_statements word.now tokens.old) result tokens.new }
 {
     let first = statement(alloc, tokens, word)?;
-    let more = statements(alloc, tokens, word)?;
+    let (first, more) = both(first, statements(alloc, tokens, word))?;
     let all = with_first(alloc, first, more)?;
     Ok(all)
 }
@@ -93,7 +93,7 @@ fn goals(alloc: Global, tokens: &mut Reader<'_>) -> Result<Items<GoalTree>, Pars
     ensures { Reads (spec.goals tokens.old) result tokens.new }
 {
     let first = goal(alloc, tokens)?;
-    let more = more_goals(alloc, tokens)?;
+    let (first, more) = both(first, more_goals(alloc, tokens))?;
     let all = with_first(alloc, first, more)?;
     Ok(all)
 }

@@ -1,5 +1,6 @@
 -- What holds of the tokens from one on, by numbers among all.
 use Rattle.std.proofs.Common.{◌≡◌, inl, inr, ℕ, ◌+◌, ◌-◌, ◌≤◌, List, length, take, drop, slice_get, Ok, Err, refl, sym, ap, subst, length-drop, arith}
+use Rattle.std.proofs.lemmas.List.{take_all}
 use Rattle.sv_outside.specs.declared.refusal.Place.{Place}
 use Rattle.sv_outside.specs.declared.text.Token.{Token}
 use Rattle.sv_tree.specs.declared.exprs.Expr.{Expr}
@@ -11,6 +12,9 @@ use Rattle.sv_expr_parser.specs.Parsed.{IsLongest, IsParsed}
 module _ (tokens : List Token) (end : Place) (at : ℕ) (le : at ≤ length tokens) where
   len : length (drop at tokens) ≡ length tokens - at
   len = length-drop at tokens
+
+  pub from_there : take (length tokens - at) (drop at tokens) ≡ drop at tokens
+  from_there = take_all (length tokens - at) (drop at tokens) (omega (arith, len))
 
   pub ok_shifted : (x : Expr) (n : ℕ) → IsLongest (drop at tokens) (Ok (x, n)) → IsParsed tokens end at (Ok (x, at + n))
   ok_shifted x n h =

@@ -7,7 +7,7 @@ use sv_cursor::{Mark, Sort, sort_of};
 use sv_outside::Token;
 
 /// What is open behind the first tokens of an expression.
-#[derive(Clone, Copy, Debug, PartialEq, Eq)]
+#[derive(Clone, Copy)]
 pub struct Open {
     /// How many brackets are behind.
     pub brackets: usize,

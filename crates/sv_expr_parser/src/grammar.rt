@@ -11,7 +11,7 @@ ghost use Rattle.sv_tree.specs.GrammarExprs as grammar;
 use crate::openers::{Opener, SelectOpener};
 use crate::signs::{opener, range_mark, select_opener, sign_keyword, unary_mark};
 use crate::tails::{BraceTail, NameTail};
-use items::{Boxed, Items};
+use items::{Boxed, Items, both};
 use std::alloc::{AllocError, Global};
 use sv_cursor::{Cursor, Mark, ParseErr};
 use sv_outside::Place;
@@ -82,18 +82,28 @@ impl<F: Fn(Global, &mut Cursor<'_>, u8, u8) -> Result<Expr, ParseErr>> Grammar<F
         (self.expr)(self.alloc, tokens, self.depth, least)
     }
 
-    fn parens(&self, tokens: &mut Cursor<'_>) -> Result<(Place, (Expr, Place)), ParseErr>
+    /// A part of this level, to be held by what it is a part of.
+    pub fn part(&self, tokens: &mut Cursor<'_>, least: u8) -> Result<Boxed<Expr>, ParseErr>
+        requires { Nests self.now.depth (F.pre self.now.expr) (F.post self.now.expr) }
+        ensures { Reads (spec.expr self.now.depth least tokens.old) result tokens.new }
+    {
+        let part = self.expr(tokens, least)?;
+        let held = Boxed::new(self.alloc, part)?;
+        Ok(held)
+    }
+
+    fn parens(&self, tokens: &mut Cursor<'_>) -> Result<(Place, (Boxed<Expr>, Place)), ParseErr>
         requires { Nests self.now.depth (F.pre self.now.expr) (F.post self.now.expr) }
         ensures { Reads (spec.parens self.now.depth (spec.expr self.now.depth) tokens.old) result tokens.new }
     {
         let open = tokens.mark(Mark::LeftParen)?;
-        let inner = self.expr(tokens, 0)?;
+        let inner = self.part(tokens, 0)?;
         let close = tokens.mark(Mark::RightParen)?;
         Ok((open, (inner, close)))
     }
 
     #[tactic(auto, unfolding(crate::specs::Reading::cast))]
-    fn cast(&self, tokens: &mut Cursor<'_>) -> Result<Expr, ParseErr>
+    fn cast(&self, tokens: &mut Cursor<'_>) -> Result<Boxed<Expr>, ParseErr>
         requires { Nests self.now.depth (F.pre self.now.expr) (F.post self.now.expr) }
         ensures { Reads (spec.cast self.now.depth (spec.expr self.now.depth) tokens.old) result tokens.new }
     {
@@ -103,7 +113,7 @@ impl<F: Fn(Global, &mut Cursor<'_>, u8, u8) -> Result<Expr, ParseErr>> Grammar<F
     }
 
     // What a literal or parentheses are cast to, where a tick stands behind them.
-    fn maybe_cast(&self, tokens: &mut Cursor<'_>) -> Result<Option<Expr>, ParseErr>
+    fn maybe_cast(&self, tokens: &mut Cursor<'_>) -> Result<Option<Boxed<Expr>>, ParseErr>
         requires { Nests self.now.depth (F.pre self.now.expr) (F.post self.now.expr) }
         ensures { Reads (spec.maybe_cast self.now.depth (spec.expr self.now.depth) tokens.old) result tokens.new }
     {
@@ -123,7 +133,7 @@ impl<F: Fn(Global, &mut Cursor<'_>, u8, u8) -> Result<Expr, ParseErr>> Grammar<F
     {
         let word = tokens.literal(self.alloc)?;
         match self.maybe_cast(tokens)? {
-            Some(inner) => Ok(Expr::CastLiteral(word, Boxed::new(self.alloc, inner)?)),
+            Some(inner) => Ok(Expr::CastLiteral(word, inner)),
             None => Ok(Expr::Literal(word)),
         }
     }
@@ -135,11 +145,8 @@ impl<F: Fn(Global, &mut Cursor<'_>, u8, u8) -> Result<Expr, ParseErr>> Grammar<F
     {
         let (place, (size, _)) = self.parens(tokens)?;
         match self.maybe_cast(tokens)? {
-            Some(inner) => {
-                let size = Boxed::new(self.alloc, size)?;
-                Ok(Expr::CastParen(place, size, Boxed::new(self.alloc, inner)?))
-            }
-            None => Ok(Expr::Paren(place, Boxed::new(self.alloc, size)?)),
+            Some(inner) => Ok(Expr::CastParen(place, size, inner)),
+            None => Ok(Expr::Paren(place, size)),
         }
     }
 
@@ -158,16 +165,19 @@ impl<F: Fn(Global, &mut Cursor<'_>, u8, u8) -> Result<Expr, ParseErr>> Grammar<F
         Ok(Select::Member(place, word))
     }
 
-    fn range(&self, tokens: &mut Cursor<'_>) -> Result<(RangeMark, Expr), ParseErr>
+    fn range(&self, tokens: &mut Cursor<'_>) -> Result<(RangeMark, Boxed<Expr>), ParseErr>
         requires { Nests self.now.depth (F.pre self.now.expr) (F.post self.now.expr) }
         ensures { Reads (spec.range self.now.depth (spec.expr self.now.depth) tokens.old) result tokens.new }
     {
         let mark = take_range(tokens)?;
-        let last = self.expr(tokens, 0)?;
+        let last = self.part(tokens, 0)?;
         Ok((mark, last))
     }
 
-    fn maybe_range(&self, tokens: &mut Cursor<'_>) -> Result<Option<(RangeMark, Expr)>, ParseErr>
+    fn maybe_range(
+        &self,
+        tokens: &mut Cursor<'_>,
+    ) -> Result<Option<(RangeMark, Boxed<Expr>)>, ParseErr>
         requires { Nests self.now.depth (F.pre self.now.expr) (F.post self.now.expr) }
         ensures { Reads (spec.maybe_range self.now.depth (spec.expr self.now.depth) tokens.old) result tokens.new }
     {
@@ -186,17 +196,11 @@ impl<F: Fn(Global, &mut Cursor<'_>, u8, u8) -> Result<Expr, ParseErr>> Grammar<F
         ensures { Reads (spec.bracket self.now.depth (spec.expr self.now.depth) tokens.old) result tokens.new }
     {
         let place = tokens.mark(Mark::LeftBracket)?;
-        let first = self.expr(tokens, 0)?;
+        let first = self.part(tokens, 0)?;
         let range = self.maybe_range(tokens)?;
         tokens.mark(Mark::RightBracket)?;
-        let first = Boxed::new(self.alloc, first)?;
         match range {
-            Some((mark, last)) => Ok(Select::Range(
-                place,
-                first,
-                mark,
-                Boxed::new(self.alloc, last)?,
-            )),
+            Some((mark, last)) => Ok(Select::Range(place, first, mark, last)),
             None => Ok(Select::Index(place, first)),
         }
     }
@@ -266,7 +270,7 @@ impl<F: Fn(Global, &mut Cursor<'_>, u8, u8) -> Result<Expr, ParseErr>> Grammar<F
     {
         let word = tokens.id(self.alloc)?;
         match self.name_tail(tokens)? {
-            NameTail::CastTo(inner) => Ok(Expr::CastName(word, Boxed::new(self.alloc, inner)?)),
+            NameTail::CastTo(inner) => Ok(Expr::CastName(word, inner)),
             NameTail::Selected(all) => Ok(Expr::Name(word, all)),
         }
     }
@@ -305,10 +309,10 @@ impl<F: Fn(Global, &mut Cursor<'_>, u8, u8) -> Result<Expr, ParseErr>> Grammar<F
     {
         tokens.mark(Mark::LeftBrace)?;
         let first = self.expr(tokens, 0)?;
-        let more = self.more(tokens)?;
-        tokens.mark(Mark::RightBrace)?;
-        tokens.mark(Mark::RightBrace)?;
+        let (first, more) = both(first, self.more(tokens))?;
         let all = with_first(self.alloc, first, more)?;
+        tokens.mark(Mark::RightBrace)?;
+        tokens.mark(Mark::RightBrace)?;
         Ok(all)
     }
 
@@ -346,7 +350,8 @@ impl<F: Fn(Global, &mut Cursor<'_>, u8, u8) -> Result<Expr, ParseErr>> Grammar<F
     {
         let place = tokens.mark(Mark::LeftBrace)?;
         let first = self.expr(tokens, 0)?;
-        match self.brace_tail(tokens)? {
+        let (first, tail) = both(first, self.brace_tail(tokens))?;
+        match tail {
             BraceTail::Copied(all) => {
                 let count = Boxed::new(self.alloc, first)?;
                 Ok(Expr::Repeat(place, count, all))
@@ -367,7 +372,7 @@ impl<F: Fn(Global, &mut Cursor<'_>, u8, u8) -> Result<Expr, ParseErr>> Grammar<F
     {
         let place = tokens.keyword(sign_keyword(sign))?;
         let inner = self.cast(tokens)?;
-        Ok(Expr::CastSign(sign, place, Boxed::new(self.alloc, inner)?))
+        Ok(Expr::CastSign(sign, place, inner))
     }
 
     #[tactic(auto, unfolding(crate::specs::Reading::called))]
@@ -377,7 +382,7 @@ impl<F: Fn(Global, &mut Cursor<'_>, u8, u8) -> Result<Expr, ParseErr>> Grammar<F
     {
         let (name, place) = tokens.system()?;
         let (_, (inner, _)) = self.parens(tokens)?;
-        Ok(Expr::System(name, place, Boxed::new(self.alloc, inner)?))
+        Ok(Expr::System(name, place, inner))
     }
 
     #[tactic(auto, unfolding(crate::specs::Reading::prefixed))]
@@ -386,8 +391,8 @@ impl<F: Fn(Global, &mut Cursor<'_>, u8, u8) -> Result<Expr, ParseErr>> Grammar<F
         ensures { Reads (spec.prefixed self.now.depth (spec.expr self.now.depth) op tokens.old) result tokens.new }
     {
         let place = tokens.mark(unary_mark(op))?;
-        let operand = self.expr(tokens, 13)?;
-        Ok(Expr::Unary(op, place, Boxed::new(self.alloc, operand)?))
+        let operand = self.part(tokens, 13)?;
+        Ok(Expr::Unary(op, place, operand))
     }
 
     fn prefix_for(&self, tokens: &mut Cursor<'_>, opener: Opener) -> Result<Expr, ParseErr>

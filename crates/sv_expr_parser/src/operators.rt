@@ -1,5 +1,5 @@
 // Operators between expressions, by precedence climbing.
-ghost use Rattle.std.specs.Prelude.{◌≡◌, nat_lt, Ok, Err, IfOk};
+ghost use Rattle.std.specs.Prelude.{◌≡◌, nat_lt, Ok, Err};
 ghost use Rattle.sv_cursor.specs.Parsers.{Reads, told};
 ghost use Rattle.sv_expr_parser.specs.Climbing as climbing;
 ghost use Rattle.sv_expr_parser.specs.Nests.{Nests};
@@ -11,7 +11,7 @@ use crate::nesting::height;
 use crate::openers::{Joiner, Opener};
 use crate::signs::{binary_mark, joiner, opener, right_level, strength};
 use items::{Boxed, Items};
-use std::alloc::{AllocError, Global};
+use std::alloc::Global;
 use sv_cursor::{Cursor, Mark, ParseErr};
 use sv_tree::{BinaryOp, Expr, Select};
 
@@ -46,15 +46,6 @@ fn earlier(error: ParseErr, tokens: &Cursor<'_>) -> ParseErr
     }
 }
 
-fn choose(alloc: Global, test: Expr, first: Expr, second: Expr) -> Result<Expr, AllocError>
-    ensures { IfOk result (λ x. x ≡ Expr.Choose test first second) }
-{
-    let test = Boxed::new(alloc, test)?;
-    let first = Boxed::new(alloc, first)?;
-    let second = Boxed::new(alloc, second)?;
-    Ok(Expr::Choose(test, first, second))
-}
-
 impl<F: Fn(Global, &mut Cursor<'_>, u8, u8) -> Result<Expr, ParseErr>> Grammar<F> {
     #[tactic(auto, using(crate::proofs::Turns::fits))]
     fn fits(&self, x: &Expr) -> bool
@@ -67,10 +58,9 @@ impl<F: Fn(Global, &mut Cursor<'_>, u8, u8) -> Result<Expr, ParseErr>> Grammar<F
         requires { Nests self.now.depth (F.pre self.now.expr) (F.post self.now.expr) }
         ensures { Reads (spec.operated self.now.depth (spec.expr self.now.depth) left (Joiner.Binary op) tokens.old) result tokens.new }
     {
-        let place = tokens.mark(binary_mark(op))?;
-        let right = self.expr(tokens, right_level(op))?;
         let left = Boxed::new(self.alloc, left)?;
-        let right = Boxed::new(self.alloc, right)?;
+        let place = tokens.mark(binary_mark(op))?;
+        let right = self.part(tokens, right_level(op))?;
         Ok(Expr::Binary(left, op, place, right))
     }
 
@@ -78,12 +68,12 @@ impl<F: Fn(Global, &mut Cursor<'_>, u8, u8) -> Result<Expr, ParseErr>> Grammar<F
         requires { Nests self.now.depth (F.pre self.now.expr) (F.post self.now.expr) }
         ensures { Reads (spec.operated self.now.depth (spec.expr self.now.depth) test Joiner.Choose tokens.old) result tokens.new }
     {
+        let test = Boxed::new(self.alloc, test)?;
         tokens.mark(Mark::Question)?;
-        let first = self.expr(tokens, 0)?;
+        let first = self.part(tokens, 0)?;
         tokens.mark(Mark::Colon)?;
-        let second = self.expr(tokens, 1)?;
-        let whole = choose(self.alloc, test, first, second)?;
-        Ok(whole)
+        let second = self.part(tokens, 1)?;
+        Ok(Expr::Choose(test, first, second))
     }
 
     fn operated(
@@ -118,6 +108,7 @@ impl<F: Fn(Global, &mut Cursor<'_>, u8, u8) -> Result<Expr, ParseErr>> Grammar<F
                     *tokens = part;
                     Ok(x)
                 } else {
+                    drop(x);
                     Err(tokens.refuse())
                 }
             }
@@ -140,6 +131,7 @@ impl<F: Fn(Global, &mut Cursor<'_>, u8, u8) -> Result<Expr, ParseErr>> Grammar<F
                 return Ok(left);
             };
             if !self.fits(&left) {
+                drop(left);
                 return self.again(tokens, from, least);
             }
             left = self.operated(tokens, left, next)?;

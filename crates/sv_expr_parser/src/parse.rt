@@ -46,6 +46,7 @@ fn front(alloc: Global, tokens: &[Token], len: usize) -> Result<Option<Expr>, Pa
             if cursor.left() == 0 {
                 Ok(Some(x))
             } else {
+                drop(x);
                 Ok(None)
             }
         }

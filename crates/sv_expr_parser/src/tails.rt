@@ -1,12 +1,12 @@
 // What stands behind the first part of a primary.
-use items::Items;
+use items::{Boxed, Items};
 use sv_tree::{Expr, Select};
 
 /// What stands behind a name.
 #[derive(Drop)]
 pub enum NameTail {
     /// What is cast.
-    CastTo(Expr),
+    CastTo(Boxed<Expr>),
     Selected(Items<Select>),
 }
 
