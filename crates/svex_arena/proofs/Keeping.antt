@@ -108,6 +108,17 @@ arena_more shapes s i h f w lacks =
       ];
     }
 
+-- other chains of the same nodes
+pub kept_again : (shapes : List Shape) (widths older newest older2 newest2 : List ℕ) (seen : List Shape) → IsKept shapes widths older newest → seen ≡ shapes → length older2 ≡ length older →
+    IsChained (length seen) seen older2 newest2 → IsKept shapes widths older2 newest2
+kept_again shapes widths older newest older2 newest2 seen k is long chained = record {
+  arena = k.arena;
+  wide = k.wide;
+  sized = k.sized;
+  linked = long ∙ k.linked;
+  chained = subst (λ (xs : List Shape). IsChained (length xs) xs older2 newest2) is chained;
+}
+
 -- chains of the first nodes stay as a node comes
 pub chained_kept : (shapes : List Shape) (older newest : List ℕ) (s : Shape) → length older ≡ length shapes → IsChained (length shapes) shapes older newest → IsChained (length shapes) (shapes ++ s ∷ []) (older ++ 0 ∷ []) newest
 chained_kept shapes older newest s w c =

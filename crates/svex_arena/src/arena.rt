@@ -68,16 +68,17 @@ fn grow(
 fn make_room(
     alloc: Global,
     shapes: &[Shape],
-    older: &mut [usize],
+    older: &mut Vec<usize>,
     newest: &mut Vec<usize>,
 ) -> Result<(), AllocError>
-    requires room { length shapes.now ≤ length older.old }
-    requires chained { IsChained (length shapes.now) shapes.now older.old newest.old.items }
-    ensures chained { IsChained (length shapes.now) shapes.now older.new newest.new.items }
+    requires room { length shapes.now ≤ length older.old.items }
+    requires chained { IsChained (length shapes.now) shapes.now older.old.items newest.old.items }
+    ensures chained { IsChained (length shapes.now) shapes.now older.new.items newest.new.items }
+    ensures linked { length older.new.items ≡ length older.old.items }
     ensures some { OnOk result (0 < length newest.new.items) }
 {
     if newest.len() <= shapes.len() {
-        grow(alloc, shapes, older, newest)?;
+        grow(alloc, shapes, older.as_mut_slice(), newest)?;
     }
     Ok(())
 }

@@ -109,6 +109,6 @@ pub fn marks_of(
     ensures only { IfOk result (λ m. OnlyReached shapes.now roots.now m.items) }
 {
     let mut marks = vec![in alloc; false; len]?;
-    mark_reached(shapes, roots, &mut marks);
+    mark_reached(shapes, roots, marks.as_mut_slice());
     Ok(marks)
 }

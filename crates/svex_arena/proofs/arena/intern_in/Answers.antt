@@ -1,10 +1,57 @@
-use Rattle.std.proofs.Common.{◌≡◌, ◌+◌, ◌∷◌, [], ◌++◌, length, sym, ◌∙◌, subst, arith, rules}
-use Rattle.std.proofs.lemmas.Grind.{common_steps}
+use Rattle.std.proofs.Common.{◌≡◌, ◌+◌, ◌∷◌, [], ◌++◌, ℕ, List, length, sym, ap, ◌∙◌, subst, arith, rules}
+use Rattle.std.proofs.lemmas.Result.{IfOk-from_err}
+use Rattle.std.proofs.lemmas.List.{length_push}
+use Rattle.svex_arena.specs.declared.shape.Shape.{Shape}
 use Rattle.svex_arena.specs.Arenas.{IsKept}
 use Rattle.svex_arena.specs.Buckets.{IsChained, HasNone}
 use Rattle.svex_arena.specs.Shapes.{width_of, width_at}
-use Rattle.svex_arena.proofs.Keeping.{kept_more}
+use Rattle.svex_arena.proofs.Keeping.{chained_kept, kept_again, kept_more}
 use Rattle.svex_arena.proofs.arena.intern_in.Goals as goal
+
+pub make_room-requires : goal.make_room-requires
+make_room-requires c =
+    let shapes = c.args.shapes.now.items in
+    let k = c.requires.kept in
+    record {
+      room = rw c.deref.ensures.value (omega (arith, k.linked));
+      chained = subst (λ (xs : List Shape). IsChained (length xs) xs c.args.older.now.items c.args.newest.now.items) (sym c.deref.ensures.value) k.chained;
+    }
+
+pub returns-in_err-make_room-clause-kept : goal.returns-in_err-make_room-clause-kept
+returns-in_err-make_room-clause-kept c = kept_again _ _ _ _ _ _ c.deref.result.now c.requires.kept c.deref.ensures.value c.make_room.ensures.linked c.make_room.ensures.chained
+
+pub returns-in_err-make_room-clause-is : goal.returns-in_err-make_room-clause-is
+returns-in_err-make_room-clause-is c = IfOk-from_err _ _ c.from_residual.ensures.0
+
+pub returns-in-Some-clause-kept : goal.returns-in-Some-clause-kept
+returns-in-Some-clause-kept c = kept_again _ _ _ _ _ _ c.deref.result.now c.requires.kept c.deref.ensures.value c.make_room.ensures.linked c.make_room.ensures.chained
+
+pub returns-in_err-push_node-clause-kept : goal.returns-in_err-push_node-clause-kept
+returns-in_err-push_node-clause-kept c =
+    let newest = c.make_room.new.newest.items in
+    let same = c.in_err-push_node.ensures in
+    let again : IsKept c.args.shapes.now.items c.args.widths.now.items c.make_room.new.older.items newest =
+    kept_again _ _ _ _ _ _ c.deref.result.now c.requires.kept c.deref.ensures.value c.make_room.ensures.linked c.make_room.ensures.chained in
+    subst (λ (xs : List Shape). IsKept xs c.push_node.new.widths.items c.push_node.new.older.items newest) (sym same.shapes_kept)
+    (subst (λ (ws : List ℕ). IsKept c.args.shapes.now.items ws c.push_node.new.older.items newest) (sym same.widths_kept)
+    (subst (λ (o : List ℕ). IsKept c.args.shapes.now.items c.args.widths.now.items o newest) (sym same.older_kept) again))
+
+pub returns-in_err-push_node-clause-is : goal.returns-in_err-push_node-clause-is
+returns-in_err-push_node-clause-is c = IfOk-from_err _ _ c.from_residual-in_err-push_node.ensures.0
+
+pub link_last-requires-clause-chained : goal.link_last-requires-clause-chained
+link_last-requires-clause-chained c =
+    let shapes = c.args.shapes.now.items in
+    let s = c.args.shape.now in
+    let older = c.make_room.new.older.items in
+    let newest = c.make_room.new.newest.items in
+    let more = c.in_ok-push_node.ensures in
+    let at : c.len-node.result ≡ length shapes = search rules in
+    let again : IsKept shapes c.args.widths.now.items older newest =
+    kept_again _ _ _ _ _ _ c.deref.result.now c.requires.kept c.deref.ensures.value c.make_room.ensures.linked c.make_room.ensures.chained in
+    subst (λ (xs : List Shape). IsChained c.len-node.result xs c.push_node.new.older.items newest) (sym (c.deref-7.ensures.value ∙ more.shapes))
+    (subst (λ (o : List ℕ). IsChained c.len-node.result (shapes ++ s ∷ []) o newest) (sym more.older)
+    (subst (λ (n : ℕ). IsChained n (shapes ++ s ∷ []) (older ++ 0 ∷ []) newest) (sym at) (chained_kept shapes older newest s again.linked again.chained)))
 
 pub returns-clause-kept : goal.returns-clause-kept
 returns-clause-kept c =
@@ -16,7 +63,7 @@ returns-clause-kept c =
     let newest = c.link_last.new.newest.items in
     let k = c.requires.kept in
     let more = c.in_ok-push_node.ensures in
-    let linked : length older ≡ length shapes + 1 = grind (arith, common_steps) in
+    let linked : length older ≡ length shapes + 1 = c.link_last.ensures.len ∙ ap length more.older ∙ length_push _ _ ∙ ap (λ (n : ℕ). n + 1) (c.make_room.ensures.linked ∙ k.linked) in
     let is : w ≡ width_of (width_at shapes) s = subst (λ xs. w ≡ width_of (width_at xs) s) c.deref-5.ensures.value c.width_over-width.ensures.is in
     let none : HasNone shapes s (length shapes) = subst (λ xs. HasNone xs s (length xs)) c.deref-2.ensures.value c.in_default.ensures.none in
     let at : c.len-node.result ≡ length shapes = search rules in
