@@ -15,7 +15,7 @@
 // and `source brief` the line stands in place of the place, and `whole` or `a part` (of all tokens) in place of the tree.
 use crate::cases::{Case, is, parts};
 use crate::directives::print_preprocessed;
-use crate::edges::{files_of, print_full, print_reads, print_sink, print_stream};
+use crate::edges::{print_full, print_own_reads, print_reads, print_sink, print_stream};
 use crate::printed::Printed;
 use crate::texts::{
     FILE, print_error, print_identifier, print_lines, print_literal, print_places, print_tokens,
@@ -28,14 +28,20 @@ use sv_outside::{Files, Tokens};
 /// Does what the case says.
 pub fn act<F: Files>(case: &Case, files: &mut F, out: &mut Printed) -> Result<(), AllocError> {
     if case.is_each {
-        for line in &parts(case.alloc, case.text(), b'\n')? {
-            act_on_text(case, line, out)?;
-            out.text(b"\n")?;
-        }
-        return Ok(());
+        let lines = parts(case.alloc, case.text(), b'\n')?;
+        act_on_lines(case, &lines, out)
+    } else {
+        act_on_files(case, files, out)?;
+        out.line()
     }
-    act_on_files(case, files, out)?;
-    out.line()
+}
+
+fn act_on_lines(case: &Case, lines: &[&[u8]], out: &mut Printed) -> Result<(), AllocError> {
+    for line in lines {
+        act_on_text(case, line, out)?;
+        out.text(b"\n")?;
+    }
+    Ok(())
 }
 
 fn act_on_files<F: Files>(case: &Case, files: &mut F, out: &mut Printed) -> Result<(), AllocError> {
@@ -43,7 +49,7 @@ fn act_on_files<F: Files>(case: &Case, files: &mut F, out: &mut Printed) -> Resu
     if is(key, "preprocess") || is(key, "placed") {
         print_preprocessed(case, is(key, "placed"), out)
     } else if is(key, "reads") {
-        print_reads(case.alloc, &case.words, &mut files_of(case)?, out)
+        print_own_reads(case, out)
     } else if is(key, "real") {
         print_reads(case.alloc, &case.words, files, out)
     } else if is(key, "sink") || is(key, "put") {
@@ -76,14 +82,21 @@ fn act_on_text(case: &Case, text: &[u8], out: &mut Printed) -> Result<(), AllocE
 
 fn act_on_tokens(case: &Case, tokens: &Tokens, out: &mut Printed) -> Result<(), AllocError> {
     let key = case.key.as_slice();
-    let is_brief = is(case.words.as_slice(), "brief");
     if is(key, "tokens") {
         print_tokens(&tokens.list, out)
     } else if is(key, "places") {
         print_places(&tokens.list, out)
     } else if is(key, "end") {
         out.place(tokens.end)
-    } else if is(key, "expression") {
+    } else {
+        act_on_trees(case, tokens, out)
+    }
+}
+
+fn act_on_trees(case: &Case, tokens: &Tokens, out: &mut Printed) -> Result<(), AllocError> {
+    let key = case.key.as_slice();
+    let is_brief = is(case.words.as_slice(), "brief");
+    if is(key, "expression") {
         print_expression(case.alloc, tokens, is_brief, out)
     } else if is(key, "source") {
         print_source(case.alloc, tokens, is_brief, out)

@@ -84,12 +84,18 @@ fn number(word: &[u8]) -> u64 {
     number
 }
 
-fn numbers(alloc: Global, words: &[u8]) -> Result<Vec<u64>, AllocError> {
-    let mut numbers = Vec::new(alloc);
-    for word in &parts(alloc, words, b' ')? {
+fn push_numbers(words: &[&[u8]], numbers: &mut Vec<u64>) -> Result<(), AllocError> {
+    for word in words {
         numbers.push(number(word))?;
     }
-    Ok(numbers)
+    Ok(())
+}
+
+// The numbers of a line, in place of those before.
+fn read_numbers(alloc: Global, line: &[u8], numbers: &mut Vec<u64>) -> Result<(), AllocError> {
+    numbers.clear();
+    let words = parts(alloc, line, b' ')?;
+    push_numbers(&words, numbers)
 }
 
 impl Case {
@@ -160,11 +166,9 @@ impl Case {
         if is(word, "case") {
             replace(&mut self.name, rest)
         } else if is(word, "read") {
-            self.failing_reads = numbers(self.alloc, rest)?;
-            Ok(())
+            read_numbers(self.alloc, rest, &mut self.failing_reads)
         } else if is(word, "write") {
-            self.failing_writes = numbers(self.alloc, rest)?;
-            Ok(())
+            read_numbers(self.alloc, rest, &mut self.failing_writes)
         } else if is(word, "most") {
             self.most = usize::try_from(number(rest)).unwrap_or(1);
             Ok(())
@@ -194,19 +198,23 @@ impl Case {
         }
     }
 
-    // By doubling, since texts of 16 MiB are made so.
     fn repeat(&mut self, times: u64, text: &[u8]) -> Result<(), AllocError> {
-        let mut left = times;
         let mut piece = text.to_vec(self.alloc)?;
+        self.add_times(times, &mut piece)
+    }
+
+    // By doubling the piece, since texts of 16 MiB are made so.
+    fn add_times(&mut self, times: u64, piece: &mut Vec<u8>) -> Result<(), AllocError> {
+        let mut left = times;
         for _ in 0..64 {
             if left % 2 == 1 {
-                self.add(&piece)?;
+                self.add(piece)?;
             }
             left /= 2;
             if left == 0 {
                 return Ok(());
             }
-            piece = twice(self.alloc, &piece)?;
+            double(self.alloc, piece)?;
         }
         Ok(())
     }
@@ -233,10 +241,9 @@ fn place_of(files: &[File], name: &[u8]) -> usize {
     files.len()
 }
 
-fn twice(alloc: Global, text: &[u8]) -> Result<Vec<u8>, AllocError> {
-    let mut both = text.to_vec(alloc)?;
-    both.extend_from_slice(text)?;
-    Ok(both)
+fn double(alloc: Global, text: &mut Vec<u8>) -> Result<(), AllocError> {
+    let copy = text.to_vec(alloc)?;
+    text.extend_from_slice(&copy)
 }
 
 fn replace(old: &mut Vec<u8>, new: &[u8]) -> Result<(), AllocError> {

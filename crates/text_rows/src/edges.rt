@@ -48,6 +48,30 @@ fn print_read(read: &Result<Vec<u8>, FileErr>, out: &mut Printed) -> Result<(), 
     }
 }
 
+fn print_read_of<F: Files>(
+    alloc: Global,
+    name: &[u8],
+    files: &mut F,
+    out: &mut Printed,
+) -> Result<(), AllocError> {
+    let name = Name::new(alloc, name)?;
+    let read = files.read(alloc, &name);
+    print_read(&read, out)
+}
+
+fn print_all_reads<F: Files>(
+    alloc: Global,
+    names: &[&[u8]],
+    files: &mut F,
+    out: &mut Printed,
+) -> Result<(), AllocError> {
+    for name in names {
+        print_read_of(alloc, name, files, out)?;
+        out.text(b"\n")?;
+    }
+    Ok(())
+}
+
 /// What the reads of these names give, each in a line.
 pub fn print_reads<F: Files>(
     alloc: Global,
@@ -55,13 +79,14 @@ pub fn print_reads<F: Files>(
     files: &mut F,
     out: &mut Printed,
 ) -> Result<(), AllocError> {
-    for name in &parts(alloc, names, b' ')? {
-        let name = Name::new(alloc, name)?;
-        let read = files.read(alloc, &name);
-        print_read(&read, out)?;
-        out.text(b"\n")?;
-    }
-    Ok(())
+    let names = parts(alloc, names, b' ')?;
+    print_all_reads(alloc, &names, files, out)
+}
+
+/// What the reads of the case's files give.
+pub fn print_own_reads(case: &Case, out: &mut Printed) -> Result<(), AllocError> {
+    let mut files = files_of(case)?;
+    print_reads(case.alloc, &case.words, &mut files, out)
 }
 
 // One write of what is no empty text: how many bytes it took.
@@ -117,11 +142,19 @@ pub fn print_sink(case: &Case, is_put: bool, out: &mut Printed) -> Result<(), Al
     print_sink_of(&case.files, is_put, &mut sink, out)
 }
 
+fn print_stream_to(
+    files: &[File],
+    held: &mut Vec<u8>,
+    out: &mut Printed,
+) -> Result<(), AllocError> {
+    print_writes(files, true, &mut RealSink::new(&mut *held), out)?;
+    print_contents(held, out)
+}
+
 /// What comes of writing the files to a stream that takes all, and what it holds then.
 pub fn print_stream(case: &Case, out: &mut Printed) -> Result<(), AllocError> {
     let mut held = Vec::new(case.alloc);
-    print_writes(&case.files, true, &mut RealSink::new(&mut held), out)?;
-    print_contents(&held, out)
+    print_stream_to(&case.files, &mut held, out)
 }
 
 /// What comes of writing the files to a stream with room for two bytes.

@@ -2,6 +2,7 @@
 use crate::acts::act;
 use crate::cases::{Case, is, parts, word_and_rest};
 use crate::printed::Printed;
+use items::both;
 use std::alloc::{AllocError, Global};
 use sv_outside::{Files, Name};
 
@@ -24,13 +25,25 @@ pub fn run<F: Files>(
         cases: 0,
         others: 0,
     };
-    for name in names {
-        report.run_file(alloc, name.as_bytes(), files)?;
-    }
+    let told = report.run_files(alloc, names, files);
+    let (report, _) = both(report, told)?;
     Ok(report.printed)
 }
 
 impl Report {
+    fn run_files<F: Files>(
+        &mut self,
+        alloc: Global,
+        names: &[String],
+        files: &mut F,
+    ) -> Result<(), AllocError> {
+        for name in names {
+            self.run_file(alloc, name.as_bytes(), files)?;
+            self.end(name.as_bytes())?;
+        }
+        Ok(())
+    }
+
     fn run_file<F: Files>(
         &mut self,
         alloc: Global,
@@ -41,10 +54,9 @@ impl Report {
         self.others = 0;
         let read = files.read(alloc, &Name::new(alloc, name)?);
         match read {
-            Ok(text) => self.run_text(alloc, &text, files)?,
-            Err(_) => self.differs(name, b"", b"a file of cases\n")?,
+            Ok(text) => self.run_text(alloc, &text, files),
+            Err(_) => self.differs(name, b"", b"a file of cases\n"),
         }
-        self.end(name)
     }
 
     fn run_text<F: Files>(
@@ -65,13 +77,22 @@ impl Report {
         files: &mut F,
     ) -> Result<(), AllocError> {
         for line in lines {
-            let (word, _) = word_and_rest(line);
-            if is(word, "case") {
-                self.judge(case, files)?;
-            }
-            case.take(line)?;
+            self.run_line(line, case, files)?;
         }
         self.judge(case, files)
+    }
+
+    fn run_line<F: Files>(
+        &mut self,
+        line: &[u8],
+        case: &mut Case,
+        files: &mut F,
+    ) -> Result<(), AllocError> {
+        let (word, _) = word_and_rest(line);
+        if is(word, "case") {
+            self.judge(case, files)?;
+        }
+        case.take(line)
     }
 
     // Runs the case that was read, where there is one.
@@ -81,11 +102,21 @@ impl Report {
         }
         self.cases = self.cases.saturating_add(1);
         let mut printed = Printed::new(case.alloc);
-        act(case, files, &mut printed)?;
+        self.compare(case, files, &mut printed)
+    }
+
+    fn compare<F: Files>(
+        &mut self,
+        case: &Case,
+        files: &mut F,
+        printed: &mut Printed,
+    ) -> Result<(), AllocError> {
+        act(case, files, printed)?;
         if printed.bytes() == case.out.as_slice() {
-            return Ok(());
+            Ok(())
+        } else {
+            self.differs(&case.name, printed.bytes(), &case.out)
         }
-        self.differs(&case.name, printed.bytes(), &case.out)
     }
 
     fn differs(&mut self, name: &[u8], came: &[u8], wanted: &[u8]) -> Result<(), AllocError> {

@@ -96,18 +96,14 @@ fn show_select(select: &Select, out: &mut Printed) -> Result<(), AllocError> {
     match select {
         Select::Member(_, name) => {
             out.text(b".")?;
-            out.text(name.text.bytes())?;
+            out.text(name.text.bytes())
         }
-        Select::Index(_, at) => show_within(b"[", at.get(), b"]", out)?,
+        Select::Index(_, at) => show_within(b"[", at.get(), b"]", out),
         Select::Range(_, first, mark, last) => {
-            out.text(b"[")?;
-            show(first.get(), out)?;
-            out.text(range(*mark))?;
-            show(last.get(), out)?;
-            out.text(b"]")?;
+            show_within(b"[", first.get(), range(*mark), out)?;
+            show_within(b"", last.get(), b"]", out)
         }
     }
-    Ok(())
 }
 
 #[cycle(show)]
@@ -118,58 +114,71 @@ fn show_selects(all: &[Select], out: &mut Printed) -> Result<(), AllocError> {
     Ok(())
 }
 
+// Two texts, and what stands behind them.
 #[cycle(show)]
-fn show_cast(size: &[u8], x: &Expr, out: &mut Printed) -> Result<(), AllocError> {
-    out.text(size)?;
-    out.text(b"'")?;
-    show_within(b"(", x, b")", out)
+fn show_behind(
+    before: (&[u8], &[u8]),
+    open: &[u8],
+    x: &Expr,
+    close: &[u8],
+    out: &mut Printed,
+) -> Result<(), AllocError> {
+    out.text(before.0)?;
+    out.text(before.1)?;
+    show_within(open, x, close, out)
+}
+
+// What has several parts.
+#[cycle(show)]
+fn show_parts(x: &Expr, out: &mut Printed) -> Result<(), AllocError> {
+    match x {
+        Expr::Repeat(_, count, all) => {
+            show_within(b"{", count.get(), b"", out)?;
+            show_all(b"{", all.as_slice(), out)?;
+            out.text(b"}")
+        }
+        Expr::CastParen(_, size, inner) => {
+            show_within(b"<", size.get(), b">'", out)?;
+            show_within(b"(", inner.get(), b")", out)
+        }
+        Expr::Binary(left, op, _, right) => {
+            show_within(b"(", left.get(), b" ", out)?;
+            show_behind((binary(*op), b""), b" ", right.get(), b")", out)
+        }
+        Expr::Choose(test, first, second) => {
+            show_within(b"(", test.get(), b"?", out)?;
+            show_within(b"", first.get(), b"", out)?;
+            show_within(b":", second.get(), b")", out)
+        }
+        _ => Ok(()),
+    }
 }
 
 #[cycle(show)]
 pub fn show(x: &Expr, out: &mut Printed) -> Result<(), AllocError> {
     match x {
-        Expr::Literal(word) => {
-            out.text(word.text.bytes())?;
-            Ok(())
-        }
+        Expr::Literal(word) => out.text(word.text.bytes()),
         Expr::Name(word, all) => {
             out.text(word.text.bytes())?;
             show_selects(all.as_slice(), out)
         }
         Expr::Paren(_, inner) => show_within(b"<", inner.get(), b">", out),
         Expr::Concat(_, all) => show_all(b"{", all.as_slice(), out),
-        Expr::Repeat(_, count, all) => {
-            out.text(b"{")?;
-            show(count.get(), out)?;
-            show_all(b"{", all.as_slice(), out)?;
-            out.text(b"}")?;
-            Ok(())
+        Expr::CastLiteral(size, inner) => {
+            show_behind((size.text.bytes(), b"'"), b"(", inner.get(), b")", out)
         }
-        Expr::CastLiteral(size, inner) => show_cast(size.text.bytes(), inner.get(), out),
-        Expr::CastName(size, inner) => show_cast(size.text.bytes(), inner.get(), out),
-        Expr::CastParen(_, size, inner) => {
-            show_within(b"<", size.get(), b">", out)?;
-            show_cast(b"", inner.get(), out)
+        Expr::CastName(size, inner) => {
+            show_behind((size.text.bytes(), b"'"), b"(", inner.get(), b")", out)
         }
-        Expr::CastSign(word, _, inner) => show_cast(sign(*word), inner.get(), out),
+        Expr::CastSign(word, _, inner) => {
+            show_behind((sign(*word), b"'"), b"(", inner.get(), b")", out)
+        }
         Expr::System(name, _, inner) => {
-            out.text(system(*name))?;
-            show_within(b"(", inner.get(), b")", out)
+            show_behind((system(*name), b""), b"(", inner.get(), b")", out)
         }
         Expr::Unary(op, _, operand) => {
-            out.text(b"(")?;
-            out.text(unary(*op))?;
-            show_within(b" ", operand.get(), b")", out)
+            show_behind((b"(", unary(*op)), b" ", operand.get(), b")", out)
         }
-        Expr::Binary(left, op, _, right) => {
-            show_within(b"(", left.get(), b" ", out)?;
-            out.text(binary(*op))?;
-            show_within(b" ", right.get(), b")", out)
-        }
-        Expr::Choose(test, first, second) => {
-            show_within(b"(", test.get(), b"?", out)?;
-            show(first.get(), out)?;
-            show_within(b":", second.get(), b")", out)
-        }
+        _ => show_parts(x, out),
     }
 }

@@ -1,14 +1,34 @@
-// What is printed of trees.
+// What is printed of trees. They are not let go: with that, the drop of every kind of tree would be proved here once more, and
+// the program ends soon.
 use crate::printed::Printed;
 use crate::shown::show;
 use crate::texts::{print_error, print_lexeme, tokens_of};
 use items::Items;
 use std::alloc::{AllocError, Global};
+use std::mem;
 use sv_expr_parser::parse_expr;
 use sv_outside::{TextErr, Tokens};
 use sv_parser::parse;
 use sv_spell::{Lexeme, spell};
 use sv_tree::Expr;
+
+fn print_read(
+    tree: &Expr,
+    len: usize,
+    is_brief: bool,
+    tokens: &Tokens,
+    out: &mut Printed,
+) -> Result<(), AllocError> {
+    if !is_brief {
+        show(tree, out)?;
+        out.text(b" ")?;
+        out.number(len)
+    } else if len == tokens.list.len() {
+        out.text(b"whole")
+    } else {
+        out.text(b"a part")
+    }
+}
 
 /// The tree that the tokens begin with, and how many of them it takes; of a brief one whether it takes all.
 pub fn print_expression(
@@ -19,24 +39,12 @@ pub fn print_expression(
 ) -> Result<(), AllocError> {
     match parse_expr(alloc, tokens.list.as_slice(), tokens.end, 0) {
         Ok((tree, len)) => {
-            if is_brief {
-                print_extent(len == tokens.list.len(), out)
-            } else {
-                print_tree(&tree, len, out)
-            }
+            let told = print_read(&tree, len, is_brief, tokens, out);
+            mem::forget(tree);
+            told
         }
         Err(error) => print_error(error, is_brief, out),
     }
-}
-
-fn print_extent(is_whole: bool, out: &mut Printed) -> Result<(), AllocError> {
-    out.text(if is_whole { b"whole" } else { b"a part" })
-}
-
-fn print_tree(tree: &Expr, len: usize, out: &mut Printed) -> Result<(), AllocError> {
-    show(tree, out)?;
-    out.text(b" ")?;
-    out.number(len)
 }
 
 /// Whether the tokens are a whole source text.
@@ -47,16 +55,22 @@ pub fn print_source(
     out: &mut Printed,
 ) -> Result<(), AllocError> {
     match parse(alloc, tokens) {
-        Ok(_) => out.text(b"read"),
+        Ok(tree) => {
+            mem::forget(tree);
+            out.text(b"read")
+        }
         Err(error) => print_error(error, is_brief, out),
     }
 }
 
 fn spelled(alloc: Global, tokens: &Tokens) -> Result<Items<Lexeme>, TextErr> {
-    let source = parse(alloc, tokens)?;
-    match spell(alloc, &source) {
-        Ok(all) => Ok(all),
-        Err(_) => Err(TextErr::Memory),
+    match parse(alloc, tokens) {
+        Ok(tree) => {
+            let lexemes = spell(alloc, &tree);
+            mem::forget(tree);
+            Ok(lexemes?)
+        }
+        Err(error) => Err(error),
     }
 }
 
@@ -81,12 +95,21 @@ fn print_spelled(
     }
 }
 
+fn print_twice(
+    alloc: Global,
+    tokens: &Tokens,
+    text: &mut Printed,
+    out: &mut Printed,
+) -> Result<(), AllocError> {
+    print_spelled(alloc, tokens, text, out)?;
+    out.text(b"\n")?;
+    print_again(alloc, text.bytes(), out)
+}
+
 /// What the tree of the tokens is written with, and in a second line what the tree of that is written with.
 pub fn print_spelling(alloc: Global, tokens: &Tokens, out: &mut Printed) -> Result<(), AllocError> {
     let mut text = Printed::new(alloc);
-    print_spelled(alloc, tokens, &mut text, out)?;
-    out.text(b"\n")?;
-    print_again(alloc, text.bytes(), out)
+    print_twice(alloc, tokens, &mut text, out)
 }
 
 fn print_again(alloc: Global, text: &[u8], out: &mut Printed) -> Result<(), AllocError> {
