@@ -1,7 +1,7 @@
-use Rattle.std.proofs.Common.{◌≡◌, ◌+◌, ◌++◌, ◌∷◌, [], ap, sym, ◌∙◌, arith, map, take, subst, get_or}
+use Rattle.std.proofs.Common.{◌≡◌, ◌+◌, ◌++◌, ◌∷◌, ◌≤◌, [], length, ap, sym, ◌∙◌, arith, map, take, subst, get_or}
 use Rattle.std.specs.Prelude.{unwrap_or}
 use Rattle.std.specs.List.{list_any}
-use Rattle.std.proofs.lemmas.List.{get_or-map, length-map, take_more}
+use Rattle.std.proofs.lemmas.List.{get_or-map, length-map, take_all, take_more}
 use Rattle.sv_literal.specs.Meaning.{meaning_of}
 use Rattle.svtv_table.specs.Drives.{constant}
 use Rattle.svtv_table.specs.Faults.{Stops, at_each}
@@ -9,7 +9,7 @@ use Rattle.svtv_table.specs.Fields.{fields_in}
 use Rattle.svtv_table.specs.Following.{is_valued, with_value}
 use Rattle.svtv_table.specs.Names.{number_of, width_under}
 use Rattle.svtv_table.specs.Valuing.{given_value, is_of, name_at, record_faults, text_at, value_faults}
-use Rattle.svtv_table.proofs.Each.{go_on, handed_on, stop_at}
+use Rattle.svtv_table.proofs.Each.{each_none, go_on, handed_on, stop_at}
 use Rattle.svtv_table.proofs.Valued.{faults_same, put_one}
 use Rattle.svtv_table.proofs.values.put_values.Goals as goal
 
@@ -45,3 +45,18 @@ loop-at-preserved c =
           ∙ ap (λ rs. map (given_value rs) vars) (ap (λ fs. before ++ fs ∷ []) (sym here) ∙ sym (take_more rows at [] (omega (arith, length-map c.args.records.now fields_in))))));
       fine = go_on (record_faults vars rows) rows at [] (at_each (record_faults vars rows) 0 rows) (omega (arith, length-map c.args.records.now fields_in)) (ap (record_faults vars rows at) here ∙ fine) c.loop-at.invariant.fine;
     }
+
+pub put_value-requires-clause-room : goal.put_value-requires-clause-room
+put_value-requires-clause-room c = ap length c.loop-at.invariant.values ∙ length-map c.args.vars.now (given_value (take c.loop-at.at (map fields_in c.args.records.now)))
+
+pub returns-clause-values : goal.returns-clause-values
+returns-clause-values c =
+    let rows = map fields_in c.args.records.now in
+    let past : length rows ≤ c.loop-at.at = omega (arith, length-map c.args.records.now fields_in) in
+    c.loop-at.invariant.values ∙ ap (λ rs. map (given_value rs) c.args.vars.now) (take_all c.loop-at.at rows past)
+
+pub returns-clause-fine : goal.returns-clause-fine
+returns-clause-fine c =
+    let rows = map fields_in c.args.records.now in
+    let past : length rows ≤ c.loop-at.at = omega (arith, length-map c.args.records.now fields_in) in
+    sym c.loop-at.invariant.fine ∙ each_none (record_faults c.args.vars.now rows) rows c.loop-at.at past
