@@ -1,0 +1,4 @@
+pub mod Instances
+pub mod Items
+pub mod Pins
+pub mod Regions

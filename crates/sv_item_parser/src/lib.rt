@@ -1,0 +1,17 @@
+//! Items of modules are read: nets and variables, assignments, blocks, instances, and generate constructs.
+//!
+//! Generate loops and conditions may hold items to a depth, so the rules that hold items take the reader of those as a parameter.
+//! Generate regions may lie in any number of others, and those that are open stand in a list.
+#![tactic(auto)]
+
+mod instantiations;
+mod module_items;
+mod openers;
+mod regions;
+mod tails;
+
+pub use instantiations::named_item;
+pub use module_items::{Generates, always, assigns, genvar, item_next, net, sees_item, variable};
+pub use openers::PinsOpener;
+pub use regions::item;
+pub use tails::{AlwaysTail, NameTail, PlainTail};
