@@ -10,8 +10,7 @@ mod openers;
 mod regions;
 mod tails;
 
-pub use instantiations::named_item;
-pub use module_items::{Generates, always, assigns, genvar, item_next, net, sees_item, variable};
+pub use module_items::sees_item;
 pub use openers::PinsOpener;
 pub use regions::item;
 pub use tails::{AlwaysTail, NameTail, PlainTail};

@@ -9,7 +9,7 @@ mod lvalues;
 mod statements;
 mod tails;
 
-pub use labels::{block_label, end_label, label_behind, repeated, step};
+pub use labels::{block_label, end_label, label_behind, step};
 pub use lvalues::{OpenBrace, lvalue};
 pub use statements::{is_given, stmt};
 pub use tails::{BranchTail, StepTail};
