@@ -82,8 +82,7 @@ fn comma_pin(alloc: Global, tokens: &mut Cursor<'_>) -> Result<NamedPin, ParseEr
     ensures { Reads (list.behind_comma spec.named_pin tokens.old) result tokens.new }
 {
     tokens.mark(Mark::Comma)?;
-    let part = named_pin(alloc, tokens)?;
-    Ok(part)
+    named_pin(alloc, tokens)
 }
 
 fn more_pins(alloc: Global, tokens: &mut Cursor<'_>) -> Result<Items<NamedPin>, ParseErr>
@@ -191,8 +190,7 @@ fn comma_one(alloc: Global, tokens: &mut Cursor<'_>) -> Result<One, ParseErr>
     ensures { Reads (list.behind_comma spec.one tokens.old) result tokens.new }
 {
     tokens.mark(Mark::Comma)?;
-    let part = one(alloc, tokens)?;
-    Ok(part)
+    one(alloc, tokens)
 }
 
 fn more_ones(alloc: Global, tokens: &mut Cursor<'_>) -> Result<Items<One>, ParseErr>

@@ -42,8 +42,7 @@ fn event(alloc: Global, tokens: &mut Cursor<'_>) -> Result<Event, ParseErr>
 {
     tokens.mark(Mark::At)?;
     tokens.mark(Mark::LeftParen)?;
-    let inside = event_inside(alloc, tokens)?;
-    Ok(inside)
+    event_inside(alloc, tokens)
 }
 
 #[tactic(auto, unfolding(crate::specs::Items::star_inside))]
@@ -84,8 +83,7 @@ fn always_tail(alloc: Global, tokens: &mut Cursor<'_>) -> Result<AlwaysTail, Par
         Some(_) => star(tokens),
         None => {
             tokens.mark(Mark::LeftParen)?;
-            let inside = always_inside(alloc, tokens)?;
-            Ok(inside)
+            always_inside(alloc, tokens)
         }
     }
 }
@@ -205,8 +203,7 @@ fn comma_pair(alloc: Global, tokens: &mut Cursor<'_>) -> Result<AssignPair, Pars
     ensures { Reads (list.behind_comma spec.pair tokens.old) result tokens.new }
 {
     tokens.mark(Mark::Comma)?;
-    let part = pair(alloc, tokens)?;
-    Ok(part)
+    pair(alloc, tokens)
 }
 
 fn more_pairs(alloc: Global, tokens: &mut Cursor<'_>) -> Result<Items<AssignPair>, ParseErr>
@@ -323,6 +320,24 @@ fn maybe_genvar(tokens: &mut Cursor<'_>) -> Result<Option<Place>, ParseErr>
     }
 }
 
+// The start, the test, the step and the body of a loop.
+type Turns = (Expr, (Expr, (Step, Boxed<Gen>)));
+
+fn loop_of(place: Place, word: Option<Place>, variable: Word, turns: Turns) -> Item
+    ensures { result ≡ spec.made_loop (place, (word, (variable, turns))) }
+{
+    let (start, (condition, (step, body))) = turns;
+    Item::For(
+        place,
+        is_given(word),
+        variable,
+        start,
+        condition,
+        step,
+        body,
+    )
+}
+
 /// The rules of items, over a reader of the items in an item.
 #[derive(Clone, Copy)]
 pub struct Generates<F> {
@@ -421,8 +436,7 @@ impl<F: Fn(Global, &mut Cursor<'_>, u8) -> Result<Item, ParseErr>> Generates<F> 
         ensures { Reads (list.behind_else (spec.gen (spec.item self.now.depth)) tokens.old) result tokens.new }
     {
         tokens.keyword(Keyword::Else)?;
-        let inner = self.body(tokens)?;
-        Ok(inner)
+        self.body(tokens)
     }
 
     #[tactic(auto, unfolding(crate::specs::Items::maybe_gen, sv_type_parser::specs::Lists::behind_else))]
@@ -483,11 +497,7 @@ impl<F: Fn(Global, &mut Cursor<'_>, u8) -> Result<Item, ParseErr>> Generates<F> 
     }
 
     #[tactic(auto, unfolding(sv_stmt_parser::specs::Loops::stepped, sv_stmt_parser::specs::Loops::tested))]
-    fn turns(
-        &self,
-        tokens: &mut Cursor<'_>,
-        variable: &Word,
-    ) -> Result<(Expr, (Expr, (Step, Boxed<Gen>))), ParseErr>
+    fn turns(&self, tokens: &mut Cursor<'_>, variable: &Word) -> Result<Turns, ParseErr>
         requires { Nests (spec.item self.now.depth) self.now.depth (F.pre self.now.item) (F.post self.now.item) }
         ensures { Reads (stmts.turns (spec.gen (spec.item self.now.depth)) variable.now tokens.old) result tokens.new }
     {
@@ -508,15 +518,7 @@ impl<F: Fn(Global, &mut Cursor<'_>, u8) -> Result<Item, ParseErr>> Generates<F> 
         let word = maybe_genvar(tokens)?;
         let variable = tokens.id(self.alloc)?;
         let rest = self.turns(tokens, &variable);
-        let (variable, (start, (condition, (step, body)))) = both(variable, rest)?;
-        Ok(Item::For(
-            place,
-            is_given(word),
-            variable,
-            start,
-            condition,
-            step,
-            body,
-        ))
+        let (variable, turns) = both(variable, rest)?;
+        Ok(loop_of(place, word, variable, turns))
     }
 }

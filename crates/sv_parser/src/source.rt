@@ -41,8 +41,7 @@ fn comma_port(alloc: Global, tokens: &mut Cursor<'_>) -> Result<Port, ParseErr>
     ensures { Reads (list.behind_comma params_spec.port tokens.old) result tokens.new }
 {
     tokens.mark(Mark::Comma)?;
-    let part = port(alloc, tokens)?;
-    Ok(part)
+    port(alloc, tokens)
 }
 
 fn more_ports(alloc: Global, tokens: &mut Cursor<'_>) -> Result<Items<Port>, ParseErr>
@@ -107,8 +106,7 @@ fn comma_par_port(alloc: Global, tokens: &mut Cursor<'_>) -> Result<ParPort, Par
     ensures { Reads (list.behind_comma params_spec.par_port tokens.old) result tokens.new }
 {
     tokens.mark(Mark::Comma)?;
-    let part = par_port(alloc, tokens)?;
-    Ok(part)
+    par_port(alloc, tokens)
 }
 
 fn more_par_ports(alloc: Global, tokens: &mut Cursor<'_>) -> Result<Items<ParPort>, ParseErr>

@@ -41,8 +41,7 @@ fn colon_name(alloc: Global, tokens: &mut Cursor<'_>) -> Result<Word, ParseErr>
     ensures { Reads (list.behind_colon (parser.token test.id_test) tokens.old) result tokens.new }
 {
     tokens.mark(Mark::Colon)?;
-    let name = tokens.id(alloc)?;
-    Ok(name)
+    tokens.id(alloc)
 }
 
 /// The name of a block, behind its `begin`.
@@ -64,8 +63,7 @@ fn colon_repeated(alloc: Global, tokens: &mut Cursor<'_>, other: &Word) -> Resul
     ensures { Reads (list.behind_colon (parser.token (spec.repeat_test other.now)) tokens.old) result tokens.new }
 {
     tokens.mark(Mark::Colon)?;
-    let name = repeated(alloc, tokens, other)?;
-    Ok(name)
+    repeated(alloc, tokens, other)
 }
 
 /// A colon and the name again, where a colon comes next.

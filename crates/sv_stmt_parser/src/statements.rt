@@ -20,7 +20,7 @@ use std::alloc::{AllocError, Global};
 use sv_cursor::{Cursor, Keyword, Mark, ParseErr, Sort};
 use sv_expr_parser::begins;
 use sv_outside::Place;
-use sv_tree::{Arm, AssignMark, Expr, Step, Stmt, Word};
+use sv_tree::{Arm, AssignMark, Expr, Step, Stmt, WholeWord, Word};
 use sv_type_parser::{expression, expressions, with_first};
 use sv_word_parser::{StmtOpener, maybe_uniq, take_case, take_whole, taken};
 
@@ -189,6 +189,16 @@ fn joined(
     Ok(all)
 }
 
+// The start, the test, the step and the body of a loop.
+type Turns = (Expr, (Expr, (Step, Boxed<Stmt>)));
+
+fn loop_of(place: Place, word: WholeWord, variable: Word, turns: Turns) -> Stmt
+    ensures { result ≡ spec.made_for (place, (word, (variable, turns))) }
+{
+    let (start, (condition, (step, body))) = turns;
+    Stmt::For(place, word, variable, start, condition, step, body)
+}
+
 /// The rules of statements, over a reader of the statements in a statement.
 #[derive(Clone, Copy)]
 struct Statements<F> {
@@ -266,8 +276,7 @@ impl<F: Fn(Global, &mut Cursor<'_>, u8) -> Result<Stmt, ParseErr>> Statements<F>
         ensures { Reads (list.behind_else (spec.stmt self.now.depth) tokens.old) result tokens.new }
     {
         tokens.keyword(Keyword::Else)?;
-        let inner = self.body(tokens)?;
-        Ok(inner)
+        self.body(tokens)
     }
 
     #[tactic(auto, unfolding(crate::specs::Stmts::maybe_else, sv_type_parser::specs::Lists::behind_else))]
@@ -461,11 +470,7 @@ impl<F: Fn(Global, &mut Cursor<'_>, u8) -> Result<Stmt, ParseErr>> Statements<F>
     }
 
     #[tactic(auto, unfolding(crate::specs::Loops::stepped, crate::specs::Loops::tested))]
-    fn turns(
-        &self,
-        tokens: &mut Cursor<'_>,
-        variable: &Word,
-    ) -> Result<(Expr, (Expr, (Step, Boxed<Stmt>))), ParseErr>
+    fn turns(&self, tokens: &mut Cursor<'_>, variable: &Word) -> Result<Turns, ParseErr>
         requires { Nests (spec.stmt self.now.depth) self.now.depth (F.pre self.now.stmt) (F.post self.now.stmt) }
         ensures { Reads (spec.turns (spec.stmt self.now.depth) variable.now tokens.old) result tokens.new }
     {
@@ -485,8 +490,8 @@ impl<F: Fn(Global, &mut Cursor<'_>, u8) -> Result<Stmt, ParseErr>> Statements<F>
         let word = take_whole(tokens)?;
         let variable = tokens.id(self.alloc)?;
         let rest = self.turns(tokens, &variable);
-        let (variable, (start, (condition, (step, body)))) = both(variable, rest)?;
-        Ok(Stmt::For(place, word, variable, start, condition, step, body))
+        let (variable, turns) = both(variable, rest)?;
+        Ok(loop_of(place, word, variable, turns))
     }
 
     // ---- a statement

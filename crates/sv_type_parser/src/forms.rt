@@ -64,8 +64,7 @@ pub fn given(alloc: Global, tokens: &mut Cursor<'_>) -> Result<Expr, ParseErr>
     ensures { Reads (spec.given tokens.old) result tokens.new }
 {
     tokens.mark(Mark::Assign)?;
-    let value = expression(alloc, tokens)?;
-    Ok(value)
+    expression(alloc, tokens)
 }
 
 fn maybe_given(alloc: Global, tokens: &mut Cursor<'_>) -> Result<Option<Expr>, ParseErr>
@@ -94,8 +93,7 @@ fn comma_label(alloc: Global, tokens: &mut Cursor<'_>) -> Result<EnumLabel, Pars
     ensures { Reads (list.behind_comma spec.enum_label tokens.old) result tokens.new }
 {
     tokens.mark(Mark::Comma)?;
-    let part = enum_label(alloc, tokens)?;
-    Ok(part)
+    enum_label(alloc, tokens)
 }
 
 fn more_labels(alloc: Global, tokens: &mut Cursor<'_>) -> Result<Items<EnumLabel>, ParseErr>

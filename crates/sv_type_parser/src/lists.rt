@@ -44,8 +44,7 @@ fn comma_expression(alloc: Global, tokens: &mut Cursor<'_>) -> Result<Expr, Pars
     ensures { Reads (list.behind_comma spec.expression tokens.old) result tokens.new }
 {
     tokens.mark(Mark::Comma)?;
-    let part = expression(alloc, tokens)?;
-    Ok(part)
+    expression(alloc, tokens)
 }
 
 fn more_expressions(alloc: Global, tokens: &mut Cursor<'_>) -> Result<Items<Expr>, ParseErr>
@@ -78,8 +77,7 @@ fn comma_name(alloc: Global, tokens: &mut Cursor<'_>) -> Result<Word, ParseErr>
     ensures { Reads (list.behind_comma (parser.token test.id_test) tokens.old) result tokens.new }
 {
     tokens.mark(Mark::Comma)?;
-    let part = tokens.id(alloc)?;
-    Ok(part)
+    tokens.id(alloc)
 }
 
 /// The names behind the first.

@@ -168,8 +168,7 @@ fn comma_param_item(alloc: Global, tokens: &mut Cursor<'_>) -> Result<ParamItem,
     ensures { Reads (list.behind_comma spec.param_item tokens.old) result tokens.new }
 {
     tokens.mark(Mark::Comma)?;
-    let part = param_item(alloc, tokens)?;
-    Ok(part)
+    param_item(alloc, tokens)
 }
 
 fn more_param_items(alloc: Global, tokens: &mut Cursor<'_>) -> Result<Items<ParamItem>, ParseErr>
