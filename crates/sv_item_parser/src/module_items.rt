@@ -2,9 +2,9 @@
 // proved by itself.
 ghost use Rattle.std.specs.Prelude.{◌≡◌, is_some};
 ghost use Rattle.sv_cursor.specs.Parsers as parser;
-ghost use Rattle.sv_cursor.specs.Parsers.{Reads, told};
+ghost use Rattle.sv_cursor.specs.Parsers.{Reads, ◌⊗◌, told};
 ghost use Rattle.sv_cursor.specs.Tests as test;
-ghost use Rattle.sv_word_parser.specs.Combined.{listed, sort_test, word_test};
+ghost use Rattle.sv_word_parser.specs.Combined.{◌▸◌, listed, sort_test, word_test};
 ghost use Rattle.sv_item_parser.specs.Items as spec;
 ghost use Rattle.sv_type_parser.specs.Lists as list;
 ghost use Rattle.sv_type_parser.specs.Lists.{Nests};
@@ -453,6 +453,19 @@ impl<F: Fn(Global, &mut Cursor<'_>, u8) -> Result<Item, ParseErr>> Generates<F> 
         }
     }
 
+    // From the `)` behind the condition on.
+    fn behind_condition(
+        &self,
+        tokens: &mut Cursor<'_>,
+    ) -> Result<(Boxed<Gen>, Option<Boxed<Gen>>), ParseErr>
+        requires { Nests (spec.item self.now.depth) self.now.depth (F.pre self.now.item) (F.post self.now.item) }
+        ensures { Reads ((test.mark Mark.RightParen ▸ (spec.gen (spec.item self.now.depth) ⊗ spec.maybe_gen (spec.item self.now.depth))) tokens.old) result tokens.new }
+    {
+        tokens.mark(Mark::RightParen)?;
+        let first = self.body(tokens)?;
+        both(first, self.maybe_else(tokens))
+    }
+
     /// A generate `if` (A.4.2, if_generate_construct).
     #[tactic(auto, unfolding(crate::specs::Items::gen_if))]
     pub fn conditional(&self, tokens: &mut Cursor<'_>) -> Result<Item, ParseErr>
@@ -462,9 +475,7 @@ impl<F: Fn(Global, &mut Cursor<'_>, u8) -> Result<Item, ParseErr>> Generates<F> 
         let place = tokens.keyword(Keyword::If)?;
         tokens.mark(Mark::LeftParen)?;
         let condition = expression(self.alloc, tokens)?;
-        let (condition, _) = both(condition, tokens.mark(Mark::RightParen))?;
-        let (condition, first) = both(condition, self.body(tokens))?;
-        let ((condition, first), second) = both((condition, first), self.maybe_else(tokens))?;
+        let (condition, (first, second)) = both(condition, self.behind_condition(tokens))?;
         Ok(Item::If(place, condition, first, second))
     }
 

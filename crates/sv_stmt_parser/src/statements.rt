@@ -2,10 +2,10 @@
 // itself.
 ghost use Rattle.std.specs.Prelude.{◌≡◌, ◌∷◌, ◌++◌, is_some, IfOk};
 ghost use Rattle.sv_cursor.specs.Parsers as parser;
-ghost use Rattle.sv_cursor.specs.Parsers.{Reads, told};
+ghost use Rattle.sv_cursor.specs.Parsers.{Reads, ◌⊗◌, told};
 ghost use Rattle.sv_cursor.specs.Tests as test;
 ghost use Rattle.sv_expr_parser.specs.Signs.{opener_test};
-ghost use Rattle.sv_word_parser.specs.Combined.{sign_of, sort_test};
+ghost use Rattle.sv_word_parser.specs.Combined.{◌▸◌, ◌◂◌, sign_of, sort_test};
 ghost use Rattle.sv_type_parser.specs.Lists as list;
 ghost use Rattle.sv_type_parser.specs.Lists.{Nests};
 ghost use Rattle.sv_stmt_parser.specs.Loops as loops;
@@ -293,6 +293,19 @@ impl<F: Fn(Global, &mut Cursor<'_>, u8) -> Result<Stmt, ParseErr>> Statements<F>
         }
     }
 
+    // From the `)` behind the condition on.
+    fn behind_condition(
+        &self,
+        tokens: &mut Cursor<'_>,
+    ) -> Result<(Boxed<Stmt>, Option<Boxed<Stmt>>), ParseErr>
+        requires { Nests (spec.stmt self.now.depth) self.now.depth (F.pre self.now.stmt) (F.post self.now.stmt) }
+        ensures { Reads ((test.mark Mark.RightParen ▸ (spec.stmt self.now.depth ⊗ spec.maybe_else (spec.stmt self.now.depth))) tokens.old) result tokens.new }
+    {
+        tokens.mark(Mark::RightParen)?;
+        let first = self.body(tokens)?;
+        both(first, self.maybe_else(tokens))
+    }
+
     #[tactic(auto, unfolding(crate::specs::Stmts::conditional))]
     fn conditional(&self, tokens: &mut Cursor<'_>) -> Result<BranchTail, ParseErr>
         requires { Nests (spec.stmt self.now.depth) self.now.depth (F.pre self.now.stmt) (F.post self.now.stmt) }
@@ -301,9 +314,7 @@ impl<F: Fn(Global, &mut Cursor<'_>, u8) -> Result<Stmt, ParseErr>> Statements<F>
         tokens.keyword(Keyword::If)?;
         tokens.mark(Mark::LeftParen)?;
         let condition = expression(self.alloc, tokens)?;
-        let (condition, _) = both(condition, tokens.mark(Mark::RightParen))?;
-        let (condition, first) = both(condition, self.body(tokens))?;
-        let ((condition, first), second) = both((condition, first), self.maybe_else(tokens))?;
+        let (condition, (first, second)) = both(condition, self.behind_condition(tokens))?;
         Ok(BranchTail::If(condition, first, second))
     }
 
@@ -400,6 +411,17 @@ impl<F: Fn(Global, &mut Cursor<'_>, u8) -> Result<Stmt, ParseErr>> Statements<F>
         }
     }
 
+    // From the `)` behind what is compared on.
+    fn behind_compared(&self, tokens: &mut Cursor<'_>) -> Result<Items<Arm>, ParseErr>
+        requires { Nests (spec.stmt self.now.depth) self.now.depth (F.pre self.now.stmt) (F.post self.now.stmt) }
+        ensures { Reads ((test.mark Mark.RightParen ▸ (spec.arms (spec.stmt self.now.depth) ◂ test.keyword Keyword.Endcase)) tokens.old) result tokens.new }
+    {
+        tokens.mark(Mark::RightParen)?;
+        let all = self.arms(tokens)?;
+        tokens.keyword(Keyword::Endcase)?;
+        Ok(all)
+    }
+
     #[tactic(auto, unfolding(crate::specs::Stmts::choice))]
     fn choice(&self, tokens: &mut Cursor<'_>) -> Result<BranchTail, ParseErr>
         requires { Nests (spec.stmt self.now.depth) self.now.depth (F.pre self.now.stmt) (F.post self.now.stmt) }
@@ -408,9 +430,7 @@ impl<F: Fn(Global, &mut Cursor<'_>, u8) -> Result<Stmt, ParseErr>> Statements<F>
         let word = take_case(tokens)?;
         tokens.mark(Mark::LeftParen)?;
         let value = expression(self.alloc, tokens)?;
-        let (value, _) = both(value, tokens.mark(Mark::RightParen))?;
-        let (value, all) = both(value, self.arms(tokens))?;
-        let ((value, all), _) = both((value, all), tokens.keyword(Keyword::Endcase))?;
+        let (value, all) = both(value, self.behind_compared(tokens))?;
         Ok(BranchTail::Case(word, value, all))
     }
 

@@ -3,7 +3,7 @@ ghost use Rattle.std.specs.Prelude.{◌≡◌, is_some};
 ghost use Rattle.sv_cursor.specs.Parsers as parser;
 ghost use Rattle.sv_cursor.specs.Parsers.{Reads, told};
 ghost use Rattle.sv_cursor.specs.Tests as test;
-ghost use Rattle.sv_word_parser.specs.Combined.{listed, sort_test};
+ghost use Rattle.sv_word_parser.specs.Combined.{◌▸◌, ◌◂◌, listed, sort_test};
 ghost use Rattle.sv_type_parser.specs.Forms as spec;
 ghost use Rattle.sv_type_parser.specs.Lists as list;
 ghost use Rattle.sv_type_parser.specs.Lists.{Nests};
@@ -13,8 +13,18 @@ use crate::lists::{MOST_NESTING, expression, names, with_first};
 use items::{Boxed, Items, both};
 use std::alloc::Global;
 use sv_cursor::{Cursor, Keyword, Mark, ParseErr, Sort};
-use sv_tree::{EnumLabel, Expr, Member, Range, TypeTree, Typedef};
+use sv_tree::{EnumLabel, Expr, Member, Range, TypeTree, Typedef, Word};
 use sv_word_parser::{TypeOpener, maybe_sign, sees, take_bits, take_sign};
+
+// The second expression of a range, between `:` and `]`.
+fn right_end(alloc: Global, tokens: &mut Cursor<'_>) -> Result<Expr, ParseErr>
+    ensures { Reads ((test.mark Mark.Colon ▸ (spec.expression ◂ test.mark Mark.RightBracket)) tokens.old) result tokens.new }
+{
+    tokens.mark(Mark::Colon)?;
+    let right = expression(alloc, tokens)?;
+    let (right, _) = both(right, tokens.mark(Mark::RightBracket))?;
+    Ok(right)
+}
 
 /// `[`, two expressions with `:` between them, and `]` (A.2.5, packed_dimension).
 #[tactic(auto, unfolding(crate::specs::Forms::range))]
@@ -23,9 +33,7 @@ pub fn range(alloc: Global, tokens: &mut Cursor<'_>) -> Result<Range, ParseErr>
 {
     let place = tokens.mark(Mark::LeftBracket)?;
     let left = expression(alloc, tokens)?;
-    let (left, _) = both(left, tokens.mark(Mark::Colon))?;
-    let (left, right) = both(left, expression(alloc, tokens))?;
-    let ((left, right), _) = both((left, right), tokens.mark(Mark::RightBracket))?;
+    let (left, right) = both(left, right_end(alloc, tokens))?;
     Ok(Range { place, left, right })
 }
 
@@ -277,6 +285,23 @@ fn sees_type(tokens: &Cursor<'_>) -> bool
     type_next(tokens).is_some()
 }
 
+// Names, and the semicolon behind them.
+fn ended_names(alloc: Global, tokens: &mut Cursor<'_>) -> Result<Items<Word>, ParseErr>
+    ensures { Reads ((spec.names ◂ test.mark Mark.Semicolon) tokens.old) result tokens.new }
+{
+    let all = names(alloc, tokens)?;
+    tokens.mark(Mark::Semicolon)?;
+    Ok(all)
+}
+
+// The ranges behind the members of a structure.
+fn ranges_behind(alloc: Global, tokens: &mut Cursor<'_>) -> Result<Items<Range>, ParseErr>
+    ensures { Reads ((test.mark Mark.RightBrace ▸ spec.ranges) tokens.old) result tokens.new }
+{
+    tokens.mark(Mark::RightBrace)?;
+    ranges(alloc, tokens)
+}
+
 /// The rules of types, over a reader of the types of members.
 #[derive(Clone, Copy)]
 struct Types<F> {
@@ -301,8 +326,7 @@ impl<F: Fn(Global, &mut Cursor<'_>, u8) -> Result<TypeTree, ParseErr>> Types<F> 
         ensures { Reads (spec.member (spec.form self.now.depth) tokens.old) result tokens.new }
     {
         let form = self.form(tokens)?;
-        let (form, all) = both(form, names(self.alloc, tokens))?;
-        let ((form, all), _) = both((form, all), tokens.mark(Mark::Semicolon))?;
+        let (form, all) = both(form, ended_names(self.alloc, tokens))?;
         Ok(Member::Of(Boxed::new(self.alloc, form)?, all))
     }
 
@@ -342,8 +366,7 @@ impl<F: Fn(Global, &mut Cursor<'_>, u8) -> Result<TypeTree, ParseErr>> Types<F> 
         let sign = maybe_sign(tokens)?;
         tokens.mark(Mark::LeftBrace)?;
         let all = self.members(tokens)?;
-        let (all, _) = both(all, tokens.mark(Mark::RightBrace))?;
-        let (all, behind) = both(all, ranges(self.alloc, tokens))?;
+        let (all, behind) = both(all, ranges_behind(self.alloc, tokens))?;
         Ok(TypeTree::Struct(sign, all, behind))
     }
 
@@ -389,6 +412,15 @@ pub fn form(alloc: Global, tokens: &mut Cursor<'_>, depth: u8) -> Result<TypeTre
     .level(tokens)
 }
 
+// A name, and the semicolon behind it.
+fn ended_name(alloc: Global, tokens: &mut Cursor<'_>) -> Result<Word, ParseErr>
+    ensures { Reads ((parser.token test.id_test ◂ test.mark Mark.Semicolon) tokens.old) result tokens.new }
+{
+    let name = tokens.id(alloc)?;
+    tokens.mark(Mark::Semicolon)?;
+    Ok(name)
+}
+
 /// `typedef`, a type and its name (A.2.1.3, type_declaration).
 #[tactic(auto, unfolding(crate::specs::Forms::typedef))]
 pub fn typedef(alloc: Global, tokens: &mut Cursor<'_>) -> Result<Typedef, ParseErr>
@@ -396,7 +428,6 @@ pub fn typedef(alloc: Global, tokens: &mut Cursor<'_>) -> Result<Typedef, ParseE
 {
     tokens.keyword(Keyword::Typedef)?;
     let shape = form(alloc, tokens, MOST_NESTING + 1)?;
-    let (shape, name) = both(shape, tokens.id(alloc))?;
-    let ((shape, name), _) = both((shape, name), tokens.mark(Mark::Semicolon))?;
+    let (shape, name) = both(shape, ended_name(alloc, tokens))?;
     Ok(Typedef { form: shape, name })
 }
