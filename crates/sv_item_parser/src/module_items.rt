@@ -2,7 +2,7 @@
 // proved by itself.
 ghost use Rattle.std.specs.Prelude.{◌≡◌, is_some};
 ghost use Rattle.sv_cursor.specs.Parsers as parser;
-ghost use Rattle.sv_cursor.specs.Parsers.{Reads, ◌⊗◌, told};
+ghost use Rattle.sv_cursor.specs.Parsers.{Reads, ◌⊗◌, ◌▷◌, told};
 ghost use Rattle.sv_cursor.specs.Tests as test;
 ghost use Rattle.sv_word_parser.specs.Combined.{◌▸◌, listed, sort_test, word_test};
 ghost use Rattle.sv_item_parser.specs.Items as spec;
@@ -518,6 +518,16 @@ impl<F: Fn(Global, &mut Cursor<'_>, u8) -> Result<Item, ParseErr>> Generates<F> 
         both(start, self.tested(tokens, variable))
     }
 
+    // The variable of a loop, and what stands behind it.
+    fn with_variable(&self, tokens: &mut Cursor<'_>) -> Result<(Word, Turns), ParseErr>
+        requires { Nests (spec.item self.now.depth) self.now.depth (F.pre self.now.item) (F.post self.now.item) }
+        ensures { Reads ((parser.token test.id_test ▷ stmts.turns (spec.gen (spec.item self.now.depth))) tokens.old) result tokens.new }
+    {
+        let variable = tokens.id(self.alloc)?;
+        let rest = self.turns(tokens, &variable);
+        both(variable, rest)
+    }
+
     /// A generate loop (A.4.2, loop_generate_construct).
     #[tactic(auto, unfolding(crate::specs::Items::gen_loop))]
     pub fn counted(&self, tokens: &mut Cursor<'_>) -> Result<Item, ParseErr>
@@ -527,9 +537,7 @@ impl<F: Fn(Global, &mut Cursor<'_>, u8) -> Result<Item, ParseErr>> Generates<F> 
         let place = tokens.keyword(Keyword::For)?;
         tokens.mark(Mark::LeftParen)?;
         let word = maybe_genvar(tokens)?;
-        let variable = tokens.id(self.alloc)?;
-        let rest = self.turns(tokens, &variable);
-        let (variable, turns) = both(variable, rest)?;
+        let (variable, turns) = self.with_variable(tokens)?;
         Ok(loop_of(place, word, variable, turns))
     }
 }

@@ -2,10 +2,11 @@
 // itself.
 ghost use Rattle.std.specs.Prelude.{◌≡◌, ◌∷◌, ◌++◌, is_some, IfOk};
 ghost use Rattle.sv_cursor.specs.Parsers as parser;
-ghost use Rattle.sv_cursor.specs.Parsers.{Reads, ◌⊗◌, told};
+ghost use Rattle.sv_cursor.specs.Parsers.{Reads, ◌⊗◌, ◌▷◌, told};
 ghost use Rattle.sv_cursor.specs.Tests as test;
 ghost use Rattle.sv_expr_parser.specs.Signs.{opener_test};
 ghost use Rattle.sv_word_parser.specs.Combined.{◌▸◌, ◌◂◌, sign_of, sort_test};
+ghost use Rattle.sv_type_parser.specs.Forms as forms;
 ghost use Rattle.sv_type_parser.specs.Lists as list;
 ghost use Rattle.sv_type_parser.specs.Lists.{Nests};
 ghost use Rattle.sv_stmt_parser.specs.Loops as loops;
@@ -73,14 +74,22 @@ fn take_assign(tokens: &mut Cursor<'_>) -> Result<(AssignMark, Place), ParseErr>
     taken(tokens, mark)
 }
 
+// The mark of an assignment, its place, and what is assigned.
+fn assigned(alloc: Global, tokens: &mut Cursor<'_>) -> Result<((AssignMark, Place), Expr), ParseErr>
+    ensures { Reads ((parser.token spec.assign_test ⊗ (forms.expression ◂ test.mark Mark.Semicolon)) tokens.old) result tokens.new }
+{
+    let mark = take_assign(tokens)?;
+    let value = expression(alloc, tokens)?;
+    let (value, _) = both(value, tokens.mark(Mark::Semicolon))?;
+    Ok((mark, value))
+}
+
 #[tactic(auto, unfolding(crate::specs::Stmts::assign))]
 fn assign(alloc: Global, tokens: &mut Cursor<'_>) -> Result<Stmt, ParseErr>
     ensures { Reads (spec.assign tokens.old) result tokens.new }
 {
     let target = lvalue(alloc, tokens)?;
-    let (target, (mark, place)) = both(target, take_assign(tokens))?;
-    let (target, value) = both(target, expression(alloc, tokens))?;
-    let ((target, value), _) = both((target, value), tokens.mark(Mark::Semicolon))?;
+    let (target, ((mark, place), value)) = both(target, assigned(alloc, tokens))?;
     Ok(Stmt::Assign(target, mark, place, value))
 }
 
@@ -500,6 +509,16 @@ impl<F: Fn(Global, &mut Cursor<'_>, u8) -> Result<Stmt, ParseErr>> Statements<F>
         both(start, self.tested(tokens, variable))
     }
 
+    // The variable of a loop, and what stands behind it.
+    fn with_variable(&self, tokens: &mut Cursor<'_>) -> Result<(Word, Turns), ParseErr>
+        requires { Nests (spec.stmt self.now.depth) self.now.depth (F.pre self.now.stmt) (F.post self.now.stmt) }
+        ensures { Reads ((parser.token test.id_test ▷ spec.turns (spec.stmt self.now.depth)) tokens.old) result tokens.new }
+    {
+        let variable = tokens.id(self.alloc)?;
+        let rest = self.turns(tokens, &variable);
+        both(variable, rest)
+    }
+
     #[tactic(auto, using(crate::proofs::Firsts::loop_parts))]
     fn counted(&self, tokens: &mut Cursor<'_>) -> Result<Stmt, ParseErr>
         requires { Nests (spec.stmt self.now.depth) self.now.depth (F.pre self.now.stmt) (F.post self.now.stmt) }
@@ -508,9 +527,7 @@ impl<F: Fn(Global, &mut Cursor<'_>, u8) -> Result<Stmt, ParseErr>> Statements<F>
         let place = tokens.keyword(Keyword::For)?;
         tokens.mark(Mark::LeftParen)?;
         let word = take_whole(tokens)?;
-        let variable = tokens.id(self.alloc)?;
-        let rest = self.turns(tokens, &variable);
-        let (variable, turns) = both(variable, rest)?;
+        let (variable, turns) = self.with_variable(tokens)?;
         Ok(loop_of(place, word, variable, turns))
     }
 
