@@ -30,18 +30,18 @@ use Rattle.sv_cursor.proofs.Readers.{IsReader, IsMoved}
 use Rattle.sv_expr_parser.specs.declared.openers.Opener.{Opener}
 use Rattle.sv_expr_parser.specs.Signs.{opener, opener_test}
 use Rattle.sv_expr_parser.proofs.Tokens.{Any, Stops}
-use Rattle.sv_item_parser.specs.declared.openers.PinsOpener.{PinsOpener}
-use Rattle.sv_item_parser.specs.declared.openers.PinsOpener.TheVariants as pins_by
+use Rattle.sv_instance_parser.specs.declared.openers.PinsOpener.{PinsOpener}
+use Rattle.sv_instance_parser.specs.declared.openers.PinsOpener.TheVariants as pins_by
 use Rattle.sv_word_parser.specs.declared.openers.TailOpener.{TailOpener}
 use Rattle.sv_word_parser.specs.declared.openers.TailOpener.TheVariants as tail_by
-use Rattle.sv_item_parser.specs.declared.tails.NameTail.{NameTail}
-use Rattle.sv_item_parser.specs.declared.tails.NameTail.TheVariants as name_tail_of
-use Rattle.sv_item_parser.specs.declared.tails.PlainTail.{PlainTail}
-use Rattle.sv_item_parser.specs.declared.tails.PlainTail.TheVariants as plain_tail_of
+use Rattle.sv_instance_parser.specs.declared.tails.NameTail.{NameTail}
+use Rattle.sv_instance_parser.specs.declared.tails.NameTail.TheVariants as name_tail_of
+use Rattle.sv_instance_parser.specs.declared.tails.PlainTail.{PlainTail}
+use Rattle.sv_instance_parser.specs.declared.tails.PlainTail.TheVariants as plain_tail_of
 use Rattle.sv_word_parser.specs.Combined.{sort_test}
 use Rattle.sv_word_parser.specs.Words.{tail_by_sort}
-use Rattle.sv_item_parser.specs.Pins.{ordered_if, pins_by_sort}
-use Rattle.sv_item_parser.specs.Instances.{made_pin, pin_inside, pin, made_named_pin, named_pin, pins_for, pins, pins_inside, made_one, one, more_ones, more_names, made_instances, instances, variables, plain_tail, made_overridden, overridden, made_ranged, ranged, made_plain, plain, tail_for, name_tail}
+use Rattle.sv_instance_parser.specs.Pins.{ordered_if, pins_by_sort}
+use Rattle.sv_instance_parser.specs.Instances.{made_pin, pin_inside, pin, made_named_pin, named_pin, pins_for, pins, pins_inside, made_one, one, more_ones, more_names, made_instances, instances, variables, plain_tail, made_overridden, overridden, made_ranged, ranged, made_plain, plain, tail_for, name_tail}
 use Rattle.sv_type_parser.proofs.Rules.{Rule, Fixed, the_mark, before, seq, closing, optional, tree_reads, rule_of, some_rule, list_rule, after_rule, name_rule, Way, choose_reads, choose_moved, fork_reads, fork_moved, ReadBy, reader_of, mark_begins, IsFirst, first_of_mark, first_of_name, told_sort, no_mark}
 use Rattle.sv_type_parser.proofs.Limits.{Over, expression_rule, first_end}
 use Rattle.sv_type_parser.proofs.Types.{range_first, range_begins, range_rule, names_end, semicolon_no_comma}

@@ -33,13 +33,13 @@ use Rattle.sv_cursor.proofs.Readers.{IsReader, IsMoved, BadAt, Agrees, meets_wea
 use Rattle.sv_expr_parser.proofs.Tokens.{Stops}
 use Rattle.sv_word_parser.specs.declared.openers.ItemOpener.{ItemOpener}
 use Rattle.sv_word_parser.specs.declared.openers.ItemOpener.TheVariants as item_by
-use Rattle.sv_item_parser.specs.declared.tails.NameTail.{NameTail}
-use Rattle.sv_item_parser.specs.declared.tails.NameTail.TheVariants as name_tail
-use Rattle.sv_item_parser.specs.declared.tails.PlainTail.TheVariants as plain_tail
+use Rattle.sv_instance_parser.specs.declared.tails.NameTail.{NameTail}
+use Rattle.sv_instance_parser.specs.declared.tails.NameTail.TheVariants as name_tail
+use Rattle.sv_instance_parser.specs.declared.tails.PlainTail.TheVariants as plain_tail
 use Rattle.sv_word_parser.specs.Combined.{◌◂◌, sort_test}
 use Rattle.sv_word_parser.specs.Words.{item_by_sort}
 use Rattle.sv_type_parser.specs.Params.{TypedName}
-use Rattle.sv_item_parser.specs.Instances.{made_inst, made_named_item, named_item, more_names}
+use Rattle.sv_instance_parser.specs.Instances.{made_inst, made_named_item, named_item, more_names}
 use Rattle.sv_item_parser.specs.Items.{made_net, net, made_variable, variable, genvar, made_pair, pair, assigns, items, region, gen_loop, gen_if, item_for, item_level, regions, whole_item, item_from, item}
 use Rattle.sv_type_parser.proofs.Rules.{Rule, the_mark, the_key, before, seq, closing, several, tree_reads, rule_of, list_rule, renested, Way, ReadBy, way_reader, name_rule, IsFirst, first_of_mark, no_mark}
 use Rattle.sv_type_parser.proofs.Words.{net_rule}

@@ -44,14 +44,14 @@ use Rattle.sv_word_parser.specs.declared.openers.TypeOpener.{TypeOpener}
 use Rattle.sv_word_parser.specs.declared.openers.AlwaysWord.{AlwaysWord}
 use Rattle.sv_word_parser.specs.declared.openers.ItemOpener.{ItemOpener}
 use Rattle.sv_word_parser.specs.declared.openers.ItemOpener.TheVariants as item_by
-use Rattle.sv_item_parser.specs.declared.tails.NameTail.{NameTail}
-use Rattle.sv_item_parser.specs.declared.tails.NameTail.TheVariants as name_tail
-use Rattle.sv_item_parser.specs.declared.tails.PlainTail.TheVariants as plain_tail
+use Rattle.sv_instance_parser.specs.declared.tails.NameTail.{NameTail}
+use Rattle.sv_instance_parser.specs.declared.tails.NameTail.TheVariants as name_tail
+use Rattle.sv_instance_parser.specs.declared.tails.PlainTail.TheVariants as plain_tail
 use Rattle.sv_word_parser.specs.Combined.{sort_test}
 use Rattle.sv_word_parser.specs.Words.{type_by_word, word_type_by_sort, always_by_word, item_by_word, item_by_sort}
 use Rattle.sv_type_parser.specs.Params.{TypedName}
 use Rattle.sv_stmt_parser.specs.Stmts.{Turns}
-use Rattle.sv_item_parser.specs.Instances.{made_inst, made_named_item}
+use Rattle.sv_instance_parser.specs.Instances.{made_inst, made_named_item}
 use Rattle.sv_item_parser.specs.Items.{made_net, made_variable, made_cond, made_loop}
 use Rattle.sv_type_parser.proofs.Rules.{Shut, IsFirst, first_of_key, first_of_name, told_sort}
 use Rattle.sv_type_parser.proofs.Words.{net_first, net_word_name, param_first, param_word_name}

@@ -34,7 +34,7 @@ use Rattle.sv_type_parser.specs.Forms.{expression, given, names, form, typedef}
 use Rattle.sv_type_parser.specs.Params.{TypedName, typed_name, param}
 use Rattle.sv_stmt_parser.specs.Targets.{lvalue, block_label, end_label}
 use Rattle.sv_stmt_parser.specs.Stmts.{is_given, Turns, turns, stmt}
-use Rattle.sv_item_parser.specs.Instances.{more_names, named_item}
+use Rattle.sv_instance_parser.specs.Instances.{more_names, named_item}
 
 -- ---- blocks
 

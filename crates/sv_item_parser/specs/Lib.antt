@@ -1,4 +1,2 @@
-pub mod Instances
 pub mod Items
-pub mod Pins
 pub mod Regions

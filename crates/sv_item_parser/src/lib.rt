@@ -1,16 +1,13 @@
-//! Items of modules are read: nets and variables, assignments, blocks, instances, and generate constructs.
+//! Items of modules are read: nets and variables, assignments, blocks, and generate constructs.
 //!
 //! Generate loops and conditions may hold items to a depth, so the rules that hold items take the reader of those as a parameter.
 //! Generate regions may lie in any number of others, and those that are open stand in a list.
 #![tactic(auto)]
 
-mod instantiations;
 mod module_items;
-mod openers;
 mod regions;
 mod tails;
 
 pub use module_items::sees_item;
-pub use openers::PinsOpener;
 pub use regions::item;
-pub use tails::{AlwaysTail, NameTail, PlainTail};
+pub use tails::AlwaysTail;

@@ -155,7 +155,7 @@ pub fn always(alloc: Global, tokens: &mut Cursor<'_>) -> Result<Block, ParseErr>
 // ---- items that hold no items
 
 /// One or more nets (A.2.1.3, net_declaration).
-#[tactic(auto, unfolding(crate::specs::Items::net, crate::specs::Instances::more_names, sv_type_parser::specs::Lists::more, sv_type_parser::specs::Lists::behind_comma))]
+#[tactic(auto, unfolding(crate::specs::Items::net, sv_instance_parser::specs::Instances::more_names, sv_type_parser::specs::Lists::more, sv_type_parser::specs::Lists::behind_comma))]
 pub fn net(alloc: Global, tokens: &mut Cursor<'_>) -> Result<Item, ParseErr>
     ensures { Reads (spec.net tokens.old) result tokens.new }
 {

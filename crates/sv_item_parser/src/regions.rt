@@ -7,13 +7,13 @@ ghost use Rattle.sv_type_parser.specs.Lists.{Nests};
 ghost use Rattle.sv_item_parser.specs.Regions as region;
 ghost use Rattle.sv_word_parser.specs.Words as words;
 
-use crate::instantiations::named_item;
 use crate::module_items::{
     Generates, always, assigns, genvar, item_next, net, sees_item, variable,
 };
 use items::Items;
 use std::alloc::Global;
 use sv_cursor::{Cursor, Keyword, ParseErr};
+use sv_instance_parser::named_item;
 use sv_tree::Item;
 use sv_type_parser::{MOST_OPEN, param, typedef};
 use sv_word_parser::ItemOpener;

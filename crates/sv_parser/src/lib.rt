@@ -8,7 +8,8 @@ mod source;
 mod two_state;
 mod whole;
 
-pub use sv_item_parser::{AlwaysTail, NameTail, PinsOpener, PlainTail, item};
+pub use sv_instance_parser::{NameTail, PinsOpener, PlainTail};
+pub use sv_item_parser::{AlwaysTail, item};
 pub use sv_stmt_parser::{BranchTail, StepTail, lvalue, step, stmt};
 pub use sv_type_parser::{form, par_port, param, port, typedef};
 pub use sv_word_parser::{

@@ -5,8 +5,8 @@ use Rattle.sv_cursor.specs.declared.sort.Mark.TheVariants as m
 use Rattle.sv_cursor.specs.declared.sort.Sort.{Sort}
 use Rattle.sv_cursor.specs.declared.sort.Sort.TheVariants as s
 use Rattle.sv_expr_parser.specs.Signs.{opener}
-use Rattle.sv_item_parser.specs.declared.openers.PinsOpener.{PinsOpener}
-use Rattle.sv_item_parser.specs.declared.openers.PinsOpener.TheVariants as pins_by
+use Rattle.sv_instance_parser.specs.declared.openers.PinsOpener.{PinsOpener}
+use Rattle.sv_instance_parser.specs.declared.openers.PinsOpener.TheVariants as pins_by
 
 abbrev pub ordered_if : {A : Type 0} → Option A → Option PinsOpener
 ordered_if None = None

@@ -17,17 +17,17 @@ use Rattle.sv_cursor.specs.declared.sort.Mark.TheVariants as m
 use Rattle.sv_cursor.specs.Parsers.{Parser, ◌<$>◌, ◌⊗◌, refuse, token, by_told, maybe_read, many}
 use Rattle.sv_cursor.specs.Tests.{mark_test, id_test, mark}
 use Rattle.sv_expr_parser.specs.Signs.{opener_test}
-use Rattle.sv_item_parser.specs.declared.openers.PinsOpener.{PinsOpener}
-use Rattle.sv_item_parser.specs.declared.openers.PinsOpener.TheVariants as pins_by
+use Rattle.sv_instance_parser.specs.declared.openers.PinsOpener.{PinsOpener}
+use Rattle.sv_instance_parser.specs.declared.openers.PinsOpener.TheVariants as pins_by
 use Rattle.sv_word_parser.specs.declared.openers.TailOpener.{TailOpener}
 use Rattle.sv_word_parser.specs.declared.openers.TailOpener.TheVariants as tail_by
-use Rattle.sv_item_parser.specs.declared.tails.NameTail.{NameTail}
-use Rattle.sv_item_parser.specs.declared.tails.NameTail.TheVariants as name_tail_of
-use Rattle.sv_item_parser.specs.declared.tails.PlainTail.{PlainTail}
-use Rattle.sv_item_parser.specs.declared.tails.PlainTail.TheVariants as plain_tail_of
+use Rattle.sv_instance_parser.specs.declared.tails.NameTail.{NameTail}
+use Rattle.sv_instance_parser.specs.declared.tails.NameTail.TheVariants as name_tail_of
+use Rattle.sv_instance_parser.specs.declared.tails.PlainTail.{PlainTail}
+use Rattle.sv_instance_parser.specs.declared.tails.PlainTail.TheVariants as plain_tail_of
 use Rattle.sv_word_parser.specs.Combined.{◌▸◌, ◌◂◌, sort_test, listed, some_of}
 use Rattle.sv_word_parser.specs.Words.{tail_by_sort}
-use Rattle.sv_item_parser.specs.Pins.{pins_by_sort}
+use Rattle.sv_instance_parser.specs.Pins.{pins_by_sort}
 use Rattle.sv_type_parser.specs.Forms.{expression, range, names}
 
 -- ---- connections

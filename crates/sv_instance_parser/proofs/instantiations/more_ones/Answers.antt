@@ -5,8 +5,8 @@ use Rattle.sv_cursor.proofs.Turns.{handed, after_none, many_ends, many_stops, ma
 use Rattle.sv_cursor.specs.declared.sort.Mark.TheVariants as m
 use Rattle.sv_cursor.specs.Tests.{mark_test}
 use Rattle.sv_type_parser.specs.Lists.{more, behind_comma}
-use Rattle.sv_item_parser.specs.Instances.{one}
-use Rattle.sv_item_parser.proofs.instantiations.more_ones.Goals as goal
+use Rattle.sv_instance_parser.specs.Instances.{one}
+use Rattle.sv_instance_parser.proofs.instantiations.more_ones.Goals as goal
 
 pub loop-turn-init : goal.loop-turn-init
 unfolding more

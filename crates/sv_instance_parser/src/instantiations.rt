@@ -6,9 +6,9 @@ ghost use Rattle.sv_cursor.specs.Tests as test;
 ghost use Rattle.sv_expr_parser.specs.Signs.{opener_test};
 ghost use Rattle.sv_word_parser.specs.Combined.{listed, some_of, sort_test};
 ghost use Rattle.sv_type_parser.specs.Forms as forms;
-ghost use Rattle.sv_item_parser.specs.Instances as spec;
+ghost use Rattle.sv_instance_parser.specs.Instances as spec;
 ghost use Rattle.sv_type_parser.specs.Lists as list;
-ghost use Rattle.sv_item_parser.specs.Pins as opening;
+ghost use Rattle.sv_instance_parser.specs.Pins as opening;
 ghost use Rattle.sv_word_parser.specs.Words as words;
 
 use crate::openers::PinsOpener;
