@@ -5,8 +5,7 @@ use Rattle.sv_cursor.specs.declared.sort.Keyword.{Keyword}
 use Rattle.sv_cursor.specs.declared.sort.Mark.{Mark as MarkName}
 use Rattle.sv_cursor.specs.declared.sort.Sort.{Sort}
 use Rattle.sv_cursor.specs.declared.sort.Sort.TheVariants as s
-use Rattle.sv_cursor.specs.Sorts.{sort}
-use Rattle.sv_cursor.specs.Parsers.{told, token}
+use Rattle.sv_cursor.specs.Parsers.{told}
 use Rattle.sv_cursor.specs.Tests.{first_sort}
 use Rattle.sv_word_parser.specs.Combined.{word_of, word_test, sign_of, sign_test, sort_test}
 
