@@ -22,17 +22,17 @@ use Rattle.sv_cursor.specs.Sorts.{keyword_text}
 use Rattle.sv_cursor.specs.Tests.{first_sort, is_mark}
 use Rattle.sv_cursor.specs.Parsers.{Outcome, Parser, and_then, told}
 use Rattle.sv_cursor.proofs.Readers.{IsReader, IsMoved, BadAt, Agrees, Placed, Meets, then_meets}
-use Rattle.sv_parser.specs.declared.openers.PartOpener.{PartOpener}
-use Rattle.sv_parser.specs.declared.openers.PartOpener.TheVariants as part_by
-use Rattle.sv_parser.specs.Combined.{word_of, word_test}
-use Rattle.sv_parser.specs.Words.{part_by_word}
+use Rattle.sv_word_parser.specs.declared.openers.PartOpener.{PartOpener}
+use Rattle.sv_word_parser.specs.declared.openers.PartOpener.TheVariants as part_by
+use Rattle.sv_word_parser.specs.Combined.{word_of, word_test}
+use Rattle.sv_word_parser.specs.Words.{part_by_word}
 use Rattle.sv_parser.specs.Source.{part_for, part, made_source, parts, ended, source}
 use Rattle.sv_parser.specs.Answers.{Decides}
-use Rattle.sv_parser.proofs.Rules.{Rule, several, tree_reads, Way, choose_reads, choose_moved, ReadBy, reader_of, IsFirst, first_of_key, told_word, no_mark}
-use Rattle.sv_parser.proofs.Words.{param_first, param_word_name}
-use Rattle.sv_parser.proofs.Limits.{Over}
-use Rattle.sv_parser.proofs.Params.{typedef_rule, param_tree_rule}
-use Rattle.sv_parser.proofs.Steps.{NoColon}
+use Rattle.sv_type_parser.proofs.Rules.{Rule, several, tree_reads, Way, choose_reads, choose_moved, ReadBy, reader_of, IsFirst, first_of_key, told_word, no_mark}
+use Rattle.sv_type_parser.proofs.Words.{param_first, param_word_name}
+use Rattle.sv_type_parser.proofs.Limits.{Over}
+use Rattle.sv_type_parser.proofs.Params.{typedef_rule, param_tree_rule}
+use Rattle.sv_stmt_parser.proofs.Steps.{NoColon}
 use Rattle.sv_parser.proofs.Modules.{module_rule}
 
 abbrev Top : Nesting → Type 0

@@ -23,21 +23,21 @@ use Rattle.sv_cursor.specs.Tests.{same_mark, same_keyword, mark_test}
 use Rattle.sv_cursor.specs.Parsers.{told, cons}
 use Rattle.sv_cursor.proofs.Readers.{IsReader, IsMoved, BadAt, less_reader, nests_reader}
 use Rattle.sv_expr_parser.proofs.Tokens.{Any, Stops}
-use Rattle.sv_parser.specs.Combined.{word_of, word_test}
-use Rattle.sv_parser.specs.Words.{way_by_word, net_by_word}
-use Rattle.sv_parser.specs.Params.{TypedName, made_port}
-use Rattle.sv_parser.specs.Targets.{label_behind}
-use Rattle.sv_parser.specs.Items.{item}
+use Rattle.sv_word_parser.specs.Combined.{word_of, word_test}
+use Rattle.sv_word_parser.specs.Words.{way_by_word, net_by_word}
+use Rattle.sv_type_parser.specs.Params.{TypedName, made_port}
+use Rattle.sv_stmt_parser.specs.Targets.{label_behind}
+use Rattle.sv_item_parser.specs.Items.{item}
 use Rattle.sv_parser.specs.Source.{list_of, made_first, first_port, more_ports, some_ports, ports_inside, ports, maybe_ports, more_par_ports, params_inside, made_params, params, ModuleRest, made_module, module_rest, modul}
-use Rattle.sv_parser.proofs.Rules.{Rule, the_mark, the_key, before, seq, seq_by, closing, optional, tree_reads, tree_moved, after_rule, name_rule, moved_counted, mark_begins, IsFirst, first_of_mark, told_word, no_mark}
-use Rattle.sv_parser.proofs.Words.{way_rule, way_begins, net_rule, net_begins}
-use Rattle.sv_parser.proofs.Limits.{Over, first_end, end_mark}
-use Rattle.sv_parser.proofs.Params.{par_port_rule}
-use Rattle.sv_parser.proofs.Ports.{TypedStops, typed_ends, typed_no_net, typed_name_rule, port_rule}
-use Rattle.sv_parser.proofs.Steps.{NoColon, label_behind_reads}
-use Rattle.sv_parser.proofs.Gens.{each_item_done, each_item, gen_key_no_else}
-use Rattle.sv_parser.proofs.GenLevel.{no_item, items_rule}
-use Rattle.sv_parser.proofs.ItemLevel.{item_reads}
+use Rattle.sv_type_parser.proofs.Rules.{Rule, the_mark, the_key, before, seq, seq_by, closing, optional, tree_reads, tree_moved, after_rule, name_rule, moved_counted, mark_begins, IsFirst, first_of_mark, told_word, no_mark}
+use Rattle.sv_type_parser.proofs.Words.{way_rule, way_begins, net_rule, net_begins}
+use Rattle.sv_type_parser.proofs.Limits.{Over, first_end, end_mark}
+use Rattle.sv_type_parser.proofs.Params.{par_port_rule}
+use Rattle.sv_type_parser.proofs.Ports.{TypedStops, typed_ends, typed_no_net, typed_name_rule, port_rule}
+use Rattle.sv_stmt_parser.proofs.Steps.{NoColon, label_behind_reads}
+use Rattle.sv_item_parser.proofs.Gens.{each_item_done, each_item, gen_key_no_else}
+use Rattle.sv_item_parser.proofs.GenLevel.{no_item, items_rule}
+use Rattle.sv_item_parser.proofs.ItemLevel.{item_reads}
 
 -- ---- ports
 
@@ -248,7 +248,7 @@ unfolding same_mark mark_text
 no_hash None i t o h e = no_mark m.Hash (so.Mark m.Semicolon) i refl (subst (IsFirst (so.Mark m.Semicolon)) (sym h) (first_of_mark m.Semicolon t o e))
 no_hash (Some all) i t o h e = no_mark m.Hash (so.Mark m.LeftParen) i refl (first_of_mark m.LeftParen i h.1.0 h.1.1)
 
-endmodule_no_else : (i o : List Token) → key (keyword_text k.Endmodule) i o → Rattle.sv_parser.proofs.Begins.NoElse i
+endmodule_no_else : (i o : List Token) → key (keyword_text k.Endmodule) i o → Rattle.sv_stmt_parser.proofs.Begins.NoElse i
 unfolding same_keyword
 endmodule_no_else i o h = gen_key_no_else k.Endmodule refl i o h
 

@@ -1,16 +1,4 @@
 pub mod Answers
-pub mod Braces
-pub mod Combined
-pub mod Forms
-pub mod Instances
-pub mod Items
-pub mod Lists
-pub mod Loops
-pub mod Params
-pub mod Regions
 pub mod Source
-pub mod Stmts
-pub mod Targets
 pub mod TwoState
 pub mod Whole
-pub mod Words

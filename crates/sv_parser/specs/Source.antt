@@ -15,14 +15,14 @@ use Rattle.sv_cursor.specs.declared.sort.Keyword.TheVariants as key
 use Rattle.sv_cursor.specs.declared.sort.Mark.TheVariants as m
 use Rattle.sv_cursor.specs.Parsers.{Parser, and_then, ◌<$>◌, ◌▷◌, ◌⊗◌, refuse, token, by_told, maybe_read, cons, many}
 use Rattle.sv_cursor.specs.Tests.{mark_test, id_test, mark, keyword}
-use Rattle.sv_parser.specs.declared.openers.PartOpener.{PartOpener}
-use Rattle.sv_parser.specs.declared.openers.PartOpener.TheVariants as part_by
-use Rattle.sv_parser.specs.Combined.{◌▸◌, ◌◂◌, word_test}
-use Rattle.sv_parser.specs.Words.{way_by_word, net_by_word, part_by_word}
-use Rattle.sv_parser.specs.Forms.{typedef}
-use Rattle.sv_parser.specs.Params.{TypedName, typed_name, made_port, port, par_port, param}
-use Rattle.sv_parser.specs.Targets.{label_behind}
-use Rattle.sv_parser.specs.Items.{items, item}
+use Rattle.sv_word_parser.specs.declared.openers.PartOpener.{PartOpener}
+use Rattle.sv_word_parser.specs.declared.openers.PartOpener.TheVariants as part_by
+use Rattle.sv_word_parser.specs.Combined.{◌▸◌, ◌◂◌, word_test}
+use Rattle.sv_word_parser.specs.Words.{way_by_word, net_by_word, part_by_word}
+use Rattle.sv_type_parser.specs.Forms.{typedef}
+use Rattle.sv_type_parser.specs.Params.{TypedName, typed_name, made_port, port, par_port, param}
+use Rattle.sv_stmt_parser.specs.Targets.{label_behind}
+use Rattle.sv_item_parser.specs.Items.{items, item}
 
 -- a list that may be absent
 abbrev pub list_of : {A : Type 0} → Option (List A) → List A

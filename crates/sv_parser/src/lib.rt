@@ -1,31 +1,19 @@
-//! Whole source texts are read: types, parameters, statements, items and modules.
+//! Whole source texts are read: modules, and the types and parameters beside them.
+//!
+//! `parse` reads all tokens of a text, or says why no tree spells them, and where. What stands in modules is read by the crates
+//! below this one, whose calls for one production are handed on here.
 #![tactic(auto)]
 
-mod forms;
-mod instantiations;
-mod labels;
-mod lists;
-mod lvalues;
-mod module_items;
-mod openers;
-mod parameters;
-mod regions;
 mod source;
-mod statements;
-mod tails;
-mod told;
 mod two_state;
 mod whole;
 
-pub use forms::{form, typedef};
-pub use labels::step;
-pub use lvalues::lvalue;
-pub use openers::{
-    AlwaysWord, ItemOpener, ParamOpener, PartOpener, PinsOpener, StepOpener, StmtOpener,
-    TailOpener, TargetOpener, TypeOpener,
+pub use sv_instance_parser::{NameTail, PinsOpener, PlainTail};
+pub use sv_item_parser::{AlwaysTail, item};
+pub use sv_stmt_parser::{BranchTail, StepTail, lvalue, step, stmt};
+pub use sv_type_parser::{form, par_port, param, port, typedef};
+pub use sv_word_parser::{
+    AlwaysWord, ItemOpener, ParamOpener, PartOpener, StepOpener, StmtOpener, TailOpener,
+    TargetOpener, TypeOpener,
 };
-pub use parameters::{par_port, param, port};
-pub use regions::item;
-pub use statements::stmt;
-pub use tails::{AlwaysTail, BranchTail, NameTail, PlainTail, StepTail};
 pub use whole::{parse, texts_are_decided};

@@ -3,25 +3,21 @@ ghost use Rattle.std.specs.Prelude.{◌≡◌, is_some};
 ghost use Rattle.sv_cursor.specs.Parsers as parser;
 ghost use Rattle.sv_cursor.specs.Parsers.{Reads, told};
 ghost use Rattle.sv_cursor.specs.Tests as test;
-ghost use Rattle.sv_parser.specs.Combined.{sort_test, word_test};
-ghost use Rattle.sv_parser.specs.Items as spec_items;
-ghost use Rattle.sv_parser.specs.Lists as list;
-ghost use Rattle.sv_parser.specs.Params as params_spec;
+ghost use Rattle.sv_word_parser.specs.Combined.{sort_test, word_test};
+ghost use Rattle.sv_item_parser.specs.Items as spec_items;
+ghost use Rattle.sv_type_parser.specs.Lists as list;
+ghost use Rattle.sv_type_parser.specs.Params as params_spec;
 ghost use Rattle.sv_parser.specs.Source as spec;
-ghost use Rattle.sv_parser.specs.Words as words;
+ghost use Rattle.sv_word_parser.specs.Words as words;
 
-use crate::forms::typedef;
-use crate::labels::label_behind;
-use crate::lists::{MOST_NESTING, with_first};
-use crate::module_items::sees_item;
-use crate::openers::PartOpener;
-use crate::parameters::{par_port, param, port, typed_name};
-use crate::regions::item;
-use crate::told::{maybe_net, sees, take_way, way_next};
-use items::Items;
+use items::{Items, both};
 use std::alloc::Global;
 use sv_cursor::{Cursor, Keyword, Mark, ParseErr, Sort};
+use sv_item_parser::{item, sees_item};
+use sv_stmt_parser::label_behind;
 use sv_tree::{Item, Module, ParPort, Port, Source, SourcePart, Word};
+use sv_type_parser::{MOST_NESTING, par_port, param, port, typed_name, typedef, with_first};
+use sv_word_parser::{PartOpener, maybe_net, sees, take_way, way_next};
 
 // ---- the header of a module
 
@@ -40,13 +36,12 @@ fn first_port(alloc: Global, tokens: &mut Cursor<'_>) -> Result<Port, ParseErr>
     })
 }
 
-#[tactic(auto, unfolding(crate::specs::Lists::behind_comma))]
+#[tactic(auto, unfolding(sv_type_parser::specs::Lists::behind_comma))]
 fn comma_port(alloc: Global, tokens: &mut Cursor<'_>) -> Result<Port, ParseErr>
     ensures { Reads (list.behind_comma params_spec.port tokens.old) result tokens.new }
 {
     tokens.mark(Mark::Comma)?;
-    let part = port(alloc, tokens)?;
-    Ok(part)
+    port(alloc, tokens)
 }
 
 fn more_ports(alloc: Global, tokens: &mut Cursor<'_>) -> Result<Items<Port>, ParseErr>
@@ -63,12 +58,12 @@ fn more_ports(alloc: Global, tokens: &mut Cursor<'_>) -> Result<Items<Port>, Par
     Ok(found)
 }
 
-#[tactic(auto, unfolding(crate::specs::Source::some_ports, crate::specs::Source::more_ports, crate::specs::Lists::more, crate::specs::Lists::behind_comma))]
+#[tactic(auto, unfolding(crate::specs::Source::some_ports, crate::specs::Source::more_ports, sv_type_parser::specs::Lists::more, sv_type_parser::specs::Lists::behind_comma))]
 fn some_ports(alloc: Global, tokens: &mut Cursor<'_>) -> Result<Items<Port>, ParseErr>
     ensures { Reads (spec.some_ports tokens.old) result tokens.new }
 {
     let first = first_port(alloc, tokens)?;
-    let more = more_ports(alloc, tokens)?;
+    let (first, more) = both(first, more_ports(alloc, tokens))?;
     let all = with_first(alloc, first, more)?;
     Ok(all)
 }
@@ -106,13 +101,12 @@ fn maybe_ports(alloc: Global, tokens: &mut Cursor<'_>) -> Result<Option<Items<Po
     }
 }
 
-#[tactic(auto, unfolding(crate::specs::Lists::behind_comma))]
+#[tactic(auto, unfolding(sv_type_parser::specs::Lists::behind_comma))]
 fn comma_par_port(alloc: Global, tokens: &mut Cursor<'_>) -> Result<ParPort, ParseErr>
     ensures { Reads (list.behind_comma params_spec.par_port tokens.old) result tokens.new }
 {
     tokens.mark(Mark::Comma)?;
-    let part = par_port(alloc, tokens)?;
-    Ok(part)
+    par_port(alloc, tokens)
 }
 
 fn more_par_ports(alloc: Global, tokens: &mut Cursor<'_>) -> Result<Items<ParPort>, ParseErr>
@@ -129,7 +123,7 @@ fn more_par_ports(alloc: Global, tokens: &mut Cursor<'_>) -> Result<Items<ParPor
     Ok(found)
 }
 
-#[tactic(auto, unfolding(crate::specs::Source::params_inside, crate::specs::Source::more_par_ports, crate::specs::Lists::more, crate::specs::Lists::behind_comma))]
+#[tactic(auto, unfolding(crate::specs::Source::params_inside, crate::specs::Source::more_par_ports, sv_type_parser::specs::Lists::more, sv_type_parser::specs::Lists::behind_comma))]
 fn params_inside(
     alloc: Global,
     tokens: &mut Cursor<'_>,
@@ -139,8 +133,8 @@ fn params_inside(
     tokens.mark(Mark::Hash)?;
     tokens.mark(Mark::LeftParen)?;
     let first = par_port(alloc, tokens)?;
-    let more = more_par_ports(alloc, tokens)?;
-    tokens.mark(Mark::RightParen)?;
+    let (first, more) = both(first, more_par_ports(alloc, tokens))?;
+    let ((first, more), _) = both((first, more), tokens.mark(Mark::RightParen))?;
     Ok((first, more))
 }
 
@@ -192,10 +186,10 @@ fn module_rest(alloc: Global, tokens: &mut Cursor<'_>, name: &Word) -> Result<Mo
 {
     let params = params(alloc, tokens)?;
     let ports = maybe_ports(alloc, tokens)?;
-    tokens.mark(Mark::Semicolon)?;
-    let items = body(alloc, tokens)?;
-    tokens.keyword(Keyword::Endmodule)?;
-    let label = label_behind(alloc, tokens, name)?;
+    let (ports, _) = both(ports, tokens.mark(Mark::Semicolon))?;
+    let (ports, items) = both(ports, body(alloc, tokens))?;
+    let ((ports, items), _) = both((ports, items), tokens.keyword(Keyword::Endmodule))?;
+    let ((ports, items), label) = both((ports, items), label_behind(alloc, tokens, name))?;
     Ok((params, (ports, (items, label))))
 }
 
@@ -230,7 +224,7 @@ fn part_of_word(word: Keyword) -> Option<PartOpener>
     }
 }
 
-#[tactic(auto, using(crate::proofs::Firsts::word_first))]
+#[tactic(auto, using(sv_word_parser::proofs::Firsts::word_first))]
 fn part_next(tokens: &Cursor<'_>) -> Option<PartOpener>
     ensures { result ≡ told (word_test words.part_by_word) tokens.now }
 {
@@ -293,7 +287,7 @@ fn all_parts(alloc: Global, tokens: &mut Cursor<'_>) -> Result<Items<SourcePart>
     Ok(found)
 }
 
-#[tactic(auto, unfolding(crate::specs::Source::parts, crate::specs::Lists::while_told))]
+#[tactic(auto, unfolding(crate::specs::Source::parts, sv_type_parser::specs::Lists::while_told))]
 fn parts(alloc: Global, tokens: &mut Cursor<'_>) -> Result<Source, ParseErr>
     ensures { Reads (spec.parts tokens.old) result tokens.new }
 {

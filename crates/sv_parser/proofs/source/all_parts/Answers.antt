@@ -2,10 +2,10 @@ use Rattle.std.proofs.Common.{◌+◌, ◌-◌, length, sym, ◌∙◌, rules, a
 use Rattle.std.proofs.lemmas.Grind.{common_steps}
 use Rattle.sv_cursor.specs.Parsers.{many_from}
 use Rattle.sv_cursor.proofs.Turns.{handed, after_none, many_ends, many_stops, many_fails, many_goes}
-use Rattle.sv_parser.specs.Combined.{word_test}
-use Rattle.sv_parser.specs.Words.{part_by_word}
+use Rattle.sv_word_parser.specs.Combined.{word_test}
+use Rattle.sv_word_parser.specs.Words.{part_by_word}
 use Rattle.sv_parser.specs.Source.{part}
-use Rattle.sv_parser.specs.Lists.{while_told}
+use Rattle.sv_type_parser.specs.Lists.{while_told}
 use Rattle.sv_parser.proofs.source.all_parts.Goals as goal
 
 pub loop-turn-init : goal.loop-turn-init

@@ -1,10 +1,10 @@
 use Rattle.std.proofs.Common.{◌≡◌, ◌-◌}
 use Rattle.sv_cursor.specs.Parsers.{many_from}
 use Rattle.sv_cursor.proofs.Turns.{after}
-use Rattle.sv_parser.specs.Combined.{word_test}
-use Rattle.sv_parser.specs.Words.{part_by_word}
+use Rattle.sv_word_parser.specs.Combined.{word_test}
+use Rattle.sv_word_parser.specs.Words.{part_by_word}
 use Rattle.sv_parser.specs.Source.{part}
-use Rattle.sv_parser.specs.Lists.{while_told}
+use Rattle.sv_type_parser.specs.Lists.{while_told}
 use Rattle.sv_parser.proofs.source.all_parts.Given as goal
 
 abbrev pub invariant-loop-turn : goal.invariant-loop-turn

@@ -2,9 +2,9 @@ use Rattle.std.proofs.Common.{◌+◌, ◌-◌, length, sym, ◌∙◌, rules, a
 use Rattle.std.proofs.lemmas.Grind.{common_steps}
 use Rattle.sv_cursor.specs.Parsers.{many_from}
 use Rattle.sv_cursor.proofs.Turns.{handed, after_none, many_ends, many_stops, many_fails, many_goes}
-use Rattle.sv_parser.specs.Combined.{sort_test}
-use Rattle.sv_parser.specs.Words.{item_by_sort}
-use Rattle.sv_parser.specs.Items.{item, items}
+use Rattle.sv_word_parser.specs.Combined.{sort_test}
+use Rattle.sv_word_parser.specs.Words.{item_by_sort}
+use Rattle.sv_item_parser.specs.Items.{item, items}
 use Rattle.sv_parser.proofs.source.body.Goals as goal
 
 pub loop-turn-init : goal.loop-turn-init

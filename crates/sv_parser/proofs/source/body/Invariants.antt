@@ -1,9 +1,9 @@
 use Rattle.std.proofs.Common.{◌≡◌, ◌-◌}
 use Rattle.sv_cursor.specs.Parsers.{many_from}
 use Rattle.sv_cursor.proofs.Turns.{after}
-use Rattle.sv_parser.specs.Combined.{sort_test}
-use Rattle.sv_parser.specs.Words.{item_by_sort}
-use Rattle.sv_parser.specs.Items.{item, items}
+use Rattle.sv_word_parser.specs.Combined.{sort_test}
+use Rattle.sv_word_parser.specs.Words.{item_by_sort}
+use Rattle.sv_item_parser.specs.Items.{item, items}
 use Rattle.sv_parser.proofs.source.body.Given as goal
 
 abbrev pub invariant-loop-turn : goal.invariant-loop-turn

@@ -4,8 +4,8 @@ use Rattle.sv_cursor.specs.Parsers.{many_from}
 use Rattle.sv_cursor.proofs.Turns.{handed, after_none, many_ends, many_stops, many_fails, many_goes}
 use Rattle.sv_cursor.specs.declared.sort.Mark.TheVariants as m
 use Rattle.sv_cursor.specs.Tests.{mark_test}
-use Rattle.sv_parser.specs.Lists.{more, behind_comma}
-use Rattle.sv_parser.specs.Params.{port}
+use Rattle.sv_type_parser.specs.Lists.{more, behind_comma}
+use Rattle.sv_type_parser.specs.Params.{port}
 use Rattle.sv_parser.proofs.source.more_ports.Goals as goal
 
 pub loop-turn-init : goal.loop-turn-init

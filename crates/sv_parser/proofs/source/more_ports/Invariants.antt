@@ -3,8 +3,8 @@ use Rattle.sv_cursor.specs.Parsers.{many_from}
 use Rattle.sv_cursor.proofs.Turns.{after}
 use Rattle.sv_cursor.specs.declared.sort.Mark.TheVariants as m
 use Rattle.sv_cursor.specs.Tests.{mark_test}
-use Rattle.sv_parser.specs.Lists.{more, behind_comma}
-use Rattle.sv_parser.specs.Params.{port}
+use Rattle.sv_type_parser.specs.Lists.{more, behind_comma}
+use Rattle.sv_type_parser.specs.Params.{port}
 use Rattle.sv_parser.proofs.source.more_ports.Given as goal
 
 abbrev pub invariant-loop-turn : goal.invariant-loop-turn

@@ -1,0 +1,388 @@
+// Instances, and what else begins with a name.
+ghost use Rattle.std.specs.Prelude.{◌≡◌, IfOk, Some};
+ghost use Rattle.sv_cursor.specs.Parsers as parser;
+ghost use Rattle.sv_cursor.specs.Parsers.{Reads, told};
+ghost use Rattle.sv_cursor.specs.Tests as test;
+ghost use Rattle.sv_expr_parser.specs.Signs.{opener_test};
+ghost use Rattle.sv_word_parser.specs.Combined.{listed, some_of, sort_test};
+ghost use Rattle.sv_type_parser.specs.Forms as forms;
+ghost use Rattle.sv_instance_parser.specs.Instances as spec;
+ghost use Rattle.sv_type_parser.specs.Lists as list;
+ghost use Rattle.sv_instance_parser.specs.Pins as opening;
+ghost use Rattle.sv_word_parser.specs.Words as words;
+
+use crate::openers::PinsOpener;
+use crate::tails::{NameTail, PlainTail};
+use items::{Items, both};
+use std::alloc::{AllocError, Global};
+use sv_cursor::{Cursor, Mark, ParseErr, Sort};
+use sv_expr_parser::{Opener, begins};
+use sv_tree::{Expr, Inst, Item, NamedPin, One, Pin, Pins, Range, TypeTree, Word};
+use sv_type_parser::{expression, expressions, more_names, names, range, ranges, with_first};
+use sv_word_parser::{TailOpener, sees};
+
+// ---- connections
+
+fn maybe_expression(alloc: Global, tokens: &mut Cursor<'_>) -> Result<Option<Expr>, ParseErr>
+    ensures { Reads (parser.maybe_read opener_test forms.expression tokens.old) result tokens.new }
+{
+    match begins(tokens) {
+        Some(_) => {
+            let inner = expression(alloc, tokens)?;
+            Ok(Some(inner))
+        }
+        None => Ok(None),
+    }
+}
+
+#[tactic(auto, unfolding(crate::specs::Instances::pin_inside))]
+fn pin_inside(alloc: Global, tokens: &mut Cursor<'_>) -> Result<Option<Expr>, ParseErr>
+    ensures { Reads (spec.pin_inside tokens.old) result tokens.new }
+{
+    tokens.mark(Mark::LeftParen)?;
+    let inner = maybe_expression(alloc, tokens)?;
+    let (inner, _) = both(inner, tokens.mark(Mark::RightParen))?;
+    Ok(inner)
+}
+
+fn given_pin(inner: Option<Expr>) -> Pin
+    ensures { result ≡ spec.made_pin (Some inner) }
+{
+    match inner {
+        Some(value) => Pin::Given(value),
+        None => Pin::Open,
+    }
+}
+
+#[tactic(auto, unfolding(crate::specs::Instances::pin))]
+fn pin(alloc: Global, tokens: &mut Cursor<'_>) -> Result<Pin, ParseErr>
+    ensures { Reads (spec.pin tokens.old) result tokens.new }
+{
+    match tokens.peek_mark(Mark::LeftParen) {
+        Some(_) => {
+            let inner = pin_inside(alloc, tokens)?;
+            Ok(given_pin(inner))
+        }
+        None => Ok(Pin::Same),
+    }
+}
+
+#[tactic(auto, unfolding(crate::specs::Instances::named_pin))]
+fn named_pin(alloc: Global, tokens: &mut Cursor<'_>) -> Result<NamedPin, ParseErr>
+    ensures { Reads (spec.named_pin tokens.old) result tokens.new }
+{
+    tokens.mark(Mark::Dot)?;
+    let name = tokens.id(alloc)?;
+    let pin = pin(alloc, tokens)?;
+    Ok(NamedPin { name, pin })
+}
+
+#[tactic(auto, unfolding(sv_type_parser::specs::Lists::behind_comma))]
+fn comma_pin(alloc: Global, tokens: &mut Cursor<'_>) -> Result<NamedPin, ParseErr>
+    ensures { Reads (list.behind_comma spec.named_pin tokens.old) result tokens.new }
+{
+    tokens.mark(Mark::Comma)?;
+    named_pin(alloc, tokens)
+}
+
+fn more_pins(alloc: Global, tokens: &mut Cursor<'_>) -> Result<Items<NamedPin>, ParseErr>
+    ensures { Reads (list.more spec.named_pin tokens.old) result tokens.new }
+{
+    let mut found = Items::new(alloc);
+    for _turn in 0..tokens.left() {
+        if !sees(tokens, Mark::Comma) {
+            return Ok(found);
+        }
+        let part = comma_pin(alloc, tokens)?;
+        found.push(part)?;
+    }
+    Ok(found)
+}
+
+#[tactic(auto, unfolding(sv_type_parser::specs::Lists::more, sv_type_parser::specs::Lists::behind_comma))]
+fn named_pins(alloc: Global, tokens: &mut Cursor<'_>) -> Result<Items<NamedPin>, ParseErr>
+    ensures { Reads (listed spec.named_pin tokens.old) result tokens.new }
+{
+    let first = named_pin(alloc, tokens)?;
+    let (first, more) = both(first, more_pins(alloc, tokens))?;
+    let all = with_first(alloc, first, more)?;
+    Ok(all)
+}
+
+fn pins_for(alloc: Global, tokens: &mut Cursor<'_>, opener: PinsOpener) -> Result<Pins, ParseErr>
+    ensures { Reads (spec.pins_for opener tokens.old) result tokens.new }
+{
+    match opener {
+        PinsOpener::Named => {
+            let all = named_pins(alloc, tokens)?;
+            Ok(Pins::Named(all))
+        }
+        PinsOpener::Ordered => {
+            let all = expressions(alloc, tokens)?;
+            Ok(Pins::Ordered(all))
+        }
+    }
+}
+
+fn ordered_if(opener: Option<Opener>) -> Option<PinsOpener>
+    ensures { result ≡ opening.ordered_if opener }
+{
+    match opener {
+        Some(_) => Some(PinsOpener::Ordered),
+        None => None,
+    }
+}
+
+#[tactic(auto, using(crate::proofs::Firsts::named_pins_next, crate::proofs::Firsts::ordered_pins_next))]
+fn pins_next(tokens: &Cursor<'_>) -> Option<PinsOpener>
+    ensures { result ≡ told (sort_test opening.pins_by_sort) tokens.now }
+{
+    match tokens.peek_mark(Mark::Dot) {
+        Some(_) => Some(PinsOpener::Named),
+        None => ordered_if(begins(tokens)),
+    }
+}
+
+#[tactic(auto, unfolding(crate::specs::Instances::pins))]
+fn pins(alloc: Global, tokens: &mut Cursor<'_>) -> Result<Pins, ParseErr>
+    ensures { Reads (spec.pins tokens.old) result tokens.new }
+{
+    match pins_next(tokens) {
+        Some(opener) => pins_for(alloc, tokens, opener),
+        None => Err(tokens.refuse()),
+    }
+}
+
+fn maybe_pins(alloc: Global, tokens: &mut Cursor<'_>) -> Result<Option<Pins>, ParseErr>
+    ensures { Reads (parser.maybe_read (sort_test opening.pins_by_sort) spec.pins tokens.old) result tokens.new }
+{
+    match pins_next(tokens) {
+        Some(_) => {
+            let all = pins(alloc, tokens)?;
+            Ok(Some(all))
+        }
+        None => Ok(None),
+    }
+}
+
+// Connections in parentheses, or none.
+#[tactic(auto, unfolding(crate::specs::Instances::pins_inside))]
+fn pins_inside(alloc: Global, tokens: &mut Cursor<'_>) -> Result<Option<Pins>, ParseErr>
+    ensures { Reads (spec.pins_inside tokens.old) result tokens.new }
+{
+    tokens.mark(Mark::LeftParen)?;
+    let all = maybe_pins(alloc, tokens)?;
+    let (all, _) = both(all, tokens.mark(Mark::RightParen))?;
+    Ok(all)
+}
+
+#[tactic(auto, unfolding(crate::specs::Instances::one))]
+fn one(alloc: Global, tokens: &mut Cursor<'_>) -> Result<One, ParseErr>
+    ensures { Reads (spec.one tokens.old) result tokens.new }
+{
+    let name = tokens.id(alloc)?;
+    let pins = pins_inside(alloc, tokens)?;
+    Ok(One { name, pins })
+}
+
+#[tactic(auto, unfolding(sv_type_parser::specs::Lists::behind_comma))]
+fn comma_one(alloc: Global, tokens: &mut Cursor<'_>) -> Result<One, ParseErr>
+    ensures { Reads (list.behind_comma spec.one tokens.old) result tokens.new }
+{
+    tokens.mark(Mark::Comma)?;
+    one(alloc, tokens)
+}
+
+fn more_ones(alloc: Global, tokens: &mut Cursor<'_>) -> Result<Items<One>, ParseErr>
+    ensures { Reads (list.more spec.one tokens.old) result tokens.new }
+{
+    let mut found = Items::new(alloc);
+    for _turn in 0..tokens.left() {
+        if !sees(tokens, Mark::Comma) {
+            return Ok(found);
+        }
+        let part = comma_one(alloc, tokens)?;
+        found.push(part)?;
+    }
+    Ok(found)
+}
+
+#[tactic(auto, unfolding(sv_type_parser::specs::Lists::more, sv_type_parser::specs::Lists::behind_comma))]
+fn ones(alloc: Global, tokens: &mut Cursor<'_>) -> Result<Items<One>, ParseErr>
+    ensures { Reads (listed spec.one tokens.old) result tokens.new }
+{
+    let first = one(alloc, tokens)?;
+    let (first, more) = both(first, more_ones(alloc, tokens))?;
+    let all = with_first(alloc, first, more)?;
+    Ok(all)
+}
+
+// ---- behind the name that begins an item
+
+#[tactic(auto, unfolding(crate::specs::Instances::instances, crate::specs::Instances::more_ones, sv_type_parser::specs::Lists::more, sv_type_parser::specs::Lists::behind_comma))]
+fn instances(alloc: Global, tokens: &mut Cursor<'_>) -> Result<PlainTail, ParseErr>
+    ensures { Reads (spec.instances tokens.old) result tokens.new }
+{
+    let pins = pins_inside(alloc, tokens)?;
+    let (pins, more) = both(pins, more_ones(alloc, tokens))?;
+    let ((pins, more), _) = both((pins, more), tokens.mark(Mark::Semicolon))?;
+    Ok(PlainTail::Instances(pins, more))
+}
+
+#[tactic(auto, unfolding(crate::specs::Instances::variables, crate::specs::Instances::more_names, sv_type_parser::specs::Lists::more, sv_type_parser::specs::Lists::behind_comma))]
+fn variables(alloc: Global, tokens: &mut Cursor<'_>) -> Result<PlainTail, ParseErr>
+    ensures { Reads (spec.variables tokens.old) result tokens.new }
+{
+    let more = more_names(alloc, tokens)?;
+    tokens.mark(Mark::Semicolon)?;
+    Ok(PlainTail::Variables(more))
+}
+
+#[tactic(auto, unfolding(crate::specs::Instances::plain_tail))]
+fn plain_tail(alloc: Global, tokens: &mut Cursor<'_>) -> Result<PlainTail, ParseErr>
+    ensures { Reads (spec.plain_tail tokens.old) result tokens.new }
+{
+    match tokens.peek_mark(Mark::LeftParen) {
+        Some(_) => instances(alloc, tokens),
+        None => variables(alloc, tokens),
+    }
+}
+
+#[tactic(auto, unfolding(crate::specs::Instances::overridden))]
+fn overridden(alloc: Global, tokens: &mut Cursor<'_>) -> Result<NameTail, ParseErr>
+    ensures { Reads (spec.overridden tokens.old) result tokens.new }
+{
+    tokens.mark(Mark::Hash)?;
+    let params = pins_inside(alloc, tokens)?;
+    let (params, all) = both(params, ones(alloc, tokens))?;
+    let ((params, all), _) = both((params, all), tokens.mark(Mark::Semicolon))?;
+    Ok(NameTail::Overridden(params, all))
+}
+
+// One or more ranges.
+#[tactic(auto, unfolding(sv_type_parser::specs::Forms::ranges))]
+fn some_ranges(alloc: Global, tokens: &mut Cursor<'_>) -> Result<Items<Range>, ParseErr>
+    ensures { Reads (some_of (test.mark_test Mark.LeftBracket) forms.range tokens.old) result tokens.new }
+{
+    let first = range(alloc, tokens)?;
+    let (first, more) = both(first, ranges(alloc, tokens))?;
+    let all = with_first(alloc, first, more)?;
+    Ok(all)
+}
+
+#[tactic(auto, unfolding(crate::specs::Instances::ranged))]
+fn ranged(alloc: Global, tokens: &mut Cursor<'_>) -> Result<NameTail, ParseErr>
+    ensures { Reads (spec.ranged tokens.old) result tokens.new }
+{
+    let ranges = some_ranges(alloc, tokens)?;
+    let all = names(alloc, tokens)?;
+    tokens.mark(Mark::Semicolon)?;
+    Ok(NameTail::Ranged(ranges, all))
+}
+
+#[tactic(auto, unfolding(crate::specs::Instances::plain))]
+fn plain(alloc: Global, tokens: &mut Cursor<'_>) -> Result<NameTail, ParseErr>
+    ensures { Reads (spec.plain tokens.old) result tokens.new }
+{
+    let name = tokens.id(alloc)?;
+    let tail = plain_tail(alloc, tokens)?;
+    Ok(NameTail::Plain(name, tail))
+}
+
+fn tail_of_mark(mark: Mark) -> Option<TailOpener>
+    ensures { result ≡ words.tail_by_mark mark }
+{
+    match mark {
+        Mark::Hash => Some(TailOpener::Hash),
+        Mark::LeftBracket => Some(TailOpener::Bracket),
+        _ => None,
+    }
+}
+
+fn tail_of(sort: Sort) -> Option<TailOpener>
+    ensures { result ≡ words.tail_by_sort sort }
+{
+    match sort {
+        Sort::Mark(mark) => tail_of_mark(mark),
+        Sort::Id => Some(TailOpener::Name),
+        _ => None,
+    }
+}
+
+#[tactic(auto, using(sv_word_parser::proofs::Firsts::sort_first))]
+fn tail_next(tokens: &Cursor<'_>) -> Option<TailOpener>
+    ensures { result ≡ told (sort_test words.tail_by_sort) tokens.now }
+{
+    tail_of(tokens.sort())
+}
+
+fn tail_for(
+    alloc: Global,
+    tokens: &mut Cursor<'_>,
+    opener: TailOpener,
+) -> Result<NameTail, ParseErr>
+    ensures { Reads (spec.tail_for opener tokens.old) result tokens.new }
+{
+    match opener {
+        TailOpener::Hash => overridden(alloc, tokens),
+        TailOpener::Bracket => ranged(alloc, tokens),
+        TailOpener::Name => plain(alloc, tokens),
+    }
+}
+
+#[tactic(auto, unfolding(crate::specs::Instances::name_tail))]
+fn name_tail(alloc: Global, tokens: &mut Cursor<'_>) -> Result<NameTail, ParseErr>
+    ensures { Reads (spec.name_tail tokens.old) result tokens.new }
+{
+    match tail_next(tokens) {
+        Some(opener) => tail_for(alloc, tokens, opener),
+        None => Err(tokens.refuse()),
+    }
+}
+
+// ---- the whole item
+
+fn plain_item(alloc: Global, first: Word, name: Word, tail: PlainTail) -> Result<Item, AllocError>
+    ensures { IfOk result (λ x. x ≡ spec.made_named_item (first, NameTail.Plain name tail)) }
+{
+    match tail {
+        PlainTail::Instances(pins, more) => {
+            let list = with_first(alloc, One { name, pins }, more)?;
+            Ok(Item::Inst(Inst {
+                of_module: first,
+                params: None,
+                list,
+            }))
+        }
+        PlainTail::Variables(more) => {
+            let all = with_first(alloc, name, more)?;
+            Ok(Item::Variable(TypeTree::Named(first, Items::new(alloc)), all))
+        }
+    }
+}
+
+fn item_of(alloc: Global, first: Word, tail: NameTail) -> Result<Item, AllocError>
+    ensures { IfOk result (λ x. x ≡ spec.made_named_item (first, tail)) }
+{
+    match tail {
+        NameTail::Overridden(params, list) => Ok(Item::Inst(Inst {
+            of_module: first,
+            params: Some(params),
+            list,
+        })),
+        NameTail::Ranged(ranges, all) => Ok(Item::Variable(TypeTree::Named(first, ranges), all)),
+        NameTail::Plain(name, tail) => plain_item(alloc, first, name, tail),
+    }
+}
+
+/// What begins with a name: instances of a module (A.4.1.1, module_instantiation), or variables of a type that has
+/// a name.
+#[tactic(auto, unfolding(crate::specs::Instances::named_item))]
+pub fn named_item(alloc: Global, tokens: &mut Cursor<'_>) -> Result<Item, ParseErr>
+    ensures { Reads (spec.named_item tokens.old) result tokens.new }
+{
+    let first = tokens.id(alloc)?;
+    let tail = name_tail(alloc, tokens)?;
+    let whole = item_of(alloc, first, tail)?;
+    Ok(whole)
+}

@@ -1,0 +1,543 @@
+// Blocks and items of modules. The rules that hold items take the reader of those as a parameter, so that each is
+// proved by itself.
+ghost use Rattle.std.specs.Prelude.{◌≡◌, is_some};
+ghost use Rattle.sv_cursor.specs.Parsers as parser;
+ghost use Rattle.sv_cursor.specs.Parsers.{Reads, ◌⊗◌, ◌▷◌, told};
+ghost use Rattle.sv_cursor.specs.Tests as test;
+ghost use Rattle.sv_word_parser.specs.Combined.{◌▸◌, listed, sort_test, word_test};
+ghost use Rattle.sv_item_parser.specs.Items as spec;
+ghost use Rattle.sv_type_parser.specs.Lists as list;
+ghost use Rattle.sv_type_parser.specs.Lists.{Nests};
+ghost use Rattle.sv_stmt_parser.specs.Loops as loops;
+ghost use Rattle.sv_stmt_parser.specs.Stmts as stmts;
+ghost use Rattle.sv_word_parser.specs.Words as words;
+
+use crate::tails::AlwaysTail;
+use items::{Boxed, Items, both};
+use std::alloc::Global;
+use sv_cursor::{Cursor, Keyword, Mark, ParseErr, Sort};
+use sv_outside::Place;
+use sv_stmt_parser::{block_label, end_label, is_given, lvalue, step, stmt};
+use sv_tree::{AssignPair, Block, BlockKind, Event, Expr, Gen, Item, Step, Word};
+use sv_type_parser::{
+    MOST_NESTING, expression, form, given, more_names, names, typed_name, with_first,
+};
+use sv_word_parser::{AlwaysWord, ItemOpener, always_next, sees, take_edge, take_net};
+
+// ---- blocks
+
+#[tactic(auto, unfolding(crate::specs::Items::event_inside))]
+fn event_inside(alloc: Global, tokens: &mut Cursor<'_>) -> Result<Event, ParseErr>
+    ensures { Reads (spec.event_inside tokens.old) result tokens.new }
+{
+    let edge = take_edge(tokens)?;
+    let name = tokens.id(alloc)?;
+    tokens.mark(Mark::RightParen)?;
+    Ok(Event { edge, name })
+}
+
+#[tactic(auto, unfolding(crate::specs::Items::event))]
+fn event(alloc: Global, tokens: &mut Cursor<'_>) -> Result<Event, ParseErr>
+    ensures { Reads (spec.event tokens.old) result tokens.new }
+{
+    tokens.mark(Mark::At)?;
+    tokens.mark(Mark::LeftParen)?;
+    event_inside(alloc, tokens)
+}
+
+#[tactic(auto, unfolding(crate::specs::Items::star_inside))]
+fn star_inside(tokens: &mut Cursor<'_>) -> Result<AlwaysTail, ParseErr>
+    ensures { Reads (spec.star_inside tokens.old) result tokens.new }
+{
+    tokens.mark(Mark::Star)?;
+    tokens.mark(Mark::RightParen)?;
+    Ok(AlwaysTail::StarParen)
+}
+
+#[tactic(auto, unfolding(crate::specs::Items::always_inside))]
+fn always_inside(alloc: Global, tokens: &mut Cursor<'_>) -> Result<AlwaysTail, ParseErr>
+    ensures { Reads (spec.always_inside tokens.old) result tokens.new }
+{
+    match tokens.peek_mark(Mark::Star) {
+        Some(_) => star_inside(tokens),
+        None => {
+            let inside = event_inside(alloc, tokens)?;
+            Ok(AlwaysTail::Event(inside))
+        }
+    }
+}
+
+#[tactic(auto, unfolding(crate::specs::Items::star))]
+fn star(tokens: &mut Cursor<'_>) -> Result<AlwaysTail, ParseErr>
+    ensures { Reads (spec.star tokens.old) result tokens.new }
+{
+    tokens.mark(Mark::Star)?;
+    Ok(AlwaysTail::Star)
+}
+
+#[tactic(auto, unfolding(crate::specs::Items::always_tail))]
+fn always_tail(alloc: Global, tokens: &mut Cursor<'_>) -> Result<AlwaysTail, ParseErr>
+    ensures { Reads (spec.always_tail tokens.old) result tokens.new }
+{
+    match tokens.peek_mark(Mark::Star) {
+        Some(_) => star(tokens),
+        None => {
+            tokens.mark(Mark::LeftParen)?;
+            always_inside(alloc, tokens)
+        }
+    }
+}
+
+fn always_kind(tail: AlwaysTail) -> BlockKind
+    ensures { result ≡ spec.made_always_kind tail }
+{
+    match tail {
+        AlwaysTail::Star => BlockKind::Star,
+        AlwaysTail::StarParen => BlockKind::StarParen,
+        AlwaysTail::Event(event) => BlockKind::Always(event),
+    }
+}
+
+fn comb_kind(tokens: &mut Cursor<'_>) -> Result<BlockKind, ParseErr>
+    ensures { Reads (spec.kind_for AlwaysWord.Comb tokens.old) result tokens.new }
+{
+    tokens.keyword(Keyword::AlwaysComb)?;
+    Ok(BlockKind::Comb)
+}
+
+fn ff_kind(alloc: Global, tokens: &mut Cursor<'_>) -> Result<BlockKind, ParseErr>
+    ensures { Reads (spec.kind_for AlwaysWord.Ff tokens.old) result tokens.new }
+{
+    tokens.keyword(Keyword::AlwaysFf)?;
+    let event = event(alloc, tokens)?;
+    Ok(BlockKind::Ff(event))
+}
+
+fn plain_kind(alloc: Global, tokens: &mut Cursor<'_>) -> Result<BlockKind, ParseErr>
+    ensures { Reads (spec.kind_for AlwaysWord.Always tokens.old) result tokens.new }
+{
+    tokens.keyword(Keyword::Always)?;
+    tokens.mark(Mark::At)?;
+    let tail = always_tail(alloc, tokens)?;
+    Ok(always_kind(tail))
+}
+
+fn kind_for(alloc: Global, tokens: &mut Cursor<'_>, word: AlwaysWord) -> Result<BlockKind, ParseErr>
+    ensures { Reads (spec.kind_for word tokens.old) result tokens.new }
+{
+    match word {
+        AlwaysWord::Comb => comb_kind(tokens),
+        AlwaysWord::Ff => ff_kind(alloc, tokens),
+        AlwaysWord::Always => plain_kind(alloc, tokens),
+    }
+}
+
+#[tactic(auto, unfolding(crate::specs::Items::kind))]
+fn kind(alloc: Global, tokens: &mut Cursor<'_>) -> Result<BlockKind, ParseErr>
+    ensures { Reads (spec.kind tokens.old) result tokens.new }
+{
+    match always_next(tokens) {
+        Some(word) => kind_for(alloc, tokens, word),
+        None => Err(tokens.refuse()),
+    }
+}
+
+/// A block of a module (A.6.2, always_construct).
+#[tactic(auto, unfolding(crate::specs::Items::always))]
+pub fn always(alloc: Global, tokens: &mut Cursor<'_>) -> Result<Block, ParseErr>
+    ensures { Reads (spec.always tokens.old) result tokens.new }
+{
+    let kind = kind(alloc, tokens)?;
+    let (kind, body) = both(kind, stmt(alloc, tokens, MOST_NESTING + 1))?;
+    Ok(Block { kind, body })
+}
+
+// ---- items that hold no items
+
+/// One or more nets (A.2.1.3, net_declaration).
+#[tactic(auto, unfolding(crate::specs::Items::net, sv_instance_parser::specs::Instances::more_names, sv_type_parser::specs::Lists::more, sv_type_parser::specs::Lists::behind_comma))]
+pub fn net(alloc: Global, tokens: &mut Cursor<'_>) -> Result<Item, ParseErr>
+    ensures { Reads (spec.net tokens.old) result tokens.new }
+{
+    let word = take_net(tokens)?;
+    let (form, name) = typed_name(alloc, tokens)?;
+    let ((form, name), more) = both((form, name), more_names(alloc, tokens))?;
+    let ((form, name, more), _) = both((form, name, more), tokens.mark(Mark::Semicolon))?;
+    let (form, all) = both(form, with_first(alloc, name, more))?;
+    Ok(Item::Net(word, form, all))
+}
+
+/// One or more variables (A.2.1.3, data_declaration).
+#[tactic(auto, unfolding(crate::specs::Items::variable))]
+pub fn variable(alloc: Global, tokens: &mut Cursor<'_>) -> Result<Item, ParseErr>
+    ensures { Reads (spec.variable tokens.old) result tokens.new }
+{
+    let shape = form(alloc, tokens, MOST_NESTING + 1)?;
+    let (shape, all) = both(shape, names(alloc, tokens))?;
+    let ((shape, all), _) = both((shape, all), tokens.mark(Mark::Semicolon))?;
+    Ok(Item::Variable(shape, all))
+}
+
+/// One or more loop variables (A.4.2, genvar_declaration).
+#[tactic(auto, unfolding(crate::specs::Items::genvar))]
+pub fn genvar(alloc: Global, tokens: &mut Cursor<'_>) -> Result<Item, ParseErr>
+    ensures { Reads (spec.genvar tokens.old) result tokens.new }
+{
+    tokens.keyword(Keyword::Genvar)?;
+    let all = names(alloc, tokens)?;
+    tokens.mark(Mark::Semicolon)?;
+    Ok(Item::Genvar(all))
+}
+
+#[tactic(auto, unfolding(crate::specs::Items::pair))]
+fn pair(alloc: Global, tokens: &mut Cursor<'_>) -> Result<AssignPair, ParseErr>
+    ensures { Reads (spec.pair tokens.old) result tokens.new }
+{
+    let target = lvalue(alloc, tokens)?;
+    let (target, value) = both(target, given(alloc, tokens))?;
+    Ok(AssignPair { target, value })
+}
+
+#[tactic(auto, unfolding(sv_type_parser::specs::Lists::behind_comma))]
+fn comma_pair(alloc: Global, tokens: &mut Cursor<'_>) -> Result<AssignPair, ParseErr>
+    ensures { Reads (list.behind_comma spec.pair tokens.old) result tokens.new }
+{
+    tokens.mark(Mark::Comma)?;
+    pair(alloc, tokens)
+}
+
+fn more_pairs(alloc: Global, tokens: &mut Cursor<'_>) -> Result<Items<AssignPair>, ParseErr>
+    ensures { Reads (list.more spec.pair tokens.old) result tokens.new }
+{
+    let mut found = Items::new(alloc);
+    for _turn in 0..tokens.left() {
+        if !sees(tokens, Mark::Comma) {
+            return Ok(found);
+        }
+        let part = comma_pair(alloc, tokens)?;
+        found.push(part)?;
+    }
+    Ok(found)
+}
+
+#[tactic(auto, unfolding(sv_type_parser::specs::Lists::more, sv_type_parser::specs::Lists::behind_comma))]
+fn pairs(alloc: Global, tokens: &mut Cursor<'_>) -> Result<Items<AssignPair>, ParseErr>
+    ensures { Reads (listed spec.pair tokens.old) result tokens.new }
+{
+    let first = pair(alloc, tokens)?;
+    let (first, more) = both(first, more_pairs(alloc, tokens))?;
+    let all = with_first(alloc, first, more)?;
+    Ok(all)
+}
+
+/// One or more assignments (A.6.1, continuous_assign).
+#[tactic(auto, unfolding(crate::specs::Items::assigns))]
+pub fn assigns(alloc: Global, tokens: &mut Cursor<'_>) -> Result<Item, ParseErr>
+    ensures { Reads (spec.assigns tokens.old) result tokens.new }
+{
+    tokens.keyword(Keyword::Assign)?;
+    let all = pairs(alloc, tokens)?;
+    tokens.mark(Mark::Semicolon)?;
+    Ok(Item::Assign(all))
+}
+
+// ---- what begins an item
+
+fn item_of_word(word: Keyword) -> Option<ItemOpener>
+    ensures { result ≡ words.item_by_word word }
+{
+    match word {
+        Keyword::Wire => Some(ItemOpener::Net),
+        Keyword::Tri => Some(ItemOpener::Net),
+        Keyword::Logic => Some(ItemOpener::Type),
+        Keyword::Reg => Some(ItemOpener::Type),
+        Keyword::Signed => Some(ItemOpener::Type),
+        Keyword::Unsigned => Some(ItemOpener::Type),
+        Keyword::Integer => Some(ItemOpener::Type),
+        Keyword::Struct => Some(ItemOpener::Type),
+        Keyword::Enum => Some(ItemOpener::Type),
+        Keyword::Typedef => Some(ItemOpener::Typedef),
+        Keyword::Parameter => Some(ItemOpener::Param),
+        Keyword::Localparam => Some(ItemOpener::Param),
+        Keyword::Genvar => Some(ItemOpener::Genvar),
+        Keyword::Assign => Some(ItemOpener::Assign),
+        Keyword::AlwaysComb => Some(ItemOpener::Always),
+        Keyword::AlwaysFf => Some(ItemOpener::Always),
+        Keyword::Always => Some(ItemOpener::Always),
+        Keyword::For => Some(ItemOpener::For),
+        Keyword::If => Some(ItemOpener::If),
+        Keyword::Generate => Some(ItemOpener::Generate),
+        _ => None,
+    }
+}
+
+fn item_of_mark(mark: Mark) -> Option<ItemOpener>
+    ensures { result ≡ words.item_by_mark mark }
+{
+    match mark {
+        Mark::LeftBracket => Some(ItemOpener::Type),
+        _ => None,
+    }
+}
+
+fn item_of(sort: Sort) -> Option<ItemOpener>
+    ensures { result ≡ words.item_by_sort sort }
+{
+    match sort {
+        Sort::Keyword(word) => item_of_word(word),
+        Sort::Mark(mark) => item_of_mark(mark),
+        Sort::Id => Some(ItemOpener::Name),
+        _ => None,
+    }
+}
+
+/// What the next token begins of an item.
+#[tactic(auto, using(sv_word_parser::proofs::Firsts::sort_first))]
+pub fn item_next(tokens: &Cursor<'_>) -> Option<ItemOpener>
+    ensures { result ≡ told (sort_test words.item_by_sort) tokens.now }
+{
+    item_of(tokens.sort())
+}
+
+/// Whether an item comes next.
+pub fn sees_item(tokens: &Cursor<'_>) -> bool
+    ensures { result ≡ is_some (told (sort_test words.item_by_sort) tokens.now) }
+{
+    item_next(tokens).is_some()
+}
+
+// ---- items that hold items
+
+fn maybe_genvar(tokens: &mut Cursor<'_>) -> Result<Option<Place>, ParseErr>
+    ensures { Reads (parser.maybe_read (test.keyword_test Keyword.Genvar) (test.keyword Keyword.Genvar) tokens.old) result tokens.new }
+{
+    match tokens.peek_keyword(Keyword::Genvar) {
+        Some(_) => {
+            let place = tokens.keyword(Keyword::Genvar)?;
+            Ok(Some(place))
+        }
+        None => Ok(None),
+    }
+}
+
+// The start, the test, the step and the body of a loop.
+type Turns = (Expr, (Expr, (Step, Boxed<Gen>)));
+
+fn loop_of(place: Place, word: Option<Place>, variable: Word, turns: Turns) -> Item
+    ensures { result ≡ spec.made_loop (place, (word, (variable, turns))) }
+{
+    let (start, (condition, (step, body))) = turns;
+    Item::For(
+        place,
+        is_given(word),
+        variable,
+        start,
+        condition,
+        step,
+        body,
+    )
+}
+
+/// The rules of items, over a reader of the items in an item.
+#[derive(Clone, Copy)]
+pub struct Generates<F> {
+    pub alloc: Global,
+    /// How many generate loops and conditions may hold a token of a part.
+    pub depth: u8,
+    /// Reads an item to a depth.
+    pub item: F,
+}
+
+impl<F: Fn(Global, &mut Cursor<'_>, u8) -> Result<Item, ParseErr>> Generates<F> {
+    fn item(&self, tokens: &mut Cursor<'_>) -> Result<Item, ParseErr>
+        requires { Nests (spec.item self.now.depth) self.now.depth (F.pre self.now.item) (F.post self.now.item) }
+        ensures { Reads (spec.item self.now.depth tokens.old) result tokens.new }
+    {
+        (self.item)(self.alloc, tokens, self.depth)
+    }
+
+    fn items(&self, tokens: &mut Cursor<'_>) -> Result<Items<Item>, ParseErr>
+        requires { Nests (spec.item self.now.depth) self.now.depth (F.pre self.now.item) (F.post self.now.item) }
+        ensures { Reads (spec.items (spec.item self.now.depth) tokens.old) result tokens.new }
+    {
+        let mut found = Items::new(self.alloc);
+        for _turn in 0..tokens.left() {
+            if !sees_item(tokens) {
+                return Ok(found);
+            }
+            let part = self.item(tokens)?;
+            found.push(part)?;
+        }
+        Ok(found)
+    }
+
+    fn gen_rest(
+        &self,
+        tokens: &mut Cursor<'_>,
+        name: &Option<Word>,
+    ) -> Result<(Items<Item>, Option<Word>), ParseErr>
+        requires { Nests (spec.item self.now.depth) self.now.depth (F.pre self.now.item) (F.post self.now.item) }
+        ensures { Reads (spec.gen_rest (spec.item self.now.depth) name.now tokens.old) result tokens.new }
+    {
+        let all = self.items(tokens)?;
+        let (all, _) = both(all, tokens.keyword(Keyword::End))?;
+        both(all, end_label(self.alloc, tokens, name))
+    }
+
+    #[tactic(auto, unfolding(crate::specs::Items::gen_block))]
+    fn gen_block(&self, tokens: &mut Cursor<'_>) -> Result<Gen, ParseErr>
+        requires { Nests (spec.item self.now.depth) self.now.depth (F.pre self.now.item) (F.post self.now.item) }
+        ensures { Reads (spec.gen_block (spec.item self.now.depth) tokens.old) result tokens.new }
+    {
+        let place = tokens.keyword(Keyword::Begin)?;
+        let name = block_label(self.alloc, tokens)?;
+        let rest = self.gen_rest(tokens, &name);
+        let (name, (all, label)) = both(name, rest)?;
+        Ok(Gen::Block(place, name, all, label))
+    }
+
+    #[tactic(auto, unfolding(crate::specs::Items::single, crate::specs::Items::place_test, sv_cursor::specs::Tests::place_test))]
+    fn single(&self, tokens: &mut Cursor<'_>) -> Result<Gen, ParseErr>
+        requires { Nests (spec.item self.now.depth) self.now.depth (F.pre self.now.item) (F.post self.now.item) }
+        ensures { Reads (spec.single (spec.item self.now.depth) tokens.old) result tokens.new }
+    {
+        match tokens.place() {
+            Some(place) => {
+                let inner = self.item(tokens)?;
+                Ok(Gen::Single(place, Boxed::new(self.alloc, inner)?))
+            }
+            None => Err(tokens.refuse()),
+        }
+    }
+
+    #[tactic(auto, using(crate::proofs::Firsts::gen_parts))]
+    fn gen_body(&self, tokens: &mut Cursor<'_>) -> Result<Gen, ParseErr>
+        requires { Nests (spec.item self.now.depth) self.now.depth (F.pre self.now.item) (F.post self.now.item) }
+        ensures { Reads (spec.gen (spec.item self.now.depth) tokens.old) result tokens.new }
+    {
+        match tokens.peek_keyword(Keyword::Begin) {
+            Some(_) => self.gen_block(tokens),
+            None => self.single(tokens),
+        }
+    }
+
+    fn body(&self, tokens: &mut Cursor<'_>) -> Result<Boxed<Gen>, ParseErr>
+        requires { Nests (spec.item self.now.depth) self.now.depth (F.pre self.now.item) (F.post self.now.item) }
+        ensures { Reads (spec.gen (spec.item self.now.depth) tokens.old) result tokens.new }
+    {
+        let inner = self.gen_body(tokens)?;
+        let inner = Boxed::new(self.alloc, inner)?;
+        Ok(inner)
+    }
+
+    #[tactic(auto, unfolding(sv_type_parser::specs::Lists::behind_else))]
+    fn else_part(&self, tokens: &mut Cursor<'_>) -> Result<Boxed<Gen>, ParseErr>
+        requires { Nests (spec.item self.now.depth) self.now.depth (F.pre self.now.item) (F.post self.now.item) }
+        ensures { Reads (list.behind_else (spec.gen (spec.item self.now.depth)) tokens.old) result tokens.new }
+    {
+        tokens.keyword(Keyword::Else)?;
+        self.body(tokens)
+    }
+
+    #[tactic(auto, unfolding(crate::specs::Items::maybe_gen, sv_type_parser::specs::Lists::behind_else))]
+    fn maybe_else(&self, tokens: &mut Cursor<'_>) -> Result<Option<Boxed<Gen>>, ParseErr>
+        requires { Nests (spec.item self.now.depth) self.now.depth (F.pre self.now.item) (F.post self.now.item) }
+        ensures { Reads (spec.maybe_gen (spec.item self.now.depth) tokens.old) result tokens.new }
+    {
+        match tokens.peek_keyword(Keyword::Else) {
+            Some(_) => {
+                let inner = self.else_part(tokens)?;
+                Ok(Some(inner))
+            }
+            None => Ok(None),
+        }
+    }
+
+    // From the `)` behind the condition on.
+    fn behind_condition(
+        &self,
+        tokens: &mut Cursor<'_>,
+    ) -> Result<(Boxed<Gen>, Option<Boxed<Gen>>), ParseErr>
+        requires { Nests (spec.item self.now.depth) self.now.depth (F.pre self.now.item) (F.post self.now.item) }
+        ensures { Reads ((test.mark Mark.RightParen ▸ (spec.gen (spec.item self.now.depth) ⊗ spec.maybe_gen (spec.item self.now.depth))) tokens.old) result tokens.new }
+    {
+        tokens.mark(Mark::RightParen)?;
+        let first = self.body(tokens)?;
+        both(first, self.maybe_else(tokens))
+    }
+
+    /// A generate `if` (A.4.2, if_generate_construct).
+    #[tactic(auto, unfolding(crate::specs::Items::gen_if))]
+    pub fn conditional(&self, tokens: &mut Cursor<'_>) -> Result<Item, ParseErr>
+        requires { Nests (spec.item self.now.depth) self.now.depth (F.pre self.now.item) (F.post self.now.item) }
+        ensures { Reads (spec.gen_if (spec.item self.now.depth) tokens.old) result tokens.new }
+    {
+        let place = tokens.keyword(Keyword::If)?;
+        tokens.mark(Mark::LeftParen)?;
+        let condition = expression(self.alloc, tokens)?;
+        let (condition, (first, second)) = both(condition, self.behind_condition(tokens))?;
+        Ok(Item::If(place, condition, first, second))
+    }
+
+    #[tactic(auto, unfolding(sv_stmt_parser::specs::Loops::stepped))]
+    fn stepped(
+        &self,
+        tokens: &mut Cursor<'_>,
+        variable: &Word,
+    ) -> Result<(Step, Boxed<Gen>), ParseErr>
+        requires { Nests (spec.item self.now.depth) self.now.depth (F.pre self.now.item) (F.post self.now.item) }
+        ensures { Reads (loops.stepped (spec.gen (spec.item self.now.depth)) variable.now tokens.old) result tokens.new }
+    {
+        let by = step(self.alloc, tokens, variable)?;
+        let (by, _) = both(by, tokens.mark(Mark::RightParen))?;
+        both(by, self.body(tokens))
+    }
+
+    #[tactic(auto, unfolding(sv_stmt_parser::specs::Loops::tested))]
+    fn tested(
+        &self,
+        tokens: &mut Cursor<'_>,
+        variable: &Word,
+    ) -> Result<(Expr, (Step, Boxed<Gen>)), ParseErr>
+        requires { Nests (spec.item self.now.depth) self.now.depth (F.pre self.now.item) (F.post self.now.item) }
+        ensures { Reads (loops.tested (spec.gen (spec.item self.now.depth)) variable.now tokens.old) result tokens.new }
+    {
+        let condition = expression(self.alloc, tokens)?;
+        let (condition, _) = both(condition, tokens.mark(Mark::Semicolon))?;
+        both(condition, self.stepped(tokens, variable))
+    }
+
+    #[tactic(auto, unfolding(sv_stmt_parser::specs::Loops::stepped, sv_stmt_parser::specs::Loops::tested))]
+    fn turns(&self, tokens: &mut Cursor<'_>, variable: &Word) -> Result<Turns, ParseErr>
+        requires { Nests (spec.item self.now.depth) self.now.depth (F.pre self.now.item) (F.post self.now.item) }
+        ensures { Reads (stmts.turns (spec.gen (spec.item self.now.depth)) variable.now tokens.old) result tokens.new }
+    {
+        tokens.mark(Mark::Assign)?;
+        let start = expression(self.alloc, tokens)?;
+        let (start, _) = both(start, tokens.mark(Mark::Semicolon))?;
+        both(start, self.tested(tokens, variable))
+    }
+
+    // The variable of a loop, and what stands behind it.
+    fn with_variable(&self, tokens: &mut Cursor<'_>) -> Result<(Word, Turns), ParseErr>
+        requires { Nests (spec.item self.now.depth) self.now.depth (F.pre self.now.item) (F.post self.now.item) }
+        ensures { Reads ((parser.token test.id_test ▷ stmts.turns (spec.gen (spec.item self.now.depth))) tokens.old) result tokens.new }
+    {
+        let variable = tokens.id(self.alloc)?;
+        let rest = self.turns(tokens, &variable);
+        both(variable, rest)
+    }
+
+    /// A generate loop (A.4.2, loop_generate_construct).
+    #[tactic(auto, unfolding(crate::specs::Items::gen_loop))]
+    pub fn counted(&self, tokens: &mut Cursor<'_>) -> Result<Item, ParseErr>
+        requires { Nests (spec.item self.now.depth) self.now.depth (F.pre self.now.item) (F.post self.now.item) }
+        ensures { Reads (spec.gen_loop (spec.item self.now.depth) tokens.old) result tokens.new }
+    {
+        let place = tokens.keyword(Keyword::For)?;
+        tokens.mark(Mark::LeftParen)?;
+        let word = maybe_genvar(tokens)?;
+        let (variable, turns) = self.with_variable(tokens)?;
+        Ok(loop_of(place, word, variable, turns))
+    }
+}

@@ -1,0 +1,13 @@
+// What stands behind the first part of a tree.
+use sv_tree::Event;
+
+/// What stands behind the `@` of an `always`.
+#[derive(Drop)]
+pub enum AlwaysTail {
+    /// `*`
+    Star,
+    /// `(*)`
+    StarParen,
+    /// The rest of an event.
+    Event(Event),
+}

@@ -1,4 +1,0 @@
-use Rattle.sv_parser.proofs.forms.+form.Given as goal
-
-abbrev pub decreases-form : goal.decreases-form
-decreases-form l = l.depth

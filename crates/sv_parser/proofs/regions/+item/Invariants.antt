@@ -1,4 +1,0 @@
-use Rattle.sv_parser.proofs.regions.+item.Given as goal
-
-abbrev pub decreases-item : goal.decreases-item
-decreases-item l = l.depth

@@ -1,4 +1,0 @@
-use Rattle.sv_parser.proofs.statements.+stmt.Given as goal
-
-abbrev pub decreases-stmt : goal.decreases-stmt
-decreases-stmt l = l.depth

@@ -1,0 +1,8 @@
+pub mod Arms
+pub mod Begins
+pub mod Bracing
+pub mod Firsts
+pub mod Steps
+pub mod StmtLevel
+pub mod Stmts
+pub mod Targets

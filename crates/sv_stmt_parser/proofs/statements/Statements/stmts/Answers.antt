@@ -1,0 +1,32 @@
+use Rattle.std.proofs.Common.{◌+◌, ◌-◌, length, sym, ◌∙◌, rules, arith}
+use Rattle.std.proofs.lemmas.Grind.{common_steps}
+use Rattle.sv_cursor.specs.Parsers.{many_from}
+use Rattle.sv_cursor.proofs.Turns.{handed, after_none, many_ends, many_stops, many_fails, many_goes}
+use Rattle.sv_word_parser.specs.Combined.{sort_test}
+use Rattle.sv_word_parser.specs.Words.{stmt_by_sort}
+use Rattle.sv_stmt_parser.specs.Stmts.{stmt, stmts}
+use Rattle.sv_stmt_parser.proofs.statements.Statements.stmts.Goals as goal
+
+pub loop-turn-init : goal.loop-turn-init
+unfolding stmts
+loop-turn-init g c =
+    let e = after_none (many_from (sort_test stmt_by_sort) (stmt c.args.self.now.depth) (length c.args.tokens.now) c.args.tokens.now) in
+    first_of (search rules, grind (arith, common_steps))
+
+pub returns : goal.returns
+returns g c = many_stops (sort_test stmt_by_sort) (stmt c.args.self.now.depth) _ c.loop-turn.found _ c.loop-turn.tokens (omega arith) c.loop-turn.invariant
+
+pub returns-then-not-sees_stmt : goal.returns-then-not-sees_stmt
+returns-then-not-sees_stmt g c = many_ends (sort_test stmt_by_sort) (stmt c.args.self.now.depth) _ c.loop-turn.found _ c.loop-turn.tokens (sym c.sees_stmt.ensures ∙ c.if-not-sees_stmt.true) c.loop-turn.invariant
+
+pub returns-in_err-part : goal.returns-in_err-part
+returns-in_err-part g c =
+    handed _ c.from_residual.result c.in_err-part.field-0.0 c.stmt.new.tokens c.from_residual.ensures.1
+    (many_fails (sort_test stmt_by_sort) (stmt c.args.self.now.depth) _ c.loop-turn.found _ (c.left-turn-end.result - (c.loop-turn._turn + 1))
+    c.loop-turn.tokens c.stmt.new.tokens c.in_err-part.field-0.0 (omega arith) (sym c.sees_stmt.ensures ∙ c.if-not-sees_stmt.false) c.loop-turn.invariant c.in_err-part.ensures)
+
+pub loop-turn-preserved : goal.loop-turn-preserved
+loop-turn-preserved g c =
+    rw c.in_ok-push.ensures.ok
+    (many_goes (sort_test stmt_by_sort) (stmt c.args.self.now.depth) _ c.loop-turn.found _ (c.left-turn-end.result - (c.loop-turn._turn + 1))
+    c.loop-turn.tokens c.stmt.new.tokens c.in_ok-part.part (omega arith) (sym c.sees_stmt.ensures ∙ c.if-not-sees_stmt.false) c.loop-turn.invariant c.in_ok-part.ensures)

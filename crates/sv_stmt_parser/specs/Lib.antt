@@ -1,0 +1,4 @@
+pub mod Braces
+pub mod Loops
+pub mod Stmts
+pub mod Targets

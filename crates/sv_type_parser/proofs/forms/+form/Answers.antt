@@ -1,0 +1,12 @@
+use Rattle.std.proofs.Common.{◌≡◌, ap, sym, ◌∙◌, Err, arith}
+use Rattle.sv_type_parser.specs.Forms.{form}
+use Rattle.sv_expr_parser.proofs.Turns.{deeper}
+use Rattle.sv_type_parser.proofs.forms.+form.Goals as goal
+
+pub returns : goal.returns
+unfolding form
+returns t c = rw (deeper (λ n. form n c.args.tokens.now) c.args.depth (omega arith)) c.level.ensures
+
+pub returns-then-depth-eq0 : goal.returns-then-depth-eq0
+unfolding form
+returns-then-depth-eq0 t c = let none : c.args.depth ≡ 0 = omega arith in λ _. ap (λ n. form n c.args.tokens.now) none ∙ ap Err (sym c.too_deep.ensures)

@@ -1,0 +1,11 @@
+use Rattle.std.proofs.Common.{◌≡◌, ◌-◌}
+use Rattle.sv_cursor.specs.Parsers.{many_from}
+use Rattle.sv_cursor.proofs.Turns.{after}
+use Rattle.sv_cursor.specs.declared.sort.Mark.TheVariants as m
+use Rattle.sv_cursor.specs.Tests.{mark_test}
+use Rattle.sv_type_parser.specs.Forms.{range, ranges}
+use Rattle.sv_type_parser.proofs.forms.ranges.Given as goal
+
+abbrev pub invariant-loop-turn : goal.invariant-loop-turn
+invariant-loop-turn l =
+    ranges l.fn.tokens ≡ after l.found (many_from (mark_test m.LeftBracket) range (l._turn-end - l._turn) l.tokens)

@@ -1,0 +1,12 @@
+use Rattle.std.proofs.Common.{◌≡◌, ◌-◌}
+use Rattle.sv_cursor.specs.Parsers.{many_from}
+use Rattle.sv_cursor.proofs.Turns.{after}
+use Rattle.sv_cursor.specs.declared.sort.Mark.TheVariants as m
+use Rattle.sv_cursor.specs.Tests.{mark_test}
+use Rattle.sv_type_parser.specs.Lists.{more, behind_comma}
+use Rattle.sv_type_parser.specs.Forms.{expression}
+use Rattle.sv_type_parser.proofs.lists.more_expressions.Given as goal
+
+abbrev pub invariant-loop-turn : goal.invariant-loop-turn
+invariant-loop-turn l =
+    more expression l.fn.tokens ≡ after l.found (many_from (mark_test m.Comma) (behind_comma expression) (l._turn-end - l._turn) l.tokens)
