@@ -164,11 +164,11 @@ impl Case {
 
     fn set(&mut self, word: &[u8], rest: &[u8]) -> Result<(), AllocError> {
         if is(word, "case") {
-            replace(&mut self.name, rest)
+            self.begin(rest)
         } else if is(word, "read") {
-            read_numbers(self.alloc, rest, &mut self.failing_reads)
+            self.fail_reads(rest)
         } else if is(word, "write") {
-            read_numbers(self.alloc, rest, &mut self.failing_writes)
+            self.fail_writes(rest)
         } else if is(word, "most") {
             self.most = usize::try_from(number(rest)).unwrap_or(1);
             Ok(())
@@ -176,9 +176,25 @@ impl Case {
             self.is_each = is(word, "each");
             Ok(())
         } else {
-            replace(&mut self.key, word)?;
-            replace(&mut self.words, rest)
+            self.set_key(word, rest)
         }
+    }
+
+    fn begin(&mut self, name: &[u8]) -> Result<(), AllocError> {
+        replace(&mut self.name, name)
+    }
+
+    fn fail_reads(&mut self, numbers: &[u8]) -> Result<(), AllocError> {
+        read_numbers(self.alloc, numbers, &mut self.failing_reads)
+    }
+
+    fn fail_writes(&mut self, numbers: &[u8]) -> Result<(), AllocError> {
+        read_numbers(self.alloc, numbers, &mut self.failing_writes)
+    }
+
+    fn set_key(&mut self, key: &[u8], words: &[u8]) -> Result<(), AllocError> {
+        replace(&mut self.key, key)?;
+        replace(&mut self.words, words)
     }
 
     fn begin_file(&mut self, name: &[u8]) -> Result<(), AllocError> {

@@ -1,11 +1,9 @@
-// What is printed of trees. They are not let go: with that, the drop of every kind of tree would be proved here once more, and
-// the program ends soon.
+// What is printed of trees.
 use crate::printed::Printed;
 use crate::shown::show;
 use crate::texts::{print_error, print_lexeme, tokens_of};
 use items::Items;
 use std::alloc::{AllocError, Global};
-use std::mem;
 use sv_expr_parser::parse_expr;
 use sv_outside::{TextErr, Tokens};
 use sv_parser::parse;
@@ -38,11 +36,7 @@ pub fn print_expression(
     out: &mut Printed,
 ) -> Result<(), AllocError> {
     match parse_expr(alloc, tokens.list.as_slice(), tokens.end, 0) {
-        Ok((tree, len)) => {
-            let told = print_read(&tree, len, is_brief, tokens, out);
-            mem::forget(tree);
-            told
-        }
+        Ok((tree, len)) => print_read(&tree, len, is_brief, tokens, out),
         Err(error) => print_error(error, is_brief, out),
     }
 }
@@ -55,22 +49,16 @@ pub fn print_source(
     out: &mut Printed,
 ) -> Result<(), AllocError> {
     match parse(alloc, tokens) {
-        Ok(tree) => {
-            mem::forget(tree);
-            out.text(b"read")
-        }
+        Ok(_) => out.text(b"read"),
         Err(error) => print_error(error, is_brief, out),
     }
 }
 
 fn spelled(alloc: Global, tokens: &Tokens) -> Result<Items<Lexeme>, TextErr> {
-    match parse(alloc, tokens) {
-        Ok(tree) => {
-            let lexemes = spell(alloc, &tree);
-            mem::forget(tree);
-            Ok(lexemes?)
-        }
-        Err(error) => Err(error),
+    let tree = parse(alloc, tokens)?;
+    match spell(alloc, &tree) {
+        Ok(lexemes) => Ok(lexemes),
+        Err(_) => Err(TextErr::Memory),
     }
 }
 
