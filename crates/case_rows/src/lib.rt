@@ -14,6 +14,6 @@ pub use expressions::built;
 pub use judging::{Bench, Judge, Report, each_row, judge_text};
 pub use vectors::{digits, put_digits, put_vectors};
 pub use words::{
-    Fault, named, number, part, put, put_number, rows_of, sides, signed, small, trimmed, word,
-    words_from,
+    Fault, named, number, part, put, put_number, rows_of, sides, signed, size, small, trimmed,
+    word, words_from,
 };

@@ -122,6 +122,12 @@ pub fn small(word: &[u8]) -> Option<u8> {
     u8::try_from(number(word)?).ok()
 }
 
+/// A number, where a row must have one.
+pub fn size(word: &[u8]) -> Result<usize, Fault> {
+    let value = number(word).ok_or(Fault::Form)?;
+    Ok(usize::try_from(value).unwrap_or(0))
+}
+
 /// A decimal number, and whether a `-` stands before it.
 pub fn signed(word: &[u8]) -> Option<(bool, u64)> {
     match word {

@@ -1,7 +1,7 @@
 //! Clauses as text: literals as in the DIMACS format, whose variables count from 1, with a `-` where they are negated; each clause ends with
 //! a semicolon.
 
-use case_rows::{Fault, number, part, put, put_number, signed, trimmed};
+use case_rows::{Fault, number, part, put, put_number, signed, size, trimmed};
 use cnf::{Cnf, Dim};
 use std::alloc::Global;
 
@@ -9,11 +9,6 @@ pub fn dim(word: &[u8]) -> Option<Dim> {
     let (negated, number) = signed(word)?;
     let var = usize::try_from(number.checked_sub(1)?).ok()?;
     Some(Dim { var, negated })
-}
-
-pub fn size(word: &[u8]) -> Result<usize, Fault> {
-    let value = number(word).ok_or(Fault::Form)?;
-    Ok(usize::try_from(value).unwrap_or(0))
 }
 
 // What stands before the semicolon at the end, if there is one.

@@ -2,8 +2,8 @@
 //! `accepted`, or the number of the first step that is not derived, or of steps if none is empty:
 //! `2 / 1 2; 1 -2; -1 2; -1 -2; / 1:0 1; :4 2 3; => accepted`.
 
-use crate::formulas::{clause, ended, read, size};
-use case_rows::{Fault, Judge, part, put, put_number, trimmed};
+use crate::formulas::{clause, ended, read};
+use case_rows::{Fault, Judge, part, put, put_number, size, trimmed};
 use cnf::Cnf;
 use refute_check::{CheckErr, Checker, Log, Step};
 use std::alloc::{AllocError, Global};

@@ -3,9 +3,8 @@
 //! `random`: `same 8 34 1 40 => 40` is the number of variables, of clauses, what the sequence begins with, and how many formulas are made;
 //! the answer is for how many of them a plain solver finds what the solver finds. `search 100 480 5 => unsat` is the answer for the first.
 
-use crate::formulas::size;
 use crate::solving::{plain_answer, put_answer};
-use case_rows::{Fault, Judge, number, put_number, word};
+use case_rows::{Fault, Judge, number, put_number, size, word};
 use cnf::{Cnf, Dim};
 use std::alloc::Global;
 

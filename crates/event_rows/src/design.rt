@@ -4,7 +4,7 @@
 //! - `join 2.0.1 0.3.1` joins bit 0 of wire 2 to bit 3 of wire 0 above it: a wire, its lowest bit, and how many;
 //! - `drive 1.0.2,1.3.1 = not now0.3` drives such parts, the highest first.
 
-use case_rows::{Fault, built, digits, named, number, part, rows_of, small, word, words_from};
+use case_rows::{Fault, built, digits, named, part, rows_of, small, word, words_from};
 use driver_resolve::Driver;
 use flat_net::{Flat, Join};
 use fourvec::Four;
@@ -13,11 +13,6 @@ use lhs_alias::{Lhs, Seg};
 use std::alloc::Global;
 use sv_outside::{Name, Signal};
 use svex_arena::Arena;
-
-pub fn size(word: &[u8]) -> Result<usize, Fault> {
-    let value = number(word).ok_or(Fault::Form)?;
-    Ok(usize::try_from(value).unwrap_or(0))
-}
 
 fn seg(text: &[u8]) -> Option<Seg> {
     Some(Seg {

@@ -8,10 +8,10 @@ ghost use Rattle.std.specs.Prelude.{◌≡◌, ◌<◌, IsTrue, length};
 ghost use Rattle.std.specs.List.{All};
 ghost use Rattle.aig.specs.Graph.{IsIn};
 
-use crate::nodes::size;
 use aig::{Aig, Lit};
 use aig_words::{add, div, eq, lt, mul, mux, or, pick, rem, sar, shl, shr, slt, sub, xor};
-use case_rows::{Fault, Judge, named, put, put_number, small, word};
+use case_rows::{Fault, Judge, named, put, put_number, size, small, word};
+use items::both;
 use std::alloc::{AllocError, Global};
 
 #[derive(Clone, Copy)]
@@ -107,6 +107,34 @@ fn circuit(
     }
 }
 
+// The same, where the operands meet its conditions.
+fn try_circuit(
+    alloc: Global,
+    aig: &mut Aig,
+    op: Op,
+    c: Lit,
+    a: &[Lit],
+    b: &[Lit],
+) -> Result<Vec<Lit>, Fault> {
+    if a.is_empty() || a.len() != b.len() {
+        return Err(Fault::Form);
+    }
+    if c.node >= aig.len() || !fits(aig, a) || !fits(aig, b) {
+        return Err(Fault::Form);
+    }
+    let word = circuit(alloc, aig, op, c, a, b)?;
+    Ok(word)
+}
+
+// The value of a literal.
+fn bit_of(alloc: Global, aig: &Aig, values: &[bool], l: Lit) -> Result<bool, Fault> {
+    if values.len() != aig.input_count() || l.node >= aig.len() {
+        return Err(Fault::Form);
+    }
+    let bit = aig.eval(alloc, values, l)?;
+    Ok(bit)
+}
+
 // A graph with an operator's operands.
 #[derive(Drop)]
 struct Board {
@@ -119,10 +147,17 @@ struct Board {
     values: Vec<bool>,
 }
 
+// Two numbers, and whether the first is chosen.
+#[derive(Clone, Copy)]
+struct Given {
+    x: u8,
+    y: u8,
+    chosen: bool,
+}
+
 impl Board {
-    fn new(alloc: Global) -> Result<Board, AllocError> {
-        let aig = Aig::new(alloc)?;
-        Ok(Board {
+    fn new(alloc: Global, aig: Aig) -> Board {
+        Board {
             alloc,
             aig,
             c: Lit::constant(false),
@@ -130,7 +165,7 @@ impl Board {
             b: Vec::new(alloc),
             out: Vec::new(alloc),
             values: Vec::new(alloc),
-        })
+        }
     }
 
     fn lay(&mut self, width: usize) -> Result<(), Fault> {
@@ -140,52 +175,44 @@ impl Board {
         Ok(())
     }
 
-    fn swap(&mut self) {
-        std::mem::swap(&mut self.a, &mut self.b);
-    }
-
-    // Makes the circuit of an operator, where the operands meet its conditions.
     fn make(&mut self, op: Op) -> Result<(), Fault> {
-        if self.a.is_empty() || self.a.len() != self.b.len() {
-            return Err(Fault::Form);
-        }
-        if self.c.node >= self.aig.len() || !fits(&self.aig, &self.a) || !fits(&self.aig, &self.b) {
-            return Err(Fault::Form);
-        }
-        self.out = circuit(self.alloc, &mut self.aig, op, self.c, &self.a, &self.b)?;
+        self.out = try_circuit(self.alloc, &mut self.aig, op, self.c, &self.a, &self.b)?;
         Ok(())
     }
 
-    // Gives the inputs their values: c, and the bits of the two words.
-    fn set(&mut self, c: bool, x: u8, y: u8) -> Result<(), Fault> {
+    fn make_swapped(&mut self, op: Op) -> Result<Vec<Lit>, Fault> {
+        try_circuit(self.alloc, &mut self.aig, op, self.c, &self.b, &self.a)
+    }
+
+    // Gives the inputs their values.
+    fn set(&mut self, given: Given) -> Result<(), Fault> {
         self.values.clear();
-        self.values.push(c)?;
-        set_word(&mut self.values, self.a.len(), x)?;
-        set_word(&mut self.values, self.b.len(), y)
+        self.values.push(given.chosen)?;
+        set_word(&mut self.values, self.a.len(), given.x)?;
+        set_word(&mut self.values, self.b.len(), given.y)
     }
 
     // The number that the circuit gives.
-    fn number(&self) -> Result<Option<i16>, Fault> {
+    fn number(&self) -> Result<i16, Fault> {
         let mut n: i16 = 0;
         let mut bit: i16 = 1;
         for l in &self.out {
-            if self.values.len() != self.aig.input_count() || l.node >= self.aig.len() {
-                return Ok(None);
-            }
-            if self.aig.eval(self.alloc, &self.values, *l)? {
+            if bit_of(self.alloc, &self.aig, &self.values, *l)? {
                 n |= bit;
             }
             bit = bit.wrapping_mul(2);
         }
-        Ok(Some(n))
+        Ok(n)
     }
 
     // Whether the circuit gives what the machine gives.
-    fn agrees(&mut self, op: Op, width: u8, x: u8, y: u8, chosen: bool) -> Result<bool, Fault> {
-        self.set(chosen, x, y)?;
+    fn agrees(&mut self, op: Op, width: u8, given: Given) -> Result<bool, Fault> {
+        self.set(given)?;
         let is = self.number()?;
-        let want = wanted(op, width, chosen, x, y);
-        Ok(is.is_some() && (want.is_none() || is == want))
+        Ok(match wanted(op, width, given) {
+            Some(wanted) => is == wanted,
+            None => true,
+        })
     }
 
     // How many pairs of numbers an operator gets right, of those by whose steps the table goes.
@@ -193,8 +220,12 @@ impl Board {
         let mut right: u64 = 0;
         for i in 0..count {
             for j in 0..count {
-                let (x, y) = (i.wrapping_mul(step), j.wrapping_mul(step));
-                if self.agrees(op, width, x, y, (i ^ j) % 2 == 1)? {
+                let given = Given {
+                    x: i.wrapping_mul(step),
+                    y: j.wrapping_mul(step),
+                    chosen: (i ^ j) % 2 == 1,
+                };
+                if self.agrees(op, width, given)? {
                     right = right.saturating_add(1);
                 }
             }
@@ -220,7 +251,8 @@ fn read(modulus: i16, n: u8) -> i32 {
 }
 
 // What the machine says of two numbers of a width of at most 8 bits.
-fn wanted(op: Op, width: u8, chosen: bool, x: u8, y: u8) -> Option<i16> {
+fn wanted(op: Op, width: u8, given: Given) -> Option<i16> {
+    let Given { x, y, chosen } = given;
     let modulus: i16 = 1 << width.min(8);
     let places = y.min(8);
     let (a, b) = (i32::from(x), i32::from(y));
@@ -257,11 +289,19 @@ fn right(board: &mut Board, op: Op, question: &[u8]) -> Result<u64, Fault> {
     board.right(op, width, count, step)
 }
 
+// An operator, and a graph with nothing in it.
+fn board_of(alloc: Global, question: &[u8]) -> Result<(Op, Board), Fault> {
+    let op = named(&OPS, word(question, 0)).ok_or(Fault::Form)?;
+    let aig = Aig::new(alloc)?;
+    Ok((op, Board::new(alloc, aig)))
+}
+
 impl Judge for Circuits {
     fn row(&mut self, question: &[u8], wanted: &[u8], said: &mut Vec<u8>) -> Result<bool, Fault> {
-        let op = named(&OPS, word(question, 0)).ok_or(Fault::Form)?;
-        let mut board = Board::new(self.alloc)?;
-        put_number(said, right(&mut board, op, question)?)?;
+        let (op, mut board) = board_of(self.alloc, question)?;
+        let right = right(&mut board, op, question);
+        let (_, right) = both(board, right)?;
+        put_number(said, right)?;
         Ok(said.as_slice() == wanted)
     }
 }
@@ -272,31 +312,37 @@ pub struct Swapped {
 }
 
 // Tells what is the same once the operands are swapped.
-fn swap(board: &mut Board, op: Op, first: &[Lit], said: &mut Vec<u8>) -> Result<(), Fault> {
+fn swap(board: &mut Board, op: Op, said: &mut Vec<u8>) -> Result<(), Fault> {
     let len = board.aig.len();
-    board.swap();
-    board.make(op)?;
-    if board.out.as_slice() == first {
-        put(said, b"word")?;
-    }
-    if board.aig.len() == len {
-        put(said, b" and graph")?;
-    }
-    Ok(())
+    let word = board.make_swapped(op)?;
+    let words = board.out.as_slice() == word.as_slice();
+    put(said, if words { b"word" } else { b"no word" })?;
+    put(
+        said,
+        if board.aig.len() == len {
+            b" and graph"
+        } else {
+            b""
+        },
+    )
 }
 
-fn make_swapped(board: &mut Board, op: Op, width: usize, said: &mut Vec<u8>) -> Result<(), Fault> {
-    board.lay(width)?;
+fn try_swapped(
+    board: &mut Board,
+    op: Op,
+    question: &[u8],
+    said: &mut Vec<u8>,
+) -> Result<(), Fault> {
+    board.lay(size(word(question, 1))?)?;
     board.make(op)?;
-    let first = board.out.clone()?;
-    swap(board, op, &first, said)
+    swap(board, op, said)
 }
 
 impl Judge for Swapped {
     fn row(&mut self, question: &[u8], wanted: &[u8], said: &mut Vec<u8>) -> Result<bool, Fault> {
-        let op = named(&OPS, word(question, 0)).ok_or(Fault::Form)?;
-        let mut board = Board::new(self.alloc)?;
-        make_swapped(&mut board, op, size(word(question, 1))?, said)?;
+        let (op, mut board) = board_of(self.alloc, question)?;
+        let told = try_swapped(&mut board, op, question, said);
+        let (_, _) = both(board, told)?;
         Ok(said.as_slice() == wanted)
     }
 }

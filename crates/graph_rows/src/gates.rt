@@ -4,9 +4,8 @@
 //! `and 1 -2 => 4 of 5` makes a conjunction, and answers the literal and how many nodes there are; `pairs 300 => 45151` makes the
 //! conjunctions of all pairs of the first inputs; `len`, `inputs` and `gate 3` tell of the graph.
 
-use crate::nodes::size;
 use aig::{Aig, Gate, Lit};
-use case_rows::{Fault, Judge, Report, each_row, named, put, put_number, signed, word};
+use case_rows::{Fault, Judge, Report, each_row, named, put, put_number, signed, size, word};
 use std::alloc::Global;
 
 #[derive(Drop)]

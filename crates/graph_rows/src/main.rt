@@ -1,26 +1,20 @@
-//! Judges what the crates of vectors, graphs of nodes, gates, lists and joined wires give, by values that were worked out by hand. They
-//! stand in data/; what they mean stands at the head of each module.
+//! Judges what the crates of vectors, of the graph of expressions and of gates give, by values that were worked out by hand. They stand in
+//! data/; what they mean stands at the head of each module.
 #![tactic(auto)]
 
 mod circuits;
 mod gates;
-mod joins;
-mod lists;
 mod nodes;
-mod trees;
 mod values;
 
 use case_rows::{Bench, Fault, Report, each_row, judge_text, named, word};
 use circuits::{Circuits, Swapped};
 use gates::judge_gates;
-use joins::{Cut, judge_joins};
-use lists::{Calls, judge_ring};
 use nodes::{Becomes, Nodes, Substituted};
 use std::alloc::Global;
 use std::io::Write;
 use std::{env, fs, io};
 use svex_arena::Env;
-use trees::Trees;
 use values::{Entries, Planes, Values};
 
 #[derive(Clone, Copy)]
@@ -34,14 +28,9 @@ enum Key {
     Circuits,
     Swapped,
     Gates,
-    Calls,
-    Trees,
-    Cut,
-    Ring,
-    Joins,
 }
 
-static KEYS: [(&[u8], Key); 14] = [
+static KEYS: [(&[u8], Key); 9] = [
     (b"planes", Key::Planes),
     (b"entries", Key::Entries),
     (b"values", Key::Values),
@@ -51,11 +40,6 @@ static KEYS: [(&[u8], Key); 14] = [
     (b"circuits", Key::Circuits),
     (b"swapped", Key::Swapped),
     (b"gates", Key::Gates),
-    (b"calls", Key::Calls),
-    (b"trees", Key::Trees),
-    (b"cut", Key::Cut),
-    (b"ring", Key::Ring),
-    (b"joins", Key::Joins),
 ];
 
 /// What the entries of variables have.
@@ -92,15 +76,12 @@ impl Keys {
         }
     }
 
-    // Keys of gates, and of lists.
+    // Keys of gates.
     fn gates(&mut self, key: Key, block: &[u8], report: &mut Report) -> Result<(), Fault> {
         match key {
             Key::Circuits => each_row(&mut Circuits { alloc: self.alloc }, block, report),
             Key::Swapped => each_row(&mut Swapped { alloc: self.alloc }, block, report),
-            Key::Gates => judge_gates(self.alloc, block, report),
-            Key::Calls => each_row(&mut Calls::new(self.alloc), block, report),
-            Key::Trees => each_row(&mut Trees { alloc: self.alloc }, block, report),
-            _ => each_row(&mut Cut { alloc: self.alloc }, block, report),
+            _ => judge_gates(self.alloc, block, report),
         }
     }
 }
@@ -108,8 +89,6 @@ impl Keys {
 impl Bench for Keys {
     fn key(&mut self, line: &[u8], block: &[u8], report: &mut Report) -> Result<(), Fault> {
         match named(&KEYS, word(line, 0)) {
-            Some(Key::Ring) => judge_ring(self.alloc, line, block, report),
-            Some(Key::Joins) => judge_joins(self.alloc, line, block, report),
             Some(key) => self.expressions(key, block, report),
             None => report.take(line, Err(Fault::Form)),
         }

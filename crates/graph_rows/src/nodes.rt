@@ -9,7 +9,7 @@
 //!   many nodes its substitution makes, and what it becomes: `not now0.4 => 0 not now1.4`. Where it makes none, what it becomes is there
 //!   before.
 
-use case_rows::{Fault, Judge, built, named, number, put, put_number, word, words_from};
+use case_rows::{Fault, Judge, built, named, put, put_number, size, word, words_from};
 use std::alloc::Global;
 use svex_arena::{Arena, Node, Shape, Subst, VarName};
 use svex_rewrite::simplify;
@@ -34,11 +34,6 @@ pub struct Nodes {
     alloc: Global,
     arena: Arena,
     copy: Arena,
-}
-
-pub fn size(word: &[u8]) -> Result<usize, Fault> {
-    let value = number(word).ok_or(Fault::Form)?;
-    Ok(usize::try_from(value).unwrap_or(0))
 }
 
 fn put_size(said: &mut Vec<u8>, size: usize) -> Result<(), Fault> {

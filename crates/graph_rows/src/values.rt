@@ -5,6 +5,8 @@
 //! - `entries`: the vectors of each kind of variable: `now 000 001`.
 //! - `values`: an expression of the graph and its value, whose width the node has: `add 0111 0001 => 1000`.
 
+ghost use Rattle.std.specs.Prelude.{◌≤◌};
+
 use case_rows::{Fault, Judge, built, digits, named, put, put_digits, put_number, small, word};
 use fourvec::Four;
 use std::alloc::Global;
@@ -37,7 +39,9 @@ fn put_truth(said: &mut Vec<u8>, holds: bool) -> Result<(), Fault> {
 }
 
 // Puts the bits of a word of a plane.
-fn put_plane(said: &mut Vec<u8>, width: u8, plane: u128) -> Result<(), Fault> {
+fn put_plane(said: &mut Vec<u8>, width: u8, plane: u128) -> Result<(), Fault>
+    requires { width ≤ 128 }
+{
     for below in 0..width {
         let bit = plane >> (width - 1 - below) & 1;
         put(said, if bit == 1 { b"1" } else { b"0" })?;

@@ -5,8 +5,7 @@
 //! - `calls`: a list that owns its elements: `take 1 2`, `push 3`, `append 4 5`, `pop`, `set 1 9`, `get 4`, `empty`, `len`;
 //!   `whole` goes by way of the vector that it owns, and `boxed 7` is a number in a box.
 
-use crate::nodes::size;
-use case_rows::{Fault, Judge, Report, each_row, named, put, put_number, small, word};
+use case_rows::{Fault, Judge, Report, each_row, named, put, put_number, size, small, word};
 use idx_list::IdxList;
 use items::{Boxed, Items};
 use std::alloc::Global;

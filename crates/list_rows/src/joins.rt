@@ -11,8 +11,7 @@
 ghost use Rattle.std.specs.Prelude.{◌≡◌, ◌≤◌, All, IsTrue};
 ghost use Rattle.lhs_alias.specs.Joined.{widths_of};
 
-use crate::nodes::size;
-use case_rows::{Fault, Judge, Report, each_row, named, part, put, put_number, small, word};
+use case_rows::{Fault, Judge, Report, each_row, named, part, put, put_number, size, small, word};
 use items::both;
 use lhs_alias::{Joins, Lhs, Seg};
 use std::alloc::Global;

@@ -1,8 +1,7 @@
 //! Trees over lists and boxes. `trees`: a tree as words, a branch before what is on it, and the sum of its leaves modulo 256:
 //! `pair list.3 1 pair 20 30 list.0 4 => 55`.
 
-use crate::nodes::size;
-use case_rows::{Fault, Judge, part, put_number, small};
+use case_rows::{Fault, Judge, part, put_number, size, small};
 use items::{Boxed, Items, both};
 use std::alloc::{AllocError, Global};
 
@@ -111,7 +110,8 @@ pub struct Trees {
 impl Judge for Trees {
     fn row(&mut self, question: &[u8], wanted: &[u8], said: &mut Vec<u8>) -> Result<bool, Fault> {
         let mut stack = Items::new(self.alloc);
-        put_trees(self.alloc, question, &mut stack)?;
+        let put = put_trees(self.alloc, question, &mut stack);
+        let (stack, _) = both(stack, put)?;
         put_total(&stack, said)?;
         Ok(said.as_slice() == wanted)
     }
