@@ -64,8 +64,12 @@ some_statements text = some_of (word_test text) (statement text)
 abbrev pub made_goal : Word × (List Expr × List Expr) → GoalTree
 made_goal c = record { name = c.0; hyps = c.1.0; claims = c.1.1 }
 
+-- the hypotheses and the claims of a goal, up to the closing brace
+abbrev pub parts : Parser (List Expr × List Expr)
+parts = statements (codes "hyp") ⊗ (some_statements (codes "claim") ◂ mark m.RightBrace)
+
 unfoldable pub goal : Parser GoalTree
-goal = made_goal <$> (token (word_test (codes "goal")) ▸ (token id_test ⊗ (mark m.LeftBrace ▸ (statements (codes "hyp") ⊗ (some_statements (codes "claim") ◂ mark m.RightBrace)))))
+goal = made_goal <$> (token (word_test (codes "goal")) ▸ (token id_test ⊗ (mark m.LeftBrace ▸ parts)))
 
 unfoldable pub more_goals : Parser (List GoalTree)
 more_goals = many (word_test (codes "goal")) goal

@@ -61,6 +61,16 @@ fn some_statements(
     Ok(all)
 }
 
+// The hypotheses and the claims of a goal, up to the closing brace.
+fn parts(alloc: Global, tokens: &mut Reader<'_>) -> Result<(Items<Expr>, Items<Expr>), ParseErr>
+    ensures { Reads (spec.parts tokens.old) result tokens.new }
+{
+    let hyps = statements(alloc, tokens, b"hyp")?;
+    let claims = some_statements(alloc, tokens, b"claim")?;
+    tokens.mark(Mark::RightBrace)?;
+    Ok((hyps, claims))
+}
+
 #[tactic(auto, unfolding(crate::specs::Reading::goal))]
 fn goal(alloc: Global, tokens: &mut Reader<'_>) -> Result<GoalTree, ParseErr>
     ensures { Reads (spec.goal tokens.old) result tokens.new }
@@ -68,9 +78,7 @@ fn goal(alloc: Global, tokens: &mut Reader<'_>) -> Result<GoalTree, ParseErr>
     tokens.word(b"goal")?;
     let name = tokens.name(alloc)?;
     tokens.mark(Mark::LeftBrace)?;
-    let hyps = statements(alloc, tokens, b"hyp")?;
-    let claims = some_statements(alloc, tokens, b"claim")?;
-    tokens.mark(Mark::RightBrace)?;
+    let (hyps, claims) = parts(alloc, tokens)?;
     Ok(GoalTree { name, hyps, claims })
 }
 
