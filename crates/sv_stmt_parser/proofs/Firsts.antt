@@ -4,20 +4,17 @@ use Rattle.std.specs.Str.{bytes_eq}
 use Rattle.sv_outside.specs.declared.refusal.Place.{Place}
 use Rattle.sv_outside.specs.declared.text.Token.{Token}
 use Rattle.sv_tree.specs.declared.word.Word.{Word}
-use Rattle.sv_tree.specs.declared.stmts.Stmt.{Stmt}
 use Rattle.sv_cursor.specs.declared.error.ParseErr.{ParseErr}
 use Rattle.sv_cursor.specs.declared.error.ParseErr.TheVariants.{Syntax}
-use Rattle.sv_cursor.specs.declared.sort.Keyword.TheVariants as key
-use Rattle.sv_cursor.specs.declared.sort.Mark.TheVariants as m
 use Rattle.sv_cursor.specs.declared.sort.Sort.{Sort}
 use Rattle.sv_cursor.specs.declared.sort.Sort.TheVariants as s
 use Rattle.sv_cursor.specs.Sorts.{sort}
-use Rattle.sv_cursor.specs.Parsers.{Outcome, Parser, ◌<$>◌, ◌▷◌, ◌⊗◌, told, take_told, token}
-use Rattle.sv_cursor.specs.Tests.{mark, keyword, first_sort, id_test, id_by, place_test}
-use Rattle.sv_word_parser.specs.Combined.{◌▸◌, word_test, sign_of}
-use Rattle.sv_stmt_parser.specs.Stmts.{assign_test, with_place, made_for, turns, loop}
+use Rattle.sv_cursor.specs.Parsers.{Outcome, told, take_told, token}
+use Rattle.sv_cursor.specs.Tests.{first_sort, id_test, id_by, place_test}
+use Rattle.sv_word_parser.specs.Combined.{sign_of}
+use Rattle.sv_stmt_parser.specs.Stmts.{assign_test, with_place}
 use Rattle.sv_stmt_parser.specs.Targets.{repeat_test}
-use Rattle.sv_word_parser.specs.Words.{whole_by_word, assign_by_mark}
+use Rattle.sv_word_parser.specs.Words.{assign_by_mark}
 
 -- ---- assignments
 
@@ -67,9 +64,3 @@ pub no_name : (v : Word) (i : List Token) (z : ParseErr) → ◌≡◌ {A = Outc
 unfolding token repeat_test
 no_name v [] z e = e
 no_name v (a ∷ i) z e = none_by (bytes_eq a.text v.text) (id_test a) (a ∷ i) z e
-
--- ---- loops
-
-pub loop_parts : (stmt : Parser Stmt) (i : List Token) → ◌≡◌ {A = Outcome Stmt} (loop stmt i) ((made_for <$> (keyword key.For ⊗ (mark m.LeftParen ▸ (token (word_test whole_by_word) ⊗ (token id_test ▷ turns stmt))))) i)
-unfolding loop
-loop_parts stmt i = refl

@@ -519,7 +519,6 @@ impl<F: Fn(Global, &mut Cursor<'_>, u8) -> Result<Stmt, ParseErr>> Statements<F>
         both(variable, rest)
     }
 
-    #[tactic(auto, using(crate::proofs::Firsts::loop_parts))]
     fn counted(&self, tokens: &mut Cursor<'_>) -> Result<Stmt, ParseErr>
         requires { Nests (spec.stmt self.now.depth) self.now.depth (F.pre self.now.stmt) (F.post self.now.stmt) }
         ensures { Reads (spec.loop (spec.stmt self.now.depth) tokens.old) result tokens.new }

@@ -1,0 +1,23 @@
+use Rattle.std.proofs.Common.{rules}
+use Rattle.sv_stmt_parser.specs.Stmts.{loop}
+use Rattle.sv_stmt_parser.proofs.statements.Statements.counted.Goals as goal
+
+pub returns : goal.returns
+unfolding loop
+returns g c = search rules
+
+pub returns-in_err-place : goal.returns-in_err-place
+unfolding loop
+returns-in_err-place g c = search rules
+
+pub returns-in_err-mark : goal.returns-in_err-mark
+unfolding loop
+returns-in_err-mark g c = search rules
+
+pub returns-in_err-word : goal.returns-in_err-word
+unfolding loop
+returns-in_err-word g c = search rules
+
+pub returns-in_err-variable : goal.returns-in_err-variable
+unfolding loop
+returns-in_err-variable g c = search rules
