@@ -1,8 +1,8 @@
 -- Chains of conjunctions.
-use Rattle.std.proofs.Common.{◌≡◌, ℕ, zero, suc, ◌+◌, ◌-◌, ◌<◌, ◌≤◌, List, [], ◌∷◌, ◌++◌, length, get_or, replicate, refl, sym, ap, ◌∙◌, subst, inl, inr, ⊎_elim, arith}
+use Rattle.std.proofs.Common.{take, drop, ◌≡◌, ℕ, zero, suc, ◌+◌, ◌-◌, ◌<◌, ◌≤◌, List, [], ◌∷◌, ◌++◌, length, get_or, replicate, refl, sym, ap, ◌∙◌, subst, inl, inr, ⊎_elim, arith}
 use Rattle.std.specs.Prelude.{slice_index, slice_set}
 use Rattle.std.proofs.lemmas.Bool.{cases_eq, cases_lt}
-use Rattle.std.proofs.lemmas.List.{length-set, get_or-set_same, get_or-set_other, get_or_past}
+use Rattle.std.proofs.lemmas.List.{append-nil, drop_all, take_all, length-append, length-set, get_or-set_same, get_or-set_other, get_or_past}
 use Rattle.aig.specs.declared.gate.Lit.{Lit}
 use Rattle.aig.specs.declared.gate.Gate.{Gate}
 use Rattle.aig.specs.declared.gate.Gate.TheVariants.{False, Input, And}
@@ -62,6 +62,27 @@ index-none : (m b : ℕ) → slice_index (replicate m 0) b ≡ 0
 index-none zero b = refl
 index-none (suc m) zero = refl
 index-none (suc m) (suc b) = index-none m b
+
+index-more : (xs : List ℕ) (m k : ℕ) → slice_index (xs ++ replicate m 0) k ≡ slice_index xs k
+index-more [] m k = index-none m k
+index-more (x ∷ xs) m zero = refl
+index-more (x ∷ xs) m (suc k) = index-more xs m k
+
+-- places for older nodes that have none yet change nothing
+pub chained_longer : (gates : List Gate) (older newest : List ℕ) (n m : ℕ) → length older ≤ n → IsChained (length gates) gates older newest → IsChained (length gates) gates (take n older ++ replicate m 0) newest
+chained_longer gates older newest n m le c =
+    let whole : take n older ≡ older = take_all n older le in
+    let same : (k : ℕ) → slice_index (take n older ++ replicate m 0) k ≡ slice_index older k = λ k. ap (λ (xs : List ℕ). slice_index (xs ++ replicate m 0) k) whole ∙ index-more older m k in
+    let long : length older ≤ length (take n older ++ replicate m 0) = omega (arith, length-append (take n older) (replicate m 0), ap length whole) in
+    record {
+      room = λ k l b. omega (arith, c.room k l b);
+      newest_within = c.newest_within;
+      newest_above = c.newest_above;
+      newest_own = c.newest_own;
+      older_within = λ k l. omega (arith, same k, c.older_within k (omega (arith, same k)));
+      older_above = λ j k lt l b e. omega (arith, same k, c.older_above j k lt l b e);
+      older_own = λ k l b some. ap (slot_at newest gates) (same k) ∙ c.older_own k l b (omega (arith, same k));
+    }
 
 pub chained_none : (gates : List Gate) (older newest : List ℕ) → newest ≡ replicate (length newest) 0 → ((k : ℕ) → 0 < slice_index older k → slice_index older k < k) → IsChained 0 gates older newest
 chained_none gates older newest e within =
@@ -165,3 +186,10 @@ chained_same n old new older newest same c =
       older_above = λ j k h g w e. c.older_above j k h g (omega (arith, slot k g)) (sym (slot j (omega arith)) ∙ e ∙ slot k g);
       older_own = λ k h w some. slot (slice_index older k) (omega (arith, c.older_within k some)) ∙ c.older_own k h (omega (arith, slot k h)) some ∙ sym (slot k h);
     }
+
+-- ---- a list that was changed as a slice
+
+pub slice_back : {A : Type 0} → (n : ℕ) (new items was : List A) → n ≡ length items → length new ≡ length was → was ≡ items → take n (new ++ drop (length new) items) ≡ new
+slice_back n new items was e same is =
+    let l : length new ≡ length items = same ∙ ap length is in
+    ap (λ r. take n (new ++ r)) (drop_all (length new) items (omega arith)) ∙ ap (take n) (append-nil new) ∙ take_all n new (omega arith)

@@ -1,7 +1,7 @@
 //! The table that finds a conjunction by its operands: chains of nodes by number, each from a node to an older one.
 //! Number 0 ends a chain, since node 0 is no conjunction.
 
-ghost use Rattle.std.specs.Prelude.{◌≡◌, ℕ, ◌+◌, ◌<◌, ◌≤◌, IfOk, IfErr, IfSome, IfNone, [], ◌∷◌, ◌++◌, length, replicate, slice_index};
+ghost use Rattle.std.specs.Prelude.{◌≡◌, ℕ, ◌+◌, ◌<◌, ◌≤◌, IfOk, OnOk, IfErr, IfSome, IfNone, [], ◌∷◌, ◌++◌, length, replicate, slice_index};
 ghost use Rattle.aig.specs.declared.gate.Gate.TheVariants.{False, And};
 ghost use Rattle.aig.specs.Graph.{gate_at, IsIn};
 ghost use Rattle.aig.specs.Table.{code_of, slot_of, IsChained, HasNone, IsLinked, IsNodeOf};
@@ -81,6 +81,30 @@ fn link_all(gates: &[Gate], older: &mut [usize], newest: &mut [usize])
     }
 }
 
+/// Empties the slots, and links all nodes.
+fn link_anew(gates: &[Gate], older: &mut [usize], newest: &mut [usize])
+    requires slots { 0 < length newest.old }
+    requires room { length gates.now ≤ length older.old }
+    requires within { (k : ℕ) → 0 < slice_index older.old k → slice_index older.old k < k }
+    ensures { IsChained (length gates.now) gates.now older.new newest.new }
+{
+    newest.fill(0);
+    link_all(gates, older, newest);
+}
+
+/// Makes room for one more node among the older ones.
+fn lengthen(gates: &[Gate], older: &mut Vec<usize>, newest: &[usize]) -> Result<(), AllocError>
+    requires chained { IsChained (length gates.now) gates.now older.old.items newest.now }
+    ensures chained { IsChained (length gates.now) gates.now older.new.items newest.now }
+    ensures room { OnOk result (length gates.now < length older.new.items) }
+{
+    let node = gates.len();
+    if older.len() <= node {
+        older.resize(node + 1, 0)?;
+    }
+    Ok(())
+}
+
 /// Makes room for one more conjunction, and more slots where there are fewer than nodes.
 pub fn make_room(
     gates: &[Gate],
@@ -93,14 +117,11 @@ pub fn make_room(
     ensures chained { IsChained (length gates.now) gates.now older.new.items newest.new.items }
     ensures room { IfOk result (λ _. length gates.now < length older.new.items) }
 {
+    lengthen(gates, older, newest)?;
     let node = gates.len();
-    if older.len() <= node {
-        older.resize(node + 1, 0)?;
-    }
     if newest.len() <= node {
         newest.resize(2 * node + 1, 0)?;
-        newest.as_mut_slice().fill(0);
-        link_all(gates, older.as_mut_slice(), newest.as_mut_slice());
+        link_anew(gates, older.as_mut_slice(), newest.as_mut_slice());
     }
     Ok(())
 }

@@ -17,10 +17,8 @@ use Rattle.sat_core.specs.Trail.{IsQuiet, all_of}
 use Rattle.refute_check.specs.Fresh.{IsNew, IsFresh}
 
 -- every clause names variables in range
-pub all_below : (vars : ℕ) (clauses : List (Vec Dim Global)) (log : List Entry) → AllBelow vars (map (λ v. v.items) clauses) → IsFresh (formula_of vars (map (λ v. v.items) clauses)) log (length log) →
-    AllBelow vars (all_of clauses log)
-all_below vars clauses log h fresh =
-    known_below vars vars (map (λ v. v.items) clauses) log (length log) (omega arith) (omega arith) h (λ j lt. (fresh.each j lt).derived)
+pub all_below : (vars : ℕ) (clauses : List (List Dim)) (log : List Entry) → AllBelow vars clauses → IsFresh (formula_of vars clauses) log (length log) → AllBelow vars (all_of clauses log)
+all_below vars clauses log h fresh = known_below vars vars clauses log (length log) (omega arith) (omega arith) h (λ j lt. (fresh.each j lt).derived)
 
 known_front : (formula : Formula) (log : List Entry) (s : Entry) (k : ℕ) → k ≤ length log → known formula (log ++ s ∷ []) k ≡ known formula log k
 known_front formula log s k le = ap (λ l. formula.clauses ++ map (λ (t : Entry). t.clause) l) (take-append-le k log (s ∷ []) le)

@@ -3,7 +3,7 @@ use Rattle.std.proofs.Common.{◌≡◌, ◌≢◌, ℕ, ◌<◌, ◌≤◌, ◌
 use Rattle.std.specs.Prelude.{IfSome}
 use Rattle.std.specs.List.{All, Contains, filter}
 use Rattle.std.proofs.lemmas.Bool.{cases_eq, eq-eqb, ne_eqb, cases_lt}
-use Rattle.std.proofs.lemmas.List.{get_or_default}
+use Rattle.std.proofs.lemmas.List.{get_or_append_left, get_or_default, get_or_past, get_or_push}
 use Rattle.std.proofs.lemmas.List.Elements.{Contains-append_left, Contains-append_right}
 use Rattle.std.proofs.lemmas.Option.{none-some}
 use Rattle.idx_list.specs.Order.{without, IsLast, Follow}
@@ -11,6 +11,17 @@ use Rattle.idx_list.specs.Ring.{Has}
 use Rattle.idx_list.proofs.Chains.{Has-append, Has-right, Has-from_Contains, Contains-from_Has, without-has_not}
 use Rattle.cnf.specs.Clauses.{valuation}
 use Rattle.sat_core.specs.Queue.{stamp_at, Falls, IsPast, IsQueue, IsListed, rank_of}
+
+-- ---- the first stamps
+
+pub stamped_more : (stamps : List ℕ) (vars n x : ℕ) → length stamps ≡ n → x ≡ vars - n → ((v : ℕ) → v < n → stamp_at stamps v ≡ vars - v) → (v : ℕ) → v < n + 1 → stamp_at (stamps ++ x ∷ []) v ≡ vars - v
+stamped_more stamps vars n x len is before v below = ⊎_elim
+    (λ e. rw e (get_or_push stamps x 0 n len ∙ is))
+    (λ ne. get_or_append_left stamps (x ∷ []) 0 v (omega arith) ∙ before v (omega arith))
+    (cases_eq v n)
+
+pub stamped_all : (stamps : List ℕ) (vars : ℕ) → length stamps ≡ vars → ((v : ℕ) → v < vars → stamp_at stamps v ≡ vars - v) → (v : ℕ) → stamp_at stamps v ≡ vars - v
+stamped_all stamps vars len each v = ⊎_elim (λ lt. each v lt) (λ le. get_or_past stamps v 0 (omega arith) ∙ omega arith) (cases_lt v vars)
 
 -- ---- lists with falling stamps
 

@@ -1,7 +1,7 @@
 -- The given clauses are watched one after another.
 use Rattle.std.proofs.Common.{◌≡◌, ◌≢◌, ℕ, ◌<◌, ◌≤◌, ◌+◌, ◌*◌, ◌⊎◌, inl, inr, Bool, true, false, not, Option, Some, None, List, [], ◌∷◌, ◌++◌, length, take, map, reverse, MatchOption, sym, refl, ap, ◌∙◌, arith, subst, ⊎_elim, Vec, Global}
 use Rattle.std.specs.List.{All, Contains}
-use Rattle.std.proofs.lemmas.List.{append-nil, take_more, take_all, length-take-le, length-map}
+use Rattle.std.proofs.lemmas.List.{take_more, take_all, length-take-le, length-map}
 use Rattle.std.proofs.lemmas.List.Elements.{All-nil, All-head, All-contains, All-weaker}
 use Rattle.std.proofs.lemmas.Option.{none-some}
 use Rattle.cnf.specs.declared.Dim.{Dim}
@@ -11,7 +11,7 @@ use Rattle.sat_core.specs.declared.trail.Assigned.{Assigned}
 use Rattle.sat_core.specs.declared.watch.Pair.{Pair}
 use Rattle.sat_core.specs.declared.watch.Watch.{Watch}
 use Rattle.sat_core.specs.Lists.{TrailLists}
-use Rattle.sat_core.specs.Trail.{falses, all_of, Tracks, IsApart, IsExplained}
+use Rattle.sat_core.specs.Trail.{falses, Tracks, IsApart, IsExplained}
 use Rattle.sat_core.specs.Learn.{IsBelow}
 use Rattle.sat_core.specs.Watch.{HasTrue, IsHalf, AllHalf, ArePairs, AreLists, WasCalm, IsGood, pair_at, with_pair}
 use Rattle.sat_core.specs.Walk.{before}
@@ -137,15 +137,13 @@ started_force vars db k pairs rows t t2 found p lt same by width grown end h =
 -- all are watched
 pub started_all : (vars : ℕ) (clauses : List (Vec Dim Global)) (pairs : List Pair) (rows : List (List Watch)) (t : TrailLists) (found : Option ℕ) →
     IsStarted vars (map (λ v. v.items) clauses) (length clauses) pairs rows t found →
-    IsReady vars (all_of clauses []) pairs rows t × MatchOption found (IsHalfway (all_of clauses []) pairs t 0) (λ k. (k < length (all_of clauses [])) × IsConflict (valuation t.values) (clause_at (all_of clauses []) k))
+    IsReady vars (map (λ v. v.items) clauses) pairs rows t × MatchOption found (IsHalfway (map (λ v. v.items) clauses) pairs t 0) (λ k. (k < length (map (λ v. v.items) clauses)) × IsConflict (valuation t.values) (clause_at (map (λ v. v.items) clauses) k))
 started_all vars clauses pairs rows t found h0 =
-    let m : List (List Dim) = map (λ v. v.items) clauses in
-    let all : m ≡ all_of clauses [] = sym (append-nil m) in
-    let len : length clauses ≡ length m = sym (length-map clauses (λ v. v.items)) in
-    let db : List (List Dim) = all_of clauses [] in
-    let h : IsStarted vars db (length m) pairs rows t found = subst (λ (d : List (List Dim)). IsStarted vars d (length m) pairs rows t found) all (subst (λ (n : ℕ). IsStarted vars m n pairs rows t found) len h0) in
-    let whole : take (length m) db ≡ db = take_all (length m) db (let e : length m ≡ length db = ap length all in omega arith) in
-    let P : Option ℕ → Type 0 = λ o. MatchOption o (AllHalf (take (length m) db) pairs (before t.entries 0) (valuation t.values)) (λ j. (j < length db) × IsConflict (valuation t.values) (clause_at db j)) →
+    let db : List (List Dim) = map (λ v. v.items) clauses in
+    let len : length clauses ≡ length db = sym (length-map clauses (λ v. v.items)) in
+    let h : IsStarted vars db (length db) pairs rows t found = subst (λ (n : ℕ). IsStarted vars db n pairs rows t found) len h0 in
+    let whole : take (length db) db ≡ db = take_all (length db) db (omega arith) in
+    let P : Option ℕ → Type 0 = λ o. MatchOption o (AllHalf (take (length db) db) pairs (before t.entries 0) (valuation t.values)) (λ j. (j < length db) × IsConflict (valuation t.values) (clause_at db j)) →
     MatchOption o (IsHalfway db pairs t 0) (λ k. (k < length db) × IsConflict (valuation t.values) (clause_at db k)) in
     let at : (o : Option ℕ) → P o = λ o. elim o as P [
       | None ↦ λ half. record { range = omega arith; half = subst (λ (d : List (List Dim)). AllHalf d pairs (before t.entries 0) (valuation t.values)) whole half }

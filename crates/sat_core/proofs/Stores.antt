@@ -28,6 +28,13 @@ kept dims dims2 spans h front =
 pub inside_more : (n m : ℕ) (spans : List Span) → All (IsInside n) spans → n ≤ m → All (IsInside m) spans
 inside_more n m spans h le = All-weaker (IsInside n) (IsInside m) (λ p i. (i.0, omega (arith, i.1, le))) spans h
 
+-- what stands in front as literals come behind it
+pub front_of : (old new more : List Dim) → new ≡ old ++ more → take (length old) new ≡ old
+front_of old new more is = ap (take (length old)) is ∙ take-append-le (length old) old more (omega arith) ∙ take_all (length old) old (omega arith)
+
+pub longer_than : (old new more : List Dim) → new ≡ old ++ more → length old ≤ length new
+longer_than old new more is = (let l = ap length is ∙ length-append old more in omega (arith, l))
+
 drop_front : (dims more : List Dim) → drop (length dims) (dims ++ more) ≡ more
 drop_front [] more = refl
 drop_front (d ∷ ds) more = drop_front ds more

@@ -47,5 +47,5 @@ pub record IsSound (db : List (List Dim)) (values : List (Option Bool)) (trail :
   pub explained : IsExplained db (reverse trail)
 
 -- the clauses, and those of the steps
-abbrev pub all_of : List (Vec Dim Global) → List Entry → List (List Dim)
-all_of clauses steps = known_of (map (λ v. v.items) clauses) steps (length steps)
+abbrev pub all_of : List (List Dim) → List Entry → List (List Dim)
+all_of clauses steps = known_of clauses steps (length steps)

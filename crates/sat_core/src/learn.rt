@@ -441,8 +441,7 @@ pub fn learn(
         steps.push(step)?;
         return Ok(None);
     }
-    trail.bump_all(&mut notes.walked)?;
-    trail.reserve_places(store.len().saturating_add(1))?;
+    trail.after_conflict(&mut notes.walked, store.len().saturating_add(1))?;
     let from = take_up(
         trail,
         seen,

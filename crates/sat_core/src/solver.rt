@@ -1,14 +1,14 @@
 //! The solver.
 
-ghost use Rattle.std.specs.Prelude.{◌≡◌, ℕ, ◌*◌, ◌+◌, ◌<◌, ◌≤◌, None, IfOk, IfSome, IsSomeAnd, IsTrue, ◌↔◌, unwrap_or, false, length, map, [], OnOk};
+ghost use Rattle.std.specs.Prelude.{◌≡◌, ℕ, ◌*◌, ◌+◌, ◌<◌, ◌≤◌, None, IfOk, IfSome, IsSomeAnd, IsTrue, ◌↔◌, unwrap_or, false, length, map, [], OnOk, Option};
 ghost use Rattle.std.specs.List.{All};
-ghost use Rattle.cnf.specs.Formula.{formula_of};
+ghost use Rattle.cnf.specs.Formula.{Formula, formula_of};
 ghost use Rattle.cnf.specs.Clauses.{AllBelow, all_open, valuation};
 ghost use Rattle.sat_core.specs.Trail.{IsQuiet};
 ghost use Rattle.sat_core.specs.Watch.{rows};
 ghost use Rattle.sat_core.specs.Found.{IsFound};
 ghost use Rattle.sat_core.specs.Lesson.{IsHalfway, IsReady};
-ghost use Rattle.sat_core.specs.End.{IsRightEnd};
+ghost use Rattle.sat_core.specs.End.{IsRightEnd, IsRightStop};
 
 use crate::back::restart;
 use crate::learn::{Notes, learn};
@@ -77,7 +77,106 @@ fn conflict_of(
     }
 }
 
+/// Why the learning ended. The steps so far stand beside it.
+#[derive(Drop)]
+enum Stop {
+    /// Each clause holds under these values.
+    Solved(Vec<bool>),
+    /// The last step is the empty clause.
+    Refuted,
+    /// There are as many steps as the budget.
+    UsedUp,
+}
+
 /// Learns a clause from each conflict, until there is none or the steps are as many as the budget.
+fn learn_all(
+    alloc: Global,
+    budget: Option<u64>,
+    trail: &mut Trail,
+    seen: &mut [bool],
+    pairs: &mut Vec<Pair>,
+    lists: &mut [Vec<Watch>],
+    store: &mut Store,
+    steps: &mut Vec<Step>,
+    notes: &mut Notes,
+    first: Option<usize>,
+) -> Result<Stop, AllocError>
+    requires clauses { AllBelow (length trail.old.values) store.old }
+    requires budget { IfSome budget (λ n. 0 < n) }
+    requires seen { length seen.old ≡ length trail.old.values }
+    requires steps { steps.old.items ≡ [] }
+    requires ready { IsReady (length trail.old.values) store.old pairs.old.items (rows lists.old) trail.old }
+    requires found { IsFound store.old (valuation trail.old.values) first (IsHalfway store.old pairs.old.items trail.old 0) }
+    ensures { IfOk result (IsRightStop (formula_of (length trail.old.values) store.old) budget steps.new.items) }
+{
+    let mut found = first;
+    let mut from = 0;
+    'conflicts: loop {
+        match conflict_of(alloc, trail, pairs, lists, found, from, store)? {
+            None => {
+                return Ok(Stop::Solved(solution(alloc, trail.values())?));
+            }
+            Some(conflict) => {
+                match learn(
+                    alloc, trail, seen, pairs, lists, store, steps, notes, conflict,
+                )? {
+                    None => return Ok(Stop::Refuted),
+                    Some(next) => {
+                        if is_spent(budget, steps.len()) {
+                            return Ok(Stop::UsedUp);
+                        }
+                        from = restart(trail, next);
+                        found = None;
+                    }
+                }
+            }
+        }
+    }
+}
+
+// The end, with the steps where they are its log.
+fn ended(stop: Stop, steps: Vec<Step>) -> SatEnd
+    ensures { (formula : Formula) (budget : Option ℕ) → IsRightStop formula budget steps.items stop → IsRightEnd formula budget result }
+{
+    match stop {
+        Stop::Solved(values) => SatEnd::Sat(values),
+        Stop::Refuted => SatEnd::Unsat(Log { steps }),
+        Stop::UsedUp => SatEnd::Spent(Log { steps }),
+    }
+}
+
+/// Watches the clauses, which the store has, and learns until the end.
+fn run_on(
+    alloc: Global,
+    clauses: &[Vec<Dim>],
+    budget: Option<u64>,
+    trail: &mut Trail,
+    seen: &mut [bool],
+    lists: &mut [Vec<Watch>],
+    notes: &mut Notes,
+    store: &mut Store,
+) -> Result<SatEnd, AllocError>
+    requires clauses { AllBelow (length trail.old.values) (map (λ v. v.items) clauses.now) }
+    requires budget { IfSome budget (λ n. 0 < n) }
+    requires open { valuation trail.old.values ≡ all_open }
+    requires empty { trail.old.entries ≡ [] }
+    requires seen { length seen.old ≡ length trail.old.values }
+    requires count { length (rows lists.old) ≡ 2 * length trail.old.values }
+    requires lists { All (λ row. row ≡ []) (rows lists.old) }
+    requires store { store.old ≡ map (λ v. v.items) clauses.now }
+    ensures { IfOk result (IsRightEnd (formula_of (length trail.old.values) (map (λ v. v.items) clauses.now)) budget) }
+{
+    make_all_room(lists, &mut notes.uses, store)?;
+    let mut pairs: Vec<Pair> = Vec::new(alloc);
+    let found = start(trail, &mut pairs, lists, clauses)?;
+    let mut steps: Vec<Step> = Vec::new(alloc);
+    let stop = learn_all(
+        alloc, budget, trail, seen, &mut pairs, lists, store, &mut steps, notes, found,
+    )?;
+    Ok(ended(stop, steps))
+}
+
+/// Puts the clauses into a store, and runs.
 fn run(
     alloc: Global,
     clauses: &[Vec<Dim>],
@@ -96,33 +195,10 @@ fn run(
     requires lists { All (λ row. row ≡ []) (rows lists.old) }
     ensures { IfOk result (IsRightEnd (formula_of (length trail.old.values) (map (λ v. v.items) clauses.now)) budget) }
 {
-    let mut pairs: Vec<Pair> = Vec::new(alloc);
-    let mut steps: Vec<Step> = Vec::new(alloc);
     let mut store = Store::from_clauses(alloc, clauses)?;
-    make_all_room(lists, &mut notes.uses, &store)?;
-    let mut found = start(trail, &mut pairs, lists, clauses)?;
-    let mut from = 0;
-    loop {
-        match conflict_of(alloc, trail, &mut pairs, lists, found, from, &store)? {
-            None => {
-                return Ok(SatEnd::Sat(solution(alloc, trail.values())?));
-            }
-            Some(conflict) => {
-                match learn(
-                    alloc, trail, seen, &mut pairs, lists, &mut store, &mut steps, notes, conflict,
-                )? {
-                    None => return Ok(SatEnd::Unsat(Log { steps })),
-                    Some(next) => {
-                        if is_spent(budget, steps.len()) {
-                            return Ok(SatEnd::Spent(Log { steps }));
-                        }
-                        from = restart(trail, next);
-                        found = None;
-                    }
-                }
-            }
-        }
-    }
+    run_on(
+        alloc, clauses, budget, trail, seen, lists, notes, &mut store,
+    )
 }
 
 /// Empty lists.
@@ -146,7 +222,36 @@ fn preference(clauses: &[Vec<Dim>]) -> Preference {
     }
 }
 
-/// Makes room and runs.
+/// Makes the lists and the trail, and runs.
+fn solve_with(
+    alloc: Global,
+    vars: usize,
+    count: usize,
+    clauses: &[Vec<Dim>],
+    budget: Option<u64>,
+    seen: &mut [bool],
+    notes: &mut Notes,
+) -> Result<SatEnd, AllocError>
+    requires count { count ≡ 2 * vars }
+    requires clauses { AllBelow vars (map (λ v. v.items) clauses.now) }
+    requires budget { IfSome budget (λ n. 0 < n) }
+    requires seen { length seen.old ≡ vars }
+    ensures { IfOk result (IsRightEnd (formula_of vars (map (λ v. v.items) clauses.now)) budget) }
+{
+    let mut lists = empty_lists(alloc, count)?;
+    let mut trail = Trail::new(alloc, vars, preference(clauses))?;
+    run(
+        alloc,
+        clauses,
+        budget,
+        &mut trail,
+        seen,
+        lists.as_mut_slice(),
+        notes,
+    )
+}
+
+/// Makes room and solves.
 fn solve_all(
     alloc: Global,
     vars: usize,
@@ -158,17 +263,15 @@ fn solve_all(
     ensures { IfOk result (IsRightEnd (formula_of vars (map (λ v. v.items) clauses.now)) budget) }
 {
     let count = vars.checked_mul(2).ok_or(AllocError)?;
-    let mut trail = Trail::new(alloc, vars, preference(clauses))?;
     let mut seen = vec![in alloc; false; vars]?;
-    let mut lists = empty_lists(alloc, count)?;
     let mut notes = Notes::new(alloc, count)?;
-    run(
+    solve_with(
         alloc,
+        vars,
+        count,
         clauses,
         budget,
-        &mut trail,
         seen.as_mut_slice(),
-        lists.as_mut_slice(),
         &mut notes,
     )
 }

@@ -35,6 +35,16 @@ impl Model for Store {
     ghost invariant = { λ s. All (IsInside (length s.lits.items)) s.spans.items };
 }
 
+// Appends a literal.
+fn write_one(lits: &mut Vec<Lit>, d: Dim) -> Result<(), AllocError>
+    ensures added { OnOk result (lits.new.items ≡ lits.old.items ++ d ∷ []) }
+    ensures unchanged { OnErr result (lits.new.items ≡ lits.old.items) }
+{
+    let lit = Lit::of(d)?;
+    lits.push(lit)?;
+    Ok(())
+}
+
 /// Appends these literals, or, where there is no memory for all, some.
 fn write(lits: &mut Vec<Lit>, clause: &[Dim]) -> Result<(), AllocError>
     ensures all { OnOk result (lits.new.items ≡ lits.old.items ++ clause.now) }
@@ -42,8 +52,7 @@ fn write(lits: &mut Vec<Lit>, clause: &[Dim]) -> Result<(), AllocError>
     ensures longer { length lits.old.items ≤ length lits.new.items }
 {
     for d in clause {
-        let lit = Lit::of(*d)?;
-        lits.push(lit)?;
+        write_one(lits, *d)?;
     }
     Ok(())
 }

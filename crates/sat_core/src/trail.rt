@@ -156,20 +156,14 @@ impl Trail {
         }
     }
 
-    /// Makes room for the places of so many clauses.
-    pub fn reserve_places(&mut self, count: usize) -> Result<(), AllocError>
-        ensures { self.new ≡ self.old }
-    {
-        fill_up(&mut self.places, count)
-    }
-
-    /// Lets the variables of a conflict, the newest first, be chosen before all others.
-    pub fn bump_all(&mut self, walked: &mut [usize]) -> Result<(), AllocError>
+    /// After a conflict: lets its variables, the newest first, be chosen before all others, and makes room for the places of so
+    /// many clauses.
+    pub fn after_conflict(&mut self, walked: &mut [usize], count: usize) -> Result<(), AllocError>
         ensures { self.new ≡ self.old }
     {
         self.order.arrange(walked)?;
         self.queue.bump_all(&self.values, walked);
-        Ok(())
+        fill_up(&mut self.places, count)
     }
 
     /// Whether the variables that stood in the most of the newest conflicts are preferred now.

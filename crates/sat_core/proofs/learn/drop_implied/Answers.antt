@@ -7,6 +7,7 @@ use Rattle.sat_core.specs.Learn.{seen_at, no_assigned, Suffices, IsTraced}
 use Rattle.sat_core.proofs.Steps.{explained_front, place_is, front_is, reason_known}
 use Rattle.sat_core.proofs.Rows.{dim_near}
 use Rattle.sat_core.proofs.Shorter.{dropped}
+use Rattle.std.proofs.lemmas.Result.{IfOk-from_err}
 use Rattle.sat_core.proofs.learn.drop_implied.Goals as goal
 
 pub bounds-seen-e : goal.bounds-seen-e
@@ -52,3 +53,19 @@ returns-in_ok-push-in-Some-clause-traced c =
     (subst (λ (y : Assigned). y.reason ≡ Some r) same c.in-Some.is) (subst (λ (y : Assigned). seen_at c.args.seen.now y.dim.var ≡ true) same c.if-not-seen-e.false)
     (subst (λ (y : Assigned). All (λ d. d.var ≢ y.dim.var → seen_at c.args.seen.now d.var ≡ true) (clause_at db r)) same marked0) c.requires.enough c.requires.traced in
     subst (λ (y : Assigned). IsTraced (set c.args.seen.now y.dim.var false) (reverse (take c.args.left entries))) (sym same) both.1
+
+pub returns-in_err-note_dropped-in-Some : goal.returns-in_err-note_dropped-in-Some
+returns-in_err-note_dropped-in-Some c =
+    let e = c.from_residual.ensures.0 in
+    record {
+      enough = IfOk-from_err _ _ e;
+      traced = IfOk-from_err _ _ e;
+    }
+
+pub returns-in_err-push-in-Some : goal.returns-in_err-push-in-Some
+returns-in_err-push-in-Some c =
+    let e = c.from_residual-in_err-push-in-Some.ensures.0 in
+    record {
+      enough = IfOk-from_err _ _ e;
+      traced = IfOk-from_err _ _ e;
+    }

@@ -9,6 +9,7 @@ use Rattle.sat_core.specs.Lesson.{IsReady, IsHalfway}
 use Rattle.sat_core.specs.declared.watch.Watch.{Watch}
 use Rattle.sat_core.specs.Watch.{first_pair, rows, with_pair}
 use Rattle.sat_core.proofs.Learned.{taken_up}
+use Rattle.std.proofs.lemmas.Result.{IfOk-from_err}
 use Rattle.sat_core.proofs.learn.take_up.Goals as goal
 
 pub clause-requires : goal.clause-requires
@@ -51,3 +52,63 @@ returns-clause-half c =
     subst (λ (n : ℕ). IsHalfway c.push.new.self c.watch_pair.new.pairs.items c.assign.new.self n) (sym at)
     (subst (λ (t : List (List Dim)). IsHalfway t c.watch_pair.new.pairs.items c.assign.new.self (length c.go_back.new.trail.entries)) (sym stored)
     (subst (λ (q : List Pair). IsHalfway (db ++ s.clause ∷ []) q c.assign.new.self (length c.go_back.new.trail.entries)) (sym c.in_ok-watch_pair.ensures.pairs) both.1))
+
+pub returns-in_err-pair : goal.returns-in_err-pair
+returns-in_err-pair c =
+    let e = c.from_residual.ensures.0 in
+    record {
+      step = IfOk-from_err _ _ e;
+      store = IfOk-from_err _ _ e;
+      ready = IfOk-from_err _ _ e;
+      half = IfOk-from_err _ _ e;
+    }
+
+pub returns-in_err-push : goal.returns-in_err-push
+returns-in_err-push c =
+    let e = c.from_residual-in_err-push.ensures.0 in
+    record {
+      step = IfOk-from_err _ _ e;
+      store = IfOk-from_err _ _ e;
+      ready = IfOk-from_err _ _ e;
+      half = IfOk-from_err _ _ e;
+    }
+
+pub returns-in_err-make_room : goal.returns-in_err-make_room
+returns-in_err-make_room c =
+    let e = c.from_residual-in_err-make_room.ensures.0 in
+    record {
+      step = IfOk-from_err _ _ e;
+      store = IfOk-from_err _ _ e;
+      ready = IfOk-from_err _ _ e;
+      half = IfOk-from_err _ _ e;
+    }
+
+pub returns-in_err-watch_pair : goal.returns-in_err-watch_pair
+returns-in_err-watch_pair c =
+    let e = c.from_residual-in_err-watch_pair.ensures.0 in
+    record {
+      step = IfOk-from_err _ _ e;
+      store = IfOk-from_err _ _ e;
+      ready = IfOk-from_err _ _ e;
+      half = IfOk-from_err _ _ e;
+    }
+
+pub returns-in_err-push-2 : goal.returns-in_err-push-2
+returns-in_err-push-2 c =
+    let e = c.from_residual-in_err-push-2.ensures.0 in
+    record {
+      step = IfOk-from_err _ _ e;
+      store = IfOk-from_err _ _ e;
+      ready = IfOk-from_err _ _ e;
+      half = IfOk-from_err _ _ e;
+    }
+
+pub returns-in_err-assign : goal.returns-in_err-assign
+returns-in_err-assign c =
+    let e = c.from_residual-in_err-assign.ensures.0 in
+    record {
+      step = IfOk-from_err _ _ e;
+      store = IfOk-from_err _ _ e;
+      ready = IfOk-from_err _ _ e;
+      half = IfOk-from_err _ _ e;
+    }

@@ -7,6 +7,7 @@ use Rattle.sat_core.specs.Learn.{seen_at, Suffices}
 use Rattle.sat_core.proofs.Steps.{trail_range}
 use Rattle.sat_core.proofs.Learned.{taught}
 use Rattle.sat_core.proofs.Shorter.{suffices_first, nothing_left}
+use Rattle.std.proofs.lemmas.Result.{IfOk-from_err}
 use Rattle.sat_core.proofs.learn.teach.Goals as goal
 
 pub shorten-requires-clause-enough : goal.shorten-requires-clause-enough
@@ -35,3 +36,39 @@ returns-clause-taught c = λ some.
     c.requires.sound.tracks.apart c.requires.sound.explained some c.in_ok-left.ensures.range c.in_ok-shorten.ensures.traced c.in_ok-shorten.ensures.enough
     (subst (λ (t : List Assigned). c.in_ok-clause.clause.items ≡ filter (λ d. seen_at c.shorten.new.seen d.var) (falses (take c.in_ok-left.left t))) c.entries.ensures c.in_ok-clause.ensures)
     (c.in_ok-kept.ensures.items ∙ c.as_slice.ensures.value ∙ c.reverse.ensures.items)
+
+pub returns-in_err-left : goal.returns-in_err-left
+returns-in_err-left c =
+    let e = c.from_residual.ensures.0 in
+    record {
+      range = IfOk-from_err _ _ e;
+      last = IfOk-from_err _ _ e;
+      taught = IfOk-from_err _ _ e;
+    }
+
+pub returns-in_err-shorten : goal.returns-in_err-shorten
+returns-in_err-shorten c =
+    let e = c.from_residual-in_err-shorten.ensures.0 in
+    record {
+      range = IfOk-from_err _ _ e;
+      last = IfOk-from_err _ _ e;
+      taught = IfOk-from_err _ _ e;
+    }
+
+pub returns-in_err-clause : goal.returns-in_err-clause
+returns-in_err-clause c =
+    let e = c.from_residual-in_err-clause.ensures.0 in
+    record {
+      range = IfOk-from_err _ _ e;
+      last = IfOk-from_err _ _ e;
+      taught = IfOk-from_err _ _ e;
+    }
+
+pub returns-in_err-kept : goal.returns-in_err-kept
+returns-in_err-kept c =
+    let e = c.from_residual-in_err-kept.ensures.0 in
+    record {
+      range = IfOk-from_err _ _ e;
+      last = IfOk-from_err _ _ e;
+      taught = IfOk-from_err _ _ e;
+    }

@@ -8,6 +8,7 @@ use Rattle.sat_core.specs.Trail.{IsApart, IsExplained}
 use Rattle.sat_core.specs.Learn.{Explains, seen_at}
 use Rattle.sat_core.proofs.Steps.{trail_range, apart_front, explained_front, place_is, front_is, trace_pop, trace_resolve, reason_known}
 use Rattle.sat_core.proofs.Rows.{dim_near}
+use Rattle.std.proofs.lemmas.Result.{IfOk-from_err}
 use Rattle.sat_core.proofs.learn.trace.Goals as goal
 use Rattle.sat_core.proofs.learn.trace.Goals.{then-seen-e+in_ok-note+else-count-le1+in-Some+in_ok-push-in-Some, else-seen-e}
 
@@ -70,3 +71,30 @@ loop-i-preserved c =
         explains = trace_pop db vars old (take k entries) x c.loop-i.seen c.loop-i.hints.items apart place (ap (λ (y : Assigned). seen_at c.loop-i.seen y.dim.var) (sym same) ∙ w.if-seen-e.false) h;
       })
     ]
+
+pub returns-in_err-push : goal.returns-in_err-push
+returns-in_err-push c =
+    let e = c.from_residual.ensures.0 in
+    record {
+      range = IfOk-from_err _ _ e;
+      explains = IfOk-from_err _ _ e;
+      traced = IfOk-from_err _ _ e;
+    }
+
+pub returns-in_err-note : goal.returns-in_err-note
+returns-in_err-note c =
+    let e = c.from_residual-in_err-note.ensures.0 in
+    record {
+      range = IfOk-from_err _ _ e;
+      explains = IfOk-from_err _ _ e;
+      traced = IfOk-from_err _ _ e;
+    }
+
+pub returns-in_err-push-in-Some : goal.returns-in_err-push-in-Some
+returns-in_err-push-in-Some c =
+    let e = c.from_residual-in_err-push-in-Some.ensures.0 in
+    record {
+      range = IfOk-from_err _ _ e;
+      explains = IfOk-from_err _ _ e;
+      traced = IfOk-from_err _ _ e;
+    }

@@ -7,6 +7,7 @@ use Rattle.sat_core.specs.declared.trail.Assigned.{Assigned}
 use Rattle.sat_core.specs.Watch.{IsGood, AreLists, Listed, ListedBut, Rest, numbers, rows, code}
 use Rattle.sat_core.specs.Walk.{before, left_of}
 use Rattle.sat_core.proofs.Rows.{dim_near, dim_stands, has_list, good_left, lists_set, listed_take, listed_put, rest_start, code_below, slice_back}
+use Rattle.std.proofs.lemmas.Result.{IfOk-from_err}
 use Rattle.sat_core.proofs.search.look_through.Goals as goal
 
 abbrev no_assigned : Assigned
@@ -73,3 +74,19 @@ returns-clause-listed c =
     subst (λ (r : List (List Watch)). Listed c.work_off.new.pairs r) (sym c.put_list.ensures)
     (listed_put c.work_off.new.pairs (rows c.work_off.new.lists) d c.close_gap.new.list.items lt
     (subst (λ (l : List Watch). ListedBut c.work_off.new.pairs (rows c.work_off.new.lists) d (numbers l)) (sym row) c.in_ok-walk.ensures.listed))
+
+pub returns-in_err-walk : goal.returns-in_err-walk
+returns-in_err-walk c =
+    let e = c.from_residual.ensures.0 in
+    record {
+      sound = IfOk-from_err _ _ e;
+      width = IfOk-from_err _ _ e;
+      place = IfOk-from_err _ _ e;
+      longer = IfOk-from_err _ _ e;
+      filled = IfOk-from_err _ _ e;
+      pairs = IfOk-from_err _ _ e;
+      lists = IfOk-from_err _ _ e;
+      listed = IfOk-from_err _ _ e;
+      was = IfOk-from_err _ _ e;
+      found = IfOk-from_err _ _ e;
+    }

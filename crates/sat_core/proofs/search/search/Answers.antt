@@ -10,6 +10,7 @@ use Rattle.sat_core.proofs.Watches.{calm_quiet}
 use Rattle.sat_core.proofs.Steps.{sound_decided}
 use Rattle.sat_core.proofs.Rests.{one_longer}
 use Rattle.sat_core.proofs.Rows.{half_decided, was_decided}
+use Rattle.std.proofs.lemmas.Result.{IfOk-from_err}
 use Rattle.sat_core.proofs.search.search.Goals as goal
 
 pub returns-in-None-choose-clause-found : goal.returns-in-None-choose-clause-found
@@ -43,4 +44,30 @@ loop-k-preserved c =
       half = subst (λ (n : ℕ). AllHalf db pairs (before c.assign.new.self.entries n) (valuation c.assign.new.self.values)) (sym at)
           (half_decided db pairs C.values c.assign.new.self.values C.entries c.assign.new.self.entries _ sound.tracks tracks2 more calm);
       was = was_decided db pairs C.values C.entries c.assign.new.self.entries _ sound.tracks more calm was;
+    }
+
+pub returns-in_err-k : goal.returns-in_err-k
+returns-in_err-k c =
+    let e = c.from_residual.ensures.0 in
+    record {
+      sound = IfOk-from_err _ _ e;
+      width = IfOk-from_err _ _ e;
+      pairs = IfOk-from_err _ _ e;
+      lists = IfOk-from_err _ _ e;
+      listed = IfOk-from_err _ _ e;
+      was = IfOk-from_err _ _ e;
+      found = IfOk-from_err _ _ e;
+    }
+
+pub returns-in_err-assign-in-Some-choose : goal.returns-in_err-assign-in-Some-choose
+returns-in_err-assign-in-Some-choose c =
+    let e = c.from_residual-in_err-assign-in-Some-choose.ensures.0 in
+    record {
+      sound = IfOk-from_err _ _ e;
+      width = IfOk-from_err _ _ e;
+      pairs = IfOk-from_err _ _ e;
+      lists = IfOk-from_err _ _ e;
+      listed = IfOk-from_err _ _ e;
+      was = IfOk-from_err _ _ e;
+      found = IfOk-from_err _ _ e;
     }

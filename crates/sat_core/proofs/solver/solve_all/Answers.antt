@@ -1,6 +1,11 @@
-use Rattle.std.proofs.Common.{ℕ, map, sym, subst}
-use Rattle.cnf.specs.Clauses.{AllBelow}
+use Rattle.std.proofs.lemmas.Result.{IfOk-from_err}
 use Rattle.sat_core.proofs.solver.solve_all.Goals as goal
 
-pub run-requires-clause-clauses : goal.run-requires-clause-clauses
-run-requires-clause-clauses c = subst (λ (n : ℕ). AllBelow n (map (λ v. v.items) c.args.clauses.now)) (sym c.in_ok-trail.ensures.width) c.requires.clauses
+pub returns-in_err-count : goal.returns-in_err-count
+returns-in_err-count c = IfOk-from_err _ _ c.from_residual.ensures.0
+
+pub returns-in_err-seen : goal.returns-in_err-seen
+returns-in_err-seen c = IfOk-from_err _ _ c.from_residual-in_err-seen.ensures.0
+
+pub returns-in_err-notes : goal.returns-in_err-notes
+returns-in_err-notes c = IfOk-from_err _ _ c.from_residual-in_err-notes.ensures.0

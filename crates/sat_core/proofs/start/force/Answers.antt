@@ -6,6 +6,7 @@ use Rattle.refute_check.specs.Accepted.{clause_at}
 use Rattle.sat_core.specs.Start.{first_of}
 use Rattle.sat_core.proofs.Rests.{below_assigned, now_assigned}
 use Rattle.sat_core.proofs.Starts.{one_true}
+use Rattle.std.proofs.lemmas.Result.{IfOk-from_err}
 use Rattle.sat_core.proofs.start.force.Goals as goal
 
 pub returns-in_ok-assign-in-Unit-clause-grown : goal.returns-in_ok-assign-in-Unit-clause-grown
@@ -28,3 +29,13 @@ returns-in-Neither-clause-found c =
     subst (λ (a : Valuation). (IsConflict a cl → ⊥) × ((x : Dim) → IsUnit a cl x → ⊥)) see
     (subst (λ (l : List Dim). (IsConflict (valuation c.values.result.now) l → ⊥) × ((x : Dim) → IsUnit (valuation c.values.result.now) l x → ⊥)) c.given.ensures c.in-Neither.ensures) in
     one_true (valuation c.args.trail.now.values) cl (first_of cl) c.requires.same neither.0 neither.1
+
+pub returns-in_err-assign-in-Unit : goal.returns-in_err-assign-in-Unit
+returns-in_err-assign-in-Unit c =
+    let e = c.from_residual.ensures.0 in
+    record {
+      forced = IfOk-from_err _ _ e;
+      width = IfOk-from_err _ _ e;
+      grown = IfOk-from_err _ _ e;
+      found = IfOk-from_err _ _ e;
+    }

@@ -8,6 +8,7 @@ use Rattle.sat_core.specs.declared.watch.Watch.{Watch}
 use Rattle.sat_core.specs.Watch.{rows, with_pair}
 use Rattle.sat_core.specs.Start.{IsStarted, IsTwoOf}
 use Rattle.sat_core.proofs.Starts.{started_pair, started_keep, started_force}
+use Rattle.std.proofs.lemmas.Result.{IfOk-from_err}
 use Rattle.sat_core.proofs.start.start_one.Goals as goal
 
 pub returns-in_ok-watch_pair-in-Some-clause-started : goal.returns-in_ok-watch_pair-in-Some-clause-started
@@ -45,3 +46,43 @@ returns-in_ok-forced-in-None-found-clause-started c =
     subst (λ (q : List Pair). IsStarted vars db (k + 1) q (rows c.args.lists.now) c.force.new.trail c.in_ok-forced-in-None-found.forced) (sym c.in_ok-push-in-None.ensures.items)
     (started_force vars db k c.args.pairs.now.items (rows c.args.lists.now) c.args.trail.now c.force.new.trail c.in_ok-forced-in-None-found.forced c.in_ok-same-in-None.same lt c.in_ok-same-in-None.ensures
     c.in_ok-forced-in-None-found.ensures.forced c.in_ok-forced-in-None-found.ensures.width c.in_ok-forced-in-None-found.ensures.grown c.in_ok-forced-in-None-found.ensures.found old)
+
+pub returns-in_err-pair : goal.returns-in_err-pair
+returns-in_err-pair c =
+    let e = c.from_residual.ensures.0 in
+    record {
+      width = IfOk-from_err _ _ e;
+      started = IfOk-from_err _ _ e;
+    }
+
+pub returns-in_err-watch_pair-in-Some : goal.returns-in_err-watch_pair-in-Some
+returns-in_err-watch_pair-in-Some c =
+    let e = c.from_residual-in_err-watch_pair-in-Some.ensures.0 in
+    record {
+      width = IfOk-from_err _ _ e;
+      started = IfOk-from_err _ _ e;
+    }
+
+pub returns-in_err-same-in-None : goal.returns-in_err-same-in-None
+returns-in_err-same-in-None c =
+    let e = c.from_residual-in_err-same-in-None.ensures.0 in
+    record {
+      width = IfOk-from_err _ _ e;
+      started = IfOk-from_err _ _ e;
+    }
+
+pub returns-in_err-push-in-None : goal.returns-in_err-push-in-None
+returns-in_err-push-in-None c =
+    let e = c.from_residual-in_err-push-in-None.ensures.0 in
+    record {
+      width = IfOk-from_err _ _ e;
+      started = IfOk-from_err _ _ e;
+    }
+
+pub returns-in_err-forced-in-None-found : goal.returns-in_err-forced-in-None-found
+returns-in_err-forced-in-None-found c =
+    let e = c.from_residual-in_err-forced-in-None-found.ensures.0 in
+    record {
+      width = IfOk-from_err _ _ e;
+      started = IfOk-from_err _ _ e;
+    }

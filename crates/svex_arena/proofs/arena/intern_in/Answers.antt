@@ -1,10 +1,11 @@
-use Rattle.std.proofs.Common.{◌≡◌, ◌+◌, ◌∷◌, [], ◌++◌, ℕ, List, length, sym, ap, ◌∙◌, subst, arith, rules}
+use Rattle.std.proofs.Common.{◌≡◌, ◌<◌, ◌+◌, ◌∷◌, [], ◌++◌, ℕ, List, length, sym, ap, ◌∙◌, subst, arith, rules}
+use Rattle.std.specs.Prelude.{slice_index}
 use Rattle.std.proofs.lemmas.Result.{IfOk-from_err}
 use Rattle.std.proofs.lemmas.List.{length_push}
 use Rattle.svex_arena.specs.declared.shape.Shape.{Shape}
-use Rattle.svex_arena.specs.Arenas.{IsKept}
+use Rattle.svex_arena.specs.Arenas.{IsArena, IsKept}
 use Rattle.svex_arena.specs.Buckets.{IsChained, HasNone}
-use Rattle.svex_arena.specs.Shapes.{width_of, width_at}
+use Rattle.svex_arena.specs.Shapes.{ChildrenBelow, FitsWidths, width_of, width_at}
 use Rattle.svex_arena.proofs.Keeping.{chained_kept, kept_again, kept_more}
 use Rattle.svex_arena.proofs.arena.intern_in.Goals as goal
 
@@ -38,6 +39,26 @@ returns-in_err-push_node-clause-kept c =
 
 pub returns-in_err-push_node-clause-is : goal.returns-in_err-push_node-clause-is
 returns-in_err-push_node-clause-is c = IfOk-from_err _ _ c.from_residual-in_err-push_node.ensures.0
+
+pub find-requires : goal.find-requires
+find-requires c = record {
+  some = rw c.deref-4.ensures.value c.in_ok-make_room.ensures.some;
+  chained = rw (c.deref-2.ensures.value, c.deref-3.ensures.value, c.deref-4.ensures.value)
+      (subst (λ (xs : List Shape). IsChained (length xs) xs c.make_room.new.older.items c.make_room.new.newest.items) c.deref.ensures.value c.make_room.ensures.chained);
+}
+
+pub width_over-width-requires : goal.width_over-width-requires
+width_over-width-requires c =
+    let k = c.requires.kept in
+    let xs = sym c.deref-5.ensures.value in
+    record {
+      arena = subst IsArena xs k.arena;
+      wide = ap length c.deref-6.ensures.value ∙ k.wide ∙ ap length xs;
+      sized = subst (λ (s : List Shape). (i : ℕ) → i < length s → slice_index c.deref-6.result.now i ≡ width_at s i) xs
+          (subst (λ (ws : List ℕ). (i : ℕ) → i < length c.args.shapes.now.items → slice_index ws i ≡ width_at c.args.shapes.now.items i) (sym c.deref-6.ensures.value) k.sized);
+      children = subst (λ (s : List Shape). ChildrenBelow (length s) c.args.shape.now) xs c.requires.children;
+      fits = subst (λ (s : List Shape). FitsWidths (width_at s) c.args.shape.now) xs c.requires.fits;
+    }
 
 pub link_last-requires-clause-chained : goal.link_last-requires-clause-chained
 link_last-requires-clause-chained c =

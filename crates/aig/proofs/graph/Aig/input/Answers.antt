@@ -6,6 +6,7 @@ use Rattle.aig.specs.Graph.{count_inputs, IsGraph, KeepsValues, values}
 use Rattle.aig.proofs.Growth.{count_inputs-push_input, IsGraph-push_input}
 use Rattle.aig.proofs.Linked.{kept_input, kept_pushed, value_pushed}
 use Rattle.aig.proofs.Values.{count_inputs_lt, kept_values, value_input}
+use Rattle.std.proofs.lemmas.Result.{IfOk-from_err}
 use Rattle.aig.proofs.graph.Aig.input.Goals as goal
 
 pub overflow_add-self : goal.overflow_add-self
@@ -30,3 +31,15 @@ returns-clause-value c = λ inputs.
     let at : c.len-node.result ≡ length gates = omega arith in
     let counted : n ≡ count_inputs c.args.self.now = c.self.invariant.counted ∙ ap (λ (g : List Gate). count_inputs g) c.self.view_is in
     rw (c.in_ok-push.ensures.items, at, ← counted) (value_pushed gates n c.self.invariant.linked.graph c.self.invariant.counted inputs)
+
+pub returns-in_err-push-clause-gates : goal.returns-in_err-push-clause-gates
+returns-in_err-push-clause-gates c = IfOk-from_err _ _ c.from_residual.ensures.0
+
+pub returns-in_err-push-clause-literal : goal.returns-in_err-push-clause-literal
+returns-in_err-push-clause-literal c = IfOk-from_err _ _ c.from_residual.ensures.0
+
+pub returns-in_err-push-clause-count : goal.returns-in_err-push-clause-count
+returns-in_err-push-clause-count c = IfOk-from_err _ _ c.from_residual.ensures.0
+
+pub returns-in_err-push-clause-value : goal.returns-in_err-push-clause-value
+returns-in_err-push-clause-value c = IfOk-from_err _ _ c.from_residual.ensures.0
