@@ -24,7 +24,7 @@ use Rattle.sv_scope.specs.Walks.{state_of}
 use Rattle.sv_scope.specs.Looping.{loop_judged}
 use Rattle.sv_scope.specs.Items.{Begins, BeginsLoop, IsLoop, opened_block, opened_turn, before_turns, declare_turns}
 use Rattle.sv_scope.proofs.Declaring.{out_of_memory, refused_as, refused_then}
-use Rattle.sv_scope.proofs.Walking.{Ends, then_ends}
+use Rattle.sv_scope.proofs.Walking.{Ends, same_ends, then_ends}
 
 pub same_state : (a b : State) → a.levels ≡ b.levels → a.me ≡ b.me → a.taken ≡ b.taken → a.constructs ≡ b.constructs → a.overridden ≡ b.overridden → a.bits ≡ b.bits → a.turns ≡ b.turns →
     a.wires ≡ b.wires → a.works ≡ b.works → a.children ≡ b.children → a ≡ b
@@ -94,20 +94,15 @@ turn_by (f ∷ fs) name more body s b h = cc
 turn_is : (p : Place) (g v : Name) (body : Walk) (bits : List Bit) (s b : State) → opened_turn p g v bits s ≡ Ok b → turn_walk p g v body bits s ≡ (body b >>= λ last. Ok (outer s last))
 turn_is p g v body bits s b h = turn_by (turn_faults p s.turns) (turn_name g bits) (index_entry v bits ∷ []) body s b h
 
-pub turned : (p : Place) (g v : Name) (body : Walk) (bits : List Bit) (s b e : State) → opened_turn p g v bits s ≡ Ok b → body b ≡ Ok e → turn_walk p g v body bits s ≡ Ok (outer s e)
-turned p g v body bits s b e h k = turn_is p g v body bits s b h ∙ ap (λ (j : Judged State). j >>= λ last. Ok (outer s last)) k
+-- a turn whose block is begun
+pub turn_ends : {A : Type 0} (p : Place) (g v : Name) (body : Walk) (bits : List Bit) (s b e : State) (r : Result A TextErr) → opened_turn p g v bits s ≡ Ok b → Ends e (body b) r → Ends (outer s e) (turn_walk p g v body bits s) r
+turn_ends p g v body bits s b e r h k = same_ends (outer s e) (turn_walk p g v body bits s) (body b >>= λ last. Ok (outer s last)) r (turn_is p g v body bits s b h) (left_ends s e (body b) r k)
 
--- a turn whose block is not begun, or whose body is refused
+-- a turn whose block is not begun
 pub not_opened : {B : Type 0} (r : State → B → Type 0) (p : Place) (g v : Name) (body : Walk) (bits : List Bit) (s u : State) (y : Result B TextErr) (e : TextErr) → y ≡ Err e →
     Answers r (opened_turn p g v bits s) y → Answers (λ st (x : Unit {0}). st ≡ u) (turn_walk p g v body bits s) (Err e)
 not_opened r p g v body bits s u y e i h =
     through_refused r (λ st (x : Unit {0}). st ≡ u) (count_turn p s) (inner (turn_name g bits) (index_entry v bits ∷ [])) (enclosed (turn_name g bits) (index_entry v bits ∷ []) body) e (subst (Answers r (opened_turn p g v bits s)) i h)
-
-pub body_refused : {B : Type 0} (p : Place) (g v : Name) (body : Walk) (bits : List Bit) (s b t u : State) (y : Result B TextErr) (e : TextErr) → opened_turn p g v bits s ≡ Ok b → y ≡ Err e →
-    Ends t (body b) y → Answers (λ st (x : Unit {0}). st ≡ u) (turn_walk p g v body bits s) (Err e)
-body_refused {B = B} p g v body bits s b t u y e h i k =
-    subst (λ (j : Judged State). Answers (λ st (x : Unit {0}). st ≡ u) j (Err e)) (sym (turn_is p g v body bits s b h))
-    (refused_then (λ st (x : B). st ≡ t) (λ st (x : Unit {0}). st ≡ u) (body b) (λ last. Ok (outer s last)) e (subst (Ends t (body b)) i k))
 
 -- ---- loops
 

@@ -2,6 +2,7 @@
 use Rattle.std.proofs.Common.{◌≡◌, ℕ, suc, ◌+◌, ◌-◌, ◌<◌, ◌≤◌, Bool, true, false, List, [], ◌∷◌, ◌++◌, length, map, drop, get_or, Option, Some, None, Result, Ok, Err, refl, sym, ap, ◌∙◌, subst, arith}
 use Rattle.std.proofs.lemmas.List.{map-append}
 use Rattle.std.specs.List.{slice_get}
+use Rattle.std.specs.Result.{IsErrAnd}
 use Rattle.sv_outside.specs.declared.refusal.Refusal.{Refusal}
 use Rattle.sv_outside.specs.declared.refusal.TextErr.{TextErr}
 use Rattle.sv_outside.specs.declared.refusal.TextErr.TheVariants.{No, Memory}
@@ -28,12 +29,13 @@ use Rattle.sv_modules.proofs.Turns.{drop_next, drop_none}
 use Rattle.sv_meaning.specs.Params.{Connection}
 use Rattle.sv_scope.specs.Levels.{levels_are}
 use Rattle.sv_scope.specs.Library.{KnowsNumber}
-use Rattle.sv_scope.specs.Scoped.{IsScoped, IsWalked}
+use Rattle.sv_scope.specs.Scoped.{IsRead, IsScoped, IsWalked, Reads}
 use Rattle.sv_scope.specs.Walks.{state_of, work_is}
+use Rattle.sv_scope.specs.declared.instances.Library.{Library}
 use Rattle.sv_scope.specs.declared.walker.Walker.{Walker}
 use Rattle.sv_scope.specs.declared.walker.Open.{Open}
 use Rattle.sv_scope.specs.declared.whole.DesignScopes.{DesignScopes}
-use Rattle.sv_scope.proofs.Opening.{answers_memory, refused_first, IsAmong, among_unused, among_one, among_named, own_number}
+use Rattle.sv_scope.proofs.Opening.{Reached, answers_memory, refused_first, IsAmong, among_unused, among_one, among_named, own_number}
 
 -- ---- the parts of a text
 
@@ -251,6 +253,30 @@ pub scopes_are : (source : Source) (top : Option Name) (all : m.Library) (st : m
 scopes_are source top all st k h e =
     ap (λ (j : Judged (m.Library × m.State)). j >>= λ file. m.top_module file.0 top >>= λ x. m.from_top file.0 x file.1) h
     ∙ ap (λ (j : Judged m.Known). j >>= λ x. m.from_top all x st) e
+
+-- what stands against the parts of a source stands against the source
+pub parts_refused : {B : Type 0} (r : m.Library × m.State → B → Type 0) (source : Source) (rows : List SourcePart) (start : m.State) (result : Result B TextErr) (e : TextErr) → rows ≡ source.parts → start ≡ m.file_state → result ≡ Err e →
+    Answers r (m.library rows [] start) result → (top : Option Name) → Answers Reached (m.scopes source top) (Err e)
+parts_refused r source rows start result e a b f h = λ top.
+    refused_first r Reached (m.library source.parts [] m.file_state) (λ file. m.top_module file.0 top >>= λ k. m.from_top file.0 k file.1) e
+    (subst (λ (j : Judged (m.Library × m.State)). Answers r j (Err e)) (ap (λ (ps : List SourcePart). m.library ps [] start) a ∙ ap (m.library source.parts []) b) (subst (Answers r (m.library rows [] start)) f h))
+
+-- what is refused of a source
+pub reads_refused : (source : Source) (v : Walker) (q : Result (Open × Library) TextErr) (e : TextErr) → IsErrAnd q (λ y. y ≡ e) → ((top : Option Name) → Answers Reached (m.scopes source top) (Err e)) → Reads source v q
+reads_refused source v (Ok x) e h g = absurd h
+reads_refused source v (Err y) e h g = λ top. subst (λ (z : TextErr). let r : Result (Unit {0}) TextErr = Err z in Answers Reached (m.scopes source top) r) (sym h) (g top)
+
+-- the parts of a source are read, and its modules are those of the library
+pub reads_all : (source : Source) (v : Walker) (rows : List SourcePart) (start : m.State) (file : Open) (above : List ℕ) (modules : Modules) → rows ≡ source.parts → start ≡ m.file_state →
+    Answers (λ (found : m.Library × m.State) (x : List ℕ). (map (λ (k : m.Known). k.above) found.0 ≡ x) × (found.1 ≡ state_of v file)) (m.library rows [] start) (Ok above) →
+    Answers (λ (x : List Module) (y : Modules). modules_of y ≡ x) (modules_once source.parts) (Ok modules) → IsRead source v file (record { modules = modules; above = above })
+reads_all source v rows start file above modules a b h g =
+    let found = library_at source.parts rows start (state_of v file) above a b h in
+    record {
+      all = found.0;
+      read = found.1;
+      listed = record { modules = modules_are source.parts m.file_state (state_of v file) found.0 modules found.1 g; above = found.2 };
+    }
 
 -- what a walk ended in is what is answered
 pub scoped_ok : (j : Judged m.State) (w : Walker) (s : DesignScopes) → Answers (λ st (v : Walker). IsWalked st v) j (Ok w) → levels_are w.levels ≡ levels_are s.levels → w.wires ≡ s.wires → map work_is w.works.items ≡ map work_is s.works.items → w.tally.turns ≡ s.turns →

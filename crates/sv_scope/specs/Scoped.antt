@@ -1,7 +1,10 @@
 -- The scopes of a source as code holds them.
-use Rattle.std.specs.Prelude.{◌≡◌, ℕ, List, map, Result}
+use Rattle.std.specs.Prelude.{◌≡◌, ℕ, [], List, map, Option, Result, Ok, Err}
 use Rattle.sv_outside.specs.declared.refusal.TextErr.{TextErr}
 use Rattle.sv_outside.specs.declared.text.Signal.{Signal}
+use Rattle.sv_tree.specs.declared.design.Source.{Source}
+use Rattle.sv_meaning.specs.Faults.{◌>>=◌}
+use Rattle.sv_meaning.specs.Layouts.{Name}
 use Rattle.sv_meaning.specs.Designs.{Design}
 use Rattle.sv_loops.specs.Answers.{Answers}
 use Rattle.sv_hierarchy.specs.Scopes as m
@@ -26,6 +29,21 @@ pub record IsWalked (st : m.State) (w : Walker) : Type 0 where
 abbrev pub FromTop : Library → Known → Walker → Open → Walker → Result Unit TextErr → Type 0
 FromTop library top w file v result =
     (all : m.Library) → IsLibrary library all → Answers (λ st u. IsWalked st v) (m.from_top all (known_is top) (state_of w file)) result
+
+-- the same of a library whose top is still to be found
+abbrev pub FromSome : Library → Option Name → Walker → Open → Walker → Result Unit TextErr → Type 0
+FromSome library top w file v result =
+    (all : m.Library) → IsLibrary library all → Answers (λ st u. IsWalked st v) (m.top_module all top >>= λ k. m.from_top all k (state_of w file)) result
+
+-- the parts of a source are read, and its modules are listed
+pub record IsRead (source : Source) (v : Walker) (file : Open) (library : Library) : Type 0 where
+  pub all : m.Library
+  pub read : m.library source.parts [] m.file_state ≡ Ok (all, state_of v file)
+  pub listed : IsLibrary library all
+
+abbrev pub Reads : Source → Walker → Result (Open × Library) TextErr → Type 0
+Reads source v (Ok x) = IsRead source v x.0 x.1
+Reads source v (Err e) = (top : Option Name) → Answers (λ (st : m.State) (u : Unit {0}). Unit {0}) (m.scopes source top) (Err e)
 
 -- ---- what is answered
 

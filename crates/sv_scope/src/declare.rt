@@ -9,6 +9,7 @@ ghost use Rattle.sv_meaning.specs.Layouts.{width};
 ghost use Rattle.sv_hierarchy.specs.Scopes.{add_constant, add_constants, add_genvar, add_typedef, add_wire, formed, seen, walk_all, with_form, with_form_or_bit, with_wire};
 ghost use Rattle.sv_scope.specs.Walks.{Finds, Walks, state_of};
 
+use crate::held::let_go;
 use crate::tally::Tally;
 use crate::walker::{Open, Walker};
 use std::alloc::AllocError;
@@ -41,9 +42,16 @@ impl<'a> Walker<'a> {
         requires { WhatIsSound what }
         ensures { Walks (add_constant (record { text = name; place = place }, what_is what)) self.old current.old self.new current.new result }
     {
-        current.declare_at(place, name.bytes())?;
-        self.levels.add_const(current.level, name, what)?;
-        Ok(())
+        match current.declare_at(place, name.bytes()) {
+            Ok(()) => {
+                self.levels.add_const(current.level, name, what)?;
+                Ok(())
+            }
+            Err(why) => {
+                let_go(what);
+                Err(why)
+            }
+        }
     }
 
     // A constant of an enumeration.
@@ -75,8 +83,13 @@ impl<'a> Walker<'a> {
     {
         let found = self.form_here(current, tree)?;
         let Formed { layout, declared } = found;
-        self.add_constants(current, declared.as_slice())?;
-        Ok(layout)
+        match self.add_constants(current, declared.as_slice()) {
+            Ok(()) => Ok(layout),
+            Err(why) => {
+                let_go(layout);
+                Err(why)
+            }
+        }
     }
 
     // The layout of a type and the constants that it declares, by what is declared above.
@@ -85,7 +98,9 @@ impl<'a> Walker<'a> {
     {
         let at = self.here(current);
         let mut names = self.levels.seen(self.alloc, at)?;
-        form_of(self.alloc, tree, &mut names)
+        let found = form_of(self.alloc, tree, &mut names);
+        let_go(names);
+        found
     }
 
     /// A type with a name.
@@ -96,8 +111,8 @@ impl<'a> Walker<'a> {
     ) -> Result<(), TextErr>
         ensures { Walks (add_typedef tree.now) self.old current.old self.new current.new result }
     {
-        let layout = self.formed(current, &tree.form)?;
         let name = tree.name.text.copy()?;
+        let layout = self.formed(current, &tree.form)?;
         self.add_constant(current, tree.name.place, name, What::Kind(layout))
     }
 
@@ -177,7 +192,9 @@ impl<'a> Walker<'a> {
         ensures { Walks (with_form tree.now (λ x. walk_all (add_wire false x) words.now)) self.old current.old self.new current.new result }
     {
         let layout = self.formed(current, tree)?;
-        self.add_wires(current, &layout, words)
+        let added = self.add_wires(current, &layout, words);
+        let_go(layout);
+        added
     }
 
     /// Nets of a type, or of one bit.

@@ -1,13 +1,18 @@
 // Instances are opened (IEEE 1800-2017, 23.3).
 ghost use Rattle.std.specs.Prelude.{◌≡◌, map, IfOk};
+ghost use Rattle.std.specs.Option.{option_copied};
+ghost use Rattle.sv_meaning.specs.Layouts.{Scope as Seen};
+ghost use Rattle.sv_meaning.specs.Params.{connections};
 ghost use Rattle.sv_loops.specs.Answers.{Answers};
 ghost use Rattle.sv_modules.specs.Connections.{connection_is};
+ghost use Rattle.sv_modules.specs.Naming.{texts_of};
 ghost use Rattle.sv_hierarchy.specs.Scopes as m;
 ghost use Rattle.sv_scope.specs.Levels.{front_is};
 ghost use Rattle.sv_scope.specs.Library.{IsLibrary, KnowsNumber, child_alone, known_is};
 ghost use Rattle.sv_scope.specs.declared.walker.Open.{Open as Opened};
 ghost use Rattle.sv_scope.specs.Walks.{Walks, child_is, given_is, state_of};
 
+use crate::held::let_go;
 use crate::levels::{Front, Level};
 use crate::overrides::Overrides;
 use crate::ports::{add_port_works, given_by, port_names, ports_of};
@@ -18,7 +23,7 @@ use std::mem;
 use sv_const::{Scope, refusal};
 use sv_modules::{Connection, Modules, connections, open_params};
 use sv_outside::{Name, TextErr};
-use sv_tree::Module;
+use sv_tree::{Module, Pins, Word};
 
 /// The modules of a text, and for each how many names of the file level are declared above it.
 #[derive(Drop)]
@@ -33,6 +38,17 @@ pub(crate) struct Known<'a> {
     pub tree: &'a Module,
     pub number: usize,
     pub above: usize,
+}
+
+// What an instance gives to these names, which are not needed any more.
+fn connected<'a>(
+    alloc: Global,
+    names: Vec<&'a Word>,
+    pins: Option<&'a Pins>,
+) -> Result<Vec<Connection<'a>>, TextErr>
+    ensures { (at : Seen) → Answers (λ all list. map connection_is list.items ≡ all) (connections at (texts_of names.entry.items) (option_copied pins.entry)) result }
+{
+    connections(alloc, &names, pins)
 }
 
 impl<'a> Library<'a> {
@@ -142,7 +158,9 @@ impl<'a> Walker<'a> {
         }
         let known = library.module_of(child)?;
         let own = self.open_child(known, child)?;
-        self.below(&own, library, deep - 1)
+        let done = self.below(&own, library, deep - 1);
+        let_go(own);
+        done
     }
 
     // An instance without its children, connected as its pins say.
@@ -150,9 +168,9 @@ impl<'a> Walker<'a> {
         ensures { (current : Opened) → Answers (λ st own. st ≡ state_of self.new own) (child_alone (known_is known.entry) (child_is child.now) (state_of self.old current)) result }
     {
         let names = open_params(self.alloc, known.tree)?;
-        let params = connections(self.alloc, &names, child.params)?;
+        let params = connected(self.alloc, names, child.params)?;
         let ports = port_names(self.alloc, ports_of(known.tree))?;
-        let pins = connections(self.alloc, &ports, child.pins)?;
+        let pins = connected(self.alloc, ports, child.pins)?;
         self.tally = self.tally.with_bits(child.name.place, 1)?;
         let given = given_by(self.alloc, child.at, &params)?;
         let path = child.path.copy()?;

@@ -6,6 +6,7 @@ ghost use Rattle.sv_hierarchy.specs.Scopes.{behind, fronts_at, instances_from, l
 ghost use Rattle.sv_scope.specs.Scoped.{instance_is};
 ghost use Rattle.sv_scope.specs.Levels.{front_is, front_of, level_is, levels_are, live_frames, seen_frames};
 
+use crate::held::let_go;
 use items::Items;
 use std::alloc::{AllocError, Global};
 use sv_const::{Names, Scope, What};
@@ -149,7 +150,10 @@ impl Levels {
     {
         match self.list.get_mut(level) {
             Some(level) => level.consts.push(name, what),
-            None => Ok(()),
+            None => {
+                let_go(what);
+                Ok(())
+            }
         }
     }
 
@@ -160,7 +164,10 @@ impl Levels {
     {
         match self.list.get_mut(level) {
             Some(level) => level.nets.push(name, what),
-            None => Ok(()),
+            None => {
+                let_go(what);
+                Ok(())
+            }
         }
     }
 

@@ -10,6 +10,7 @@ mod children;
 mod declare;
 mod file;
 mod header;
+mod held;
 mod instances;
 mod levels;
 mod loops;

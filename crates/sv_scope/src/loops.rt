@@ -12,6 +12,7 @@ ghost use Rattle.sv_hierarchy.specs.Scopes.{genvar_faults, seen};
 ghost use Rattle.sv_scope.specs.Looping.{loop_judged};
 ghost use Rattle.sv_scope.specs.Walks.{state_of};
 
+use crate::held::let_go;
 use crate::walker::{Open, Walker};
 use fourvec::Four;
 use items::Items;
@@ -88,8 +89,11 @@ impl<'a> Walker<'a> {
         let at = self.here(current);
         let mut names = self.levels.seen(self.alloc, at)?;
         if is_loop_variable(&names, header, variable) {
-            turns(self.alloc, place, &mut names, variable, start, test, next)
+            let values = turns(self.alloc, place, &mut names, variable, start, test, next);
+            let_go(names);
+            values
         } else {
+            let_go(names);
             Err(TextErr::No(refusal(12, variable.place)))
         }
     }
@@ -100,6 +104,8 @@ impl<'a> Walker<'a> {
     {
         let at = self.here(current);
         let names = self.levels.seen(self.alloc, at)?;
-        condition(self.alloc, test, &names)
+        let held = condition(self.alloc, test, &names);
+        let_go(names);
+        held
     }
 }

@@ -9,11 +9,12 @@ ghost use Rattle.sv_meaning.specs.Params.{name_alone, param_value};
 ghost use Rattle.sv_meaning.specs.Values.{mean};
 ghost use Rattle.sv_types.specs.Values.{JudgesValue};
 ghost use Rattle.sv_hierarchy.specs.Scopes as m;
-ghost use Rattle.sv_hierarchy.specs.Scopes.{add_param, add_param_item, add_params, header_of, header_params, meant, seen, walk_all};
+ghost use Rattle.sv_hierarchy.specs.Scopes.{add_param, add_params, header_of, header_params, meant, seen};
 ghost use Rattle.sv_modules.specs.Naming.{Indexes};
 ghost use Rattle.sv_scope.specs.Overriding.{given_name};
 ghost use Rattle.sv_scope.specs.Walks.{Walks, actual_is, given_is, state_of};
 
+use crate::held::let_go;
 use crate::overrides::Overrides;
 use crate::walker::{Actual, Given, Open, Walker};
 use items::Items;
@@ -21,7 +22,7 @@ use std::alloc::{AllocError, Global};
 use sv_const::{Known, Names, What};
 use sv_modules::NameIndex;
 use sv_outside::TextErr;
-use sv_tree::{Expr, ParPort, Param, ParamItem, ParamType, ParamWord, Word};
+use sv_tree::{Expr, ParPort, Param, ParamType, ParamWord, Word};
 use sv_types::param_value;
 
 // The value of a parameter that an expression gives, or a name that stands for itself.
@@ -53,7 +54,9 @@ fn value_named(
     let text = word.text.copy()?;
     let place = word.place;
     let expr = Expr::Name(Word { text, place }, Items::new(alloc));
-    param_value(alloc, form, names, &expr, value_names)
+    let found = param_value(alloc, form, names, &expr, value_names);
+    let_go(expr);
+    found
 }
 
 // What is given to a parameter, or else its own expression. A `localparam` is given nothing.
@@ -148,7 +151,9 @@ impl<'a> Walker<'a> {
         let given = given_to(&current.overridden, word, own);
         let names = self.levels.seen(self.alloc, at)?;
         let value_names = self.levels.seen(self.alloc, given.at)?;
-        value_of(self.alloc, form, &names, given.value, &value_names)
+        let known = value_of(self.alloc, form, &names, given.value, &value_names);
+        let_go((names, value_names));
+        known
     }
 
     // A parameter.
@@ -167,34 +172,6 @@ impl<'a> Walker<'a> {
         self.add_constant(current, name.place, text, What::Number(known))
     }
 
-    // One parameter of a declaration.
-    fn add_param_item(
-        &mut self,
-        current: &mut Open<'a>,
-        tree: &'a Param,
-        item: &'a ParamItem,
-    ) -> Result<(), TextErr>
-        ensures { Walks (add_param_item tree.now item.now) self.old current.old self.new current.new result }
-    {
-        let form = tree.form.as_ref();
-        self.add_param(current, tree.word, form, &item.name, &item.value)
-    }
-
-    // Some parameters of a declaration.
-    fn add_param_list(
-        &mut self,
-        current: &mut Open<'a>,
-        tree: &'a Param,
-        list: &'a [ParamItem],
-    ) -> Result<(), TextErr>
-        ensures { Walks (walk_all (add_param_item tree.now) list.now) self.old current.old self.new current.new result }
-    {
-        'list: for item in list {
-            self.add_param_item(current, tree, item)?;
-        }
-        Ok(())
-    }
-
     /// The parameters of a declaration.
     pub(crate) fn add_params(
         &mut self,
@@ -203,7 +180,11 @@ impl<'a> Walker<'a> {
     ) -> Result<(), TextErr>
         ensures { Walks (add_params tree.now) self.old current.old self.new current.new result }
     {
-        self.add_param_list(current, tree, tree.list.as_slice())
+        let form = tree.form.as_ref();
+        'list: for item in tree.list.as_slice() {
+            self.add_param(current, tree.word, form, &item.name, &item.value)?;
+        }
+        Ok(())
     }
 
     /// The parameters of a module's list. An entry takes over what it leaves out from the one before it.

@@ -1,12 +1,14 @@
 // The items of modules and generate blocks (IEEE 1800-2017, 23.2.4 and 27).
 ghost use Rattle.std.specs.Option.{option_copied};
-ghost use Rattle.sv_hierarchy.specs.Scopes.{act, under};
+ghost use Rattle.sv_hierarchy.specs.Scopes.{act, turn_walk, under};
 ghost use Rattle.sv_scope.specs.Items.{items_walk};
 ghost use Rattle.sv_scope.specs.Walks.{Walks};
 
+use crate::held::let_go;
 use crate::walker::{Open, Task, Walker};
-use sv_outside::TextErr;
-use sv_tree::{Gen, Item};
+use fourvec::Four;
+use sv_outside::{Place, TextErr};
+use sv_tree::{Gen, Item, Word};
 
 impl<'a> Walker<'a> {
     /// An item.
@@ -30,14 +32,14 @@ impl<'a> Walker<'a> {
                 )?;
                 let turns = self.begin_loop(current, found, body.get())?;
                 'turns: for bits in turns.values.as_slice() {
-                    let mut block = self.begin_turn(
+                    self.turn(
                         current,
                         *place,
                         turns.name.bytes(),
                         variable,
                         *bits,
+                        body.get(),
                     )?;
-                    self.body(&mut block, body.get())?;
                 }
                 Ok(())
             }
@@ -67,14 +69,31 @@ impl<'a> Walker<'a> {
         Ok(())
     }
 
-    // What stands in a turn of a loop.
+    // The turn of a loop of a name, at a place, in which its variable has these bits.
     #[cycle(item)]
-    fn body(&mut self, current: &mut Open<'a>, body: &'a Gen) -> Result<(), TextErr>
-        ensures { Walks (under body.now).body self.old current.old self.new current.new result }
+    fn turn(
+        &mut self,
+        current: &Open<'a>,
+        place: Place,
+        name: &[u8],
+        variable: &Word,
+        bits: Four,
+        body: &'a Gen,
+    ) -> Result<(), TextErr>
+        ensures { Walks (turn_walk place name.now variable.now.text (under body.now).body bits) self.old current.now self.new current.now result }
     {
+        let mut block = self.begin_turn(current, place, name, variable, bits)?;
         match body {
-            Gen::Block(_, _, items, _) => self.items(current, items.as_slice()),
-            Gen::Single(_, item) => self.item(current, item.get()),
+            Gen::Block(_, _, items, _) => {
+                let done = self.items(&mut block, items.as_slice());
+                let_go(block);
+                done
+            }
+            Gen::Single(_, item) => {
+                let done = self.item(&mut block, item.get());
+                let_go(block);
+                done
+            }
         }
     }
 
@@ -91,7 +110,9 @@ impl<'a> Walker<'a> {
         match body {
             Gen::Block(place, label, items, _) => {
                 let mut block = self.block(current, label.as_ref(), *place, number)?;
-                self.items(&mut block, items.as_slice())
+                let done = self.items(&mut block, items.as_slice());
+                let_go(block);
+                done
             }
             Gen::Single(place, item) => match item.get() {
                 Item::If(_, test, body, other) => {
@@ -106,7 +127,9 @@ impl<'a> Walker<'a> {
                 }
                 other => {
                     let mut block = self.block(current, None, *place, number)?;
-                    self.item(&mut block, other)
+                    let done = self.item(&mut block, other);
+                    let_go(block);
+                    done
                 }
             },
         }

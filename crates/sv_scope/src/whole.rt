@@ -5,13 +5,14 @@ ghost use Rattle.sv_loops.specs.Answers.{Answers};
 ghost use Rattle.sv_const.specs.Names.{names_are, loops_of};
 ghost use Rattle.sv_hierarchy.specs.Scopes as m;
 ghost use Rattle.sv_scope.specs.Levels.{front_is};
-ghost use Rattle.sv_scope.specs.Scoped.{FromTop, IsScoped, IsWalked, instance_is, instances_of, levels_of, turns_of, wires_of, works_of};
-ghost use Rattle.sv_scope.specs.Walks.{work_is};
+ghost use Rattle.sv_scope.specs.Scoped.{FromSome, FromTop, IsScoped, IsWalked, Reads, instance_is, instances_of, levels_of, turns_of, wires_of, works_of};
+ghost use Rattle.sv_scope.specs.Walks.{IsNothing, work_is};
 
+use crate::held::let_go;
 use crate::instances::{Known, Library};
 use crate::levels::{Front, Instance, Levels};
 use crate::walker::{Open, Walker, Work};
-use items::Items;
+use items::{Items, both};
 use std::alloc::{AllocError, Global};
 use sv_const::Names;
 use sv_modules::{Modules, top_of};
@@ -45,7 +46,47 @@ fn from_top<'a>(
     let given = Vec::new(walker.alloc);
     let mut own = walker.begin_instance(top, path, 0, given)?;
     walker.instance(&mut own, true, top.tree, at, &none)?;
-    walker.below(&own, library, DEEPEST)
+    let done = walker.below(&own, library, DEEPEST);
+    let_go(own);
+    done
+}
+
+// The file level of a source, and its modules.
+fn filed<'a>(
+    walker: &mut Walker<'a>,
+    source: &'a Source,
+) -> Result<(Open<'a>, Library<'a>), TextErr>
+    requires { IsNothing walker.old }
+    ensures { Reads source.now walker.new result }
+{
+    let mut file = walker.begin_file()?;
+    let above = walker.file_level(&mut file, source.parts.as_slice());
+    let (file, above) = both(file, above)?;
+    let ((file, above), modules) = both((file, above), Modules::new(walker.alloc, source))?;
+    Ok((file, Library { modules, above }))
+}
+
+// The top among the modules of a source, with all that is below it.
+fn topped<'a>(
+    walker: &mut Walker<'a>,
+    file: &Open<'a>,
+    library: &Library<'a>,
+    top: Option<&Name>,
+) -> Result<(), TextErr>
+    ensures { FromSome library.now (option_copied top.entry) walker.old file.now walker.new result }
+{
+    let number = top_of(walker.alloc, &library.modules, top)?;
+    let known = library.known(number)?;
+    from_top(walker, file, library, known)
+}
+
+// Finds all that a source has.
+fn walk<'a>(walker: &mut Walker<'a>, source: &'a Source, top: Option<&Name>) -> Result<(), TextErr>
+    requires { IsNothing walker.old }
+    ensures { Answers (λ st (u : Unit {0}). IsWalked st walker.new) (m.scopes source.now (option_copied top.entry)) result }
+{
+    let (file, library) = filed(walker, source)?;
+    topped(walker, &file, &library, top)
 }
 
 // All that a source has.
@@ -53,13 +94,8 @@ fn walked<'a>(alloc: Global, source: &'a Source, top: Option<&Name>) -> Result<W
     ensures { Answers (λ st walker. IsWalked st walker) (m.scopes source.now (option_copied top.entry)) result }
 {
     let mut walker = Walker::new(alloc);
-    let mut file = walker.begin_file()?;
-    let above = walker.file_level(&mut file, source.parts.as_slice())?;
-    let modules = Modules::new(alloc, source)?;
-    let library = Library { modules, above };
-    let number = top_of(alloc, &library.modules, top)?;
-    let known = library.known(number)?;
-    from_top(&mut walker, &file, &library, known)?;
+    let done = walk(&mut walker, source, top);
+    let (walker, _) = both(walker, done)?;
     Ok(walker)
 }
 

@@ -30,9 +30,9 @@ returns c = λ all h.
     let own = state_of c.instance.new.self c.instance.new.current in
     let at = front_is c.here-at.result in
     let pins = map connection_is c.deref.result.now in
-    subst (λ (j : Judged m.State). Answers (λ (s : m.State) (u : Unit {0}). IsWalked s c.below.new.self) j c.below.result)
+    subst (λ (j : Judged m.State). Answers (λ (s : m.State) (u : Unit {0}). IsWalked s c.below-done.new.self) j c.below-done.result)
     (sym (top_opened all k st first own at pins
     (top_begun k st first c.in_ok-path.path (map given_is c.new-given.result.items) c.in_ok-path.ensures (ap (map given_is) c.new-given.ensures.items) (c.in_ok-own.ensures c.args.file.now))
     c.here-at.ensures (ap (map connection_is) (c.deref.ensures.value ∙ c.new-none.ensures.items))
     (walked_to (m.instance_walk true k.tree at pins first) own c.in_ok-instance.field-0 c.in_ok-instance.ensures)))
-    (walked_answers (m.below (m.child m.deepest all) own) c.below.new.self c.instance.new.current c.below.result (c.below.ensures all h))
+    (walked_answers (m.below (m.child m.deepest all) own) c.below-done.new.self c.instance.new.current c.below-done.result (c.below-done.ensures all h))

@@ -67,8 +67,8 @@ child-returns-in_err-own t c = λ all h.
     (own_refused (λ (s : m.State) (own : Open). s ≡ state_of c.open_child.new.self own) Reached c.args.deep (c.args.deep - 1) all ch st (known_is c.in_ok-known.known) e more
     (value_is known_is (m.module_of all ch) c.in_ok-known.known (c.in_ok-known.ensures all h)) (c.in_err-own.ensures c.args.current.now))
 
-pub child-below-requires : goal.child-below-requires
-child-below-requires t c = (omega (arith, c.decreases, c.if-deep-eq0.false), tt)
+pub child-below-done-requires : goal.child-below-done-requires
+child-below-done-requires t c = (omega (arith, c.decreases, c.if-deep-eq0.false), tt)
 
 pub child-returns : goal.child-returns
 child-returns t c = λ all h.
@@ -77,7 +77,7 @@ child-returns t c = λ all h.
     let k = known_is c.in_ok-known.known in
     let own = state_of c.open_child.new.self c.in_ok-own.own in
     let more : c.args.deep ≡ suc (c.args.deep - 1) = omega (arith, c.if-deep-eq0.false) in
-    subst (λ (j : Judged m.State). Answers (λ (s : m.State) (u : Unit {0}). s ≡ state_of c.below.new.self c.args.current.now) j c.below.result)
+    subst (λ (j : Judged m.State). Answers (λ (s : m.State) (u : Unit {0}). s ≡ state_of c.below-done.new.self c.args.current.now) j c.below-done.result)
     (sym (own_walked c.args.deep (c.args.deep - 1) all ch st own k more (value_is known_is (m.module_of all ch) c.in_ok-known.known (c.in_ok-known.ensures all h))
     (value_is (λ (o : Open). state_of c.open_child.new.self o) (child_alone k ch st) c.in_ok-own.own (c.in_ok-own.ensures c.args.current.now))))
-    (outer_answers (m.below (m.child (c.args.deep - 1) all) own) c.args.self.now c.below.new.self c.args.current.now c.in_ok-own.own c.below.result (c.below.ensures all h))
+    (outer_answers (m.below (m.child (c.args.deep - 1) all) own) c.args.self.now c.below-done.new.self c.args.current.now c.in_ok-own.own c.below-done.result (c.below-done.ensures all h))

@@ -1,7 +1,6 @@
-use Rattle.std.proofs.Common.{◌≡◌, ◌∙◌, List, true, false, Option, None, Result, Ok, Err, refl, sym, ap, subst}
+use Rattle.std.proofs.Common.{◌≡◌, ◌∙◌, List, true, false, Option, None, Ok, Err, sym, ap, subst}
 use Rattle.std.specs.Option.{option_copied}
 use Rattle.fourvec.specs.declared.Bit.{Bit}
-use Rattle.sv_outside.specs.declared.refusal.TextErr.{TextErr}
 use Rattle.sv_tree.specs.declared.design.Gen.{Gen}
 use Rattle.sv_tree.specs.declared.design.Gen.TheVariants as ge
 use Rattle.sv_tree.specs.declared.design.Item.{Item}
@@ -15,20 +14,47 @@ use Rattle.sv_hierarchy.specs.Scopes.{State, Walk, act, add_genvar, add_wire, ad
 use Rattle.sv_scope.specs.Items.{Begins, BeginsLoop, IsLoop, before_turns, items_walk, opened_turn}
 use Rattle.sv_scope.specs.Looping.{loop_judged}
 use Rattle.sv_scope.specs.Walks.{state_of}
-use Rattle.sv_scope.proofs.Walking.{Ends, ended, ends, handed, same_ends, same_walk, walk_next, walk_none, walk_refused}
-use Rattle.sv_scope.proofs.WalkingBlocks.{answered, block_ends, block_refused, body_refused, not_opened, turned}
+use Rattle.sv_scope.proofs.Walking.{Ends, ended, ends, handed, handed_same, same_ends, same_walk, walk_next, walk_none, walk_refused}
+use Rattle.sv_scope.proofs.WalkingBlocks.{answered, block_ends, block_refused, not_opened, turn_ends}
 use Rattle.sv_scope.proofs.WalkingTrees.{always_walk, assign_walk, block_body, block_branch, else_of, for_begun, for_refused, for_unvalued, generate_walk, genvar_walk, if_branch, if_counted, if_is, inst_walk, net_walk, other_branch, param_walk, single_body, single_branch, taken_branch, typedef_walk, variable_walk}
 use Rattle.sv_scope.proofs.walker.Walker.+item.Goals as goal
 
-pub body-returns-in-Block : goal.body-returns-in-Block
-body-returns-in-Block t c =
-    same_walk (under c.args.body.now).body _ c.args.self.now c.args.current.now c.items.new.self c.items.new.current c.items.result
-    (ap (λ (x : Gen). (under x).body) c.in-Block.is ∙ block_body c.in-Block.field-0 c.in-Block.field-1 c.in-Block.items c.in-Block.field-3 ∙ ap items_walk (sym c.as_slice.ensures)) c.items.ensures
+pub turn-returns-in_err-block : goal.turn-returns-in_err-block
+turn-returns-in_err-block t c =
+    let s = state_of c.args.self.now c.args.current.now in
+    let u = state_of c.begin_turn.new.self c.args.current.now in
+    let inside = (under c.args.body.now).body in
+    handed_same u (turn_walk c.args.place c.args.name.now c.args.variable.now.text inside c.args.bits s) c.in_err-block.field-0.0 c.from_residual.result
+    (not_opened (λ st block. st ≡ state_of c.begin_turn.new.self block) c.args.place c.args.name.now c.args.variable.now.text inside c.args.bits s u c.begin_turn.result c.in_err-block.field-0.0 c.in_err-block.was c.begin_turn.ensures)
+    c.from_residual.ensures.1
 
-pub body-returns-in-Single : goal.body-returns-in-Single
-body-returns-in-Single t c =
-    same_walk (under c.args.body.now).body _ c.args.self.now c.args.current.now c.item.new.self c.item.new.current c.item.result
-    (ap (λ (x : Gen). (under x).body) c.in-Single.is ∙ single_body c.in-Single.field-0 c.in-Single.item ∙ ap (λ (x : Item). (act x).item) (sym c.get.ensures)) c.item.ensures
+pub turn-returns-in-Block : goal.turn-returns-in-Block
+turn-returns-in-Block t c =
+    let s = state_of c.args.self.now c.args.current.now in
+    let b = state_of c.begin_turn.new.self c.in_ok-block.block in
+    let e = state_of c.items-done.new.self c.items-done.new.current in
+    let u = state_of c.items-done.new.self c.args.current.now in
+    let walks = λ (w : Walk). turn_walk c.args.place c.args.name.now c.args.variable.now.text w c.args.bits s in
+    let opened : opened_turn c.args.place c.args.name.now c.args.variable.now.text c.args.bits s ≡ Ok b =
+    answered (state_of c.begin_turn.new.self) (opened_turn c.args.place c.args.name.now c.args.variable.now.text c.args.bits s) c.in_ok-block.block c.in_ok-block.ensures in
+    same_ends u (walks (under c.args.body.now).body) (walks (items_walk c.in-Block.items)) c.items-done.result
+    (ap walks (ap (λ (x : Gen). (under x).body) c.in-Block.is ∙ block_body c.in-Block.field-0 c.in-Block.field-1 c.in-Block.items c.in-Block.field-3))
+    (turn_ends c.args.place c.args.name.now c.args.variable.now.text (items_walk c.in-Block.items) c.args.bits s b e c.items-done.result opened
+    (subst (λ (l : List Item). Ends e (items_walk l b) c.items-done.result) c.as_slice.ensures c.items-done.ensures))
+
+pub turn-returns-in-Single : goal.turn-returns-in-Single
+turn-returns-in-Single t c =
+    let s = state_of c.args.self.now c.args.current.now in
+    let b = state_of c.begin_turn.new.self c.in_ok-block.block in
+    let e = state_of c.item-done.new.self c.item-done.new.current in
+    let u = state_of c.item-done.new.self c.args.current.now in
+    let walks = λ (w : Walk). turn_walk c.args.place c.args.name.now c.args.variable.now.text w c.args.bits s in
+    let opened : opened_turn c.args.place c.args.name.now c.args.variable.now.text c.args.bits s ≡ Ok b =
+    answered (state_of c.begin_turn.new.self) (opened_turn c.args.place c.args.name.now c.args.variable.now.text c.args.bits s) c.in_ok-block.block c.in_ok-block.ensures in
+    same_ends u (walks (under c.args.body.now).body) (walks (act c.in-Single.item).item) c.item-done.result
+    (ap walks (ap (λ (x : Gen). (under x).body) c.in-Single.is ∙ single_body c.in-Single.field-0 c.in-Single.item))
+    (turn_ends c.args.place c.args.name.now c.args.variable.now.text (act c.in-Single.item).item c.args.bits s b e c.item-done.result opened
+    (subst (λ (x : Item). Ends e ((act x).item b) c.item-done.result) c.get.ensures c.item-done.ensures))
 
 pub item-returns-in-Net : goal.item-returns-in-Net
 item-returns-in-Net t c =
@@ -95,42 +121,20 @@ item-turns-init t c =
     for_begun c.in-For.place c.in-For.header c.in-For.variable c.in-For.start c.in-For.test c.in-For.next c.in-For.body c.args.item.now s q c.in_ok-found-in-For.found c.in-For.is valued loop.before
     ∙ ap (λ (l : List (List Bit)). walk_all (turn_walk c.in-For.place name c.in-For.variable.text inside) l q) (sym (c.as_slice-bits-items.ensures ∙ loop.values_are))
 
-pub item-returns-in_err-block-in-For : goal.item-returns-in_err-block-in-For
-item-returns-in_err-block-in-For t c =
+pub item-returns-in_err-turn-in-For : goal.item-returns-in_err-turn-in-For
+item-returns-in_err-turn-in-For t c =
     let s = state_of c.args.self.now c.args.current.now in
     let loop : IsLoop c.in-For.body c.in_ok-found-in-For.found c.args.self.now c.args.current.now c.begin_loop.new.current c.in_ok-turns-in-For.turns =
     subst (λ (x : Gen). IsLoop x c.in_ok-found-in-For.found c.args.self.now c.args.current.now c.begin_loop.new.current c.in_ok-turns-in-For.turns) c.get.ensures c.in_ok-turns-in-For.ensures in
     let name = block_name (under c.in-For.body).label c.begin_loop.new.current.constructs in
     let inside = (under c.in-For.body).body in
     let now = state_of c.turns.self c.begin_loop.new.current in
-    let opens = subst (λ (n : Name). Answers (λ st block. st ≡ state_of c.begin_turn.new.self block) (opened_turn c.in-For.place n c.in-For.variable.text c.bits-item.result now) c.begin_turn.result) (c.bytes.ensures ∙ loop.name) c.begin_turn.ensures in
-    let t = state_of c.begin_turn.new.self c.begin_loop.new.current in
-    let none : Result (Unit {0}) TextErr = Err c.in_err-block-in-For.field-0.0 in
-    walk_refused (turn_walk c.in-For.place name c.in-For.variable.text inside) c.as_slice-bits-items.result.now c.turns.bits-index c.bits-item.result ((act c.args.item.now).item s) now t t none c.in_err-block-in-For.field-0.0 c.from_residual-in_err-block-in-For.result
-    c.turns-test.true c.bits-item.is c.turns.invariant refl
-    (not_opened (λ st block. st ≡ state_of c.begin_turn.new.self block) c.in-For.place name c.in-For.variable.text inside c.bits-item.result now t c.begin_turn.result c.in_err-block-in-For.field-0.0 c.in_err-block-in-For.was opens)
-    c.from_residual-in_err-block-in-For.ensures.1
-
-pub item-returns-in_err-body-in-For : goal.item-returns-in_err-body-in-For
-item-returns-in_err-body-in-For t c =
-    let s = state_of c.args.self.now c.args.current.now in
-    let loop : IsLoop c.in-For.body c.in_ok-found-in-For.found c.args.self.now c.args.current.now c.begin_loop.new.current c.in_ok-turns-in-For.turns =
-    subst (λ (x : Gen). IsLoop x c.in_ok-found-in-For.found c.args.self.now c.args.current.now c.begin_loop.new.current c.in_ok-turns-in-For.turns) c.get.ensures c.in_ok-turns-in-For.ensures in
-    let name = block_name (under c.in-For.body).label c.begin_loop.new.current.constructs in
-    let inside = (under c.in-For.body).body in
-    let block = state_of c.begin_turn.new.self c.in_ok-block-in-For.block in
-    let now = state_of c.turns.self c.begin_loop.new.current in
-    let opened : opened_turn c.in-For.place name c.in-For.variable.text c.bits-item.result now ≡ Ok block =
-    answered (state_of c.begin_turn.new.self) (opened_turn c.in-For.place name c.in-For.variable.text c.bits-item.result now) c.in_ok-block-in-For.block
-    (subst (λ (n : Name). Answers (λ st b. st ≡ state_of c.begin_turn.new.self b) (opened_turn c.in-For.place n c.in-For.variable.text c.bits-item.result now) (Ok c.in_ok-block-in-For.block)) (c.bytes.ensures ∙ loop.name) c.in_ok-block-in-For.ensures) in
-    let e = state_of c.body.new.self c.body.new.current in
-    let t = state_of c.body.new.self c.begin_loop.new.current in
-    let none : Result (Unit {0}) TextErr = Err c.in_err-body-in-For.field-0.0 in
-    walk_refused (turn_walk c.in-For.place name c.in-For.variable.text inside) c.as_slice-bits-items.result.now c.turns.bits-index c.bits-item.result ((act c.args.item.now).item s) now t t none c.in_err-body-in-For.field-0.0 c.from_residual-in_err-body-in-For.result
-    c.turns-test.true c.bits-item.is c.turns.invariant refl
-    (body_refused c.in-For.place name c.in-For.variable.text inside c.bits-item.result now block e t c.body.result c.in_err-body-in-For.field-0.0 opened c.in_err-body-in-For.was
-    (subst (λ (x : Gen). Ends e ((under x).body block) c.body.result) c.get-in-turns.ensures c.body.ensures))
-    c.from_residual-in_err-body-in-For.ensures.1
+    let t = state_of c.turn.new.self c.begin_loop.new.current in
+    let walks : Ends t (turn_walk c.in-For.place name c.in-For.variable.text inside c.bits-item.result now) c.turn.result =
+    subst (λ (n : Name). Ends t (turn_walk c.in-For.place n c.in-For.variable.text inside c.bits-item.result now) c.turn.result) (c.bytes.ensures ∙ loop.name)
+    (subst (λ (x : Gen). Ends t (turn_walk c.in-For.place c.bytes.result.now c.in-For.variable.text (under x).body c.bits-item.result now) c.turn.result) c.get-in-turns.ensures c.turn.ensures) in
+    walk_refused (turn_walk c.in-For.place name c.in-For.variable.text inside) c.as_slice-bits-items.result.now c.turns.bits-index c.bits-item.result ((act c.args.item.now).item s) now t t c.turn.result c.in_err-turn-in-For.field-0.0 c.from_residual-in_err-turn-in-For.result
+    c.turns-test.true c.bits-item.is c.turns.invariant c.in_err-turn-in-For.was walks c.from_residual-in_err-turn-in-For.ensures.1
 
 pub item-turns-preserved : goal.item-turns-preserved
 item-turns-preserved t c =
@@ -139,16 +143,13 @@ item-turns-preserved t c =
     subst (λ (x : Gen). IsLoop x c.in_ok-found-in-For.found c.args.self.now c.args.current.now c.begin_loop.new.current c.in_ok-turns-in-For.turns) c.get.ensures c.in_ok-turns-in-For.ensures in
     let name = block_name (under c.in-For.body).label c.begin_loop.new.current.constructs in
     let inside = (under c.in-For.body).body in
-    let block = state_of c.begin_turn.new.self c.in_ok-block-in-For.block in
     let now = state_of c.turns.self c.begin_loop.new.current in
-    let opened : opened_turn c.in-For.place name c.in-For.variable.text c.bits-item.result now ≡ Ok block =
-    answered (state_of c.begin_turn.new.self) (opened_turn c.in-For.place name c.in-For.variable.text c.bits-item.result now) c.in_ok-block-in-For.block
-    (subst (λ (n : Name). Answers (λ st b. st ≡ state_of c.begin_turn.new.self b) (opened_turn c.in-For.place n c.in-For.variable.text c.bits-item.result now) (Ok c.in_ok-block-in-For.block)) (c.bytes.ensures ∙ loop.name) c.in_ok-block-in-For.ensures) in
-    let e = state_of c.body.new.self c.body.new.current in
-    let t = state_of c.body.new.self c.begin_loop.new.current in
+    let t = state_of c.turn.new.self c.begin_loop.new.current in
+    let walks : Ends {A = Unit {0}} t (turn_walk c.in-For.place name c.in-For.variable.text inside c.bits-item.result now) (Ok (tt {0})) =
+    subst (λ (n : Name). Ends {A = Unit {0}} t (turn_walk c.in-For.place n c.in-For.variable.text inside c.bits-item.result now) (Ok (tt {0}))) (c.bytes.ensures ∙ loop.name)
+    (subst (λ (x : Gen). Ends {A = Unit {0}} t (turn_walk c.in-For.place c.bytes.result.now c.in-For.variable.text (under x).body c.bits-item.result now) (Ok (tt {0}))) c.get-in-turns.ensures c.in_ok-turn-in-For.ensures) in
     walk_next (turn_walk c.in-For.place name c.in-For.variable.text inside) c.as_slice-bits-items.result.now c.turns.bits-index c.bits-item.result ((act c.args.item.now).item s) now t c.turns-test.true c.bits-item.is c.turns.invariant
-    (turned c.in-For.place name c.in-For.variable.text inside c.bits-item.result now block e opened
-    (ended e (inside block) (tt {0}) (subst (λ (x : Gen). Ends {A = Unit {0}} e ((under x).body block) (Ok (tt {0}))) c.get-in-turns.ensures c.in_ok-body-in-For.ensures)))
+    (ended t (turn_walk c.in-For.place name c.in-For.variable.text inside c.bits-item.result now) (tt {0}) walks)
 
 pub item-returns-after-turns : goal.item-returns-after-turns
 item-returns-after-turns t c =
@@ -248,12 +249,12 @@ branch-returns-in_ok-block-in-Block t c =
     let is : (under c.args.body.now).branch c.args.number ≡ block_walk (option_copied c.as_ref.result) c.in-Block.place c.args.number (items_walk c.in-Block.items) =
     ap (λ (x : Gen). (under x).branch c.args.number) c.in-Block.is ∙ block_branch c.in-Block.place c.in-Block.label c.in-Block.items c.in-Block.field-3 c.args.number
     ∙ sym (λ i. block_walk (c.as_ref.ensures.value i) c.in-Block.place c.args.number (items_walk c.in-Block.items)) in
-    let t = state_of c.items.new.self c.block.new.current in
-    let e = state_of c.items.new.self c.items.new.current in
+    let t = state_of c.items-done.new.self c.block.new.current in
+    let e = state_of c.items-done.new.self c.items-done.new.current in
     let b = state_of c.block.new.self c.in_ok-block-in-Block.block in
-    same_ends t ((under c.args.body.now).branch c.args.number s) (block_walk (option_copied c.as_ref.result) c.in-Block.place c.args.number (items_walk c.in-Block.items) s) c.items.result (λ i. is i s)
-    (block_ends (option_copied c.as_ref.result) c.in-Block.place c.args.number (items_walk c.in-Block.items) s (state_of c.args.self.now c.block.new.current) b e c.items.result
-    c.in_ok-block-in-Block.ensures.declared c.in_ok-block-in-Block.ensures.begun (subst (λ (l : List Item). Ends e (items_walk l b) c.items.result) c.as_slice.ensures c.items.ensures))
+    same_ends t ((under c.args.body.now).branch c.args.number s) (block_walk (option_copied c.as_ref.result) c.in-Block.place c.args.number (items_walk c.in-Block.items) s) c.items-done.result (λ i. is i s)
+    (block_ends (option_copied c.as_ref.result) c.in-Block.place c.args.number (items_walk c.in-Block.items) s (state_of c.args.self.now c.block.new.current) b e c.items-done.result
+    c.in_ok-block-in-Block.ensures.declared c.in_ok-block-in-Block.ensures.begun (subst (λ (l : List Item). Ends e (items_walk l b) c.items-done.result) c.as_slice.ensures c.items-done.ensures))
 
 pub branch-returns-in_err-holds-in-If : goal.branch-returns-in_err-holds-in-If
 branch-returns-in_err-holds-in-If t c =
@@ -322,9 +323,9 @@ branch-returns-in_ok-block-in_default t c =
     let is : (under c.args.body.now).branch c.args.number ≡ block_walk None c.in-Single.place c.args.number (act c.in-Single.item).item =
     ap (λ (x : Gen). (under x).branch c.args.number) c.in-Single.is
     ∙ single_branch c.in-Single.place c.in-Single.item c.args.number (λ q x y o h. c.in_default.not-If q x y o (c.get.ensures ∙ h)) in
-    let t = state_of c.item.new.self c.block-in_default.new.current in
-    let e = state_of c.item.new.self c.item.new.current in
+    let t = state_of c.item-done.new.self c.block-in_default.new.current in
+    let e = state_of c.item-done.new.self c.item-done.new.current in
     let b = state_of c.block-in_default.new.self c.in_ok-block-in_default.block in
-    same_ends t ((under c.args.body.now).branch c.args.number s) (block_walk None c.in-Single.place c.args.number (act c.in-Single.item).item s) c.item.result (λ i. is i s)
-    (block_ends None c.in-Single.place c.args.number (act c.in-Single.item).item s (state_of c.args.self.now c.block-in_default.new.current) b e c.item.result
-    c.in_ok-block-in_default.ensures.declared c.in_ok-block-in_default.ensures.begun (subst (λ (x : Item). Ends e ((act x).item b) c.item.result) c.get.ensures c.item.ensures))
+    same_ends t ((under c.args.body.now).branch c.args.number s) (block_walk None c.in-Single.place c.args.number (act c.in-Single.item).item s) c.item-done.result (λ i. is i s)
+    (block_ends None c.in-Single.place c.args.number (act c.in-Single.item).item s (state_of c.args.self.now c.block-in_default.new.current) b e c.item-done.result
+    c.in_ok-block-in_default.ensures.declared c.in_ok-block-in_default.ensures.begun (subst (λ (x : Item). Ends e ((act x).item b) c.item-done.result) c.get.ensures c.item-done.ensures))

@@ -8,7 +8,7 @@ use Rattle.sv_scope.proofs.walker.Walker.add_typedef.Goals as goal
 
 pub returns-in_err-layout : goal.returns-in_err-layout
 returns-in_err-layout c =
-    with_unformed c.args.tree.now.form (λ x. m.add_constant (c.args.tree.now.name, layouts.type_is x)) (state_of c.args.self.now c.args.current.now) c.formed.new.self c.formed.new.self c.formed.new.current c.formed.new.current c.from_residual.result c.in_err-layout.field-0.0 c.from_residual.ensures.1 c.in_err-layout.ensures.is
+    with_unformed c.args.tree.now.form (λ x. m.add_constant (c.args.tree.now.name, layouts.type_is x)) (state_of c.args.self.now c.args.current.now) c.formed.new.self c.formed.new.self c.formed.new.current c.formed.new.current c.from_residual-in_err-layout.result c.in_err-layout.field-0.0 c.from_residual-in_err-layout.ensures.1 c.in_err-layout.ensures.is
 
 pub returns : goal.returns
 returns c =

@@ -10,4 +10,4 @@ returns-in_err-layout c =
 
 pub returns : goal.returns
 returns c =
-    with_formed c.args.tree.now (λ x. m.walk_all (m.add_wire false x) c.args.words.now) (state_of c.args.self.now c.args.current.now) c.formed.new.self c.add_wires.new.self c.formed.new.current c.add_wires.new.current c.in_ok-layout.layout c.add_wires.result c.in_ok-layout.ensures.is c.add_wires.ensures
+    with_formed c.args.tree.now (λ x. m.walk_all (m.add_wire false x) c.args.words.now) (state_of c.args.self.now c.args.current.now) c.formed.new.self c.add_wires-added.new.self c.formed.new.current c.add_wires-added.new.current c.in_ok-layout.layout c.add_wires-added.result c.in_ok-layout.ensures.is c.add_wires-added.ensures

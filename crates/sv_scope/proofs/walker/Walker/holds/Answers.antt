@@ -9,4 +9,4 @@ use Rattle.sv_scope.proofs.walker.Walker.holds.Goals as goal
 
 pub returns : goal.returns
 returns c =
-    subst (λ (at : Scope). Gives (fixed_truth (mean at c.args.test.now)) c.condition.result) (c.in_ok-names.ensures.names ∙ ap (seen_at (levels_are c.args.self.now.levels)) c.here-at.ensures) c.condition.ensures
+    subst (λ (at : Scope). Gives (fixed_truth (mean at c.args.test.now)) c.condition-held.result) (c.in_ok-names.ensures.names ∙ ap (seen_at (levels_are c.args.self.now.levels)) c.here-at.ensures) c.condition-held.ensures
