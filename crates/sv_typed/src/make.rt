@@ -16,7 +16,7 @@ use crate::{
     one_of,
 };
 use fourvec::Four;
-use items::{Boxed, Items};
+use items::{Boxed, Items, both};
 use std::alloc::{AllocError, Global};
 use sv_literal::Literal;
 use sv_tree::UnaryOp;
@@ -88,6 +88,14 @@ pub fn width_together(parts: &[Typed]) -> u8
     width
 }
 
+// Two operands, each in a box of its own.
+fn both_boxed(alloc: Global, a: Typed, b: Typed) -> Result<(Boxed<Typed>, Boxed<Typed>), AllocError>
+    ensures { IfOk result (λ p. (p.0 ≡ a) × (p.1 ≡ b)) }
+{
+    let (b, a) = both(b, Boxed::new(alloc, a))?;
+    both(a, Boxed::new(alloc, b))
+}
+
 impl Typed {
     /// A literal (5.7.1).
     #[tactic(auto, using(crate::proofs::Named::stands_literal, crate::proofs::Sound::sound_literal))]
@@ -153,11 +161,15 @@ impl Typed {
         ensures stands { IfOk result (λ t. (m n : Meaning) → Stands a m → Stands b n → Stands t (context_two (computed op) m n)) }
         ensures sound { IfOk result (λ t. IsSound a → IsSound b → IsSound t) }
     {
+        let width = a.width.max(b.width);
+        let signed = a.signed && b.signed;
+        let constant = a.constant && b.constant;
+        let (a, b) = both_boxed(alloc, a, b)?;
         Ok(Typed {
-            width: a.width.max(b.width),
-            signed: a.signed && b.signed,
-            constant: a.constant && b.constant,
-            form: TypedForm::Computed(op, Boxed::new(alloc, a)?, Boxed::new(alloc, b)?),
+            width,
+            signed,
+            constant,
+            form: TypedForm::Computed(op, a, b),
         })
     }
 
@@ -167,11 +179,15 @@ impl Typed {
         ensures stands { IfOk result (λ t. (m n : Meaning) → Stands a m → Stands b n → Stands t (shift (moved op) m n)) }
         ensures sound { IfOk result (λ t. IsSound a → IsSound b → IsSound t) }
     {
+        let width = a.width;
+        let signed = a.signed;
+        let constant = a.constant && b.constant;
+        let (a, b) = both_boxed(alloc, a, b)?;
         Ok(Typed {
-            width: a.width,
-            signed: a.signed,
-            constant: a.constant && b.constant,
-            form: TypedForm::Moved(op, Boxed::new(alloc, a)?, Boxed::new(alloc, b)?),
+            width,
+            signed,
+            constant,
+            form: TypedForm::Moved(op, a, b),
         })
     }
 
@@ -181,11 +197,13 @@ impl Typed {
         ensures stands { IfOk result (λ t. (m n : Meaning) → Stands a m → Stands b n → Stands t (comparison (compared op) m n)) }
         ensures sound { IfOk result (λ t. IsSound a → IsSound b → IsSound t) }
     {
+        let constant = a.constant && b.constant;
+        let (a, b) = both_boxed(alloc, a, b)?;
         Ok(Typed {
             width: 1,
             signed: false,
-            constant: a.constant && b.constant,
-            form: TypedForm::Compared(op, Boxed::new(alloc, a)?, Boxed::new(alloc, b)?),
+            constant,
+            form: TypedForm::Compared(op, a, b),
         })
     }
 
@@ -195,11 +213,13 @@ impl Typed {
         ensures stands { IfOk result (λ t. (m n : Meaning) → Stands a m → Stands b n → Stands t (logical (combined_truths op) m n)) }
         ensures sound { IfOk result (λ t. IsSound a → IsSound b → IsSound t) }
     {
+        let constant = a.constant && b.constant;
+        let (a, b) = both_boxed(alloc, a, b)?;
         Ok(Typed {
             width: 1,
             signed: false,
-            constant: a.constant && b.constant,
-            form: TypedForm::Combined(op, Boxed::new(alloc, a)?, Boxed::new(alloc, b)?),
+            constant,
+            form: TypedForm::Combined(op, a, b),
         })
     }
 
@@ -237,13 +257,13 @@ impl Typed {
         let width = a.width.max(b.width);
         let signed = a.signed && b.signed;
         let constant = condition.constant && a.constant && b.constant;
-        let condition = Boxed::new(alloc, condition)?;
-        let a = Boxed::new(alloc, a)?;
+        let ((a, b), condition) = both((a, b), Boxed::new(alloc, condition))?;
+        let (a, b) = both_boxed(alloc, a, b)?;
         Ok(Typed {
             width,
             signed,
             constant,
-            form: TypedForm::Chosen(condition, a, Boxed::new(alloc, b)?),
+            form: TypedForm::Chosen(condition, a, b),
         })
     }
 
