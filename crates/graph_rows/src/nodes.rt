@@ -153,6 +153,14 @@ fn set_entry(list: &mut Vec<Option<Node>>, at: usize, node: Node) -> Result<bool
     Ok(true)
 }
 
+fn set_replacement(by: &mut Subst, present: bool, at: usize, node: Node) -> Result<bool, Fault> {
+    if present {
+        set_entry(&mut by.present, at, node)
+    } else {
+        set_entry(&mut by.previous, at, node)
+    }
+}
+
 fn answer_of(arena: &mut Arena, alloc: Global, root: Node, by: &Subst) -> Result<Node, Fault> {
     if root.index() >= arena.len() {
         return Err(Fault::Form);
@@ -180,11 +188,8 @@ impl Substituted {
     fn replace(&mut self, row: &[u8]) -> Result<bool, Fault> {
         let node = built(&mut self.arena, self.alloc, words_from(row, 3))?;
         let at = size(word(row, 2))?;
-        if word(row, 1) == b"now".as_slice() {
-            set_entry(&mut self.by.present, at, node)
-        } else {
-            set_entry(&mut self.by.previous, at, node)
-        }
+        let present = word(row, 1) == b"now".as_slice();
+        set_replacement(&mut self.by, present, at, node)
     }
 
     // How many nodes a substitution made, and whether it gives what is wanted.

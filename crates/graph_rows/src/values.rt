@@ -111,15 +111,20 @@ fn set_entries(list: &mut Vec<Four>, words: &[u8]) -> Result<bool, Fault> {
     Ok(true)
 }
 
+fn set_kind(env: &mut Env, kind: Kind, words: &[u8]) -> Result<bool, Fault> {
+    match kind {
+        Kind::Now => set_entries(&mut env.present, words),
+        Kind::Prev => set_entries(&mut env.previous, words),
+        Kind::Stim => set_entries(&mut env.stim, words),
+        Kind::Chosen => set_entries(&mut env.chosen, words),
+        Kind::Sampled => set_entries(&mut env.sampled, words),
+    }
+}
+
 impl<'a> Judge for Entries<'a> {
     fn row(&mut self, words: &[u8], _wanted: &[u8], _said: &mut Vec<u8>) -> Result<bool, Fault> {
-        match named(&KINDS, word(words, 0)).ok_or(Fault::Form)? {
-            Kind::Now => set_entries(&mut self.env.present, words),
-            Kind::Prev => set_entries(&mut self.env.previous, words),
-            Kind::Stim => set_entries(&mut self.env.stim, words),
-            Kind::Chosen => set_entries(&mut self.env.chosen, words),
-            Kind::Sampled => set_entries(&mut self.env.sampled, words),
-        }
+        let kind = named(&KINDS, word(words, 0)).ok_or(Fault::Form)?;
+        set_kind(self.env, kind, words)
     }
 }
 
