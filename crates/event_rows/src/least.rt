@@ -6,7 +6,7 @@ ghost use Rattle.flat_net.specs.Flats.{IsFlat};
 ghost use Rattle.svtv_least.specs.Running.{Serves};
 
 use crate::design::{empty, put_design};
-use crate::settling::told;
+use crate::settled::told;
 use crate::sound::is_sound;
 use case_rows::{Fault, Report, digits, part, put_vectors, rows_of, sides, size, small, word};
 use flat_net::Flat;

@@ -4,12 +4,12 @@
 
 mod design;
 mod least;
-mod settling;
+mod settled;
 mod sound;
 
 use case_rows::{Bench, Fault, Report, judge_text, named, put, word};
 use least::{Given, judge_run};
-use settling::judge_settling;
+use settled::judge_settling;
 use std::alloc::Global;
 use std::io::Write;
 use std::{env, fs, io};

@@ -1,6 +1,6 @@
 use Rattle.driver_resolve.specs.Drivers.{widths_of}
 use Rattle.event_sim.specs.Sims.{Fits, IsValuation}
-use Rattle.event_rows.proofs.settling.run.Given as goal
+use Rattle.event_rows.proofs.settled.run.Given as goal
 
 abbrev pub invariant-lines : goal.invariant-lines
 invariant-lines l = record {

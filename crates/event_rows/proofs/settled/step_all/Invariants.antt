@@ -1,5 +1,5 @@
 use Rattle.event_sim.specs.Sims.{Fits}
-use Rattle.event_rows.proofs.settling.step_all.Given as goal
+use Rattle.event_rows.proofs.settled.step_all.Given as goal
 
 abbrev pub invariant-turns : goal.invariant-turns
 invariant-turns l = Fits l.flat l.sim
