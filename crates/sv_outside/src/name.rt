@@ -8,10 +8,16 @@ use std::alloc::{AllocError, Global};
 use std::marker::Model;
 
 /// A name, which contracts see as a list of bytes. It may be any bytes, also none.
-#[derive(Debug, Drop)]
+#[derive(Debug)]
 pub struct Name {
     alloc: Global,
     bytes: Vec<u8>,
+}
+
+impl Drop for Name {
+    fn drop(self) {
+        let Name { alloc: _, bytes: _ } = self;
+    }
 }
 
 impl Model for Name {

@@ -24,20 +24,40 @@ pub enum Kind {
 }
 
 /// A token: its kind, its bytes as written, and the place of its first byte.
-#[derive(Debug, Drop)]
+#[derive(Debug)]
 pub struct Token {
     pub kind: Kind,
     pub text: Name,
     pub place: Place,
 }
 
+impl Drop for Token {
+    fn drop(self) {
+        let Token {
+            kind: _,
+            text: _,
+            place: _,
+        } = self;
+    }
+}
+
 /// The tokens of a text and of the files that it includes, in order; the names of these files, which
 /// places count from 0; and the place where the text ends.
-#[derive(Debug, Drop)]
+#[derive(Debug)]
 pub struct Tokens {
     pub list: Vec<Token>,
     pub files: Vec<Name>,
     pub end: Place,
+}
+
+impl Drop for Tokens {
+    fn drop(self) {
+        let Tokens {
+            list: _,
+            files: _,
+            end: _,
+        } = self;
+    }
 }
 
 impl Model for Tokens {
@@ -50,9 +70,19 @@ impl Model for Tokens {
 
 /// A signal of a design. Its path is its declared name after the names of the instances and blocks that lead to
 /// it from the top, joined by dots. Its width is 1 to 128 bits. `input` is true for an input or inout of the top.
-#[derive(Debug, Drop)]
+#[derive(Debug)]
 pub struct Signal {
     pub path: Name,
     pub width: u8,
     pub input: bool,
+}
+
+impl Drop for Signal {
+    fn drop(self) {
+        let Signal {
+            path: _,
+            width: _,
+            input: _,
+        } = self;
+    }
 }

@@ -11,12 +11,20 @@ pub enum ParamWord {
 }
 
 /// The type of a parameter, at least one word or range (A.2.2.1, data_type_or_implicit).
-#[derive(Drop)]
 pub enum ParamType {
     /// A whole number, and its sign.
     Whole(WholeWord, Option<Sign>),
     /// A vector of bits: the word, the sign and the range.
     Bits(Option<ParamBits>, Option<Sign>, Option<Range>),
+}
+
+impl Drop for ParamType {
+    fn drop(self) {
+        match self {
+            ParamType::Whole(_, _) => {}
+            ParamType::Bits(_, _, _) => {}
+        }
+    }
 }
 
 /// The word of a parameter that is a vector of bits (A.2.2.1, integer_vector_type).
@@ -28,7 +36,6 @@ pub enum ParamBits {
 }
 
 /// A parameter of a module's header, and its default (A.1.3, parameter_port_declaration).
-#[derive(Drop)]
 pub struct ParPort {
     pub word: Option<ParamWord>,
     pub form: Option<ParamType>,
@@ -36,19 +43,44 @@ pub struct ParPort {
     pub value: Expr,
 }
 
+impl Drop for ParPort {
+    fn drop(self) {
+        let ParPort {
+            word: _,
+            form: _,
+            name: _,
+            value: _,
+        } = self;
+    }
+}
+
 /// A name, and its value (A.2.4, param_assignment).
-#[derive(Drop)]
 pub struct ParamItem {
     pub name: Word,
     pub value: Expr,
 }
 
+impl Drop for ParamItem {
+    fn drop(self) {
+        let ParamItem { name: _, value: _ } = self;
+    }
+}
+
 /// A declaration of one or more parameters (A.2.1.1, parameter_declaration and local_parameter_declaration).
-#[derive(Drop)]
 pub struct Param {
     pub word: ParamWord,
     pub form: Option<ParamType>,
     pub list: Items<ParamItem>,
+}
+
+impl Drop for Param {
+    fn drop(self) {
+        let Param {
+            word: _,
+            form: _,
+            list: _,
+        } = self;
+    }
 }
 
 /// The direction of a port (A.1.3, port_direction).
@@ -67,7 +99,6 @@ pub enum NetWord {
 }
 
 /// A port of a module's header (A.1.3, ansi_port_declaration).
-#[derive(Drop)]
 pub struct Port {
     pub way: Option<Way>,
     pub kind: Option<NetWord>,
@@ -75,15 +106,33 @@ pub struct Port {
     pub name: Word,
 }
 
+impl Drop for Port {
+    fn drop(self) {
+        let Port {
+            way: _,
+            kind: _,
+            form: _,
+            name: _,
+        } = self;
+    }
+}
+
 /// A target, and its value (A.6.1, net_assignment).
-#[derive(Drop)]
 pub struct AssignPair {
     pub target: Lvalue,
     pub value: Expr,
 }
 
+impl Drop for AssignPair {
+    fn drop(self) {
+        let AssignPair {
+            target: _,
+            value: _,
+        } = self;
+    }
+}
+
 /// What stands behind the name of a named connection or override.
-#[derive(Drop)]
 pub enum Pin {
     /// Nothing: the name itself is the expression.
     Same,
@@ -93,15 +142,29 @@ pub enum Pin {
     Given(Expr),
 }
 
+impl Drop for Pin {
+    fn drop(self) {
+        match self {
+            Pin::Same => {}
+            Pin::Open => {}
+            Pin::Given(_) => {}
+        }
+    }
+}
+
 /// `.` and a name, and what stands behind it (A.4.1.1, named_port_connection and named_parameter_assignment).
-#[derive(Drop)]
 pub struct NamedPin {
     pub name: Word,
     pub pin: Pin,
 }
 
+impl Drop for NamedPin {
+    fn drop(self) {
+        let NamedPin { name: _, pin: _ } = self;
+    }
+}
+
 /// One or more connections or overrides (A.4.1.1, list_of_port_connections and list_of_parameter_assignments).
-#[derive(Drop)]
 pub enum Pins {
     /// By name.
     Named(Items<NamedPin>),
@@ -109,24 +172,46 @@ pub enum Pins {
     Ordered(Items<Expr>),
 }
 
+impl Drop for Pins {
+    fn drop(self) {
+        match self {
+            Pins::Named(_) => {}
+            Pins::Ordered(_) => {}
+        }
+    }
+}
+
 /// An instance's name, and its connections, where it has some (A.4.1.1, hierarchical_instance).
-#[derive(Drop)]
 pub struct One {
     pub name: Word,
     pub pins: Option<Pins>,
 }
 
+impl Drop for One {
+    fn drop(self) {
+        let One { name: _, pins: _ } = self;
+    }
+}
+
 /// One or more instances of a module (A.4.1.1, module_instantiation). The parameters are `#(..)`, where it is there, with its pins, where it has some.
-#[derive(Drop)]
 pub struct Inst {
     pub of_module: Word,
     pub params: Option<Option<Pins>>,
     pub list: Items<One>,
 }
 
+impl Drop for Inst {
+    fn drop(self) {
+        let Inst {
+            of_module: _,
+            params: _,
+            list: _,
+        } = self;
+    }
+}
+
 /// An item of a module (A.1.4, module_or_generate_item).
 #[cycle(item)]
-#[derive(Drop)]
 pub enum Item {
     /// One or more nets (A.2.1.3, net_declaration).
     Net(NetWord, Option<TypeTree>, Items<Word>),
@@ -149,9 +234,27 @@ pub enum Item {
     Generate(Items<Item>),
 }
 
+impl Drop for Item {
+    #[cycle(item_drop)]
+    fn drop(self) {
+        match self {
+            Item::Net(_, _, _) => {}
+            Item::Variable(_, _) => {}
+            Item::Typedef(_) => {}
+            Item::Param(_) => {}
+            Item::Genvar(_) => {}
+            Item::Assign(_) => {}
+            Item::Always(_) => {}
+            Item::Inst(_) => {}
+            Item::For(_, _, _, _, _, _, _) => {}
+            Item::If(_, _, _, _) => {}
+            Item::Generate(_) => {}
+        }
+    }
+}
+
 /// The body of a generate loop, or a branch of a generate `if` (A.4.2, generate_block).
 #[cycle(item)]
-#[derive(Drop)]
 pub enum Gen {
     /// The place of the `begin`, the name behind it, the items, and the name behind the `end`.
     Block(Place, Option<Word>, Items<Item>, Option<Word>),
@@ -159,8 +262,17 @@ pub enum Gen {
     Single(Place, Boxed<Item>),
 }
 
+impl Drop for Gen {
+    #[cycle(item_drop)]
+    fn drop(self) {
+        match self {
+            Gen::Block(_, _, _, _) => {}
+            Gen::Single(_, _) => {}
+        }
+    }
+}
+
 /// A module (A.1.2, module_declaration).
-#[derive(Drop)]
 pub struct Module {
     pub name: Word,
     /// Those of `#( )`, which is not there where it would be empty.
@@ -172,16 +284,42 @@ pub struct Module {
     pub label: Option<Word>,
 }
 
+impl Drop for Module {
+    fn drop(self) {
+        let Module {
+            name: _,
+            params: _,
+            ports: _,
+            items: _,
+            label: _,
+        } = self;
+    }
+}
+
 /// A part of a text (A.1.2, description).
-#[derive(Drop)]
 pub enum SourcePart {
     Module(Module),
     Typedef(Typedef),
     Param(Param),
 }
 
+impl Drop for SourcePart {
+    fn drop(self) {
+        match self {
+            SourcePart::Module(_) => {}
+            SourcePart::Typedef(_) => {}
+            SourcePart::Param(_) => {}
+        }
+    }
+}
+
 /// A whole text (A.1.2, source_text).
-#[derive(Drop)]
 pub struct Source {
     pub parts: Items<SourcePart>,
+}
+
+impl Drop for Source {
+    fn drop(self) {
+        let Source { parts: _ } = self;
+    }
 }

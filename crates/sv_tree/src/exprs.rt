@@ -116,7 +116,6 @@ pub enum RangeMark {
 
 /// An expression (A.8.3, expression; A.8.4, primary). A place is that of the operator, the word or the opening bracket.
 #[cycle(expr)]
-#[derive(Drop)]
 pub enum Expr {
     /// A number (A.8.4, primary_literal).
     Literal(Word),
@@ -146,9 +145,29 @@ pub enum Expr {
     Choose(Boxed<Expr>, Boxed<Expr>, Boxed<Expr>),
 }
 
+impl Drop for Expr {
+    #[cycle(expr_drop)]
+    fn drop(self) {
+        match self {
+            Expr::Literal(_) => {}
+            Expr::Name(_, _) => {}
+            Expr::Paren(_, _) => {}
+            Expr::Concat(_, _) => {}
+            Expr::Repeat(_, _, _) => {}
+            Expr::CastLiteral(_, _) => {}
+            Expr::CastName(_, _) => {}
+            Expr::CastParen(_, _, _) => {}
+            Expr::CastSign(_, _, _) => {}
+            Expr::System(_, _, _) => {}
+            Expr::Unary(_, _, _) => {}
+            Expr::Binary(_, _, _, _) => {}
+            Expr::Choose(_, _, _) => {}
+        }
+    }
+}
+
 /// A select behind a name (A.8.4, select and bit_select). A place is that of the `.` or the `[`.
 #[cycle(expr)]
-#[derive(Drop)]
 pub enum Select {
     /// `.` and the name of a member.
     Member(Place, Word),
@@ -156,4 +175,15 @@ pub enum Select {
     Index(Place, Boxed<Expr>),
     /// `[` two expressions with a mark between them `]`, the last of its chain.
     Range(Place, Boxed<Expr>, RangeMark, Boxed<Expr>),
+}
+
+impl Drop for Select {
+    #[cycle(expr_drop)]
+    fn drop(self) {
+        match self {
+            Select::Member(_, _) => {}
+            Select::Index(_, _) => {}
+            Select::Range(_, _, _, _) => {}
+        }
+    }
 }

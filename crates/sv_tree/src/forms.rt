@@ -18,23 +18,36 @@ pub enum WholeWord {
 }
 
 /// `[` left `:` right `]`, with the place of the `[` (A.2.5, packed_dimension).
-#[derive(Drop)]
 pub struct Range {
     pub place: Place,
     pub left: Expr,
     pub right: Expr,
 }
 
+impl Drop for Range {
+    fn drop(self) {
+        let Range {
+            place: _,
+            left: _,
+            right: _,
+        } = self;
+    }
+}
+
 /// An enumerator, and the value that it is given (A.2.2.1, enum_name_declaration).
-#[derive(Drop)]
 pub struct EnumLabel {
     pub name: Word,
     pub value: Option<Expr>,
 }
 
+impl Drop for EnumLabel {
+    fn drop(self) {
+        let EnumLabel { name: _, value: _ } = self;
+    }
+}
+
 /// A type (A.2.2.1, data_type).
 #[cycle(form)]
-#[derive(Drop)]
 pub enum TypeTree {
     /// A vector of bits, of which the word, the sign or a range is written.
     Vector(Option<BitsWord>, Option<Sign>, Items<Range>),
@@ -48,17 +61,43 @@ pub enum TypeTree {
     Named(Word, Items<Range>),
 }
 
+impl Drop for TypeTree {
+    #[cycle(form_drop)]
+    fn drop(self) {
+        match self {
+            TypeTree::Vector(_, _, _) => {}
+            TypeTree::Integer => {}
+            TypeTree::Struct(_, _, _) => {}
+            TypeTree::Enum(_, _, _, _) => {}
+            TypeTree::Named(_, _) => {}
+        }
+    }
+}
+
 /// Members of one type (A.2.2.1, struct_union_member).
 #[cycle(form)]
-#[derive(Drop)]
 pub enum Member {
     /// The type, and one or more names.
     Of(Boxed<TypeTree>, Items<Word>),
 }
 
+impl Drop for Member {
+    #[cycle(form_drop)]
+    fn drop(self) {
+        match self {
+            Member::Of(_, _) => {}
+        }
+    }
+}
+
 /// `typedef`, a type and its name (A.2.1.3, type_declaration).
-#[derive(Drop)]
 pub struct Typedef {
     pub form: TypeTree,
     pub name: Word,
+}
+
+impl Drop for Typedef {
+    fn drop(self) {
+        let Typedef { form: _, name: _ } = self;
+    }
 }

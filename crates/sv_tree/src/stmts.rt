@@ -5,12 +5,21 @@ use sv_outside::Place;
 
 /// A target (A.8.5, variable_lvalue and net_lvalue).
 #[cycle(lvalue)]
-#[derive(Drop)]
 pub enum Lvalue {
     /// A name with its selects.
     Name(Word, Items<Select>),
     /// One or more targets in braces, with the place of the `{`.
     Concat(Place, Items<Lvalue>),
+}
+
+impl Drop for Lvalue {
+    #[cycle(lvalue_drop)]
+    fn drop(self) {
+        match self {
+            Lvalue::Name(_, _) => {}
+            Lvalue::Concat(_, _) => {}
+        }
+    }
 }
 
 /// A step by one (A.6.2, inc_or_dec_operator).
@@ -34,11 +43,20 @@ pub enum StepSign {
 }
 
 /// The step of a loop, which names the loop's variable (A.6.8, for_step; A.4.2, genvar_iteration).
-#[derive(Drop)]
 pub enum Step {
     After(Word, StepMark),
     Before(StepMark, Word),
     Assign(Word, StepSign, Expr),
+}
+
+impl Drop for Step {
+    fn drop(self) {
+        match self {
+            Step::After(_, _) => {}
+            Step::Before(_, _) => {}
+            Step::Assign(_, _, _) => {}
+        }
+    }
 }
 
 /// What is said of the branches of an `if` or a `case` (A.6.6, unique_priority).
@@ -67,7 +85,6 @@ pub enum AssignMark {
 
 /// A statement (A.6.4, statement_or_null).
 #[cycle(stmt)]
-#[derive(Drop)]
 pub enum Stmt {
     /// `;`
     Empty,
@@ -85,14 +102,37 @@ pub enum Stmt {
     Assign(Lvalue, AssignMark, Place, Expr),
 }
 
+impl Drop for Stmt {
+    #[cycle(stmt_drop)]
+    fn drop(self) {
+        match self {
+            Stmt::Empty => {}
+            Stmt::Block(_, _, _, _) => {}
+            Stmt::If(_, _, _, _) => {}
+            Stmt::Case(_, _, _, _) => {}
+            Stmt::For(_, _, _, _, _, _, _) => {}
+            Stmt::Assign(_, _, _, _) => {}
+        }
+    }
+}
+
 /// An arm of a case statement (A.6.7, case_item).
 #[cycle(stmt)]
-#[derive(Drop)]
 pub enum Arm {
     /// One or more labels, and the statement.
     Labels(Items<Expr>, Boxed<Stmt>),
     /// Whether a colon stands behind `default`, and the statement.
     Default(bool, Boxed<Stmt>),
+}
+
+impl Drop for Arm {
+    #[cycle(stmt_drop)]
+    fn drop(self) {
+        match self {
+            Arm::Labels(_, _) => {}
+            Arm::Default(_, _) => {}
+        }
+    }
 }
 
 /// The edge of an event (A.6.5, edge_identifier).
@@ -105,14 +145,18 @@ pub enum Edge {
 }
 
 /// `@(` edge name `)` (A.6.5, event_control)
-#[derive(Drop)]
 pub struct Event {
     pub edge: Edge,
     pub name: Word,
 }
 
+impl Drop for Event {
+    fn drop(self) {
+        let Event { edge: _, name: _ } = self;
+    }
+}
+
 /// What stands before the statement of a block (A.6.2, always_construct).
-#[derive(Drop)]
 pub enum BlockKind {
     /// `always_comb`
     Comb,
@@ -126,9 +170,26 @@ pub enum BlockKind {
     StarParen,
 }
 
+impl Drop for BlockKind {
+    fn drop(self) {
+        match self {
+            BlockKind::Comb => {}
+            BlockKind::Ff(_) => {}
+            BlockKind::Always(_) => {}
+            BlockKind::Star => {}
+            BlockKind::StarParen => {}
+        }
+    }
+}
+
 /// A block of a module (A.6.2, always_construct).
-#[derive(Drop)]
 pub struct Block {
     pub kind: BlockKind,
     pub body: Stmt,
+}
+
+impl Drop for Block {
+    fn drop(self) {
+        let Block { kind: _, body: _ } = self;
+    }
 }
