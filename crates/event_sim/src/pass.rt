@@ -14,7 +14,6 @@ use fourvec::{Bit, Four};
 use svex_arena::{Arena, Env, Node, shape_value};
 
 /// What a flat design says of its bits, which stand in one row, wire by wire.
-#[derive(Drop)]
 pub struct Tables {
     /// The place of each wire's lowest bit.
     pub starts: Vec<usize>,
@@ -28,11 +27,28 @@ pub struct Tables {
     pub gifts: Vec<Gift>,
 }
 
+impl Drop for Tables {
+    fn drop(self) {
+        let Tables {
+            starts: _,
+            homes: _,
+            lows: _,
+            nets: _,
+            gifts: _,
+        } = self;
+    }
+}
+
 /// What a pass computes: a value for each node, and for each first bit what its class is told.
-#[derive(Drop)]
 pub struct Work {
     pub values: Vec<Four>,
     pub told: Vec<Option<Bit>>,
+}
+
+impl Drop for Work {
+    fn drop(self) {
+        let Work { values: _, told: _ } = self;
+    }
 }
 
 impl Work {

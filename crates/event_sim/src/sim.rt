@@ -23,12 +23,21 @@ use std::alloc::{AllocError, Global};
 use svex_arena::Env;
 
 /// The valuation of the wires of a flat design in one phase, and all the memory that it takes to settle it.
-#[derive(Drop)]
 pub struct Sim {
     tables: Tables,
     // the values of the wires: present, previous and stimulus
     env: Env,
     work: Work,
+}
+
+impl Drop for Sim {
+    fn drop(self) {
+        let Sim {
+            tables: _,
+            env: _,
+            work: _,
+        } = self;
+    }
 }
 
 impl Sim {

@@ -3,9 +3,18 @@ use items::Items;
 use sv_tree::{Expr, Word};
 
 /// A goal: where its hypotheses hold, its claims do.
-#[derive(Drop)]
 pub struct GoalTree {
     pub name: Word,
     pub hyps: Items<Expr>,
     pub claims: Items<Expr>,
+}
+
+impl Drop for GoalTree {
+    fn drop(self) {
+        let GoalTree {
+            name: _,
+            hyps: _,
+            claims: _,
+        } = self;
+    }
 }

@@ -5,7 +5,6 @@ use sv_typed::Typed;
 
 /// What a statement does to the store of its block.
 #[cycle(action)]
-#[derive(Drop)]
 pub enum Action {
     /// The value, as by an assignment to so many bits as the targets have together, is written into the targets, the first the most
     /// significant and written first (10.4).
@@ -16,16 +15,32 @@ pub enum Action {
     Match(Case, Items<Arm>, Items<Action>),
 }
 
+impl Drop for Action {
+    #[cycle(action_drop)]
+    fn drop(self) {
+        match self {
+            Action::Assign(_, _) => {}
+            Action::Choose(_, _, _) => {}
+            Action::Match(_, _, _) => {}
+        }
+    }
+}
+
 /// An arm of a case statement.
 #[cycle(action)]
-#[derive(Drop)]
 pub struct Arm {
     pub labels: Items<Typed>,
     pub body: Items<Action>,
 }
 
+impl Drop for Arm {
+    #[cycle(action_drop)]
+    fn drop(self) {
+        let Arm { labels: _, body: _ } = self;
+    }
+}
+
 /// What the labels of a case statement are compared with.
-#[derive(Drop)]
 pub struct Case {
     /// Whether the Z bits of a label that is a literal are not compared (`casez`, 12.5.1).
     pub masked: bool,
@@ -33,4 +48,15 @@ pub struct Case {
     pub width: u8,
     pub signed: bool,
     pub value: Typed,
+}
+
+impl Drop for Case {
+    fn drop(self) {
+        let Case {
+            masked: _,
+            width: _,
+            signed: _,
+            value: _,
+        } = self;
+    }
 }

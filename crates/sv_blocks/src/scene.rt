@@ -3,7 +3,6 @@ use items::Items;
 use svex_arena::Node;
 
 /// The wires that a block writes, and what its names read.
-#[derive(Drop)]
 pub struct Scene {
     /// The place of each wire that the block writes, by the wire's number.
     pub places: Items<Option<usize>>,
@@ -15,6 +14,18 @@ pub struct Scene {
     pub marks: Items<bool>,
     /// The wire of the event of a clocked block. None in a combinational one.
     pub clock: Option<usize>,
+}
+
+impl Drop for Scene {
+    fn drop(self) {
+        let Scene {
+            places: _,
+            wires: _,
+            widths: _,
+            marks: _,
+            clock: _,
+        } = self;
+    }
 }
 
 /// The store of a block: a node for each place, as wide as its wire. And what a name reads in a combinational block: a node for each

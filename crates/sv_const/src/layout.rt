@@ -5,7 +5,6 @@ use sv_outside::Name;
 
 /// How the bits of a value lie (IEEE 1800-2017, 7.2 and 7.4).
 #[cycle(layout)]
-#[derive(Drop)]
 pub struct Layout {
     /// How many bits, 1 to 128.
     pub width: u8,
@@ -13,9 +12,19 @@ pub struct Layout {
     pub form: Form,
 }
 
+impl Drop for Layout {
+    #[cycle(layout_drop)]
+    fn drop(self) {
+        let Layout {
+            width: _,
+            signed: _,
+            form: _,
+        } = self;
+    }
+}
+
 /// What a layout is made of.
 #[cycle(layout)]
-#[derive(Drop)]
 pub enum Form {
     /// One bit.
     Scalar,
@@ -30,12 +39,33 @@ pub enum Form {
     Members(Items<Field>),
 }
 
+impl Drop for Form {
+    #[cycle(layout_drop)]
+    fn drop(self) {
+        match self {
+            Form::Scalar => {}
+            Form::Dim {
+                left: _,
+                right: _,
+                each: _,
+            } => {}
+            Form::Members(_) => {}
+        }
+    }
+}
+
 /// A member of a packed structure.
 #[cycle(layout)]
-#[derive(Drop)]
 pub struct Field {
     pub name: Name,
     pub layout: Layout,
+}
+
+impl Drop for Field {
+    #[cycle(layout_drop)]
+    fn drop(self) {
+        let Field { name: _, layout: _ } = self;
+    }
 }
 
 /// A constant: its bits, and whether it is signed.
@@ -53,7 +83,6 @@ pub struct Size {
 }
 
 /// What a name stands for.
-#[derive(Drop)]
 pub enum What {
     /// A constant.
     Number(Known),
@@ -67,4 +96,26 @@ pub enum What {
     Sampled { number: usize, layout: Layout },
     /// The variable of generate loops, outside of a turn.
     Genvar,
+}
+
+impl Drop for What {
+    fn drop(self) {
+        match self {
+            What::Number(_) => {}
+            What::Kind(_) => {}
+            What::Wire {
+                number: _,
+                layout: _,
+            } => {}
+            What::Chosen {
+                number: _,
+                layout: _,
+            } => {}
+            What::Sampled {
+                number: _,
+                layout: _,
+            } => {}
+            What::Genvar => {}
+        }
+    }
 }

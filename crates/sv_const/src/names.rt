@@ -18,10 +18,18 @@ pub struct Frame<'a> {
 }
 
 /// Fronts of scopes, the outermost first, and the variables of loops above them. Contracts see the one list of all.
-#[derive(Drop)]
 pub struct Names<'a> {
     frames: Vec<Frame<'a>>,
     loops: Scope,
+}
+
+impl Drop for Names<'_> {
+    fn drop(self) {
+        let Names {
+            frames: _,
+            loops: _,
+        } = self;
+    }
 }
 
 impl<'a> Names<'a> {

@@ -13,10 +13,15 @@ use std::marker::Model;
 use sv_outside::Name;
 
 /// What is declared, in order. Contracts see the list of names with what they stand for.
-#[derive(Drop)]
 pub struct Scope {
     list: Vec<(Name, What)>,
     links: Links,
+}
+
+impl Drop for Scope {
+    fn drop(self) {
+        let Scope { list: _, links: _ } = self;
+    }
 }
 
 impl Model for Scope {

@@ -16,12 +16,22 @@ use sv_tree::{Port, Way, Word};
 use sv_types::copy;
 
 /// A port of an instance: its name, direction, wire and layout.
-#[derive(Drop)]
 pub(crate) struct OpenPort<'a> {
     pub name: &'a Word,
     pub way: Way,
     pub wire: usize,
     pub layout: Layout,
+}
+
+impl Drop for OpenPort<'_> {
+    fn drop(self) {
+        let OpenPort {
+            name: _,
+            way: _,
+            wire: _,
+            layout: _,
+        } = self;
+    }
 }
 
 // Whether the top reads a port from outside.

@@ -26,10 +26,18 @@ use sv_outside::{Name, TextErr};
 use sv_tree::{Module, Pins, Word};
 
 /// The modules of a text, and for each how many names of the file level are declared above it.
-#[derive(Drop)]
 pub(crate) struct Library<'a> {
     pub modules: Modules<'a>,
     pub above: Items<usize>,
+}
+
+impl Drop for Library<'_> {
+    fn drop(self) {
+        let Library {
+            modules: _,
+            above: _,
+        } = self;
+    }
 }
 
 /// A module with its number, and how many names of the file level are declared above it.

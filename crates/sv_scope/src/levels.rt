@@ -22,7 +22,6 @@ pub struct Front {
 }
 
 /// A scope with names of its own: the file level, an instance or a generate block.
-#[derive(Drop)]
 pub(crate) struct Level {
     pub path: Name,
     /// Its module, by the number in the text.
@@ -35,6 +34,19 @@ pub(crate) struct Level {
     pub nets: Scope,
     /// Its constants, types and genvars.
     pub consts: Scope,
+}
+
+impl Drop for Level {
+    fn drop(self) {
+        let Level {
+            path: _,
+            module: _,
+            parent: _,
+            around: _,
+            nets: _,
+            consts: _,
+        } = self;
+    }
 }
 
 /// An instance or a generate block.
@@ -50,9 +62,14 @@ pub struct Instance<'a> {
 }
 
 /// All scopes so far, by number.
-#[derive(Drop)]
 pub(crate) struct Levels {
     list: Vec<Level>,
+}
+
+impl Drop for Levels {
+    fn drop(self) {
+        let Levels { list: _ } = self;
+    }
 }
 
 impl Levels {

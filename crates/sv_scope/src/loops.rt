@@ -49,10 +49,15 @@ fn is_loop_variable(names: &Names<'_>, header: bool, variable: &Word) -> bool
 }
 
 /// The name of a loop's blocks, and the values of its variable in all turns.
-#[derive(Drop)]
 pub(crate) struct Turns {
     pub name: Name,
     pub values: Items<Four>,
+}
+
+impl Drop for Turns {
+    fn drop(self) {
+        let Turns { name: _, values: _ } = self;
+    }
 }
 
 /// The variable of a loop in a turn, as the first name of its block.

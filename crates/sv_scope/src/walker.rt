@@ -27,7 +27,6 @@ pub enum Actual<'a> {
 }
 
 /// What contributes or joins.
-#[derive(Drop)]
 pub enum Task<'a> {
     /// A continuous assignment: its target and its value.
     Assigning(&'a Lvalue, &'a Expr),
@@ -42,11 +41,31 @@ pub enum Task<'a> {
     },
 }
 
+impl Drop for Task<'_> {
+    fn drop(self) {
+        match self {
+            Task::Assigning(_, _) => {}
+            Task::Running(_) => {}
+            Task::Connecting {
+                way: _,
+                wire: _,
+                layout: _,
+                actual: _,
+            } => {}
+        }
+    }
+}
+
 /// A task, and the place where it is read.
-#[derive(Drop)]
 pub struct Work<'a> {
     pub at: Front,
     pub task: Task<'a>,
+}
+
+impl Drop for Work<'_> {
+    fn drop(self) {
+        let Work { at: _, task: _ } = self;
+    }
 }
 
 /// An expression that is given to a parameter, and where it is read.
@@ -58,7 +77,6 @@ pub(crate) struct Given<'a> {
 }
 
 /// An instance that is still to be opened.
-#[derive(Drop)]
 pub(crate) struct Child<'a> {
     pub at: Front,
     pub of_module: &'a Word,
@@ -66,6 +84,19 @@ pub(crate) struct Child<'a> {
     pub path: Name,
     pub params: Option<&'a Pins>,
     pub pins: Option<&'a Pins>,
+}
+
+impl Drop for Child<'_> {
+    fn drop(self) {
+        let Child {
+            at: _,
+            of_module: _,
+            name: _,
+            path: _,
+            params: _,
+            pins: _,
+        } = self;
+    }
 }
 
 /// All that was found so far.
@@ -81,12 +112,22 @@ pub(crate) struct Walker<'a> {
 }
 
 /// The scope that is read: its number, its names, the number of its generate constructs, and what its parameters are given.
-#[derive(Drop)]
 pub(crate) struct Open<'a> {
     pub level: usize,
     pub taken: NameSet,
     pub constructs: usize,
     pub overridden: Overrides<'a>,
+}
+
+impl Drop for Open<'_> {
+    fn drop(self) {
+        let Open {
+            level: _,
+            taken: _,
+            constructs: _,
+            overridden: _,
+        } = self;
+    }
 }
 
 impl<'a> Open<'a> {

@@ -21,19 +21,33 @@ use sv_outside::TextErr;
 use sv_tree::{Expr, Lvalue};
 
 /// Bits of a target that are there, and the place of the lowest of them in the target.
-#[derive(Drop)]
 pub struct Part {
     pub lo: usize,
     pub to: Lhs,
 }
 
+impl Drop for Part {
+    fn drop(self) {
+        let Part { lo: _, to: _ } = self;
+    }
+}
+
 /// A target: how many bits it has, its bits that are in range, from the least significant on, and whether each of its indices is
 /// constant and known.
-#[derive(Drop)]
 pub struct Target {
     pub width: usize,
     pub parts: Items<Part>,
     pub fixed: bool,
+}
+
+impl Drop for Target {
+    fn drop(self) {
+        let Target {
+            width: _,
+            parts: _,
+            fixed: _,
+        } = self;
+    }
 }
 
 // Bits from the least significant on as segments, neighbours as one.

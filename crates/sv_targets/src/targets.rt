@@ -20,7 +20,6 @@ use sv_tree::{Lvalue, Select, Word};
 use sv_typed::Pick;
 
 /// A net or variable with its selects as parts of its bits.
-#[derive(Drop)]
 pub struct TypedTarget {
     /// The number of the wire.
     pub wire: usize,
@@ -30,6 +29,17 @@ pub struct TypedTarget {
     pub picks: Items<Pick>,
     /// How many bits the last part has.
     pub width: u8,
+}
+
+impl Drop for TypedTarget {
+    fn drop(self) {
+        let TypedTarget {
+            wire: _,
+            wire_width: _,
+            picks: _,
+            width: _,
+        } = self;
+    }
 }
 
 // Braces may stand in braces so often; a text with more is answered as want of memory, since each takes a part of the stack.

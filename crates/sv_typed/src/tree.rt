@@ -6,7 +6,6 @@ use sv_literal::Literal;
 
 /// An expression whose names, sizes, signs and constant positions are resolved.
 #[cycle(typed)]
-#[derive(Drop)]
 pub struct Typed {
     /// Its own length in bits, 1 to 128 (IEEE 1800-2017, 11.6.1).
     pub width: u8,
@@ -17,10 +16,21 @@ pub struct Typed {
     pub form: TypedForm,
 }
 
+impl Drop for Typed {
+    #[cycle(typed_drop)]
+    fn drop(self) {
+        let Typed {
+            width: _,
+            signed: _,
+            constant: _,
+            form: _,
+        } = self;
+    }
+}
+
 /// What an expression is made of. An operand in the context has the size and sign of its context (11.6.1), and any other
 /// operand is evaluated by itself and extended.
 #[cycle(typed)]
-#[derive(Drop)]
 pub enum TypedForm {
     /// A literal (5.7.1).
     Literal(Literal),
@@ -52,6 +62,28 @@ pub enum TypedForm {
     Fitted(Boxed<Typed>),
 }
 
+impl Drop for TypedForm {
+    #[cycle(typed_drop)]
+    fn drop(self) {
+        match self {
+            TypedForm::Literal(_) => {}
+            TypedForm::Named { root: _, picks: _ } => {}
+            TypedForm::Turned(_, _) => {}
+            TypedForm::Reduced(_, _) => {}
+            TypedForm::Computed(_, _, _) => {}
+            TypedForm::Moved(_, _, _) => {}
+            TypedForm::Compared(_, _, _) => {}
+            TypedForm::Combined(_, _, _) => {}
+            TypedForm::Chosen(_, _, _) => {}
+            TypedForm::Power(_, _) => {}
+            TypedForm::Concat(_) => {}
+            TypedForm::Repeat(_, _) => {}
+            TypedForm::Standing(_) => {}
+            TypedForm::Fitted(_) => {}
+        }
+    }
+}
+
 /// What a name stands for.
 #[derive(Clone, Copy, PartialEq, Eq, Debug)]
 pub enum Root {
@@ -78,7 +110,6 @@ pub enum Origin {
 
 /// A part of what comes before it.
 #[cycle(typed)]
-#[derive(Drop)]
 pub struct Pick {
     /// How many bits, 1 to 128.
     pub width: u8,
@@ -87,11 +118,31 @@ pub struct Pick {
     pub place: PickPlace,
 }
 
+impl Drop for Pick {
+    #[cycle(typed_drop)]
+    fn drop(self) {
+        let Pick {
+            width: _,
+            constant: _,
+            place: _,
+        } = self;
+    }
+}
+
 /// Where a part begins, the least significant bit being 0. The part reads as X where there is no bit (11.5.1).
 #[cycle(typed)]
-#[derive(Drop)]
 pub enum PickPlace {
     Fixed(i64),
     /// At the place that an index gives. `spot.width` is the width of the part.
     Moving { index: Boxed<Typed>, spot: Spot },
+}
+
+impl Drop for PickPlace {
+    #[cycle(typed_drop)]
+    fn drop(self) {
+        match self {
+            PickPlace::Fixed(_) => {}
+            PickPlace::Moving { index: _, spot: _ } => {}
+        }
+    }
 }

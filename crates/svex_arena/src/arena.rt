@@ -23,12 +23,22 @@ use std::marker::Model;
 ///
 /// Nodes whose hashes fall into one bucket are chained: a bucket has one more than the number of its newest node, and a node one
 /// more than that of the next older node of its bucket; 0 ends the chain.
-#[derive(Drop)]
 pub struct Arena {
     shapes: Vec<Shape>,
     widths: Vec<u8>,
     older: Vec<usize>,
     newest: Vec<usize>,
+}
+
+impl Drop for Arena {
+    fn drop(self) {
+        let Arena {
+            shapes: _,
+            widths: _,
+            older: _,
+            newest: _,
+        } = self;
+    }
 }
 
 impl Model for Arena {

@@ -14,13 +14,24 @@ use std::alloc::{AllocError, Global};
 use std::marker::Model;
 
 /// The nodes that are named for variables, to replace them: a list for each kind by number. Contracts see the five lists.
-#[derive(Drop)]
 pub struct Subst {
     pub present: Vec<Option<Node>>,
     pub previous: Vec<Option<Node>>,
     pub stim: Vec<Option<Node>>,
     pub chosen: Vec<Option<Node>>,
     pub sampled: Vec<Option<Node>>,
+}
+
+impl Drop for Subst {
+    fn drop(self) {
+        let Subst {
+            present: _,
+            previous: _,
+            stim: _,
+            chosen: _,
+            sampled: _,
+        } = self;
+    }
 }
 
 impl Model for Subst {

@@ -20,7 +20,6 @@ use std::alloc::{AllocError, Global};
 use svtv_table::{Bound, Drive};
 
 /// What it takes to run a flat design, made once for all choices.
-#[derive(Drop)]
 pub struct Runner {
     sim: Sim,
     /// The valuation before the next phase.
@@ -28,6 +27,17 @@ pub struct Runner {
     stim: Valuation,
     /// X at every bit.
     blank: Items<Four>,
+}
+
+impl Drop for Runner {
+    fn drop(self) {
+        let Runner {
+            sim: _,
+            prev: _,
+            stim: _,
+            blank: _,
+        } = self;
+    }
 }
 
 impl Runner {

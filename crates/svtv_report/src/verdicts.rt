@@ -13,11 +13,20 @@ use svtv_table::{Sample, VarDecl};
 
 /// What is decided of a goal: each claim holds in every run under every choice that meets the hypotheses, and some choice does; no
 /// choice meets them; or this choice meets them and some claim fails in its least run.
-#[derive(Drop)]
 pub enum Verdict {
     Proved,
     Vacuous,
     Failed(Items<Four>),
+}
+
+impl Drop for Verdict {
+    fn drop(self) {
+        match self {
+            Verdict::Proved => {}
+            Verdict::Vacuous => {}
+            Verdict::Failed(_) => {}
+        }
+    }
 }
 
 // A line for each variable that has a value.

@@ -4,11 +4,17 @@ use items::Items;
 use sv_outside::Name;
 
 /// A variable of a table, as wide as the first input that it drives.
-#[derive(Debug, Drop)]
+#[derive(Debug)]
 pub struct VarDecl {
     pub name: Name,
     /// In bits, 1 to 128.
     pub width: u8,
+}
+
+impl Drop for VarDecl {
+    fn drop(self) {
+        let VarDecl { name: _, width: _ } = self;
+    }
 }
 
 /// What drives an input in one phase.
@@ -23,7 +29,7 @@ pub enum Drive {
 }
 
 /// A signal at the end of a phase, under a name.
-#[derive(Debug, Drop)]
+#[derive(Debug)]
 pub struct Sample {
     pub name: Name,
     /// The number of the wire, from 0.
@@ -34,8 +40,19 @@ pub struct Sample {
     pub width: u8,
 }
 
+impl Drop for Sample {
+    fn drop(self) {
+        let Sample {
+            name: _,
+            wire: _,
+            phase: _,
+            width: _,
+        } = self;
+    }
+}
+
 /// A table over the wires of a design.
-#[derive(Debug, Drop)]
+#[derive(Debug)]
 pub struct Bound {
     pub phases: usize,
     /// In the order in which they appear.
@@ -44,4 +61,15 @@ pub struct Bound {
     pub drives: Items<(usize, Items<Drive>)>,
     /// By row and then by phase.
     pub samples: Items<Sample>,
+}
+
+impl Drop for Bound {
+    fn drop(self) {
+        let Bound {
+            phases: _,
+            vars: _,
+            drives: _,
+            samples: _,
+        } = self;
+    }
 }

@@ -4,7 +4,7 @@ use sv_literal::Literal;
 use sv_outside::Name;
 
 /// What a cell says of one signal in one phase.
-#[derive(Debug, Drop)]
+#[derive(Debug)]
 pub enum Cell {
     /// Nothing of its own: a stimulus is that of the cell before, read once more, and free in the first phase.
     Empty,
@@ -20,6 +20,19 @@ pub enum Cell {
     Free,
 }
 
+impl Drop for Cell {
+    fn drop(self) {
+        match self {
+            Cell::Empty => {}
+            Cell::Literal(_) => {}
+            Cell::Zed => {}
+            Cell::Named(_) => {}
+            Cell::Flip => {}
+            Cell::Free => {}
+        }
+    }
+}
+
 /// What the cells of a row are.
 #[derive(Clone, Copy, Debug, PartialEq, Eq)]
 pub enum RowKind {
@@ -30,7 +43,7 @@ pub enum RowKind {
 }
 
 /// A row of a table: one cell for each phase, in order.
-#[derive(Debug, Drop)]
+#[derive(Debug)]
 pub struct Row {
     pub kind: RowKind,
     /// The path of the signal as written: any bytes.
@@ -38,9 +51,25 @@ pub struct Row {
     pub cells: Items<Cell>,
 }
 
+impl Drop for Row {
+    fn drop(self) {
+        let Row {
+            kind: _,
+            path: _,
+            cells: _,
+        } = self;
+    }
+}
+
 /// A table: its number of phases and its rows, in order.
-#[derive(Debug, Drop)]
+#[derive(Debug)]
 pub struct Table {
     pub phases: usize,
     pub rows: Items<Row>,
+}
+
+impl Drop for Table {
+    fn drop(self) {
+        let Table { phases: _, rows: _ } = self;
+    }
 }
