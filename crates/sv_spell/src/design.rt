@@ -22,8 +22,7 @@ fn pair(alloc: Global, out: &mut Lexemes, x: &AssignPair) -> Result<(), AllocErr
     ensures { IfOk result (λ _. out.new ≡ spec.write_pair x.now out.old) }
 {
     lvalue(alloc, out, &x.target)?;
-    given(alloc, out, &x.value)?;
-    Ok(())
+    given(alloc, out, &x.value)
 }
 
 fn pairs(alloc: Global, out: &mut Lexemes, all: &[AssignPair]) -> Result<(), AllocError>
@@ -52,14 +51,12 @@ fn pin(alloc: Global, out: &mut Lexemes, x: &Pin) -> Result<(), AllocError>
         Pin::Same => Ok(()),
         Pin::Open => {
             mark(alloc, out, b"(")?;
-            mark(alloc, out, b")")?;
-            Ok(())
+            mark(alloc, out, b")")
         }
         Pin::Given(value) => {
             mark(alloc, out, b"(")?;
             expr(alloc, out, value)?;
-            mark(alloc, out, b")")?;
-            Ok(())
+            mark(alloc, out, b")")
         }
     }
 }
@@ -70,8 +67,7 @@ fn named(alloc: Global, out: &mut Lexemes, x: &NamedPin) -> Result<(), AllocErro
 {
     mark(alloc, out, b".")?;
     name(alloc, out, &x.name)?;
-    pin(alloc, out, &x.pin)?;
-    Ok(())
+    pin(alloc, out, &x.pin)
 }
 
 fn all_named(alloc: Global, out: &mut Lexemes, all: &[NamedPin]) -> Result<(), AllocError>
@@ -116,8 +112,7 @@ fn one(alloc: Global, out: &mut Lexemes, x: &One) -> Result<(), AllocError>
     name(alloc, out, &x.name)?;
     mark(alloc, out, b"(")?;
     maybe_pins(alloc, out, &x.pins)?;
-    mark(alloc, out, b")")?;
-    Ok(())
+    mark(alloc, out, b")")
 }
 
 fn ones(alloc: Global, out: &mut Lexemes, all: &[One]) -> Result<(), AllocError>
@@ -143,8 +138,7 @@ fn overridden(alloc: Global, out: &mut Lexemes, x: &Option<Pins>) -> Result<(), 
     mark(alloc, out, b"#")?;
     mark(alloc, out, b"(")?;
     maybe_pins(alloc, out, x)?;
-    mark(alloc, out, b")")?;
-    Ok(())
+    mark(alloc, out, b")")
 }
 
 fn maybe_overridden(
@@ -224,8 +218,7 @@ fn else_part(alloc: Global, out: &mut Lexemes, x: &Gen) -> Result<(), AllocError
     ensures { IfOk result (λ _. out.new ≡ spec.write_else_part x.now out.old) }
 {
     key(alloc, out, b"else")?;
-    body(alloc, out, x)?;
-    Ok(())
+    body(alloc, out, x)
 }
 
 #[cycle(item)]
@@ -253,8 +246,7 @@ fn body(alloc: Global, out: &mut Lexemes, x: &Gen) -> Result<(), AllocError>
             maybe_block_name(alloc, out, first)?;
             items(alloc, out, all.as_slice())?;
             key(alloc, out, b"end")?;
-            label(alloc, out, last)?;
-            Ok(())
+            label(alloc, out, last)
         }
         Gen::Single(_, inner) => item(alloc, out, inner.get()),
     }
@@ -290,8 +282,7 @@ pub fn item(alloc: Global, out: &mut Lexemes, x: &Item) -> Result<(), AllocError
             mark(alloc, out, b"(")?;
             genvar_if(alloc, out, *header)?;
             turns(alloc, out, of, start, test, next)?;
-            body(alloc, out, inner.get())?;
-            Ok(())
+            body(alloc, out, inner.get())
         }
         Item::If(_, test, inner, other) => {
             key(alloc, out, b"if")?;
@@ -303,8 +294,7 @@ pub fn item(alloc: Global, out: &mut Lexemes, x: &Item) -> Result<(), AllocError
         Item::Generate(all) => {
             key(alloc, out, b"generate")?;
             items(alloc, out, all.as_slice())?;
-            key(alloc, out, b"endgenerate")?;
-            Ok(())
+            key(alloc, out, b"endgenerate")
         }
     }
 }
@@ -321,8 +311,7 @@ fn params(alloc: Global, out: &mut Lexemes, all: &[ParPort]) -> Result<(), Alloc
             mark(alloc, out, b"#")?;
             mark(alloc, out, b"(")?;
             par_ports(alloc, out, all)?;
-            mark(alloc, out, b")")?;
-            Ok(())
+            mark(alloc, out, b")")
         }
     }
 }
@@ -343,8 +332,7 @@ fn header(alloc: Global, out: &mut Lexemes, all: &[Port]) -> Result<(), AllocErr
 {
     mark(alloc, out, b"(")?;
     port_list(alloc, out, all)?;
-    mark(alloc, out, b")")?;
-    Ok(())
+    mark(alloc, out, b")")
 }
 
 fn maybe_header(
@@ -371,8 +359,7 @@ fn module(alloc: Global, out: &mut Lexemes, x: &Module) -> Result<(), AllocError
     mark(alloc, out, b";")?;
     items(alloc, out, x.items.as_slice())?;
     key(alloc, out, b"endmodule")?;
-    label(alloc, out, &x.label)?;
-    Ok(())
+    label(alloc, out, &x.label)
 }
 
 #[tactic(auto, unfolding(crate::specs::Design::write_part))]

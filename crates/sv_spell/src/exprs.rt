@@ -27,63 +27,63 @@ fn system_word(alloc: Global, out: &mut Lexemes, called: SystemName) -> Result<(
     }
 }
 
-fn unary_mark(alloc: Global, out: &mut Lexemes, op: UnaryOp) -> Result<(), AllocError>
-    ensures { IfOk result (λ _. out.new ≡ writing.mark (texts.unary_mark op) out.old) }
+fn unary_mark(op: UnaryOp) -> &'static [u8]
+    ensures { result.now ≡ texts.unary_mark op }
 {
     match op {
-        UnaryOp::Plus => mark(alloc, out, b"+"),
-        UnaryOp::Minus => mark(alloc, out, b"-"),
-        UnaryOp::LogicNot => mark(alloc, out, b"!"),
-        UnaryOp::Not => mark(alloc, out, b"~"),
-        UnaryOp::And => mark(alloc, out, b"&"),
-        UnaryOp::Nand => mark(alloc, out, b"~&"),
-        UnaryOp::Or => mark(alloc, out, b"|"),
-        UnaryOp::Nor => mark(alloc, out, b"~|"),
-        UnaryOp::Xor => mark(alloc, out, b"^"),
-        UnaryOp::TildeXor => mark(alloc, out, b"~^"),
-        UnaryOp::XorTilde => mark(alloc, out, b"^~"),
+        UnaryOp::Plus => b"+",
+        UnaryOp::Minus => b"-",
+        UnaryOp::LogicNot => b"!",
+        UnaryOp::Not => b"~",
+        UnaryOp::And => b"&",
+        UnaryOp::Nand => b"~&",
+        UnaryOp::Or => b"|",
+        UnaryOp::Nor => b"~|",
+        UnaryOp::Xor => b"^",
+        UnaryOp::TildeXor => b"~^",
+        UnaryOp::XorTilde => b"^~",
     }
 }
 
-fn binary_mark(alloc: Global, out: &mut Lexemes, op: BinaryOp) -> Result<(), AllocError>
-    ensures { IfOk result (λ _. out.new ≡ writing.mark (texts.binary_mark op) out.old) }
+fn binary_mark(op: BinaryOp) -> &'static [u8]
+    ensures { result.now ≡ texts.binary_mark op }
 {
     match op {
-        BinaryOp::Power => mark(alloc, out, b"**"),
-        BinaryOp::Mul => mark(alloc, out, b"*"),
-        BinaryOp::Div => mark(alloc, out, b"/"),
-        BinaryOp::Rem => mark(alloc, out, b"%"),
-        BinaryOp::Add => mark(alloc, out, b"+"),
-        BinaryOp::Sub => mark(alloc, out, b"-"),
-        BinaryOp::Shl => mark(alloc, out, b"<<"),
-        BinaryOp::Shr => mark(alloc, out, b">>"),
-        BinaryOp::Sal => mark(alloc, out, b"<<<"),
-        BinaryOp::Sar => mark(alloc, out, b">>>"),
-        BinaryOp::Lt => mark(alloc, out, b"<"),
-        BinaryOp::Le => mark(alloc, out, b"<="),
-        BinaryOp::Gt => mark(alloc, out, b">"),
-        BinaryOp::Ge => mark(alloc, out, b">="),
-        BinaryOp::Eq => mark(alloc, out, b"=="),
-        BinaryOp::Ne => mark(alloc, out, b"!="),
-        BinaryOp::And => mark(alloc, out, b"&"),
-        BinaryOp::Xor => mark(alloc, out, b"^"),
-        BinaryOp::TildeXor => mark(alloc, out, b"~^"),
-        BinaryOp::XorTilde => mark(alloc, out, b"^~"),
-        BinaryOp::Or => mark(alloc, out, b"|"),
-        BinaryOp::LogicAnd => mark(alloc, out, b"&&"),
-        BinaryOp::LogicOr => mark(alloc, out, b"||"),
-        BinaryOp::Implies => mark(alloc, out, b"->"),
-        BinaryOp::Equivalent => mark(alloc, out, b"<->"),
+        BinaryOp::Power => b"**",
+        BinaryOp::Mul => b"*",
+        BinaryOp::Div => b"/",
+        BinaryOp::Rem => b"%",
+        BinaryOp::Add => b"+",
+        BinaryOp::Sub => b"-",
+        BinaryOp::Shl => b"<<",
+        BinaryOp::Shr => b">>",
+        BinaryOp::Sal => b"<<<",
+        BinaryOp::Sar => b">>>",
+        BinaryOp::Lt => b"<",
+        BinaryOp::Le => b"<=",
+        BinaryOp::Gt => b">",
+        BinaryOp::Ge => b">=",
+        BinaryOp::Eq => b"==",
+        BinaryOp::Ne => b"!=",
+        BinaryOp::And => b"&",
+        BinaryOp::Xor => b"^",
+        BinaryOp::TildeXor => b"~^",
+        BinaryOp::XorTilde => b"^~",
+        BinaryOp::Or => b"|",
+        BinaryOp::LogicAnd => b"&&",
+        BinaryOp::LogicOr => b"||",
+        BinaryOp::Implies => b"->",
+        BinaryOp::Equivalent => b"<->",
     }
 }
 
-fn range_mark(alloc: Global, out: &mut Lexemes, range: RangeMark) -> Result<(), AllocError>
-    ensures { IfOk result (λ _. out.new ≡ writing.mark (texts.range_text range) out.old) }
+fn range_text(range: RangeMark) -> &'static [u8]
+    ensures { result.now ≡ texts.range_text range }
 {
     match range {
-        RangeMark::To => mark(alloc, out, b":"),
-        RangeMark::Up => mark(alloc, out, b"+:"),
-        RangeMark::Down => mark(alloc, out, b"-:"),
+        RangeMark::To => b":",
+        RangeMark::Up => b"+:",
+        RangeMark::Down => b"-:",
     }
 }
 
@@ -93,8 +93,7 @@ fn in_parens(alloc: Global, out: &mut Lexemes, x: &Expr) -> Result<(), AllocErro
 {
     mark(alloc, out, b"(")?;
     expr(alloc, out, x)?;
-    mark(alloc, out, b")")?;
-    Ok(())
+    mark(alloc, out, b")")
 }
 
 #[cycle(expr)]
@@ -102,8 +101,7 @@ fn cast_to(alloc: Global, out: &mut Lexemes, x: &Expr) -> Result<(), AllocError>
     ensures { IfOk result (λ _. out.new ≡ spec.cast_to x.now out.old) }
 {
     mark(alloc, out, b"'")?;
-    in_parens(alloc, out, x)?;
-    Ok(())
+    in_parens(alloc, out, x)
 }
 
 #[cycle(expr)]
@@ -141,22 +139,19 @@ fn select(alloc: Global, out: &mut Lexemes, x: &Select) -> Result<(), AllocError
     match x {
         Select::Member(_, word) => {
             mark(alloc, out, b".")?;
-            name(alloc, out, word)?;
-            Ok(())
+            name(alloc, out, word)
         }
         Select::Index(_, index) => {
             mark(alloc, out, b"[")?;
             expr(alloc, out, index.get())?;
-            mark(alloc, out, b"]")?;
-            Ok(())
+            mark(alloc, out, b"]")
         }
         Select::Range(_, left, range, right) => {
             mark(alloc, out, b"[")?;
             expr(alloc, out, left.get())?;
-            range_mark(alloc, out, *range)?;
+            mark(alloc, out, range_text(*range))?;
             expr(alloc, out, right.get())?;
-            mark(alloc, out, b"]")?;
-            Ok(())
+            mark(alloc, out, b"]")
         }
     }
 }
@@ -171,8 +166,7 @@ pub fn expr(alloc: Global, out: &mut Lexemes, x: &Expr) -> Result<(), AllocError
         Expr::Literal(word) => literal(alloc, out, word),
         Expr::Name(word, all) => {
             name(alloc, out, word)?;
-            selects(alloc, out, all.as_slice())?;
-            Ok(())
+            selects(alloc, out, all.as_slice())
         }
         Expr::Paren(_, inner) => in_parens(alloc, out, inner.get()),
         Expr::Concat(_, parts) => {
@@ -192,47 +186,39 @@ pub fn expr(alloc: Global, out: &mut Lexemes, x: &Expr) -> Result<(), AllocError
         }
         Expr::CastLiteral(word, inner) => {
             literal(alloc, out, word)?;
-            cast_to(alloc, out, inner.get())?;
-            Ok(())
+            cast_to(alloc, out, inner.get())
         }
         Expr::CastName(word, inner) => {
             name(alloc, out, word)?;
-            cast_to(alloc, out, inner.get())?;
-            Ok(())
+            cast_to(alloc, out, inner.get())
         }
         Expr::CastParen(_, size, inner) => {
             in_parens(alloc, out, size.get())?;
-            cast_to(alloc, out, inner.get())?;
-            Ok(())
+            cast_to(alloc, out, inner.get())
         }
         Expr::CastSign(sign, _, inner) => {
             sign_word(alloc, out, *sign)?;
-            cast_to(alloc, out, inner.get())?;
-            Ok(())
+            cast_to(alloc, out, inner.get())
         }
         Expr::System(called, _, inner) => {
             system_word(alloc, out, *called)?;
-            in_parens(alloc, out, inner.get())?;
-            Ok(())
+            in_parens(alloc, out, inner.get())
         }
         Expr::Unary(op, _, inner) => {
-            unary_mark(alloc, out, *op)?;
-            expr(alloc, out, inner.get())?;
-            Ok(())
+            mark(alloc, out, unary_mark(*op))?;
+            expr(alloc, out, inner.get())
         }
         Expr::Binary(left, op, _, right) => {
             expr(alloc, out, left.get())?;
-            binary_mark(alloc, out, *op)?;
-            expr(alloc, out, right.get())?;
-            Ok(())
+            mark(alloc, out, binary_mark(*op))?;
+            expr(alloc, out, right.get())
         }
         Expr::Choose(test, first, second) => {
             expr(alloc, out, test.get())?;
             mark(alloc, out, b"?")?;
             expr(alloc, out, first.get())?;
             mark(alloc, out, b":")?;
-            expr(alloc, out, second.get())?;
-            Ok(())
+            expr(alloc, out, second.get())
         }
     }
 }

@@ -71,8 +71,7 @@ fn range(alloc: Global, out: &mut Lexemes, x: &Range) -> Result<(), AllocError>
     expr(alloc, out, &x.left)?;
     mark(alloc, out, b":")?;
     expr(alloc, out, &x.right)?;
-    mark(alloc, out, b"]")?;
-    Ok(())
+    mark(alloc, out, b"]")
 }
 
 fn ranges(alloc: Global, out: &mut Lexemes, all: &[Range]) -> Result<(), AllocError>
@@ -98,8 +97,7 @@ pub fn given(alloc: Global, out: &mut Lexemes, x: &Expr) -> Result<(), AllocErro
     ensures { IfOk result (λ _. out.new ≡ spec.write_given x.now out.old) }
 {
     mark(alloc, out, b"=")?;
-    expr(alloc, out, x)?;
-    Ok(())
+    expr(alloc, out, x)
 }
 
 fn maybe_given(alloc: Global, out: &mut Lexemes, option: &Option<Expr>) -> Result<(), AllocError>
@@ -116,8 +114,7 @@ fn enum_label(alloc: Global, out: &mut Lexemes, x: &EnumLabel) -> Result<(), All
     ensures { IfOk result (λ _. out.new ≡ spec.write_enum_label x.now out.old) }
 {
     name(alloc, out, &x.name)?;
-    maybe_given(alloc, out, &x.value)?;
-    Ok(())
+    maybe_given(alloc, out, &x.value)
 }
 
 fn enum_labels(alloc: Global, out: &mut Lexemes, all: &[EnumLabel]) -> Result<(), AllocError>
@@ -149,8 +146,7 @@ fn vector(
 {
     maybe_bits(alloc, out, word)?;
     maybe_sign(alloc, out, sign)?;
-    ranges(alloc, out, all)?;
-    Ok(())
+    ranges(alloc, out, all)
 }
 
 fn enumeration(
@@ -189,8 +185,7 @@ fn structure(
     mark(alloc, out, b"{")?;
     all_members(alloc, out, members)?;
     mark(alloc, out, b"}")?;
-    ranges(alloc, out, all)?;
-    Ok(())
+    ranges(alloc, out, all)
 }
 
 #[cycle(form)]
@@ -235,8 +230,7 @@ pub fn form(alloc: Global, out: &mut Lexemes, x: &TypeTree) -> Result<(), AllocE
         }
         TypeTree::Named(word, all) => {
             name(alloc, out, word)?;
-            ranges(alloc, out, all.as_slice())?;
-            Ok(())
+            ranges(alloc, out, all.as_slice())
         }
     }
 }
@@ -331,14 +325,12 @@ fn param_type(alloc: Global, out: &mut Lexemes, x: &ParamType) -> Result<(), All
     match x {
         ParamType::Whole(word, sign) => {
             whole_word(alloc, out, *word)?;
-            maybe_sign(alloc, out, *sign)?;
-            Ok(())
+            maybe_sign(alloc, out, *sign)
         }
         ParamType::Bits(word, sign, of) => {
             maybe_param_bits(alloc, out, *word)?;
             maybe_sign(alloc, out, *sign)?;
-            maybe_range(alloc, out, of)?;
-            Ok(())
+            maybe_range(alloc, out, of)
         }
     }
 }
@@ -363,8 +355,7 @@ fn par_port(alloc: Global, out: &mut Lexemes, x: &ParPort) -> Result<(), AllocEr
     maybe_param_word(alloc, out, x.word)?;
     maybe_param_type(alloc, out, &x.form)?;
     name(alloc, out, &x.name)?;
-    given(alloc, out, &x.value)?;
-    Ok(())
+    given(alloc, out, &x.value)
 }
 
 pub fn par_ports(alloc: Global, out: &mut Lexemes, all: &[ParPort]) -> Result<(), AllocError>
@@ -388,8 +379,7 @@ fn param_item(alloc: Global, out: &mut Lexemes, x: &ParamItem) -> Result<(), All
     ensures { IfOk result (λ _. out.new ≡ spec.write_param_item x.now out.old) }
 {
     name(alloc, out, &x.name)?;
-    given(alloc, out, &x.value)?;
-    Ok(())
+    given(alloc, out, &x.value)
 }
 
 fn param_items(alloc: Global, out: &mut Lexemes, all: &[ParamItem]) -> Result<(), AllocError>
@@ -467,8 +457,7 @@ fn port(alloc: Global, out: &mut Lexemes, x: &Port) -> Result<(), AllocError>
     maybe_way(alloc, out, x.way)?;
     maybe_net(alloc, out, x.kind)?;
     maybe_form(alloc, out, &x.form)?;
-    name(alloc, out, &x.name)?;
-    Ok(())
+    name(alloc, out, &x.name)
 }
 
 pub fn ports(alloc: Global, out: &mut Lexemes, all: &[Port]) -> Result<(), AllocError>

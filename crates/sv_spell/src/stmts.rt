@@ -44,8 +44,7 @@ pub fn lvalue(alloc: Global, out: &mut Lexemes, x: &Lvalue) -> Result<(), AllocE
     match x {
         Lvalue::Name(word, all) => {
             name(alloc, out, word)?;
-            selects(alloc, out, all.as_slice())?;
-            Ok(())
+            selects(alloc, out, all.as_slice())
         }
         Lvalue::Concat(_, all) => {
             mark(alloc, out, b"{")?;
@@ -84,19 +83,16 @@ pub fn step(alloc: Global, out: &mut Lexemes, variable: &Word, x: &Step) -> Resu
     match x {
         Step::After(word, by) => {
             name(alloc, out, word)?;
-            step_mark(alloc, out, *by)?;
-            Ok(())
+            step_mark(alloc, out, *by)
         }
         Step::Before(by, word) => {
             step_mark(alloc, out, *by)?;
-            name(alloc, out, word)?;
-            Ok(())
+            name(alloc, out, word)
         }
         Step::Assign(word, by, value) => {
             name(alloc, out, word)?;
             step_sign(alloc, out, *by)?;
-            expr(alloc, out, value)?;
-            Ok(())
+            expr(alloc, out, value)
         }
     }
 }
@@ -145,8 +141,7 @@ fn block_name(alloc: Global, out: &mut Lexemes, word: &Word) -> Result<(), Alloc
     ensures { IfOk result (λ _. out.new ≡ spec.write_block_name word.now out.old) }
 {
     mark(alloc, out, b":")?;
-    name(alloc, out, word)?;
-    Ok(())
+    name(alloc, out, word)
 }
 
 pub fn maybe_block_name(
@@ -169,8 +164,7 @@ pub fn label(alloc: Global, out: &mut Lexemes, given: &Option<Word>) -> Result<(
     match given {
         Some(word) => {
             mark(alloc, out, b":")?;
-            name(alloc, out, word)?;
-            Ok(())
+            name(alloc, out, word)
         }
         None => Ok(()),
     }
@@ -218,14 +212,12 @@ fn arm(alloc: Global, out: &mut Lexemes, x: &Arm) -> Result<(), AllocError>
         Arm::Labels(all, body) => {
             exprs(alloc, out, all.as_slice())?;
             mark(alloc, out, b":")?;
-            stmt(alloc, out, body.get())?;
-            Ok(())
+            stmt(alloc, out, body.get())
         }
         Arm::Default(colon, body) => {
             key(alloc, out, b"default")?;
             colon_if(alloc, out, *colon)?;
-            stmt(alloc, out, body.get())?;
-            Ok(())
+            stmt(alloc, out, body.get())
         }
     }
 }
@@ -235,8 +227,7 @@ fn else_part(alloc: Global, out: &mut Lexemes, x: &Stmt) -> Result<(), AllocErro
     ensures { IfOk result (λ _. out.new ≡ spec.write_else_part x.now out.old) }
 {
     key(alloc, out, b"else")?;
-    stmt(alloc, out, x)?;
-    Ok(())
+    stmt(alloc, out, x)
 }
 
 #[cycle(stmt)]
@@ -258,8 +249,7 @@ pub fn condition(alloc: Global, out: &mut Lexemes, x: &Expr) -> Result<(), Alloc
 {
     mark(alloc, out, b"(")?;
     expr(alloc, out, x)?;
-    mark(alloc, out, b")")?;
-    Ok(())
+    mark(alloc, out, b")")
 }
 
 pub fn turns(
@@ -279,8 +269,7 @@ pub fn turns(
     expr(alloc, out, test)?;
     mark(alloc, out, b";")?;
     step(alloc, out, variable, next)?;
-    mark(alloc, out, b")")?;
-    Ok(())
+    mark(alloc, out, b")")
 }
 
 /// Writes a statement.
@@ -296,8 +285,7 @@ pub fn stmt(alloc: Global, out: &mut Lexemes, x: &Stmt) -> Result<(), AllocError
             maybe_block_name(alloc, out, first)?;
             stmts(alloc, out, all.as_slice())?;
             key(alloc, out, b"end")?;
-            label(alloc, out, last)?;
-            Ok(())
+            label(alloc, out, last)
         }
         Stmt::If(word, test, body, other) => {
             maybe_uniq(alloc, out, *word)?;
@@ -312,16 +300,14 @@ pub fn stmt(alloc: Global, out: &mut Lexemes, x: &Stmt) -> Result<(), AllocError
             case_word(alloc, out, *word)?;
             condition(alloc, out, value)?;
             arms(alloc, out, all.as_slice())?;
-            key(alloc, out, b"endcase")?;
-            Ok(())
+            key(alloc, out, b"endcase")
         }
         Stmt::For(_, word, variable, start, test, next, body) => {
             key(alloc, out, b"for")?;
             mark(alloc, out, b"(")?;
             whole_word(alloc, out, *word)?;
             turns(alloc, out, variable, start, test, next)?;
-            stmt(alloc, out, body.get())?;
-            Ok(())
+            stmt(alloc, out, body.get())
         }
         Stmt::Assign(target, by, _, value) => {
             lvalue(alloc, out, target)?;
@@ -353,8 +339,7 @@ fn event(alloc: Global, out: &mut Lexemes, x: &Event) -> Result<(), AllocError>
     mark(alloc, out, b"(")?;
     edge_word(alloc, out, x.edge)?;
     name(alloc, out, &x.name)?;
-    mark(alloc, out, b")")?;
-    Ok(())
+    mark(alloc, out, b")")
 }
 
 #[tactic(auto, unfolding(crate::specs::Stmts::write_kind))]
@@ -365,27 +350,23 @@ fn block_kind(alloc: Global, out: &mut Lexemes, x: &BlockKind) -> Result<(), All
         BlockKind::Comb => key(alloc, out, b"always_comb"),
         BlockKind::Ff(on) => {
             key(alloc, out, b"always_ff")?;
-            event(alloc, out, on)?;
-            Ok(())
+            event(alloc, out, on)
         }
         BlockKind::Always(on) => {
             key(alloc, out, b"always")?;
-            event(alloc, out, on)?;
-            Ok(())
+            event(alloc, out, on)
         }
         BlockKind::Star => {
             key(alloc, out, b"always")?;
             mark(alloc, out, b"@")?;
-            mark(alloc, out, b"*")?;
-            Ok(())
+            mark(alloc, out, b"*")
         }
         BlockKind::StarParen => {
             key(alloc, out, b"always")?;
             mark(alloc, out, b"@")?;
             mark(alloc, out, b"(")?;
             mark(alloc, out, b"*")?;
-            mark(alloc, out, b")")?;
-            Ok(())
+            mark(alloc, out, b")")
         }
     }
 }
@@ -395,6 +376,5 @@ pub fn block(alloc: Global, out: &mut Lexemes, x: &Block) -> Result<(), AllocErr
     ensures { IfOk result (λ _. out.new ≡ spec.write_block x.now out.old) }
 {
     block_kind(alloc, out, &x.kind)?;
-    stmt(alloc, out, &x.body)?;
-    Ok(())
+    stmt(alloc, out, &x.body)
 }
