@@ -1,90 +1,158 @@
 -- The command that reading finds is the one that the words are.
-use Rattle.std.proofs.Common.{◌≡◌, ℕ, false, List, [], ◌∷◌, bytes_eq, Option, Some, None, refl, sym, ap, ◌∙◌, subst, arith}
-use Rattle.std.specs.Prelude.{codes, option_map, option_and_then, IfSome, IfNone, if◌then◌else◌}
-use Rattle.std.proofs.lemmas.Bool.{true≢false}
+use Rattle.std.proofs.Common.{◌≡◌, ℕ, ◌≤◌, false, eqb, cond, List, [], ◌∷◌, length, get_or, bytes_eq, Option, Some, None, option_copied, refl, sym, ap, ◌∙◌, subst, arith}
+use Rattle.std.specs.Prelude.{option_map, option_and_then, IfSome, IfNone}
+use Rattle.std.specs.List.{All}
+use Rattle.std.proofs.lemmas.Bool.{true≢false, eqb-true, eq-eqb}
 use Rattle.std.proofs.lemmas.Slice.Eq.{bytes_eq-Decides}
 use Rattle.svtv_words.specs.declared.command.Command.{Command as Told}
-use Rattle.svtv_words.specs.Commands.{Text, Setting, Reads, Sets, AreNames, Command, prove, sim, IsCommand, proving, simulating, command_is}
-use Rattle.svtv_words.specs.Reading.{Next, anything, text_of, a_positional, Found, found, nothing_found, found_in, Which, proves, sims, command_named, command_found, is_waiting, command_in}
+use Rattle.svtv_words.specs.declared.verbs.Verb.{Verb}
+use Rattle.svtv_words.specs.declared.verbs.Verb.TheVariants.{Prove, Sim}
+use Rattle.svtv_words.specs.Commands.{Text, Option', top, budget, is_among, Setting, Reads, given, AreOnce, AreNames, number_behind, Form, IsAllowed, Verb', proves, sims, form_of, Command, command_from, IsCommand, command_by, command_is, MayHave}
+use Rattle.svtv_words.specs.Reading.{Texts, nothing_given, text_at, budget_of, budget_at, Next, anything, text_of, a_positional, Found, found, nothing_found, most_positionals, found_in, every_verb, verb_among, Parts, parts, parts_named, command_found, is_waiting, command_in}
+use Rattle.svtv_words.specs.Seen.{verb_is, parts_are}
 use Rattle.svtv_words.proofs.OneWord.{on_if}
-use Rattle.svtv_words.proofs.Sound.{Joins, before, later, Adds, Sound, sound}
+use Rattle.svtv_words.proofs.Options.{given_by, from_nothing, all_given, given_number, not_given}
+use Rattle.svtv_words.proofs.Sound.{Adds, Sound, sound}
 use Rattle.svtv_words.proofs.Complete.{complete}
+
+-- ---- the table of verbs
+
+verb_found : (v : Verb') → verb_among every_verb (form_of v).word ≡ Some v
+verb_found proves = refl
+verb_found sims = refl
+
+has_room : (v : Verb') → (form_of v).positionals ≤ most_positionals
+has_room proves = omega arith
+has_room sims = omega arith
+
+verb_has_word : (w : Text) (all : List Verb') → IfSome (verb_among all w) (λ v. w ≡ (form_of v).word)
+verb_has_word w [] = tt
+verb_has_word w (v ∷ more) =
+    on_if (λ r. IfSome r (λ v. w ≡ (form_of v).word)) (bytes_eq w (form_of v).word) (Some v) (verb_among more w) (λ e. (bytes_eq-Decides w (form_of v).word).0 e) (λ _. verb_has_word w more)
+
+-- ---- the parts of a command
+
+abbrev command_with : Parts → Command
+command_with (parts v a b c t n) = command_from v (a ∷ b ∷ c ∷ []) t n
+
+first_three : (v : Verb') (names : List Text) (t : Option Text) (n : Option ℕ) → command_from v (get_or names 0 [] ∷ get_or names 1 [] ∷ get_or names 2 [] ∷ []) t n ≡ command_from v names t n
+first_three proves names t n = refl
+first_three sims names t n = refl
+
+command_told : (v : Verb) (d a l : Text) (t : Option Text) (n : Option ℕ) → command_by v d a l t n ≡ command_from (verb_is v) (d ∷ a ∷ l ∷ []) t n
+command_told Prove d a l t n = refl
+command_told Sim d a l t n = refl
+
+told_is : (c : Told) → command_is c ≡ command_with (parts_are c)
+told_is c = command_told c.verb c.design.now c.table.now c.last.now (option_copied c.top) c.budget
 
 -- ---- what is found from the beginning
 
-record Has (words names : List Text) (t : Option Text) (n : Option ℕ) : Type 0 where
+record Has (form : Form) (words names : List Text) (t : Texts) : Type 0 where
   settings : List Setting
   reads : Reads words names settings
   are : AreNames names
-  sets : Sets settings t n
+  once : AreOnce settings
+  allowed : All (IsAllowed form) settings
+  texts : (o : Option') → given o settings ≡ text_at o t
 
-joined_none : (A : Type 0) (x v : Option A) → Joins A None x v → x ≡ v
-joined_none A x v (before w) = refl
-joined_none A x v (later w) = refl
-
-has : (words names : List Text) (t : Option Text) (n : Option ℕ) → Adds anything words [] None None names t n → Has words names t n
-has words names t n a =
-    let et = joined_none Text a.top_given t a.tops in
-    let en = joined_none ℕ a.budget_given n a.budgets in
+has : (form : Form) (words names : List Text) (t : Texts) → Adds form anything words [] nothing_given names t → Has form words names t
+has form words names t a =
     record {
       settings = a.settings;
       reads = subst (λ (x : List Text). Reads words x a.settings) (sym a.all_are) a.follows;
       are = subst (λ (x : List Text). AreNames x) (sym a.all_are) a.are_names;
-      sets = subst (λ (x : Option ℕ). Sets a.settings t x) en (subst (λ (x : Option Text). Sets a.settings x a.budget_given) et a.sets);
+      once = a.once;
+      allowed = a.allowed;
+      texts = λ o. from_nothing a.settings t o a.joins;
     }
 
 -- ---- what is found is a command
 
-proved : (verb : Text) (words names : List Text) (t : Option Text) (n : Option ℕ) → verb ≡ codes "prove" → Has words names t n → IfSome (command_named proves names t n) (IsCommand (verb ∷ words))
-proved verb words [] t n e h = tt
-proved verb words (a ∷ []) t n e h = tt
-proved verb words (a ∷ b ∷ []) t n e h = tt
-proved verb words (a ∷ b ∷ c ∷ []) t n e h = subst (λ (x : Text). IsCommand (x ∷ words) (prove a b c t n)) (sym e) (proving a b c h.reads h.are h.sets)
-proved verb words (a ∷ b ∷ c ∷ d ∷ more) t n e h = tt
+-- a budget goes with a verb that may be given it
+abbrev IsAlone : Parts → Type 0
+IsAlone (parts v a b c t n) = is_among budget (form_of v).options ≡ false → n ≡ None
 
-simulated : (verb : Text) (words names : List Text) (t : Option Text) (n : Option ℕ) → verb ≡ codes "sim" → Has words names t n → IfSome (command_named sims names t n) (IsCommand (verb ∷ words))
-simulated verb words [] t n e h = tt
-simulated verb words (a ∷ []) t n e h = tt
-simulated verb words (a ∷ b ∷ []) t n e h = tt
-simulated verb words (a ∷ b ∷ c ∷ []) t None e h = subst (λ (x : Text). IsCommand (x ∷ words) (sim a b c t)) (sym e) (simulating a b c h.reads h.are h.sets)
-simulated verb words (a ∷ b ∷ c ∷ []) t (Some n) e h = tt
-simulated verb words (a ∷ b ∷ c ∷ d ∷ more) t n e h = tt
+abbrev IsRead : List Text → Parts → Type 0
+IsRead words p = IsCommand words (command_with p) × IsAlone p
 
-found_is_command : (v : Which) (verb : Text) (words : List Text) → ((names : List Text) (t : Option Text) (n : Option ℕ) → Has words names t n → IfSome (command_named v names t n) (IsCommand (verb ∷ words)))
-    → (r : Option Found) → Sound words nothing_found r → IfSome (option_and_then (command_found v) r) (IsCommand (verb ∷ words))
-found_is_command v verb words k None h = tt
-found_is_command v verb words k (Some (found anything names t n)) h = k names t n (has words names t n (h refl))
-found_is_command v verb words k (Some (found (text_of o) names t n)) h = tt
-found_is_command v verb words k (Some (found a_positional names t n)) h = k names t n (has words names t n (h refl))
+read : (v : Verb') (word : Text) (words names : List Text) (t : Texts) → word ≡ (form_of v).word → length names ≡ (form_of v).positionals → Has (form_of v) words names t
+    → IsCommand (word ∷ words) (command_from v names (text_at top t) (budget_at t))
+read v word words names t e count h =
+    let number : budget_at t ≡ option_map (number_behind 0) (given budget h.settings) =
+    ap (λ r. option_and_then budget_of r) (sym (h.texts budget)) ∙ given_number (form_of v) h.settings h.allowed in
+    record {
+      verb = v;
+      behind = words;
+      begins = ap (λ x. x ∷ words) e;
+      positionals = names;
+      settings = h.settings;
+      reads = h.reads;
+      allows = record { count = count; names = h.are; once = h.once; options = h.allowed };
+      is = λ i. command_from v names (sym (h.texts top) i) (number i);
+    }
 
-is_command : (words : List Text) → IfSome (command_in words) (IsCommand words)
+none_told : (v : Verb') (words names : List Text) (t : Texts) → Has (form_of v) words names t → is_among budget (form_of v).options ≡ false → budget_at t ≡ None
+none_told v words names t h e = ap (λ r. option_and_then budget_of r) (sym (h.texts budget) ∙ not_given (form_of v) budget h.settings h.allowed e)
+
+named : (v : Verb') (word : Text) (words names : List Text) (t : Texts) → word ≡ (form_of v).word → Has (form_of v) words names t → IfSome (parts_named v names t) (IsRead (word ∷ words))
+named v word words names t e h =
+    on_if (λ r. IfSome r (IsRead (word ∷ words))) (eqb (length names) (form_of v).positionals)
+    (Some (parts v (get_or names 0 []) (get_or names 1 []) (get_or names 2 []) (text_at top t) (budget_at t))) None
+    (λ same. (
+      subst (λ (c : Command). IsCommand (word ∷ words) c) (sym (first_three v names (text_at top t) (budget_at t))) (read v word words names t e (eqb-true (length names) (form_of v).positionals same) h),
+      none_told v words names t h,
+    ))
+    (λ _. tt)
+
+found_is_command : (v : Verb') (word : Text) (words : List Text) → word ≡ (form_of v).word → (r : Option Found) → Sound (form_of v) words nothing_found r → IfSome (option_and_then (command_found v) r) (IsRead (word ∷ words))
+found_is_command v word words e None h = tt
+found_is_command v word words e (Some (found anything names t)) h = named v word words names t e (has (form_of v) words names t (h refl))
+found_is_command v word words e (Some (found (text_of o) names t)) h = tt
+found_is_command v word words e (Some (found a_positional names t)) h = named v word words names t e (has (form_of v) words names t (h refl))
+
+is_command : (words : List Text) → IfSome (command_in words) (IsRead words)
 unfolding command_in
 is_command [] = tt
-is_command (verb ∷ words) =
-    let P : Option Which → Type 0 = λ v. IfSome (option_and_then (λ x. option_and_then (command_found x) (found_in words nothing_found)) v) (IsCommand (verb ∷ words)) in
-    on_if P (bytes_eq verb (codes "prove")) (Some proves) (if bytes_eq verb (codes "sim") then Some sims else None)
-    (λ e. found_is_command proves verb words (λ names t n h. proved verb words names t n ((bytes_eq-Decides verb (codes "prove")).0 e) h) (found_in words nothing_found) (sound words nothing_found))
-    (λ _. on_if P (bytes_eq verb (codes "sim")) (Some sims) None
-    (λ e. found_is_command sims verb words (λ names t n h. simulated verb words names t n ((bytes_eq-Decides verb (codes "sim")).0 e) h) (found_in words nothing_found) (sound words nothing_found))
-    (λ _. tt))
+is_command (word ∷ words) = by_verb (verb_among every_verb word) (verb_has_word word every_verb)
+  where
+    by_verb : (r : Option Verb') → IfSome r (λ v. word ≡ (form_of v).word) → IfSome (option_and_then (λ v. option_and_then (command_found v) (found_in (form_of v) words nothing_found)) r) (IsRead (word ∷ words))
+    by_verb None h = tt
+    by_verb (Some v) h = found_is_command v word words h (found_in (form_of v) words nothing_found) (sound (form_of v) words nothing_found)
 
 -- ---- a command is found
 
-command_at : (v : Which) (last : Next) (names : List Text) (t : Option Text) (n : Option ℕ) → is_waiting last ≡ false → command_found v (found last names t n) ≡ command_named v names t n
-command_at v anything names t n h = refl
-command_at v (text_of o) names t n h = absurd (true≢false h)
-command_at v a_positional names t n h = refl
+command_at : (v : Verb') (last : Next) (names : List Text) (t : Texts) → is_waiting last ≡ false → command_found v (found last names t) ≡ parts_named v names t
+command_at v anything names t h = refl
+command_at v (text_of o) names t h = absurd (true≢false h)
+command_at v a_positional names t h = refl
 
-found_command : (v : Which) (words : List Text) (a b c : Text) (s : List Setting) (t : Option Text) (n : Option ℕ) → Reads words (a ∷ b ∷ c ∷ []) s → AreNames (a ∷ b ∷ c ∷ []) → Sets s t n
-    → option_and_then (command_found v) (found_in words nothing_found) ≡ command_named v (a ∷ b ∷ c ∷ []) t n
-found_command v words a b c s t n reads are sets =
-    let h = complete words (a ∷ b ∷ c ∷ []) s reads [] None None t n t n are (omega arith) sets (later t) (later n) in
-    ap (λ r. option_and_then (command_found v) r) h.is ∙ command_at v h.last (a ∷ b ∷ c ∷ []) t n h.ready
+-- the parts of a command
+abbrev parts_of : Verb' → List Text → List Setting → Parts
+parts_of v names s = parts v (get_or names 0 []) (get_or names 1 []) (get_or names 2 []) (text_at top (given_by (λ o. given o s))) (budget_at (given_by (λ o. given o s)))
 
-command_given : (words : List Text) (c : Command) → IsCommand words c → command_in words ≡ Some c
+found_parts : (v : Verb') (words names : List Text) (s : List Setting) → Reads words names s → length names ≡ (form_of v).positionals → AreNames names → AreOnce s → All (IsAllowed (form_of v)) s
+    → option_and_then (command_found v) (found_in (form_of v) words nothing_found) ≡ Some (parts_of v names s)
+found_parts v words names s reads count are once allowed =
+    let u = given_by (λ o. given o s) in
+    let room = has_room v in
+    let h = complete (form_of v) words names s reads [] nothing_given u are (omega arith) once allowed (all_given s) in
+    ap (λ r. option_and_then (command_found v) r) h.is ∙ command_at v h.last names u h.ready
+    ∙ ap (λ b. cond b (Some (parts_of v names s)) None) (eq-eqb (length names) (form_of v).positionals count)
+
+parts_command : (v : Verb') (names : List Text) (s : List Setting) → All (IsAllowed (form_of v)) s
+    → command_with (parts_of v names s) ≡ command_from v names (given top s) (option_map (number_behind 0) (given budget s))
+parts_command v names s allowed =
+    first_three v names (given top s) (option_and_then budget_of (given budget s)) ∙ ap (λ n. command_from v names (given top s) n) (given_number (form_of v) s allowed)
+
+command_given : (words : List Text) (c : Command) → IsCommand words c → option_map command_with (command_in words) ≡ Some c
 unfolding command_in
-command_given words c (proving {words = more} {settings = s} {t = t} {n = n} d a g reads are sets) = found_command proves more d a g s t n reads are sets
-command_given words c (simulating {words = more} {settings = s} {t = t} d a v reads are sets) = found_command sims more d a v s t None reads are sets
+command_given words c h =
+    let whole : Option Verb' → Option Parts = λ r. option_and_then (λ v. option_and_then (command_found v) (found_in (form_of v) h.behind nothing_found)) r in
+    ap (λ x. option_map command_with (command_in x)) h.begins
+    ∙ ap (λ r. option_map command_with (whole r)) (verb_found h.verb)
+    ∙ ap (λ r. option_map command_with r) (found_parts h.verb h.behind h.positionals h.settings h.reads h.allows.count h.allows.names h.allows.once h.allows.options)
+    ∙ ap (λ x. Some x) (parts_command h.verb h.positionals h.settings h.allows.options ∙ sym h.is)
 
 -- words are one command at most
 pub one_command : (words : List Text) (c d : Command) → IsCommand words c → IsCommand words d → c ≡ d
@@ -92,10 +160,22 @@ one_command words c d h k = let same : Some c ≡ Some d = sym (command_given wo
 
 -- ---- the clauses of `command_of`
 
-pub some_is : (words : List Text) (r : Option Told) → option_map command_is r ≡ command_in words → IfSome r (λ c. IsCommand words (command_is c))
-some_is words None e = tt
-some_is words (Some c) e = subst (λ (o : Option Command). IfSome o (IsCommand words)) (sym e) (is_command words)
+-- of what is told, what is found
+read_told : (words : List Text) (c : Told) → Some (parts_are c) ≡ command_in words → IsRead words (parts_are c)
+read_told words c e = subst (λ (o : Option Parts). IfSome o (IsRead words)) (sym e) (is_command words)
 
-pub none_is : (words : List Text) (r : Option Told) → option_map command_is r ≡ command_in words → IfNone r ((c : Command) → IsCommand words c → ⊥)
-none_is words None e = λ c h. let f : None ≡ Some c = e ∙ command_given words c h in cc
+pub some_is : (words : List Text) (r : Option Told) → option_map parts_are r ≡ command_in words → IfSome r (λ c. IsCommand words (command_is c))
+some_is words None e = tt
+some_is words (Some c) e = subst (λ (x : Command). IsCommand words x) (sym (told_is c)) (read_told words c e).0
+
+pub none_is : (words : List Text) (r : Option Told) → option_map parts_are r ≡ command_in words → IfNone r ((c : Command) → IsCommand words c → ⊥)
+none_is words None e = λ c h. let f : None ≡ Some c = ap (option_map command_with) e ∙ command_given words c h in cc
 none_is words (Some c) e = tt
+
+may_have : (v : Verb) (n : Option ℕ) → (is_among budget (form_of (verb_is v)).options ≡ false → n ≡ None) → MayHave v n
+may_have Prove n h = tt
+may_have Sim n h = h refl
+
+pub alone_is : (words : List Text) (r : Option Told) → option_map parts_are r ≡ command_in words → IfSome r (λ c. MayHave c.verb c.budget)
+alone_is words None e = tt
+alone_is words (Some c) e = may_have c.verb c.budget (read_told words c e).1

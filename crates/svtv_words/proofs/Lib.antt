@@ -1,5 +1,7 @@
 pub mod OneWord
 pub mod Budgets
+pub mod Options
+pub mod Names
 pub mod Sound
 pub mod Complete
 pub mod Commands

@@ -6,8 +6,8 @@ use Rattle.std.proofs.lemmas.Bool.{leb-true, and_parts}
 use Rattle.std.proofs.lemmas.List.{drop_more, drop_all, take_rest, take_more, get_or-map, length-map}
 use Rattle.std.proofs.lemmas.List.Sums.{AllPass-from_list_all}
 use Rattle.std.proofs.Math.Nat.{pow-suc}
-use Rattle.svtv_words.specs.Commands.{Text, is_digit, number_behind}
-use Rattle.svtv_words.specs.Reading.{Found, nothing_found, found_in, with_word, Which, which_of, command_found, command_in}
+use Rattle.svtv_words.specs.Commands.{Text, is_digit, number_behind, Form, Verb', form_of}
+use Rattle.svtv_words.specs.Reading.{Found, nothing_found, found_in, with_word, every_verb, verb_among, command_found, command_in}
 
 -- ---- words
 
@@ -16,17 +16,17 @@ drop_next g xs x i h q =
     let l : length (map g xs) ≡ length xs = length-map xs g in
     drop_more (map g xs) i (g x) (omega arith) ∙ ap (λ y. y ∷ drop (i + 1) (map g xs)) (get_or-map g xs i x (g x) h ∙ ap g (sym q))
 
-pub turn : {A : Type 0} (g : A → Text) (xs : List A) (x : A) (i : ℕ) (f : Found) (text : Text) (whole o : Option Found) → i < length xs → x ≡ get_or xs i x → text ≡ g x
-    → found_in (drop i (map g xs)) f ≡ whole → o ≡ with_word f text → option_and_then (found_in (drop (i + 1) (map g xs))) o ≡ whole
+pub turn : {A : Type 0} (g : A → Text) (form : Form) (xs : List A) (x : A) (i : ℕ) (f : Found) (text : Text) (whole o : Option Found) → i < length xs → x ≡ get_or xs i x → text ≡ g x
+    → found_in form (drop i (map g xs)) f ≡ whole → o ≡ with_word form f text → option_and_then (found_in form (drop (i + 1) (map g xs))) o ≡ whole
 unfolding found_in
-turn g xs x i f text whole o h q e led is =
-    ap (λ r. option_and_then (found_in (drop (i + 1) (map g xs))) r) (is ∙ ap (with_word f) e) ∙ ap (λ y. found_in y f) (sym (drop_next g xs x i h q)) ∙ led
+turn g form xs x i f text whole o h q e led is =
+    ap (λ r. option_and_then (found_in form (drop (i + 1) (map g xs))) r) (is ∙ ap (with_word form f) e) ∙ ap (λ y. found_in form y f) (sym (drop_next g xs x i h q)) ∙ led
 
-pub ended : {A : Type 0} (g : A → Text) (xs : List A) (i : ℕ) (f : Found) (whole : Option Found) → length xs ≤ i → found_in (drop i (map g xs)) f ≡ whole → Some f ≡ whole
+pub ended : {A : Type 0} (g : A → Text) (form : Form) (xs : List A) (i : ℕ) (f : Found) (whole : Option Found) → length xs ≤ i → found_in form (drop i (map g xs)) f ≡ whole → Some f ≡ whole
 unfolding found_in
-ended g xs i f whole h led =
+ended g form xs i f whole h led =
     let l : length (map g xs) ≡ length xs = length-map xs g in
-    ap (λ y. found_in y f) (sym (drop_all i (map g xs) (omega arith))) ∙ led
+    ap (λ y. found_in form y f) (sym (drop_all i (map g xs) (omega arith))) ∙ led
 
 -- ---- the verb
 
@@ -35,12 +35,12 @@ unfolding command_in
 no_words g [] h = refl
 no_words g (x ∷ xs) h = absurd (omega arith)
 
-pub by_verb : {A : Type 0} (g : A → Text) (xs : List A) (x : A) (text : Text) (v : Option Which) → 1 ≤ length xs → x ≡ get_or xs 0 x → text ≡ g x → v ≡ which_of text
-    → option_and_then (λ w. option_and_then (command_found w) (found_in (map g (take (length xs - 1) (drop 1 xs))) nothing_found)) v ≡ command_in (map g xs)
+pub by_verb : {A : Type 0} (g : A → Text) (xs : List A) (x : A) (text : Text) (v : Option Verb') → 1 ≤ length xs → x ≡ get_or xs 0 x → text ≡ g x → v ≡ verb_among every_verb text
+    → option_and_then (λ w. option_and_then (command_found w) (found_in (form_of w) (map g (take (length xs - 1) (drop 1 xs))) nothing_found)) v ≡ command_in (map g xs)
 unfolding command_in
 by_verb g [] x text v h q e is = absurd (omega arith)
-by_verb g (y ∷ xs) x text v h q e is = ap (λ l. option_and_then (λ w. option_and_then (command_found w) (found_in (map g l) nothing_found)) v) (take_rest (y ∷ xs) 1)
-    ∙ ap (λ u. option_and_then (λ w. option_and_then (command_found w) (found_in (map g xs) nothing_found)) u) (is ∙ ap which_of (e ∙ ap g q))
+by_verb g (y ∷ xs) x text v h q e is = ap (λ l. option_and_then (λ w. option_and_then (command_found w) (found_in (form_of w) (map g l) nothing_found)) v) (take_rest (y ∷ xs) 1)
+    ∙ ap (λ u. option_and_then (λ w. option_and_then (command_found w) (found_in (form_of w) (map g xs) nothing_found)) u) (is ∙ ap (verb_among every_verb) (e ∙ ap g q))
 
 -- ---- digits
 

@@ -1,9 +1,9 @@
 -- The words of a command (this project's rules).
-use Rattle.std.specs.Prelude.{◌≡◌, ℕ, ◌+◌, ◌-◌, ◌*◌, ◌≤◌, Bool, ◌&&◌, nat_le, List, [], ◌∷◌, ◌++◌, length, get_or, Option, Some, None, IsTrue, codes, option_copied}
+use Rattle.std.specs.Prelude.{◌≡◌, ℕ, ◌+◌, ◌-◌, ◌*◌, ◌≤◌, Bool, true, false, ◌&&◌, ◌||◌, nat_le, List, [], ◌∷◌, ◌++◌, length, get_or, Option, Some, None, IsTrue, IsFalse, codes, option_copied, option_map, if◌then◌else◌}
 use Rattle.std.specs.List.{All}
 use Rattle.svtv_words.specs.declared.command.Command.{Command as Told}
-use Rattle.svtv_words.specs.declared.command.Verb.{Verb}
-use Rattle.svtv_words.specs.declared.command.Verb.TheVariants.{Prove, Sim}
+use Rattle.svtv_words.specs.declared.verbs.Verb.{Verb}
+use Rattle.svtv_words.specs.declared.verbs.Verb.TheVariants.{Prove, Sim}
 
 abbrev pub Text : Type 0
 Text = List ℕ
@@ -23,7 +23,22 @@ abbrev pub option_text : Option' → Text
 option_text top = codes "--top"
 option_text budget = codes "--budget"
 
--- an option with the text that it is given
+-- whether it is given with a text, or alone
+abbrev pub takes_text : Option' → Bool
+takes_text top = true
+takes_text budget = true
+
+-- whether two options are one
+abbrev pub is_option : Option' → Option' → Bool
+is_option top top = true
+is_option budget budget = true
+is_option o p = false
+
+abbrev pub is_among : Option' → List Option' → Bool
+is_among o [] = false
+is_among o (p ∷ more) = is_option o p || is_among o more
+
+-- an option with the text that it is given, which is empty where it takes none
 pub record Setting : Type 0 where
   pub option : Option'
   pub text : Text
@@ -36,11 +51,14 @@ pub data Reads : List Text → List Text → List Setting → Type 0 where
   -- behind `--` every word is a positional
   rest : {words : List Text} → Reads (codes "--" ∷ words) words []
   -- `--top=TEXT`
-  joined : {words positionals : List Text} {settings : List Setting} (o : Option') (text : Text) → Reads words positionals settings
+  joined : {words positionals : List Text} {settings : List Setting} (o : Option') (text : Text) → IsTrue (takes_text o) → Reads words positionals settings
       → Reads ((option_text o ++ 61 ∷ text) ∷ words) positionals (record { option = o; text = text } ∷ settings)
   -- `--top TEXT`
-  apart : {words positionals : List Text} {settings : List Setting} (o : Option') (text : Text) → ¬ IsDashed text → Reads words positionals settings
+  apart : {words positionals : List Text} {settings : List Setting} (o : Option') (text : Text) → IsTrue (takes_text o) → ¬ IsDashed text → Reads words positionals settings
       → Reads (option_text o ∷ text ∷ words) positionals (record { option = o; text = text } ∷ settings)
+  -- an option that takes no text
+  alone : {words positionals : List Text} {settings : List Setting} (o : Option') → IsFalse (takes_text o) → Reads words positionals settings
+      → Reads (option_text o ∷ words) positionals (record { option = o; text = [] } ∷ settings)
   positional : {words positionals : List Text} {settings : List Setting} (w : Text) → ¬ IsDashed w → Reads words positionals settings → Reads (w ∷ words) (w ∷ positionals) settings
 
 -- ---- numbers
@@ -65,27 +83,79 @@ pub record IsBudget (text : Text) (n : ℕ) : Type 0 where
   pub low : 1 ≤ n
   pub high : n ≤ most_budget
 
--- ---- commands
+-- ---- settings
 
--- the settings are exactly these, in some order, each once and with a text
-pub data Sets : List Setting → Option Text → Option ℕ → Type 0 where
-  nothing : Sets [] None None
-  with_top : {settings : List Setting} {n : Option ℕ} (text : Text) → 1 ≤ length text → Sets settings None n → Sets (record { option = top; text = text } ∷ settings) (Some text) n
-  with_budget : {settings : List Setting} {t : Option Text} (text : Text) (n : ℕ) → IsBudget text n → Sets settings t None → Sets (record { option = budget; text = text } ∷ settings) t (Some n)
+-- the text is one that the option may be given
+abbrev pub IsGood : Option' → Text → Type 0
+IsGood top text = 1 ≤ length text
+IsGood budget text = (n : ℕ) × IsBudget text n
+
+-- the text that settings give an option
+abbrev pub given : Option' → List Setting → Option Text
+given o [] = None
+given o (s ∷ more) = if is_option o s.option then Some s.text else given o more
+
+-- no option is given twice
+abbrev pub AreOnce : List Setting → Type 0
+AreOnce [] = Unit {0}
+AreOnce (s ∷ more) = (given s.option more ≡ None) × AreOnce more
+
+-- no name is empty
+abbrev pub AreNames : List Text → Type 0
+AreNames all = All (λ w. 1 ≤ length w) all
+
+-- ---- verbs
+
+-- the form of a verb: its word, how many positionals it has, and the options that it may be given
+pub record Form : Type 0 where
+  pub word : Text
+  pub positionals : ℕ
+  pub options : List Option'
+
+-- a verb, of which the words of a command know two
+pub data Verb' : Type 0 where
+  proves : Verb'
+  sims : Verb'
+
+-- `prove DESIGN TABLE GOALS [--top M] [--budget N]` and `sim DESIGN TABLE VALUES [--top M]`
+abbrev pub form_of : Verb' → Form
+form_of proves = record { word = codes "prove"; positionals = 3; options = top ∷ budget ∷ [] }
+form_of sims = record { word = codes "sim"; positionals = 3; options = top ∷ [] }
+
+-- The form has the option, and the text is good for it.
+pub record IsAllowed (form : Form) (s : Setting) : Type 0 where
+  pub among : IsTrue (is_among s.option form.options)
+  pub good : IsGood s.option s.text
+
+-- The form allows these: as many names as it has, none of them empty, and no option twice, each as it may be given.
+pub record Allows (form : Form) (positionals : List Text) (settings : List Setting) : Type 0 where
+  pub count : length positionals ≡ form.positionals
+  pub names : AreNames positionals
+  pub once : AreOnce settings
+  pub options : All (IsAllowed form) settings
+
+-- ---- commands
 
 -- `prove DESIGN TABLE GOALS` and `sim DESIGN TABLE VALUES`, with their options
 pub data Command : Type 0 where
   prove : (design table goals : Text) → (top : Option Text) → (budget : Option ℕ) → Command
   sim : (design table values : Text) → (top : Option Text) → Command
 
--- no name is empty
-abbrev pub AreNames : List Text → Type 0
-AreNames all = All (λ w. 1 ≤ length w) all
+-- the command of a verb, its positionals in order, and what its options are given
+abbrev pub command_from : Verb' → List Text → Option Text → Option ℕ → Command
+command_from proves names t n = prove (get_or names 0 []) (get_or names 1 []) (get_or names 2 []) t n
+command_from sims names t n = sim (get_or names 0 []) (get_or names 1 []) (get_or names 2 []) t
 
--- the words are this command
-pub data IsCommand : List Text → Command → Type 0 where
-  proving : {words : List Text} {settings : List Setting} {t : Option Text} {n : Option ℕ} (d a g : Text) → Reads words (d ∷ a ∷ g ∷ []) settings → AreNames (d ∷ a ∷ g ∷ []) → Sets settings t n → IsCommand (codes "prove" ∷ words) (prove d a g t n)
-  simulating : {words : List Text} {settings : List Setting} {t : Option Text} (d a v : Text) → Reads words (d ∷ a ∷ v ∷ []) settings → AreNames (d ∷ a ∷ v ∷ []) → Sets settings t None → IsCommand (codes "sim" ∷ words) (sim d a v t)
+-- The words are this command: the word of a verb, and behind it what the verb's form allows.
+pub record IsCommand (words : List Text) (command : Command) : Type 0 where
+  pub verb : Verb'
+  pub behind : List Text
+  pub begins : words ≡ (form_of verb).word ∷ behind
+  pub positionals : List Text
+  pub settings : List Setting
+  pub reads : Reads behind positionals settings
+  pub allows : Allows (form_of verb) positionals settings
+  pub is : command ≡ command_from verb positionals (given top settings) (option_map (number_behind 0) (given budget settings))
 
 -- the command that the program's own says
 abbrev pub command_by : Verb → Text → Text → Text → Option Text → Option ℕ → Command

@@ -1,7 +1,7 @@
 -- What reading the words of a command from the left finds, a word at a time.
-use Rattle.std.specs.Prelude.{ℕ, Bool, true, false, ◌&&◌, ◌==◌, nat_le, List, [], ◌∷◌, length, take, drop, Option, Some, None, option_map, option_and_then, bytes_eq, codes, if◌then◌else◌}
+use Rattle.std.specs.Prelude.{ℕ, Bool, true, false, not, ◌&&◌, ◌==◌, nat_le, nat_lt, List, [], ◌∷◌, ◌++◌, length, get_or, take, drop, Option, Some, None, is_some, option_map, option_and_then, unwrap_or, bytes_eq, codes, if◌then◌else◌}
 use Rattle.std.specs.List.{list_all}
-use Rattle.svtv_words.specs.Commands.{Text, Option', top, budget, is_digit, number_behind, most_budget, Command, prove, sim}
+use Rattle.svtv_words.specs.Commands.{Text, Option', top, budget, option_text, takes_text, is_among, is_digit, number_behind, most_budget, Form, Verb', proves, sims, form_of}
 
 -- ---- one word
 
@@ -20,25 +20,39 @@ pub data Kind : Type 0 where
   a_name : Kind
   with_text : Option' → Text → Kind
   before_text : Option' → Kind
+  on_its_own : Option' → Kind
   the_rest : Kind
   unknown : Kind
 
--- the kind by what stands behind `--top=` and `--budget=`
-abbrev pub joined_kind : Option Text → Option Text → Kind
-joined_kind (Some x) y = with_text top x
-joined_kind None (Some y) = with_text budget y
-joined_kind None None = unknown
+-- what an option's word is: does it take a text
+abbrev pub bare_kind : Bool → Option' → Kind
+bare_kind true o = before_text o
+bare_kind false o = on_its_own o
 
--- the kind of a word: is it dashed, `--`, `--top` or `--budget`, and what stands behind `--top=` and `--budget=`
-abbrev pub kind_by : Bool → Bool → Bool → Bool → Option Text → Option Text → Kind
-kind_by false r t b x y = a_name
-kind_by true true t b x y = the_rest
-kind_by true false true b x y = before_text top
-kind_by true false false true x y = before_text budget
-kind_by true false false false x y = joined_kind x y
+-- the text of `--o=TEXT`
+abbrev pub joined_text : Option' → Text → Option Text
+joined_text o w = if takes_text o then option_and_then (text_behind (codes "=")) (text_behind (option_text o) w) else None
+
+-- the kind of a word with this option
+unfoldable pub option_kind : Option' → Text → Option Kind
+option_kind o w = if bytes_eq w (option_text o) then Some (bare_kind (takes_text o) o) else option_map (λ text. with_text o text) (joined_text o w)
+
+abbrev pub every_option : List Option'
+every_option = top ∷ budget ∷ []
+
+-- the kind of a dashed word, by the first of these options that it has
+abbrev pub kind_among : List Option' → Text → Kind
+kind_among [] w = unknown
+kind_among (o ∷ more) w = unwrap_or (option_kind o w) (kind_among more w)
+
+-- the kind of a word: is it dashed, is it `--`, and its kind by its option
+abbrev pub kind_by : Bool → Bool → Kind → Kind
+kind_by false r k = a_name
+kind_by true true k = the_rest
+kind_by true false k = k
 
 unfoldable pub kind_of : Text → Kind
-kind_of w = kind_by (is_dashed w) (bytes_eq w (codes "--")) (bytes_eq w (codes "--top")) (bytes_eq w (codes "--budget")) (text_behind (codes "--top=") w) (text_behind (codes "--budget=") w)
+kind_of w = kind_by (is_dashed w) (bytes_eq w (codes "--")) (kind_among every_option w)
 
 -- ---- budgets
 
@@ -48,6 +62,36 @@ in_bounds n = if nat_le 1 n && nat_le n most_budget then Some n else None
 unfoldable pub budget_of : Text → Option ℕ
 budget_of text = if nat_le 1 (length text) && nat_le (length text) 8 && list_all is_digit text then in_bounds (number_behind 0 text) else None
 
+-- ---- what the options were given so far
+
+-- the texts of the options, if they were given
+pub data Texts : Type 0 where
+  texts : (top budget : Option Text) → Texts
+
+abbrev pub nothing_given : Texts
+nothing_given = texts None None
+
+abbrev pub text_at : Option' → Texts → Option Text
+text_at top (texts t b) = t
+text_at budget (texts t b) = b
+
+abbrev pub put : Option' → Text → Texts → Texts
+put top text (texts t b) = texts (Some text) b
+put budget text (texts t b) = texts t (Some text)
+
+-- the number of the budget
+abbrev pub budget_at : Texts → Option ℕ
+budget_at t = option_and_then budget_of (text_at budget t)
+
+abbrev pub is_good : Option' → Text → Bool
+is_good top text = not (length text == 0)
+is_good budget text = is_some (budget_of text)
+
+-- an option of the form that was not given before, with a good text
+abbrev pub may_give : Form → Option Text → Option' → Text → Bool
+may_give form None o text = is_among o form.options && is_good o text
+may_give form (Some before) o text = false
+
 -- ---- what was found so far
 
 -- what the next word is: anything, the text of the option before it, or a positional
@@ -56,88 +100,73 @@ pub data Next : Type 0 where
   text_of : Option' → Next
   a_positional : Next
 
--- the next word, the positionals, and the texts of both options
+-- the next word, the positionals, and the texts of the options
 pub data Found : Type 0 where
-  found : Next → List Text → Option Text → Option ℕ → Found
+  found : Next → List Text → Texts → Found
 
 abbrev pub nothing_found : Found
-nothing_found = found anything [] None None
+nothing_found = found anything [] nothing_given
 
--- at most three positionals
+-- the room for positionals, of which a verb has fewer or as many
+abbrev pub most_positionals : ℕ
+most_positionals = 4
+
 abbrev pub one_more : List Text → Text → Option (List Text)
-one_more [] w = Some (w ∷ [])
-one_more (a ∷ []) w = Some (a ∷ w ∷ [])
-one_more (a ∷ b ∷ []) w = Some (a ∷ b ∷ w ∷ [])
-one_more (a ∷ b ∷ c ∷ more) w = None
+one_more names w = if nat_lt (length names) most_positionals then Some (names ++ w ∷ []) else None
 
 -- which are not empty
 abbrev pub name_more : List Text → Text → Option (List Text)
 name_more names w = if nat_le 1 (length w) then one_more names w else None
 
-abbrev pub first_top : Option Text → Text → Option (Option Text)
-first_top None text = if nat_le 1 (length text) then Some (Some text) else None
-first_top (Some t) text = None
-
-abbrev pub first_budget : Option ℕ → Text → Option (Option ℕ)
-first_budget None text = option_map (λ n. Some n) (budget_of text)
-first_budget (Some n) text = None
-
 abbrev pub with_name : Found → Text → Option Found
-with_name (found next names t n) w = option_map (λ all. found next all t n) (name_more names w)
+with_name (found next names t) w = option_map (λ all. found next all t) (name_more names w)
 
-abbrev pub with_setting : Found → Option' → Text → Option Found
-with_setting (found next names t n) top text = option_map (λ u. found anything names u n) (first_top t text)
-with_setting (found next names t n) budget text = option_map (λ u. found anything names t u) (first_budget n text)
+abbrev pub with_setting : Form → Found → Option' → Text → Option Found
+with_setting form (found next names t) o text = if may_give form (text_at o t) o text then Some (found anything names (put o text t)) else None
 
 abbrev pub with_next : Found → Next → Found
-with_next (found next names t n) new = found new names t n
+with_next (found next names t) new = found new names t
 
-abbrev pub with_kind : Found → Text → Kind → Option Found
-with_kind f w a_name = with_name f w
-with_kind f w (with_text o text) = with_setting f o text
-with_kind f w (before_text o) = Some (with_next f (text_of o))
-with_kind f w the_rest = Some (with_next f a_positional)
-with_kind f w unknown = None
+abbrev pub with_kind : Form → Found → Text → Kind → Option Found
+with_kind form f w a_name = with_name f w
+with_kind form f w (with_text o text) = with_setting form f o text
+with_kind form f w (before_text o) = Some (with_next f (text_of o))
+with_kind form f w (on_its_own o) = with_setting form f o []
+with_kind form f w the_rest = Some (with_next f a_positional)
+with_kind form f w unknown = None
 
-abbrev pub with_word_at : Next → Found → Text → Option Found
-with_word_at anything f w = with_kind f w (kind_of w)
-with_word_at (text_of o) f w = if is_dashed w then None else with_setting f o w
-with_word_at a_positional f w = with_name f w
+abbrev pub with_word_at : Next → Form → Found → Text → Option Found
+with_word_at anything form f w = with_kind form f w (kind_of w)
+with_word_at (text_of o) form f w = if is_dashed w then None else with_setting form f o w
+with_word_at a_positional form f w = with_name f w
 
 abbrev pub next_of : Found → Next
-next_of (found next names t n) = next
+next_of (found next names t) = next
 
-abbrev pub with_word : Found → Text → Option Found
-with_word f w = with_word_at (next_of f) f w
+abbrev pub with_word : Form → Found → Text → Option Found
+with_word form f w = with_word_at (next_of f) form f w
 
 -- what words add to what was found before them
-unfoldable pub found_in : List Text → Found → Option Found
-found_in [] f = Some f
-found_in (w ∷ more) f = option_and_then (found_in more) (with_word f w)
+unfoldable pub found_in : Form → List Text → Found → Option Found
+found_in form [] f = Some f
+found_in form (w ∷ more) f = option_and_then (found_in form more) (with_word form f w)
 
 -- ---- the whole
 
-pub data Which : Type 0 where
-  proves : Which
-  sims : Which
+abbrev pub every_verb : List Verb'
+every_verb = proves ∷ sims ∷ []
 
-abbrev pub which_of : Text → Option Which
-which_of w = if bytes_eq w (codes "prove") then Some proves else (if bytes_eq w (codes "sim") then Some sims else None)
+-- the first of these verbs with this word
+abbrev pub verb_among : List Verb' → Text → Option Verb'
+verb_among [] w = None
+verb_among (v ∷ more) w = if bytes_eq w (form_of v).word then Some v else verb_among more w
 
-abbrev pub sim_of : Text → Text → Text → Option Text → Option ℕ → Option Command
-sim_of d a v t None = Some (sim d a v t)
-sim_of d a v t (Some n) = None
+-- a command's parts: its verb, its names, and what its options are given
+pub data Parts : Type 0 where
+  parts : Verb' → (first second third : Text) → Option Text → Option ℕ → Parts
 
-abbrev pub command_with : Which → Text → Text → Text → Option Text → Option ℕ → Option Command
-command_with proves d a g t n = Some (prove d a g t n)
-command_with sims d a v t n = sim_of d a v t n
-
-abbrev pub command_named : Which → List Text → Option Text → Option ℕ → Option Command
-command_named v [] t n = None
-command_named v (a ∷ []) t n = None
-command_named v (a ∷ b ∷ []) t n = None
-command_named v (a ∷ b ∷ c ∷ []) t n = command_with v a b c t n
-command_named v (a ∷ b ∷ c ∷ d ∷ more) t n = None
+abbrev pub parts_named : Verb' → List Text → Texts → Option Parts
+parts_named v names t = if length names == (form_of v).positionals then Some (parts v (get_or names 0 []) (get_or names 1 []) (get_or names 2 []) (text_at top t) (budget_at t)) else None
 
 -- an option still waits for its text
 abbrev pub is_waiting : Next → Bool
@@ -145,9 +174,9 @@ is_waiting anything = false
 is_waiting (text_of o) = true
 is_waiting a_positional = false
 
-abbrev pub command_found : Which → Found → Option Command
-command_found v (found next names t n) = if is_waiting next then None else command_named v names t n
+abbrev pub command_found : Verb' → Found → Option Parts
+command_found v (found next names t) = if is_waiting next then None else parts_named v names t
 
-unfoldable pub command_in : List Text → Option Command
+unfoldable pub command_in : List Text → Option Parts
 command_in [] = None
-command_in (verb ∷ words) = option_and_then (λ v. option_and_then (command_found v) (found_in words nothing_found)) (which_of verb)
+command_in (verb ∷ words) = option_and_then (λ v. option_and_then (command_found v) (found_in (form_of v) words nothing_found)) (verb_among every_verb verb)

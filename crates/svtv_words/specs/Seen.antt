@@ -1,27 +1,33 @@
 -- What the program holds, as the definitions see it.
-use Rattle.std.specs.Prelude.{List, [], ◌∷◌, option_copied}
+use Rattle.std.specs.Prelude.{List, map, take, option_copied}
 use Rattle.svtv_words.specs.declared.settings.OptionName.{OptionName}
 use Rattle.svtv_words.specs.declared.settings.OptionName.TheVariants.{Top, Budget}
 use Rattle.svtv_words.specs.declared.settings.Kind.{Kind as Known}
 use Rattle.svtv_words.specs.declared.settings.Kind.TheVariants as known
+use Rattle.svtv_words.specs.declared.positionals.Names.{Names}
 use Rattle.svtv_words.specs.declared.scan.Next.{Next as Waiting}
 use Rattle.svtv_words.specs.declared.scan.Next.TheVariants as waiting
-use Rattle.svtv_words.specs.declared.scan.Names.{Names}
-use Rattle.svtv_words.specs.declared.scan.Names.TheVariants as held
+use Rattle.svtv_words.specs.declared.scan.Texts.{Texts as Given}
 use Rattle.svtv_words.specs.declared.scan.Found.{Found as Held}
-use Rattle.svtv_words.specs.declared.command.Verb.{Verb}
-use Rattle.svtv_words.specs.declared.command.Verb.TheVariants.{Prove, Sim}
-use Rattle.svtv_words.specs.Commands.{Text, Option', top, budget}
-use Rattle.svtv_words.specs.Reading.{Kind, a_name, with_text, before_text, the_rest, unknown, Next, anything, text_of, a_positional, Found, found, Which, proves, sims}
+use Rattle.svtv_words.specs.declared.command.Command.{Command as Told}
+use Rattle.svtv_words.specs.declared.verbs.Verb.{Verb}
+use Rattle.svtv_words.specs.declared.verbs.Verb.TheVariants.{Prove, Sim}
+use Rattle.svtv_words.specs.Commands.{Text, Option', top, budget, Verb', proves, sims}
+use Rattle.svtv_words.specs.Reading.{Kind, a_name, with_text, before_text, on_its_own, the_rest, unknown, Texts, texts, Next, anything, text_of, a_positional, Found, found, Parts, parts}
 
 abbrev pub option_is : OptionName → Option'
 option_is Top = top
 option_is Budget = budget
 
+abbrev pub verb_is : Verb → Verb'
+verb_is Prove = proves
+verb_is Sim = sims
+
 abbrev pub kind_is : Known → Kind
 kind_is known.Name = a_name
 kind_is (known.Joined o text) = with_text (option_is o) text.now
 kind_is (known.Apart o) = before_text (option_is o)
+kind_is (known.Alone o) = on_its_own (option_is o)
 kind_is known.Rest = the_rest
 kind_is known.Unknown = unknown
 
@@ -31,14 +37,13 @@ next_is (waiting.TextOf o) = text_of (option_is o)
 next_is waiting.Positional = a_positional
 
 abbrev pub names_are : Names → List Text
-names_are held.Zero = []
-names_are (held.One a) = a.now ∷ []
-names_are (held.Two a b) = a.now ∷ b.now ∷ []
-names_are (held.Three a b c) = a.now ∷ b.now ∷ c.now ∷ []
+names_are n = take n.count (map (λ w. w.now) n.words)
+
+abbrev pub texts_are : Given → Texts
+texts_are t = texts (option_copied t.top) (option_copied t.budget)
 
 abbrev pub found_is : Held → Found
-found_is f = found (next_is f.next) (names_are f.names) (option_copied f.top) f.budget
+found_is f = found (next_is f.next) (names_are f.names) (texts_are f.texts)
 
-abbrev pub which_is : Verb → Which
-which_is Prove = proves
-which_is Sim = sims
+abbrev pub parts_are : Told → Parts
+parts_are c = parts (verb_is c.verb) c.design.now c.table.now c.last.now (option_copied c.top) c.budget

@@ -3,16 +3,10 @@ ghost use Rattle.std.specs.Prelude.{◌≡◌, map, string_bytes, option_map, If
 ghost use Rattle.svtv_words.specs.Commands as m;
 ghost use Rattle.svtv_words.specs.Commands.{IsCommand, MayHave, command_is};
 ghost use Rattle.svtv_words.specs.Reading as spec;
-ghost use Rattle.svtv_words.specs.Seen.{found_is, which_is};
+ghost use Rattle.svtv_words.specs.Seen.{found_is, parts_are, verb_is};
 
-use crate::scan::{Found, Names, Next, found_in};
-
-/// What a command does.
-#[derive(Clone, Copy, PartialEq, Eq, Debug)]
-pub enum Verb {
-    Prove,
-    Sim,
-}
+use crate::scan::{Found, Next, found_in};
+use crate::verbs::{Verb, verb_of};
 
 /// A command: its three files, and its options.
 #[derive(Clone, Copy)]
@@ -26,56 +20,39 @@ pub struct Command<'a> {
     pub budget: Option<u64>,
 }
 
-fn verb_of(word: &[u8]) -> Option<Verb>
-    ensures { option_map which_is result ≡ spec.which_of word.now }
-{
-    if word == b"prove".as_slice() {
-        Some(Verb::Prove)
-    } else if word == b"sim".as_slice() {
-        Some(Verb::Sim)
-    } else {
-        None
-    }
-}
-
-// The command of three names. Only `prove` takes a budget.
+// The command of as many names as its verb has.
 fn command_found(verb: Verb, found: Found<'_>) -> Option<Command<'_>>
-    ensures is { option_map command_is result ≡ spec.command_found (which_is verb) (found_is found.entry) }
-    ensures alone { IfSome result (λ c. MayHave c.verb c.budget) }
+    ensures { option_map parts_are result ≡ spec.command_found (verb_is verb) (found_is found.entry) }
 {
     if let Next::TextOf(_) = found.next {
         return None;
     }
-    let Names::Three(design, table, last) = found.names else {
-        return None;
-    };
-    if verb == Verb::Sim && found.budget.is_some() {
+    if found.names.count() != verb.positionals() {
         return None;
     }
     Some(Command {
         verb,
-        design,
-        table,
-        last,
-        top: found.top,
-        budget: found.budget,
+        design: found.names.at(0),
+        table: found.names.at(1),
+        last: found.names.at(2),
+        top: found.texts.top,
+        budget: found.texts.number(),
     })
 }
 
 fn command_in(words: &[String]) -> Option<Command<'_>>
-    ensures is { option_map command_is result ≡ spec.command_in (map string_bytes words.now) }
-    ensures alone { IfSome result (λ c. MayHave c.verb c.budget) }
+    ensures { option_map parts_are result ≡ spec.command_in (map string_bytes words.now) }
 {
     let [verb, rest @ ..] = words else {
         return None;
     };
     let verb = verb_of(verb.as_bytes())?;
-    let found = found_in(rest)?;
+    let found = found_in(verb, rest)?;
     command_found(verb, found)
 }
 
 /// The command that words are, if they are one.
-#[tactic(auto, using(crate::proofs::Commands::some_is, crate::proofs::Commands::none_is, crate::proofs::Commands::one_command))]
+#[tactic(auto, using(crate::proofs::Commands::some_is, crate::proofs::Commands::none_is, crate::proofs::Commands::alone_is))]
 pub fn command_of(words: &[String]) -> Option<Command<'_>>
     ensures some { IfSome result (λ c. IsCommand (map string_bytes words.now) (command_is c)) }
     ensures none { IfNone result ((c : m.Command) → IsCommand (map string_bytes words.now) c → ⊥) }

@@ -2,7 +2,11 @@
 #![tactic(auto)]
 
 mod command;
+mod naming;
+mod positionals;
 mod scan;
 mod settings;
+mod verbs;
 
-pub use command::{Command, Verb, command_of};
+pub use command::{Command, command_of};
+pub use verbs::Verb;

@@ -1,9 +1,12 @@
 // The words behind the verb, read from the left.
-ghost use Rattle.std.specs.Prelude.{◌≡◌, map, string_bytes, option_map, option_copied, true};
+ghost use Rattle.std.specs.Prelude.{◌≡◌, map, string_bytes, option_map, option_copied};
+ghost use Rattle.svtv_words.specs.Commands.{form_of};
 ghost use Rattle.svtv_words.specs.Reading as spec;
-ghost use Rattle.svtv_words.specs.Seen.{next_is, names_are, found_is, option_is};
+ghost use Rattle.svtv_words.specs.Seen.{names_are, texts_are, found_is, option_is, verb_is};
 
+use crate::positionals::Names;
 use crate::settings::{Kind, OptionName, budget_of, is_dashed, kind_of};
+use crate::verbs::Verb;
 
 /// What the next word is.
 #[derive(Clone, Copy)]
@@ -13,13 +16,44 @@ pub(crate) enum Next {
     Positional,
 }
 
-/// The positionals, at most three.
+/// The texts of the options, if they were given.
 #[derive(Clone, Copy)]
-pub(crate) enum Names<'a> {
-    Zero,
-    One(&'a [u8]),
-    Two(&'a [u8], &'a [u8]),
-    Three(&'a [u8], &'a [u8], &'a [u8]),
+pub(crate) struct Texts<'a> {
+    pub top: Option<&'a [u8]>,
+    pub budget: Option<&'a [u8]>,
+}
+
+impl<'a> Texts<'a> {
+    fn of(self, option: OptionName) -> Option<&'a [u8]>
+        ensures { option_copied result ≡ spec.text_at (option_is option) (texts_are self.entry) }
+    {
+        match option {
+            OptionName::Top => self.top,
+            OptionName::Budget => self.budget,
+        }
+    }
+
+    fn put(self, option: OptionName, text: &'a [u8]) -> Texts<'a>
+        ensures { texts_are result ≡ spec.put (option_is option) text.now (texts_are self.entry) }
+    {
+        match option {
+            OptionName::Top => Texts {
+                top: Some(text),
+                ..self
+            },
+            OptionName::Budget => Texts {
+                budget: Some(text),
+                ..self
+            },
+        }
+    }
+
+    /// The number of the budget.
+    pub(crate) fn number(self) -> Option<u64>
+        ensures { result ≡ spec.budget_at (texts_are self.entry) }
+    {
+        budget_of(self.budget?)
+    }
 }
 
 /// What the words so far say.
@@ -27,19 +61,7 @@ pub(crate) enum Names<'a> {
 pub(crate) struct Found<'a> {
     pub next: Next,
     pub names: Names<'a>,
-    pub top: Option<&'a [u8]>,
-    pub budget: Option<u64>,
-}
-
-fn one_more<'a>(names: Names<'a>, word: &'a [u8]) -> Option<Names<'a>>
-    ensures { option_map names_are result ≡ spec.one_more (names_are names.entry) word.now }
-{
-    match names {
-        Names::Zero => Some(Names::One(word)),
-        Names::One(first) => Some(Names::Two(first, word)),
-        Names::Two(first, second) => Some(Names::Three(first, second, word)),
-        Names::Three(..) => None,
-    }
+    pub texts: Texts<'a>,
 }
 
 // One positional more, which is not empty.
@@ -49,27 +71,17 @@ fn name_more<'a>(names: Names<'a>, word: &'a [u8]) -> Option<Names<'a>>
     if word.is_empty() {
         return None;
     }
-    one_more(names, word)
+    names.one_more(word)
 }
 
-// The text of `--top`, which is not empty and comes once.
-fn first_top<'a>(before: Option<&'a [u8]>, text: &'a [u8]) -> Option<&'a [u8]>
-    ensures { option_map (λ t. Some t) (option_copied result) ≡ spec.first_top (option_copied before.entry) text.now }
-{
-    if before.is_some() || text.is_empty() {
-        return None;
-    }
-    Some(text)
-}
-
-// The budget, which comes once.
-fn first_budget(before: Option<u64>, text: &[u8]) -> Option<u64>
-    ensures { option_map (λ n. Some n) result ≡ spec.first_budget before text.now }
+// Whether the verb takes the option, which comes once and with a good text.
+fn may_give(verb: Verb, before: Option<&[u8]>, option: OptionName, text: &[u8]) -> bool
+    ensures { result ≡ spec.may_give (form_of (verb_is verb)) (option_copied before.entry) (option_is option) text.now }
 {
     if before.is_some() {
-        return None;
+        return false;
     }
-    budget_of(text)
+    verb.takes(option) && option.is_good(text)
 }
 
 fn with_name<'a>(found: Found<'a>, word: &'a [u8]) -> Option<Found<'a>>
@@ -79,36 +91,35 @@ fn with_name<'a>(found: Found<'a>, word: &'a [u8]) -> Option<Found<'a>>
     Some(Found { names, ..found })
 }
 
-fn with_setting<'a>(found: Found<'a>, option: OptionName, text: &'a [u8]) -> Option<Found<'a>>
-    ensures { option_map found_is result ≡ spec.with_setting (found_is found.entry) (option_is option) text.now }
+fn with_setting<'a>(
+    verb: Verb,
+    found: Found<'a>,
+    option: OptionName,
+    text: &'a [u8],
+) -> Option<Found<'a>>
+    ensures { option_map found_is result ≡ spec.with_setting (form_of (verb_is verb)) (found_is found.entry) (option_is option) text.now }
 {
-    let next = Next::Anything;
-    match option {
-        OptionName::Top => {
-            let top = Some(first_top(found.top, text)?);
-            Some(Found { next, top, ..found })
-        }
-        OptionName::Budget => {
-            let budget = Some(first_budget(found.budget, text)?);
-            Some(Found {
-                next,
-                budget,
-                ..found
-            })
-        }
+    if !may_give(verb, found.texts.of(option), option, text) {
+        return None;
     }
+    Some(Found {
+        next: Next::Anything,
+        texts: found.texts.put(option, text),
+        ..found
+    })
 }
 
-fn with_kind<'a>(found: Found<'a>, word: &'a [u8]) -> Option<Found<'a>>
-    ensures { option_map found_is result ≡ spec.with_kind (found_is found.entry) word.now (spec.kind_of word.now) }
+fn with_kind<'a>(verb: Verb, found: Found<'a>, word: &'a [u8]) -> Option<Found<'a>>
+    ensures { option_map found_is result ≡ spec.with_kind (form_of (verb_is verb)) (found_is found.entry) word.now (spec.kind_of word.now) }
 {
     match kind_of(word) {
         Kind::Name => with_name(found, word),
-        Kind::Joined(option, text) => with_setting(found, option, text),
+        Kind::Joined(option, text) => with_setting(verb, found, option, text),
         Kind::Apart(option) => Some(Found {
             next: Next::TextOf(option),
             ..found
         }),
+        Kind::Alone(option) => with_setting(verb, found, option, b""),
         Kind::Rest => Some(Found {
             next: Next::Positional,
             ..found
@@ -117,29 +128,31 @@ fn with_kind<'a>(found: Found<'a>, word: &'a [u8]) -> Option<Found<'a>>
     }
 }
 
-fn with_word<'a>(found: Found<'a>, word: &'a [u8]) -> Option<Found<'a>>
-    ensures { option_map found_is result ≡ spec.with_word (found_is found.entry) word.now }
+fn with_word<'a>(verb: Verb, found: Found<'a>, word: &'a [u8]) -> Option<Found<'a>>
+    ensures { option_map found_is result ≡ spec.with_word (form_of (verb_is verb)) (found_is found.entry) word.now }
 {
     match found.next {
-        Next::Anything => with_kind(found, word),
+        Next::Anything => with_kind(verb, found, word),
         Next::TextOf(_) if is_dashed(word) => None,
-        Next::TextOf(option) => with_setting(found, option, word),
+        Next::TextOf(option) => with_setting(verb, found, option, word),
         Next::Positional => with_name(found, word),
     }
 }
 
-/// What the words say, if they are none that a command refuses.
-pub(crate) fn found_in(words: &[String]) -> Option<Found<'_>>
-    ensures { option_map found_is result ≡ spec.found_in (map string_bytes words.now) spec.nothing_found }
+/// What the words behind a verb say, if they are none that it refuses.
+pub(crate) fn found_in(verb: Verb, words: &[String]) -> Option<Found<'_>>
+    ensures { option_map found_is result ≡ spec.found_in (form_of (verb_is verb)) (map string_bytes words.now) spec.nothing_found }
 {
     let mut found = Found {
         next: Next::Anything,
-        names: Names::Zero,
-        top: None,
-        budget: None,
+        names: Names::none(),
+        texts: Texts {
+            top: None,
+            budget: None,
+        },
     };
     for word in words {
-        found = with_word(found, word.as_bytes())?;
+        found = with_word(verb, found, word.as_bytes())?;
     }
     Some(found)
 }

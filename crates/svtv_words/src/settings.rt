@@ -1,9 +1,9 @@
 // The options, and what one word says of them.
-ghost use Rattle.std.specs.Prelude.{◌≡◌, ℕ, ◌≤◌, length, codes, true, option_copied};
+ghost use Rattle.std.specs.Prelude.{◌≡◌, ℕ, ◌≤◌, length, true, option_copied, option_map};
 ghost use Rattle.std.specs.List.{list_all};
-ghost use Rattle.svtv_words.specs.Commands.{is_digit, number_behind};
+ghost use Rattle.svtv_words.specs.Commands.{option_text, takes_text, is_digit, number_behind};
 ghost use Rattle.svtv_words.specs.Reading as spec;
-ghost use Rattle.svtv_words.specs.Seen.{kind_is};
+ghost use Rattle.svtv_words.specs.Seen.{kind_is, option_is};
 
 /// An option of a command.
 #[derive(Clone, Copy)]
@@ -21,9 +21,76 @@ pub(crate) enum Kind<'a> {
     Joined(OptionName, &'a [u8]),
     /// An option whose text is the next word.
     Apart(OptionName),
+    /// An option that takes no text.
+    Alone(OptionName),
     /// The word behind which every word is a positional.
     Rest,
     Unknown,
+}
+
+impl OptionName {
+    fn word(self) -> &'static [u8]
+        ensures { result.now ≡ option_text (option_is self) }
+    {
+        match self {
+            OptionName::Top => b"--top",
+            OptionName::Budget => b"--budget",
+        }
+    }
+
+    // Whether it is given with a text, or alone.
+    fn takes_text(self) -> bool
+        ensures { result ≡ takes_text (option_is self) }
+    {
+        match self {
+            OptionName::Top => true,
+            OptionName::Budget => true,
+        }
+    }
+
+    /// Whether it may be given this text.
+    pub(crate) fn is_good(self, text: &[u8]) -> bool
+        ensures { result ≡ spec.is_good (option_is self) text.now }
+    {
+        match self {
+            OptionName::Top => !text.is_empty(),
+            OptionName::Budget => budget_of(text).is_some(),
+        }
+    }
+
+    // What its word is.
+    fn bare<'a>(self) -> Kind<'a>
+        ensures { kind_is result ≡ spec.bare_kind (takes_text (option_is self)) (option_is self) }
+    {
+        if self.takes_text() {
+            Kind::Apart(self)
+        } else {
+            Kind::Alone(self)
+        }
+    }
+
+    // The text behind its word and `=`.
+    fn joined_text<'a>(self, word: &'a [u8]) -> Option<&'a [u8]>
+        ensures { option_copied result ≡ spec.joined_text (option_is self) word.now }
+    {
+        if !self.takes_text() {
+            return None;
+        }
+        let behind = text_behind(self.word(), word)?;
+        text_behind(b"=", behind)
+    }
+
+    // The kind of a word with this option.
+    #[tactic(auto, unfolding(crate::specs::Reading::option_kind))]
+    fn kind<'a>(self, word: &'a [u8]) -> Option<Kind<'a>>
+        ensures { option_map kind_is result ≡ spec.option_kind (option_is self) word.now }
+    {
+        if word == self.word() {
+            return Some(self.bare());
+        }
+        let text = self.joined_text(word)?;
+        Some(Kind::Joined(self, text))
+    }
 }
 
 /// Whether a word has two bytes or more, the first of them `-`.
@@ -39,14 +106,14 @@ fn text_behind<'a>(front: &[u8], word: &'a [u8]) -> Option<&'a [u8]>
     word.strip_prefix(front)
 }
 
-// The kind of a dashed word that is none of the three without a text.
-fn joined(word: &[u8]) -> Kind<'_>
-    ensures { kind_is result ≡ spec.joined_kind (spec.text_behind (codes "--top=") word.now) (spec.text_behind (codes "--budget=") word.now) }
+// The kind of a dashed word that is not `--`.
+fn dashed_kind(word: &[u8]) -> Kind<'_>
+    ensures { kind_is result ≡ spec.kind_among spec.every_option word.now }
 {
-    if let Some(text) = text_behind(b"--top=", word) {
-        Kind::Joined(OptionName::Top, text)
-    } else if let Some(text) = text_behind(b"--budget=", word) {
-        Kind::Joined(OptionName::Budget, text)
+    if let Some(kind) = OptionName::Top.kind(word) {
+        kind
+    } else if let Some(kind) = OptionName::Budget.kind(word) {
+        kind
     } else {
         Kind::Unknown
     }
@@ -61,12 +128,8 @@ pub(crate) fn kind_of(word: &[u8]) -> Kind<'_>
         Kind::Name
     } else if word == b"--".as_slice() {
         Kind::Rest
-    } else if word == b"--top".as_slice() {
-        Kind::Apart(OptionName::Top)
-    } else if word == b"--budget".as_slice() {
-        Kind::Apart(OptionName::Budget)
     } else {
-        joined(word)
+        dashed_kind(word)
     }
 }
 

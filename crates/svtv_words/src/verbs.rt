@@ -1,0 +1,55 @@
+// The verbs, and what the words behind each may be.
+ghost use Rattle.std.specs.Prelude.{◌≡◌, option_map};
+ghost use Rattle.svtv_words.specs.Commands.{form_of, is_among};
+ghost use Rattle.svtv_words.specs.Reading.{every_verb, verb_among};
+ghost use Rattle.svtv_words.specs.Seen.{option_is, verb_is};
+
+use crate::settings::OptionName;
+
+/// What a command does.
+#[derive(Clone, Copy, PartialEq, Eq, Debug)]
+pub enum Verb {
+    Prove,
+    Sim,
+}
+
+impl Verb {
+    /// How many positionals stand behind it.
+    pub(crate) fn positionals(self) -> usize
+        ensures { result ≡ (form_of (verb_is self)).positionals }
+    {
+        match self {
+            Verb::Prove => 3,
+            Verb::Sim => 3,
+        }
+    }
+
+    /// Whether it may be given the option.
+    pub(crate) fn takes(self, option: OptionName) -> bool
+        ensures { result ≡ is_among (option_is option) (form_of (verb_is self)).options }
+    {
+        match self {
+            Verb::Prove => match option {
+                OptionName::Top => true,
+                OptionName::Budget => true,
+            },
+            Verb::Sim => match option {
+                OptionName::Top => true,
+                OptionName::Budget => false,
+            },
+        }
+    }
+}
+
+/// The verb with this word.
+pub(crate) fn verb_of(word: &[u8]) -> Option<Verb>
+    ensures { option_map verb_is result ≡ verb_among every_verb word.now }
+{
+    if word == b"prove".as_slice() {
+        Some(Verb::Prove)
+    } else if word == b"sim".as_slice() {
+        Some(Verb::Sim)
+    } else {
+        None
+    }
+}
