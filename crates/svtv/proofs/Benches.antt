@@ -1,5 +1,5 @@
 -- A table that is bound to the wires of a design asks of it what its cells say.
-use Rattle.std.proofs.Common.{◌≡◌, ℕ, zero, suc, ◌+◌, ◌<◌, List, [], ◌∷◌, ◌++◌, length, get_or, map, refl, sym, ◌∙◌, ap, arith, Option, Some, None}
+use Rattle.std.proofs.Common.{◌≡◌, ℕ, zero, suc, ◌+◌, ◌<◌, List, [], ◌∷◌, ◌++◌, length, get_or, map, refl, sym, ◌∙◌, ap, subst, arith, Option, Some, None}
 use Rattle.std.specs.List.{All, AllByRecursion}
 use Rattle.std.proofs.lemmas.List.{get_or-map, length-map}
 use Rattle.std.proofs.lemmas.List.Elements.{All-from_recursion}
@@ -11,6 +11,7 @@ use Rattle.sv_outside.specs.declared.text.Signal.{Signal}
 use Rattle.svtv_choices.proofs.Apart.{drives_apart}
 use Rattle.svtv_decide.specs.Trials.{Poses, bench}
 use Rattle.svtv_runs.specs.Runs.{AreApart}
+use Rattle.svtv_runs.proofs.Runs.{least_run_stands, least_run_is_one}
 use Rattle.svtv_table.specs.Binding.{HasWidth, bind_faults, bound_of, cell_sample, sampled_by, sampled_in, samples_of}
 use Rattle.svtv_table.specs.Faults.{at_each}
 use Rattle.svtv_table.specs.Names.{signal_at, wire_of, width_of, wire_number}
@@ -24,6 +25,7 @@ use Rattle.svtv_table.specs.declared.table.RowKind.{RowKind}
 use Rattle.svtv_table.specs.declared.table.RowKind.TheVariants.{In, Out}
 use Rattle.svtv_table.specs.declared.table.Table.{Table}
 use Rattle.svtv_table.proofs.Meaning.{means}
+use Rattle.svtv.specs.Answers.{HaveRuns}
 use Rattle.svtv.specs.Files.{bench_of}
 
 -- ---- no wire has two rows
@@ -52,6 +54,17 @@ poses design flat table e h = record {
 pub bench_is : (design : Design) (table : Table) → bench design (bench_of design table).asked (bound_of design.wires table) ≡ bench_of design table
 unfolding bound_of
 bench_is design table = refl
+
+-- ---- there are runs
+
+-- no wire has two rows, so one run is below every run
+pub have_runs : HaveRuns
+unfolding bound_of
+have_runs design table h choice is =
+    let asked : values_of choice (bound_of design.wires table).drives ≡ (bench_of design table).asked choice = means design.wires table h choice is in
+    let rows : AreApart ((bench_of design table).asked choice) = subst (λ rows. AreApart rows) asked (apart design.wires table h choice) in
+    let least = least_run_stands design ((bench_of design table).asked choice) table.phases rows in
+    (least.0, least.1, λ s k. least_run_is_one design ((bench_of design table).asked choice) table.phases s least.0 k least.1)
 
 -- ---- the widths of samples
 

@@ -17,7 +17,6 @@ use Rattle.svtv_choices.specs.Choices.{bits_of}
 use Rattle.svtv_choices.specs.Rooms.{room_faults}
 use Rattle.svtv_choices.proofs.Values.{values_choice}
 use Rattle.svtv_decide.specs.Trials.{Poses, bench}
-use Rattle.svtv_decide.specs.Verdicts.{sampled_in}
 use Rattle.svtv_report.specs.Shown.{sample_texts, var_texts}
 use Rattle.svtv_report.specs.Texts.{value_lines, report}
 use Rattle.svtv_runs.specs.Runs.{Asked, AreApart, Run, IsLeastRun}
@@ -30,6 +29,7 @@ use Rattle.svtv_table.specs.declared.bound.Bound.{Bound}
 use Rattle.svtv_table.specs.declared.bound.Sample.{Sample}
 use Rattle.svtv_table.specs.declared.bound.VarDecl.{VarDecl}
 use Rattle.svtv_table.proofs.Bounds as bounds
+use Rattle.svtv_verdicts.specs.Benches.{sampled_in}
 use Rattle.svtv.specs.Answers.{Proves, Simulates}
 use Rattle.svtv.specs.Files.{Text, Told, IsDesignFile, IsValuesFile, bench_of, samples_in, vars_of}
 use Rattle.svtv.specs.Goals.{AreGoalsIn, IsReport, Stands, names_of}

@@ -1,5 +1,5 @@
 -- Verdicts of goals, one goal more.
-use Rattle.std.proofs.Common.{◌≡◌, ℕ, zero, suc, ◌+◌, ◌<◌, ◌≤◌, List, [], ◌∷◌, ◌++◌, length, get_or, map, take, refl, sym, ◌∙◌, ap, subst, arith, length-append}
+use Rattle.std.proofs.Common.{◌≡◌, ℕ, zero, suc, ◌+◌, ◌<◌, ◌≤◌, List, [], ◌∷◌, ◌++◌, length, get_or, map, take, Option, refl, sym, ◌∙◌, ap, subst, arith, length-append}
 use Rattle.std.specs.List.{All, AllZip}
 use Rattle.fourvec.specs.declared.Bit.{Bit}
 use Rattle.goal_text.specs.declared.goal.Goal.{Goal}
@@ -7,10 +7,10 @@ use Rattle.goal_text.specs.Nodes.{IsGoal, IsTruth}
 use Rattle.goal_text.specs.Scopes.{variables_of, claims_scope, is_of_vars, is_of_table}
 use Rattle.goal_tree.specs.declared.tree.GoalTree.{GoalTree}
 use Rattle.svex_arena.specs.declared.shape.Shape.{Shape}
-use Rattle.svtv_decide.specs.Verdicts.{Bench, IsRight}
-use Rattle.svtv_report.specs.declared.verdicts.Verdict.{Verdict}
 use Rattle.svtv_table.specs.declared.bound.Sample.{Sample}
 use Rattle.svtv_table.specs.declared.bound.VarDecl.{VarDecl}
+use Rattle.svtv_verdicts.specs.Benches.{Bench}
+use Rattle.svtv_verdicts.specs.Verdicts.{Verdict, IsRight}
 use Rattle.svtv.specs.Answers.{AreRight, goal_names}
 use Rattle.svtv.specs.Goals.{IsThere, names_of}
 
@@ -74,23 +74,23 @@ module _ (vars : List VarDecl) (samples : List Sample) (shapes : List Shape) whe
 
 -- ---- verdicts
 
-pub right_more : (b : Bench) (goals : List GoalTree) (verdicts : List Verdict) (shown : List (List (List Bit))) (goal : GoalTree) (verdict : Verdict) (values : List (List Bit))
-    → AreRight b goals verdicts shown → IsRight b goal verdict values → AreRight b (goals ++ goal ∷ []) (verdicts ++ verdict ∷ []) (shown ++ values ∷ [])
-right_more b [] [] [] goal verdict values h r = (r, tt)
-right_more b [] [] (s ∷ shown) goal verdict values h r = absurd h
-right_more b [] (v ∷ verdicts) shown goal verdict values h r = absurd h
-right_more b (g ∷ goals) [] shown goal verdict values h r = absurd h
-right_more b (g ∷ goals) (v ∷ verdicts) [] goal verdict values h r = absurd h
-right_more b (g ∷ goals) (v ∷ verdicts) (s ∷ shown) goal verdict values h r = (h.0, right_more b goals verdicts shown goal verdict values h.1 r)
+pub right_more : (b : Bench) (goals : List GoalTree) (budget : Option ℕ) (verdicts : List Verdict) (shown : List (List (List Bit))) (goal : GoalTree) (verdict : Verdict) (values : List (List Bit))
+    → AreRight b goals budget verdicts shown → IsRight b goal budget verdict values → AreRight b (goals ++ goal ∷ []) budget (verdicts ++ verdict ∷ []) (shown ++ values ∷ [])
+right_more b [] budget [] [] goal verdict values h r = (r, tt)
+right_more b [] budget [] (s ∷ shown) goal verdict values h r = absurd h
+right_more b [] budget (v ∷ verdicts) shown goal verdict values h r = absurd h
+right_more b (g ∷ goals) budget [] shown goal verdict values h r = absurd h
+right_more b (g ∷ goals) budget (v ∷ verdicts) [] goal verdict values h r = absurd h
+right_more b (g ∷ goals) budget (v ∷ verdicts) (s ∷ shown) goal verdict values h r = (h.0, right_more b goals budget verdicts shown goal verdict values h.1 r)
 
 -- the verdicts of the first goals, and of one more
-pub right_next : (b : Bench) (goals : List GoalTree) (i : ℕ) (d : GoalTree) (verdicts more : List Verdict) (shown all : List (List (List Bit))) (verdict : Verdict) (values : List (List Bit))
-    → i < length goals → more ≡ verdicts ++ verdict ∷ [] → all ≡ shown ++ values ∷ [] → AreRight b (take i goals) verdicts shown → IsRight b (get_or goals i d) verdict values
-    → AreRight b (take (i + 1) goals) more all
-right_next b goals i d verdicts more shown all verdict values l e f h r =
-    subst (λ gs. AreRight b gs more all) (sym (take_more goals i d l))
-    (subst (λ vs. AreRight b (take i goals ++ get_or goals i d ∷ []) vs all) (sym e)
-    (subst (λ ss. AreRight b (take i goals ++ get_or goals i d ∷ []) (verdicts ++ verdict ∷ []) ss) (sym f) (right_more b (take i goals) verdicts shown (get_or goals i d) verdict values h r)))
+pub right_next : (b : Bench) (goals : List GoalTree) (budget : Option ℕ) (i : ℕ) (d : GoalTree) (verdicts more : List Verdict) (shown all : List (List (List Bit))) (verdict : Verdict) (values : List (List Bit))
+    → i < length goals → more ≡ verdicts ++ verdict ∷ [] → all ≡ shown ++ values ∷ [] → AreRight b (take i goals) budget verdicts shown → IsRight b (get_or goals i d) budget verdict values
+    → AreRight b (take (i + 1) goals) budget more all
+right_next b goals budget i d verdicts more shown all verdict values l e f h r =
+    subst (λ gs. AreRight b gs budget more all) (sym (take_more goals i d l))
+    (subst (λ vs. AreRight b (take i goals ++ get_or goals i d ∷ []) budget vs all) (sym e)
+    (subst (λ ss. AreRight b (take i goals ++ get_or goals i d ∷ []) budget (verdicts ++ verdict ∷ []) ss) (sym f) (right_more b (take i goals) budget verdicts shown (get_or goals i d) verdict values h r)))
 
 -- a list and the names grow by one each
 pub one_longer : {A B : Type 0} (xs : List A) (ns : List B) (more : List A) (all : List B) (x : A) (n : B) → more ≡ xs ++ x ∷ [] → all ≡ ns ++ n ∷ [] → length xs ≡ length ns → length more ≡ length all

@@ -6,14 +6,15 @@ use Rattle.goal_tree.specs.declared.tree.GoalTree.{GoalTree}
 use Rattle.sv_meaning.specs.Designs.{Design}
 use Rattle.sv_outside.specs.declared.refusal.Place.{Place}
 use Rattle.sv_outside.specs.declared.refusal.Refusal.{Refusal}
-use Rattle.svtv_decide.specs.Verdicts.{Bench, IsLeastUnder, IsRight, sampled_in}
 use Rattle.svtv_report.specs.Refusals.{memory_text, read_fault_text, refusal_text, usage_text}
 use Rattle.svtv_report.specs.Shown.{sample_texts, var_texts}
 use Rattle.svtv_report.specs.Texts.{report, value_lines}
-use Rattle.svtv_report.specs.declared.verdicts.Verdict.{Verdict}
-use Rattle.svtv_report.specs.declared.verdicts.Verdict.TheVariants as v
 use Rattle.svtv_runs.specs.Runs.{Run}
+use Rattle.svtv_table.specs.Binding.{bind_faults}
+use Rattle.svtv_table.specs.Stimuli.{IsChoice}
 use Rattle.svtv_table.specs.declared.table.Table.{Table}
+use Rattle.svtv_verdicts.specs.Benches.{Bench, HasOneLeast, IsLeastUnder, sampled_in}
+use Rattle.svtv_verdicts.specs.Verdicts.{Verdict, proved, vacuous, failed, undecided, IsRight}
 use Rattle.svtv_words.specs.Commands.{Command, IsCommand, prove, sim}
 use Rattle.svtv.specs.Files.{Text, Told, AreGoalsFile, IsValuesFile, bench_of, samples_in, vars_of}
 use Rattle.svtv.specs.Refusals.{IsSetup, Refuses, LeavesUnread}
@@ -23,20 +24,22 @@ use Rattle.svtv.specs.declared.status.Status.TheVariants.{AllProved, Done, NotAl
 -- ---- proofs
 
 abbrev pub is_proved : Verdict → Bool
-is_proved v.Proved = true
-is_proved v.Vacuous = false
-is_proved (v.Failed choice) = false
+is_proved proved = true
+is_proved vacuous = false
+is_proved (failed choice) = false
+is_proved (undecided n) = false
 
--- for each goal, in order, a verdict that is right
-abbrev pub AreRight : Bench → List GoalTree → List Verdict → List (List (List Bit)) → Type 0
-AreRight b [] [] [] = ⊤
-AreRight b (goal ∷ goals) (verdict ∷ verdicts) (values ∷ shown) = IsRight b goal verdict values × AreRight b goals verdicts shown
-AreRight b goals verdicts shown = ⊥
+-- for each goal, in order, a verdict that is right where this budget is given, or none
+abbrev pub AreRight : Bench → List GoalTree → Option ℕ → List Verdict → List (List (List Bit)) → Type 0
+AreRight b [] budget [] [] = ⊤
+AreRight b (goal ∷ goals) budget (verdict ∷ verdicts) (values ∷ shown) = IsRight b goal budget verdict values × AreRight b goals budget verdicts shown
+AreRight b goals budget verdicts shown = ⊥
 
 abbrev pub goal_names : List GoalTree → List Text
 goal_names goals = map (λ g. g.name.text) goals
 
--- The headline: the text is the report of right verdicts, one for each goal in order, on what the three files stand for.
+-- The headline: the text is the report of verdicts, one for each goal in order, that are right on what the three files stand for. They are so whatever
+-- budget is given, and where none is: no goal is left undecided.
 pub record Proves (told : Told) (d t g : Text) (top : Option Text) (all : Bool) (text : Text) : Type 0 where
   pub design : Design
   pub table : Table
@@ -45,9 +48,16 @@ pub record Proves (told : Told) (d t g : Text) (top : Option Text) (all : Bool) 
   pub are_goals : AreGoalsFile told g (vars_of design table) (samples_in design table) goals
   pub verdicts : List Verdict
   pub shown : List (List (List Bit))
-  pub right : AreRight (bench_of design table) goals verdicts shown
+  pub right : (budget : Option ℕ) → AreRight (bench_of design table) goals budget verdicts shown
   pub printed : text ≡ report (var_texts (vars_of design table)) (sample_texts (samples_in design table)) (goal_names goals) verdicts shown
   pub whole : all ≡ list_all is_proved verdicts
+
+-- ---- runs
+
+-- Under each choice of its variables, a table against which nothing stands over the wires of a design has one least run, a run below every run: so no
+-- verdict is over no runs.
+abbrev pub HaveRuns : Type 0
+HaveRuns = (design : Design) (table : Table) → bind_faults design.wires table ≡ [] → (choice : List (List Bit)) → IsChoice (vars_of design table) choice → HasOneLeast (bench_of design table) choice
 
 -- ---- simulations
 
@@ -64,7 +74,7 @@ pub record Simulates (told : Told) (d t v : Text) (top : Option Text) (text : Te
 
 -- ---- answers
 
--- what a command that is done prints
+-- what a command that is done prints; the verdicts of a proof are right by its budget, as by every other
 abbrev pub Prints : Told → Command → Status → Text → Type 0
 Prints told (prove d t g top budget) AllProved text = Proves told d t g top true text
 Prints told (prove d t g top budget) NotAll text = Proves told d t g top false text

@@ -12,7 +12,6 @@ use Rattle.sv_parser.specs.Answers.{IsSpelled}
 use Rattle.sv_preproc.specs.Directives.{IsWholeText}
 use Rattle.sv_preproc.specs.Laws.{Possible}
 use Rattle.sv_tree.specs.declared.design.Source.{Source}
-use Rattle.svtv_decide.specs.Verdicts.{Bench}
 use Rattle.svtv_table.specs.Binding.{bind_faults, samples_of, variables_of}
 use Rattle.svtv_table.specs.Fields.{IsRecords}
 use Rattle.svtv_table.specs.Reading.{table_faults, table_of}
@@ -21,6 +20,7 @@ use Rattle.svtv_table.specs.Valuing.{values_faults, values_of}
 use Rattle.svtv_table.specs.declared.bound.Sample.{Sample}
 use Rattle.svtv_table.specs.declared.bound.VarDecl.{VarDecl}
 use Rattle.svtv_table.specs.declared.table.Table.{Table}
+use Rattle.svtv_verdicts.specs.Benches.{Bench}
 
 abbrev pub Text : Type 0
 Text = List ℕ

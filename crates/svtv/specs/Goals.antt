@@ -1,5 +1,5 @@
 -- Words of the inner functions: goals as nodes, and what is decided of them.
-use Rattle.std.specs.Prelude.{◌≡◌, ◌<◌, Bool, List, Option, map, length}
+use Rattle.std.specs.Prelude.{◌≡◌, ◌<◌, ℕ, Bool, List, Option, map, length}
 use Rattle.std.specs.List.{All, AllZip, list_all}
 use Rattle.fourvec.specs.declared.Bit.{Bit}
 use Rattle.goal_text.specs.declared.goal.Goal.{Goal}
@@ -11,8 +11,8 @@ use Rattle.svtv_table.specs.declared.bound.VarDecl.{VarDecl}
 use Rattle.svtv_table.specs.Binding.{bound_of}
 use Rattle.svtv_report.specs.Shown.{sample_texts, var_texts}
 use Rattle.svtv_report.specs.Texts.{report}
-use Rattle.svtv_report.specs.declared.verdicts.Verdict.{Verdict}
-use Rattle.svtv_decide.specs.Verdicts.{Bench}
+use Rattle.svtv_verdicts.specs.Benches.{Bench}
+use Rattle.svtv_verdicts.specs.Verdicts.{Verdict}
 use Rattle.sv_elab.specs.Elaborated.{IsElaborated}
 use Rattle.sv_meaning.specs.Designs.{Design}
 use Rattle.svtv.specs.Answers.{AreRight, is_proved}
@@ -45,10 +45,10 @@ pub record Stands (told : Told) (d t : Text) (top : Option Text) (x : Setup) : T
 
 -- ---- verdicts
 
--- The text is the report of right verdicts, and whether all goals are proved.
+-- The text is the report of verdicts that are right whatever budget is given, and whether all goals are proved.
 pub record IsReport (b : Bench) (trees : List GoalTree) (names : List Text) (all : Bool) (text : Text) : Type 0 where
   pub verdicts : List Verdict
   pub shown : List (List (List Bit))
-  pub right : AreRight b trees verdicts shown
+  pub right : (budget : Option ℕ) → AreRight b trees budget verdicts shown
   pub printed : text ≡ report (var_texts b.vars) (sample_texts b.samples) names verdicts shown
   pub whole : all ≡ list_all is_proved verdicts

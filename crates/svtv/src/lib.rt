@@ -14,4 +14,5 @@ mod values;
 mod work;
 
 pub use status::Status;
+pub use svtv_report::{Verdict, report};
 pub use top::svtv;

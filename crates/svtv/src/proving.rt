@@ -1,5 +1,5 @@
 // Proofs.
-ghost use Rattle.std.specs.Prelude.{◌≡◌, ◌≤◌, ◌<◌, ℕ, List, IfOk, IfErr, All, length};
+ghost use Rattle.std.specs.Prelude.{◌≡◌, ◌≤◌, ◌<◌, ℕ, List, Option, IfOk, IfErr, All, length, map};
 ghost use Rattle.std.specs.List.{AllZip, list_all};
 ghost use Rattle.std.specs.Option.{option_copied};
 ghost use Rattle.flat_net.specs.Flats.{IsFlat};
@@ -11,6 +11,7 @@ ghost use Rattle.sv_outside.specs.Outside.{Rose};
 ghost use Rattle.svex_arena.specs.Arenas.{IsArena};
 ghost use Rattle.svtv_choices.specs.Choices.{bits_of};
 ghost use Rattle.svtv_decide.specs.Trials.{Poses, bench};
+ghost use Rattle.svtv_report.specs.Seen.{verdict_is};
 ghost use Rattle.svtv_runs.specs.Runs.{Asked};
 ghost use Rattle.svtv_table.specs.Binding.{HasWidth};
 ghost use Rattle.svtv.specs.Answers as a;
@@ -45,7 +46,7 @@ struct Decisions {
 
 // Whether a goal is proved.
 fn is_proved(verdict: &Verdict) -> bool
-    ensures { result ≡ a.is_proved verdict.now }
+    ensures { result ≡ a.is_proved (verdict_is verdict.now) }
 {
     match verdict {
         Verdict::Proved => true,
@@ -54,7 +55,7 @@ fn is_proved(verdict: &Verdict) -> bool
 }
 
 fn all_proved(verdicts: &[Verdict]) -> bool
-    ensures { result ≡ list_all a.is_proved verdicts.now }
+    ensures { result ≡ list_all (λ v. a.is_proved (verdict_is v)) verdicts.now }
 {
     verdicts.iter().all(|verdict| is_proved(verdict))
 }
@@ -77,9 +78,9 @@ fn decide_all(
     ensures names { IfOk result (λ x. x.names ≡ names_of goals.now) }
     ensures verdicts { IfOk result (λ x. length x.verdicts ≡ length x.names) }
     ensures shown { IfOk result (λ x. length x.shown ≡ length x.names) }
-    ensures right { (d : Design) (asked : List (List Bit) → Asked) (trees : List GoalTree) → Poses d asked flat.now bound.now
+    ensures right { (budget : Option ℕ) (d : Design) (asked : List (List Bit) → Asked) (trees : List GoalTree) → Poses d asked flat.now bound.now
         → AllZip (IsGoal bound.now.vars bound.now.samples arena.now) trees goals.now
-        → IfOk result (λ x. AreRight (bench d asked bound.now) trees x.verdicts x.shown) }
+        → IfOk result (λ x. AreRight (bench d asked bound.now) trees budget (map verdict_is x.verdicts) x.shown) }
 {
     let mut runner = Runner::new(alloc, flat)?;
     let mut found = Decisions {
@@ -115,12 +116,12 @@ fn reported(
     requires widths { All (λ var. HasWidth var.width) bound.now.vars }
     requires bits { bits ≡ bits_of bound.now.vars }
     requires few { bits ≤ 16 }
-    requires arena { IsArena arena.now }
     requires there { All (IsThere arena.now) goals.now }
     ensures { (d : Design) (asked : List (List Bit) → Asked) (trees : List GoalTree) → Poses d asked flat.now bound.now
         → AllZip (IsGoal bound.now.vars bound.now.samples arena.now) trees goals.now
         → IfOk result (λ x. IsReport (bench d asked bound.now) trees (names_of goals.now) x.0 x.1.items) }
 {
+    let _ = arena.len();
     let Decisions {
         names,
         verdicts,

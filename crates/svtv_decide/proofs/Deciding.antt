@@ -1,5 +1,5 @@
 -- What was decided of all choices is right.
-use Rattle.std.proofs.Common.{◌≡◌, ℕ, ◌^◌, true, List, [], sym, ap, ◌∙◌, subst, Result, Ok, Err, IfOk}
+use Rattle.std.proofs.Common.{◌≡◌, ℕ, ◌^◌, true, List, [], sym, ap, ◌∙◌, subst, Option, Result, Ok, Err, IfOk}
 use Rattle.std.specs.List.{All}
 use Rattle.fourvec.specs.declared.Bit.{Bit}
 use Rattle.fourvec.specs.Bits.{is_one}
@@ -14,6 +14,7 @@ use Rattle.svex_arena.specs.declared.shape.Shape.{Shape}
 use Rattle.svex_arena.specs.Arenas.{IsArena}
 use Rattle.svtv_choices.specs.Choices.{bits_of, choice_of}
 use Rattle.svtv_choices.proofs.Numbers.{all_numbered}
+use Rattle.svtv_report.specs.Seen.{verdict_is}
 use Rattle.svtv_report.specs.declared.verdicts.Verdict.{Verdict}
 use Rattle.svtv_report.specs.declared.verdicts.Verdict.TheVariants.{Proved, Vacuous, Failed}
 use Rattle.svtv_runs.specs.Runs.{Asked, Run, IsRun, IsLeastRun}
@@ -25,7 +26,8 @@ use Rattle.svtv_table.specs.Stimuli.{IsChoice, values_of}
 use Rattle.svtv_table.specs.declared.bound.Bound.{Bound}
 use Rattle.svtv_decide.specs.Trials.{Poses, bench, rows_of, is_true, meets, keeps, AreLeast, IsKept, IsBroken, IsDecided}
 use Rattle.svtv_decide.specs.declared.goals.Decided.{Decided}
-use Rattle.svtv_decide.specs.Verdicts.{IsMeeting, IsProved, IsVacuous, IsFailed, IsRight}
+use Rattle.svtv_verdicts.specs.Benches.{IsMeeting}
+use Rattle.svtv_verdicts.specs.Verdicts.{IsProved, IsVacuous, IsFailed, IsRight}
 use Rattle.svtv_decide.proofs.Reading.{one_is, hyp_is, claim_is, shown_is}
 use Rattle.svtv_decide.proofs.Zips.{all_from, all_back}
 
@@ -80,10 +82,12 @@ module _ (flat : Flat) (bound : Bound) (shapes : List Shape) (tree : GoalTree) (
     is_failed choice shown c b =
         let least = least_run_stands d (values_of choice bound.drives) bound.phases (poses.apart choice) in
         record {
-          meets = record { is = c; meets = met choice c b.meets };
-          run = least.0;
-          least = subst (λ rows. IsLeastRun d rows bound.phases least.0) (poses.asked choice c) least.1;
-          breaks = λ h. let e = kept_back choice shown least.0 c b.least least.1 h in let f = b.keeps in cc;
+          is = record {
+            meets = record { is = c; meets = met choice c b.meets };
+            run = least.0;
+            least = subst (λ rows. IsLeastRun d rows bound.phases least.0) (poses.asked choice c) least.1;
+            breaks = λ h. let e = kept_back choice shown least.0 c b.least least.1 h in let f = b.keeps in cc;
+          };
           samples = shown_is bound.samples least.0 shown b.least.widths (b.least.least d poses.elaborated (poses.apart choice) least.0 least.1);
         }
 
@@ -109,14 +113,15 @@ module _ (flat : Flat) (bound : Bound) (shapes : List Shape) (tree : GoalTree) (
           let f = h n.0 n.1 in
           cc
 
-      pub is_right : (verdict : Verdict) (shown : List (List Bit)) → IsDecided flat bound shapes goal (2 ^ bits_of bound.vars) verdict shown → IsRight (bench d asked bound) tree verdict shown
-      is_right Proved shown h = is_proved h
-      is_right Vacuous shown h = is_vacuous h
-      is_right (Failed choice) shown h =
+      pub is_right : (budget : Option ℕ) (verdict : Verdict) (shown : List (List Bit)) → IsDecided flat bound shapes goal (2 ^ bits_of bound.vars) verdict shown
+          → IsRight (bench d asked bound) tree budget (verdict_is verdict) shown
+      is_right budget Proved shown h = is_proved h
+      is_right budget Vacuous shown h = is_vacuous h
+      is_right budget (Failed choice) shown h =
           let c : IsChoice bound.vars choice = subst (λ x. IsChoice bound.vars x) (sym h.1) ((all_numbered bound.vars widths).0 h.0) in
           is_failed choice shown c h.2
 
-      pub if_right : {E : Type 0} (count : ℕ) (r : Result Decided E) → count ≡ 2 ^ bits_of bound.vars → IfOk r (λ x. IsDecided flat bound shapes goal count x.verdict x.shown)
-          → IfOk r (λ x. IsRight (bench d asked bound) tree x.verdict x.shown)
-      if_right count (Ok x) e h = is_right x.verdict x.shown (subst (λ n. IsDecided flat bound shapes goal n x.verdict x.shown) e h)
-      if_right count (Err y) e h = tt
+      pub if_right : {E : Type 0} (budget : Option ℕ) (count : ℕ) (r : Result Decided E) → count ≡ 2 ^ bits_of bound.vars → IfOk r (λ x. IsDecided flat bound shapes goal count x.verdict x.shown)
+          → IfOk r (λ x. IsRight (bench d asked bound) tree budget (verdict_is x.verdict) x.shown)
+      if_right budget count (Ok x) e h = is_right budget x.verdict x.shown (subst (λ n. IsDecided flat bound shapes goal n x.verdict x.shown) e h)
+      if_right budget count (Err y) e h = tt

@@ -28,7 +28,7 @@ use Rattle.svtv_runs.specs.Truths.{no_run, sampled, table_values, valuation}
 use Rattle.svtv_table.specs.declared.bound.Sample.{Sample}
 use Rattle.svtv_table.specs.declared.bound.VarDecl.{VarDecl}
 use Rattle.svtv_decide.specs.Trials.{rows_of, is_true}
-use Rattle.svtv_decide.specs.Verdicts.{sampled_in}
+use Rattle.svtv_verdicts.specs.Benches.{sampled_in}
 
 -- ---- bits of variables and samples
 

@@ -18,7 +18,7 @@ use Rattle.svtv_report.specs.declared.verdicts.Verdict.{Verdict}
 use Rattle.svtv_report.specs.declared.verdicts.Verdict.TheVariants.{Proved, Vacuous, Failed}
 use Rattle.svtv_table.specs.Stimuli.{IsChoice, values_of}
 use Rattle.svtv_table.specs.declared.bound.Bound.{Bound}
-use Rattle.svtv_decide.specs.Verdicts.{Bench}
+use Rattle.svtv_verdicts.specs.Benches.{Bench}
 use Rattle.svtv_decide.specs.declared.tries.Trial.{Trial}
 use Rattle.svtv_decide.specs.declared.tries.Trial.TheVariants.{Unmet, Kept, Broken}
 

@@ -1,5 +1,5 @@
 // All choices.
-ghost use Rattle.std.specs.Prelude.{◌≡◌, ◌<◌, ◌≤◌, All, IfOk, List, length};
+ghost use Rattle.std.specs.Prelude.{◌≡◌, ◌<◌, ◌≤◌, ℕ, All, IfOk, List, Option, length};
 ghost use Rattle.flat_net.specs.Flats.{IsFlat};
 ghost use Rattle.fourvec.specs.declared.Bit.{Bit};
 ghost use Rattle.sv_meaning.specs.Designs.{Design};
@@ -9,9 +9,10 @@ ghost use Rattle.goal_text.specs.Nodes.{IsGoal};
 ghost use Rattle.goal_tree.specs.declared.tree.GoalTree.{GoalTree};
 ghost use Rattle.svtv_choices.specs.Choices.{bits_of};
 ghost use Rattle.svtv_decide.specs.Trials.{IsDecided, Poses, bench, verdict_where};
-ghost use Rattle.svtv_decide.specs.Verdicts.{IsRight};
 ghost use Rattle.svtv_least.specs.Running.{Serves};
+ghost use Rattle.svtv_report.specs.Seen.{verdict_is};
 ghost use Rattle.svtv_table.specs.Binding.{HasWidth};
+ghost use Rattle.svtv_verdicts.specs.Verdicts.{IsRight};
 
 use crate::tries::{Question, Trial, try_choice};
 use fourvec::Four;
@@ -91,10 +92,10 @@ pub fn decide(
     requires claims { All (λ node. node < length question.now.arena.now) question.now.goal.now.claims }
     ensures serves { Serves question.now.flat.now runner.new }
 
-    // The verdict is right, whatever design the flat one was made of, and whatever the nodes of the goal were made of.
-    ensures right { (d : Design) (asked : List (List Bit) → Asked) (tree : GoalTree) → Poses d asked question.now.flat.now question.now.bound.now
+    // The verdict is right, whatever budget is given, whatever design the flat one was made of, and whatever the nodes of the goal were made of.
+    ensures right { (budget : Option ℕ) (d : Design) (asked : List (List Bit) → Asked) (tree : GoalTree) → Poses d asked question.now.flat.now question.now.bound.now
         → IsGoal question.now.bound.now.vars question.now.bound.now.samples question.now.arena.now tree question.now.goal.now
-        → IfOk result (λ x. IsRight (bench d asked question.now.bound.now) tree x.verdict x.shown) }
+        → IfOk result (λ x. IsRight (bench d asked question.now.bound.now) tree budget (verdict_is x.verdict) x.shown) }
 {
     tried(alloc, question, runner, 1 << bits)
 }

@@ -3,7 +3,7 @@ use Rattle.std.proofs.Common.{◌≡◌, ℕ, ◌+◌, ◌<◌, ◌≤◌, List,
 use Rattle.std.proofs.lemmas.List.{at_drop_more, length-map}
 use Rattle.fourvec.specs.declared.Bit.{Bit}
 use Rattle.svtv_report.specs.Texts.{Text, value_line, value_lines, verdict_text, report}
-use Rattle.svtv_report.specs.declared.verdicts.Verdict.{Verdict}
+use Rattle.svtv_verdicts.specs.Verdicts.{Verdict}
 
 drop_at : {A : Type 0} (all : List A) (i : ℕ) (x : A) → i < length all → x ≡ get_or all i x → drop i all ≡ x ∷ drop (i + 1) all
 drop_at {A} all i x inside is = at_drop_more (λ (l : List A). l) all i x inside ∙ ap (λ (y : A). y ∷ drop (i + 1) all) (sym is)
@@ -56,18 +56,18 @@ no_goals vars samples [] verdicts shown none = refl
 no_goals vars samples (name ∷ names) verdicts shown none = absurd (omega arith)
 
 -- a text with one goal more
-pub goal_pushed : (vars samples : List Text) (whole text pushed : Text) (names : List Text) (verdicts : List Verdict) (shown : List (List (List Bit))) (i : ℕ) (name : Text) (v : Verdict) (s : List (List Bit))
+pub goal_pushed : {A : Type 0} (f : A → Verdict) (vars samples : List Text) (whole text pushed : Text) (names : List Text) (verdicts : List A) (shown : List (List (List Bit))) (i : ℕ) (name : Text) (v : A) (s : List (List Bit))
     → i < length names → length verdicts ≡ length names → length shown ≡ length names → name ≡ get_or names i name → v ≡ get_or verdicts i v → s ≡ get_or shown i s
-    → whole ≡ text ++ report vars samples (drop i names) (drop i verdicts) (drop i shown) → pushed ≡ text ++ verdict_text vars samples name v s
-    → whole ≡ pushed ++ report vars samples (drop (i + 1) names) (drop (i + 1) verdicts) (drop (i + 1) shown)
-goal_pushed vars samples whole text pushed names verdicts shown i name v s inside same_verdicts same_shown is is_verdict is_shown rest after =
-    behind text (verdict_text vars samples name v s) (report vars samples (drop (i + 1) names) (drop (i + 1) verdicts) (drop (i + 1) shown)) whole pushed
-    (rest ∙ ap (λ (t : Text). text ++ t) (goals_are vars samples _ _ _ name v s (drop (i + 1) names) (drop (i + 1) verdicts) (drop (i + 1) shown)
-    (drop_at names i name inside is) (drop_at verdicts i v (omega arith) is_verdict) (drop_at shown i s (omega arith) is_shown)))
+    → whole ≡ text ++ report vars samples (drop i names) (map f (drop i verdicts)) (drop i shown) → pushed ≡ text ++ verdict_text vars samples name (f v) s
+    → whole ≡ pushed ++ report vars samples (drop (i + 1) names) (map f (drop (i + 1) verdicts)) (drop (i + 1) shown)
+goal_pushed f vars samples whole text pushed names verdicts shown i name v s inside same_verdicts same_shown is is_verdict is_shown rest after =
+    behind text (verdict_text vars samples name (f v) s) (report vars samples (drop (i + 1) names) (map f (drop (i + 1) verdicts)) (drop (i + 1) shown)) whole pushed
+    (rest ∙ ap (λ (t : Text). text ++ t) (goals_are vars samples _ _ _ name (f v) s (drop (i + 1) names) (map f (drop (i + 1) verdicts)) (drop (i + 1) shown)
+    (drop_at names i name inside is) (ap (map f) (drop_at verdicts i v (omega arith) is_verdict)) (drop_at shown i s (omega arith) is_shown)))
     after
 
 -- a text of all goals
 pub goals_end : (vars samples : List Text) (whole text : Text) (names : List Text) (verdicts : List Verdict) (shown : List (List (List Bit))) (i : ℕ) → length names ≤ i
-    → whole ≡ text ++ report vars samples (drop i names) (drop i verdicts) (drop i shown) → text ≡ whole
+    → whole ≡ text ++ report vars samples (drop i names) verdicts shown → text ≡ whole
 goals_end vars samples whole text names verdicts shown i all_told rest =
-    sym (rest ∙ ap (λ (t : Text). text ++ t) (no_goals vars samples (drop i names) (drop i verdicts) (drop i shown) (rw length-drop (omega arith))) ∙ append-nil text)
+    sym (rest ∙ ap (λ (t : Text). text ++ t) (no_goals vars samples (drop i names) verdicts shown (rw length-drop (omega arith))) ∙ append-nil text)

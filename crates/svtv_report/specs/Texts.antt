@@ -2,8 +2,7 @@
 use Rattle.std.specs.Prelude.{ℕ, List, [], ◌∷◌, ◌++◌, length, map, reverse, codes, decimal}
 use Rattle.fourvec.specs.declared.Bit.{Bit}
 use Rattle.fourvec.specs.declared.Bit.TheVariants.{Zero, One, Unknown, Floating}
-use Rattle.svtv_report.specs.declared.verdicts.Verdict.{Verdict}
-use Rattle.svtv_report.specs.declared.verdicts.Verdict.TheVariants.{Proved, Vacuous, Failed}
+use Rattle.svtv_verdicts.specs.Verdicts.{Verdict, proved, vacuous, failed, undecided}
 
 abbrev pub Text : Type 0
 Text = List ℕ
@@ -34,11 +33,12 @@ value_lines before names values = []
 
 -- ---- verdicts
 
--- the lines of one goal: its verdict and, where it failed, the choice and the samples
+-- the lines of one goal: its verdict and, where it failed, the choice and the samples; where it is undecided, behind how many steps
 abbrev pub verdict_text : List Text → List Text → Text → Verdict → List (List Bit) → Text
-verdict_text vars samples name Proved shown = name ++ (codes ": proved" ++ line_feed)
-verdict_text vars samples name Vacuous shown = name ++ (codes ": vacuous" ++ line_feed)
-verdict_text vars samples name (Failed choice) shown = name ++ (codes ": failed" ++ (line_feed ++ (value_lines (codes "  var ") vars choice ++ value_lines (codes "  sample ") samples shown)))
+verdict_text vars samples name proved shown = name ++ (codes ": proved" ++ line_feed)
+verdict_text vars samples name vacuous shown = name ++ (codes ": vacuous" ++ line_feed)
+verdict_text vars samples name (failed choice) shown = name ++ (codes ": failed" ++ (line_feed ++ (value_lines (codes "  var ") vars choice ++ value_lines (codes "  sample ") samples shown)))
+verdict_text vars samples name (undecided n) shown = name ++ (codes ": undecided after " ++ (decimal n ++ line_feed))
 
 -- the lines of all goals, in order
 unfoldable pub report : List Text → List Text → List Text → List Verdict → List (List (List Bit)) → Text

@@ -1,5 +1,6 @@
 // The report of verdicts, and the text of samples.
-ghost use Rattle.std.specs.Prelude.{◌≡◌, ◌++◌, [], IfOk, OnOk, codes, length};
+ghost use Rattle.std.specs.Prelude.{◌≡◌, ◌++◌, [], IfOk, OnOk, codes, length, map};
+ghost use Rattle.svtv_report.specs.Seen.{verdict_is};
 ghost use Rattle.svtv_report.specs.Texts as t;
 ghost use Rattle.svtv_report.specs.Texts.{value_lines, verdict_text};
 ghost use Rattle.svtv_report.specs.Shown.{sample_texts, var_texts};
@@ -63,7 +64,7 @@ fn push_verdict(
     verdict: &Verdict,
     shown: &[Four],
 ) -> Result<(), AllocError>
-    ensures { OnOk result (text.new.items ≡ text.old.items ++ verdict_text (var_texts vars.now) (sample_texts samples.now) name.now verdict.now shown.now) }
+    ensures { OnOk result (text.new.items ≡ text.old.items ++ verdict_text (var_texts vars.now) (sample_texts samples.now) name.now (verdict_is verdict.now) shown.now) }
 {
     text.extend_from_slice(name.bytes())?;
     match verdict {
@@ -89,7 +90,7 @@ pub fn report(
 ) -> Result<Vec<u8>, AllocError>
     requires verdicts { length verdicts.now ≡ length names.now }
     requires shown { length shown.now ≡ length names.now }
-    ensures { IfOk result (λ text. text.items ≡ t.report (var_texts vars.now) (sample_texts samples.now) names.now verdicts.now shown.now) }
+    ensures { IfOk result (λ text. text.items ≡ t.report (var_texts vars.now) (sample_texts samples.now) names.now (map verdict_is verdicts.now) shown.now) }
 {
     let mut text = Vec::new(alloc);
     'goals: for at in 0..names.len() {

@@ -1,16 +1,16 @@
 -- There is one least run.
-use Rattle.std.proofs.Common.{◌≡◌, ℕ, zero, suc, ◌+◌, ◌<◌, List, [], ◌∷◌, length, get_or, refl, ap, ◌∙◌, subst, arith, IsTrue}
+use Rattle.std.proofs.Common.{◌≡◌, ℕ, zero, suc, ◌+◌, ◌<◌, List, [], ◌∷◌, length, get_or, refl, sym, ap, ◌∙◌, subst, arith, IsTrue}
 use Rattle.fourvec.specs.declared.Bit.{Bit}
 use Rattle.fourvec.specs.declared.Bit.TheVariants.{Zero, One, Unknown, Floating}
 use Rattle.fourvec.specs.Bits.{bit_below}
 use Rattle.settling.specs.Settling.{Store}
 use Rattle.settling.specs.Least.{Under}
-use Rattle.settling.proofs.Rounds.{under-trans, no_value, no_value-under}
+use Rattle.settling.proofs.Rounds.{under-refl, under-trans, no_value, no_value-under}
 use Rattle.sv_meaning.specs.Designs.{Design}
 use Rattle.sv_meaning.specs.Laws.{IsLeastSettling}
 use Rattle.sv_meaning.proofs.Leasts.{least_settling_exists, least_settling_rises}
-use Rattle.svtv_runs.specs.Runs.{Asked, AreApart, Run, Follows, UnderEach, IsLeastRun}
-use Rattle.svtv_runs.specs.Laws.{LeastRunStands, LeastRunIsOne}
+use Rattle.svtv_runs.specs.Runs.{Asked, AreApart, Run, Follows, UnderEach, IsUnder, IsLeastRun, IsLeastRunFrom}
+use Rattle.svtv_runs.specs.Laws.{LeastRunStands, LeastRunStandsFrom, LeastRunIsOne, LeastRunIsOneFrom}
 use Rattle.svtv_runs.specs.Leasts.{least_stimulus}
 use Rattle.svtv_runs.proofs.Stimuli.{least_under, least_allowed}
 
@@ -59,6 +59,23 @@ least_run_stands d rows phases apart = (
   },
 )
 
+same_under : (s t : Store) → t ≡ s → Under s t
+same_under s t e = subst (λ u. Under s u) (sym e) (under-refl s)
+
+pub least_run_stands_from : LeastRunStandsFrom
+least_run_stands_from d rows phases first apart even = (
+  record { first = first; later = least_later d rows 0 first phases },
+  record {
+    run = record {
+      run = record { even = even; follows = later_follows d rows apart 0 first phases; long = later_long d rows 0 first phases };
+      begins = refl;
+    };
+    least = λ s h.
+        let from = same_under first s.first h.begins in
+        (from, later_under d rows 0 first s.first phases s.later h.run.long from h.run.follows);
+  },
+)
+
 -- ---- it is one
 
 both_ways : (a b : Bit) → IsTrue (bit_below a b) → IsTrue (bit_below b a) → a ≡ b
@@ -88,13 +105,17 @@ same_stores [] (t ∷ b) h k = absurd h
 same_stores (s ∷ a) [] h k = absurd h
 same_stores (s ∷ a) (t ∷ b) h k = let e = same_store s t h.0 k.0 in let f = same_stores a b h.1 k.1 in λ i. e i ∷ f i
 
-pub least_run_is_one : LeastRunIsOne
-least_run_is_one d rows phases r s h k =
-    let a = h.least s k.run in
-    let b = k.least r h.run in
+same_run : (r s : Run) → IsUnder r s → IsUnder s r → r ≡ s
+same_run r s a b =
     let e = same_store r.first s.first a.0 b.0 in
     let f = same_stores r.later s.later a.1 b.1 in
     λ i. record { first = e i; later = f i }
+
+pub least_run_is_one : LeastRunIsOne
+least_run_is_one d rows phases r s h k = same_run r s (h.least s k.run) (k.least r h.run)
+
+pub least_run_is_one_from : LeastRunIsOneFrom
+least_run_is_one_from d rows phases first r s h k = same_run r s (h.least s k.run) (k.least r h.run)
 
 -- ---- its valuations by phase
 

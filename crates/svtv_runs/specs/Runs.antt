@@ -63,3 +63,15 @@ IsUnder r s = Under r.first s.first × UnderEach r.later s.later
 pub record IsLeastRun (d : Design) (rows : Asked) (phases : ℕ) (r : Run) : Type 0 where
   pub run : IsRun d rows phases r
   pub least : (s : Run) → IsRun d rows phases s → IsUnder r s
+
+-- ---- from a given valuation
+
+-- A run that begins with this valuation.
+pub record IsRunFrom (d : Design) (rows : Asked) (phases : ℕ) (first : Store) (r : Run) : Type 0 where
+  pub run : IsRun d rows phases r
+  pub begins : r.first ≡ first
+
+-- the one below every other
+pub record IsLeastRunFrom (d : Design) (rows : Asked) (phases : ℕ) (first : Store) (r : Run) : Type 0 where
+  pub run : IsRunFrom d rows phases first r
+  pub least : (s : Run) → IsRunFrom d rows phases first s → IsUnder r s

@@ -1,7 +1,8 @@
-use Rattle.std.proofs.Common.{◌≡◌, ◌+◌, [], ◌∷◌, ◌++◌, get_or, take, sym, ◌∙◌, ap, subst, arith}
+use Rattle.std.proofs.Common.{◌≡◌, ◌+◌, [], ◌∷◌, ◌++◌, get_or, map, take, sym, ◌∙◌, ap, subst, arith}
 use Rattle.goal_text.specs.declared.goal.Goal.{Goal}
 use Rattle.goal_text.specs.Nodes.{IsGoal}
 use Rattle.svtv_decide.specs.Trials.{bench}
+use Rattle.svtv_report.specs.Seen.{verdict_is}
 use Rattle.svtv.specs.Answers.{AreRight}
 use Rattle.svtv.specs.Goals.{IsThere, names_of}
 use Rattle.svtv.proofs.Verdicts.{map_more, no_goal, right_next, take_more, take_whole, zip_at, zip_long, one_longer}
@@ -33,16 +34,18 @@ goals-preserved c =
       names = names ∙ (ap (λ ns. ns ++ item.name ∷ []) c.goals.invariant.names ∙ sym more);
       verdicts = one_longer c.goals.found.verdicts c.goals.found.names _ _ _ _ c.in_ok-push-2.ensures.ok c.in_ok-push.ensures.ok c.goals.invariant.verdicts;
       shown = one_longer c.goals.found.shown c.goals.found.names _ _ _ _ c.in_ok-push-3.ensures.ok c.in_ok-push.ensures.ok c.goals.invariant.shown;
-      right = λ d asked trees p z.
+      right = λ budget d asked trees p z.
           let here = subst (λ (g : Goal). IsGoal vars samples shapes (get_or trees i no_goal) g) (sym c.goal-item.is) (zip_at (IsGoal vars samples shapes) trees goals i no_goal item z c.goals-test.true) in
-          right_next (bench d asked c.args.bound.now) trees i no_goal c.goals.found.verdicts c.push-in-goals.new.self c.goals.found.shown c.push-in-goals-2.new.self c.in_ok-verdict.field-0.verdict c.in_ok-verdict.field-0.shown
-          (omega (arith, zip_long (IsGoal vars samples shapes) trees goals z, c.goals-test.true)) c.in_ok-push-2.ensures.ok c.in_ok-push-3.ensures.ok (c.goals.invariant.right d asked trees p z)
-          (c.in_ok-verdict.ensures.right d asked (get_or trees i no_goal) p here);
+          right_next (bench d asked c.args.bound.now) trees budget i no_goal (map verdict_is c.goals.found.verdicts) (map verdict_is c.push-in-goals.new.self) c.goals.found.shown c.push-in-goals-2.new.self
+          (verdict_is c.in_ok-verdict.field-0.verdict) c.in_ok-verdict.field-0.shown
+          (omega (arith, zip_long (IsGoal vars samples shapes) trees goals z, c.goals-test.true)) (ap (map verdict_is) c.in_ok-push-2.ensures.ok ∙ map_more verdict_is c.goals.found.verdicts c.in_ok-verdict.field-0.verdict) c.in_ok-push-3.ensures.ok
+          (c.goals.invariant.right budget d asked trees p z)
+          (c.in_ok-verdict.ensures.right budget d asked (get_or trees i no_goal) p here);
     }
 
 pub returns-clause-right : goal.returns-clause-right
-returns-clause-right c d asked trees p z =
+returns-clause-right c budget d asked trees p z =
     let goals = c.args.goals.now in
     let long = zip_long (IsGoal c.args.bound.now.vars c.args.bound.now.samples c.args.arena.now) trees goals z in
-    subst (λ ts. AreRight (bench d asked c.args.bound.now) ts c.goals.found.verdicts c.goals.found.shown) (take_whole trees c.goals.goal-index (omega (arith, long, c.goals-test.false)))
-    (c.goals.invariant.right d asked trees p z)
+    subst (λ ts. AreRight (bench d asked c.args.bound.now) ts budget (map verdict_is c.goals.found.verdicts) c.goals.found.shown) (take_whole trees c.goals.goal-index (omega (arith, long, c.goals-test.false)))
+    (c.goals.invariant.right budget d asked trees p z)

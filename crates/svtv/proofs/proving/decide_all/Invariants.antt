@@ -1,4 +1,4 @@
-use Rattle.std.proofs.Common.{◌≡◌, List, length, take}
+use Rattle.std.proofs.Common.{◌≡◌, ℕ, List, Option, length, map, take}
 use Rattle.std.specs.List.{AllZip}
 use Rattle.fourvec.specs.declared.Bit.{Bit}
 use Rattle.goal_text.specs.Nodes.{IsGoal}
@@ -6,6 +6,7 @@ use Rattle.goal_tree.specs.declared.tree.GoalTree.{GoalTree}
 use Rattle.sv_meaning.specs.Designs.{Design}
 use Rattle.svtv_decide.specs.Trials.{Poses, bench}
 use Rattle.svtv_least.specs.Running.{Serves}
+use Rattle.svtv_report.specs.Seen.{verdict_is}
 use Rattle.svtv_runs.specs.Runs.{Asked}
 use Rattle.svtv.specs.Answers.{AreRight}
 use Rattle.svtv.specs.Goals.{names_of}
@@ -17,6 +18,6 @@ invariant-goals l = record {
   names : l.found.names ≡ names_of (take l.goal-index l.goals);
   verdicts : length l.found.verdicts ≡ length l.found.names;
   shown : length l.found.shown ≡ length l.found.names;
-  right : (d : Design) (asked : List (List Bit) → Asked) (trees : List GoalTree) → Poses d asked l.flat l.bound → AllZip (IsGoal l.bound.vars l.bound.samples l.arena) trees l.goals
-      → AreRight (bench d asked l.bound) (take l.goal-index trees) l.found.verdicts l.found.shown;
+  right : (budget : Option ℕ) (d : Design) (asked : List (List Bit) → Asked) (trees : List GoalTree) → Poses d asked l.flat l.bound → AllZip (IsGoal l.bound.vars l.bound.samples l.arena) trees l.goals
+      → AreRight (bench d asked l.bound) (take l.goal-index trees) budget (map verdict_is l.found.verdicts) l.found.shown;
 }

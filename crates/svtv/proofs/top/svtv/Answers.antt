@@ -4,6 +4,7 @@ use Rattle.svtv.specs.Outcomes.{status_of, text_of, message_of}
 use Rattle.svtv.specs.Legal.{IsDone}
 use Rattle.svtv.specs.declared.status.Status.{Status}
 use Rattle.svtv.specs.declared.status.Status.TheVariants.{Memory}
+use Rattle.svtv.proofs.Benches.{have_runs}
 use Rattle.svtv.proofs.Complete.{ends, left}
 use Rattle.svtv.proofs.Ends.{with_text-nothing}
 use Rattle.svtv.proofs.top.svtv.Goals as goal
@@ -41,3 +42,12 @@ returns-clause-complete g c command is legal no_file no_out no_err =
     let outcome = c.answer-outcome.result in
     subst (λ (s : Status). IsDone command s ⊎ (s ≡ Memory)) (sym c.status.ensures)
     (ends (g.F.Files.contents c.args.files.now) _ (status_of outcome) (text_of outcome) (message_of outcome) command is legal c.answer-outcome.ensures.answers (λ e. no_file (left _ outcome c.answer-outcome.ensures.fault e)))
+
+pub returns-in-Err-clause-runs : goal.returns-in-Err-clause-runs
+returns-in-Err-clause-runs g c = have_runs
+
+pub returns-in-Err-put_all-clause-runs : goal.returns-in-Err-put_all-clause-runs
+returns-in-Err-put_all-clause-runs g c = have_runs
+
+pub returns-clause-runs : goal.returns-clause-runs
+returns-clause-runs g c = have_runs

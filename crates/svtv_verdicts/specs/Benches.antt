@@ -1,11 +1,9 @@
--- Which verdicts are right (this project's definition of what is claimed of a design).
+-- A design under a table, and what choices and runs are to a goal (this project's definition of what is claimed of a design).
 use Rattle.std.specs.Prelude.{◌≡◌, ℕ, List, map}
 use Rattle.std.specs.List.{range_with_len}
 use Rattle.fourvec.specs.declared.Bit.{Bit}
 use Rattle.goal_tree.specs.declared.tree.GoalTree.{GoalTree}
 use Rattle.sv_meaning.specs.Designs.{Design}
-use Rattle.svtv_report.specs.declared.verdicts.Verdict.{Verdict}
-use Rattle.svtv_report.specs.declared.verdicts.Verdict.TheVariants.{Proved, Vacuous, Failed}
 use Rattle.svtv_runs.specs.Runs.{Asked, Run, IsRun, IsLeastRun}
 use Rattle.svtv_runs.specs.Truths.{Meets, Holds, valuation}
 use Rattle.svtv_table.specs.Stimuli.{IsChoice}
@@ -20,11 +18,23 @@ pub record Bench : Type 0 where
   pub vars : List VarDecl
   pub samples : List Sample
 
+-- ---- runs
+
 abbrev pub IsRunUnder : Bench → List (List Bit) → Run → Type 0
 IsRunUnder b choice r = IsRun b.design (b.asked choice) b.phases r
 
 abbrev pub IsLeastUnder : Bench → List (List Bit) → Run → Type 0
 IsLeastUnder b choice r = IsLeastRun b.design (b.asked choice) b.phases r
+
+-- there is a run below every run, and no other such run
+abbrev pub HasOneLeast : Bench → List (List Bit) → Type 0
+HasOneLeast b choice = (r : Run) × IsLeastUnder b choice r × ((s : Run) → IsLeastUnder b choice s → s ≡ r)
+
+-- the values of samples in a run, in their order
+abbrev pub sampled_in : List Sample → Run → List (List Bit)
+sampled_in samples r = map (λ s. map (valuation r s.phase s.wire) (range_with_len 0 s.width)) samples
+
+-- ---- goals
 
 -- each variable has a vector of 0 and 1, under which each hypothesis of the goal is true
 pub record IsMeeting (b : Bench) (goal : GoalTree) (choice : List (List Bit)) : Type 0 where
@@ -35,29 +45,9 @@ pub record IsMeeting (b : Bench) (goal : GoalTree) (choice : List (List Bit)) : 
 abbrev pub HoldsIn : Bench → GoalTree → List (List Bit) → Run → Type 0
 HoldsIn b goal choice r = Holds b.vars b.samples goal choice r
 
--- the values of samples in a run, in their order
-abbrev pub sampled_in : List Sample → Run → List (List Bit)
-sampled_in samples r = map (λ s. map (valuation r s.phase s.wire) (range_with_len 0 s.width)) samples
-
--- some choice meets the hypotheses, and in every run under every choice that meets them the claims are true
-pub record IsProved (b : Bench) (goal : GoalTree) : Type 0 where
-  pub some : (choice : List (List Bit)) × IsMeeting b goal choice
-  pub every : (choice : List (List Bit)) → IsMeeting b goal choice → (r : Run) → IsRunUnder b choice r → HoldsIn b goal choice r
-
--- no choice meets the hypotheses
-abbrev pub IsVacuous : Bench → GoalTree → Type 0
-IsVacuous b goal = (choice : List (List Bit)) → IsMeeting b goal choice → ⊥
-
--- this choice meets the hypotheses, and in its least run some claim is not true; these are its samples
-pub record IsFailed (b : Bench) (goal : GoalTree) (choice shown : List (List Bit)) : Type 0 where
+-- the choice meets the hypotheses, and in its least run some claim is not true
+pub record IsBreaking (b : Bench) (goal : GoalTree) (choice : List (List Bit)) : Type 0 where
   pub meets : IsMeeting b goal choice
   pub run : Run
   pub least : IsLeastUnder b choice run
   pub breaks : HoldsIn b goal choice run → ⊥
-  pub samples : shown ≡ sampled_in b.samples run
-
--- the verdict is right, with these samples to show
-abbrev pub IsRight : Bench → GoalTree → Verdict → List (List Bit) → Type 0
-IsRight b goal Proved shown = IsProved b goal
-IsRight b goal Vacuous shown = IsVacuous b goal
-IsRight b goal (Failed choice) shown = IsFailed b goal choice shown

@@ -1,0 +1,9 @@
+-- The program's verdicts, as the definitions see them.
+use Rattle.svtv_report.specs.declared.verdicts.Verdict.{Verdict as Told}
+use Rattle.svtv_report.specs.declared.verdicts.Verdict.TheVariants.{Proved, Vacuous, Failed}
+use Rattle.svtv_verdicts.specs.Verdicts.{Verdict, proved, vacuous, failed}
+
+abbrev pub verdict_is : Told → Verdict
+verdict_is Proved = proved
+verdict_is Vacuous = vacuous
+verdict_is (Failed choice) = failed choice

@@ -1,0 +1,4 @@
+pub mod Benches
+pub mod Questions
+pub mod Verdicts
+pub mod Laws
