@@ -1,7 +1,7 @@
 -- Lengths, signs, values and faults of small expressions, worked out by hand.
-use Rattle.std.proofs.Common.{◌≡◌, ℕ, Bool, true, false, List, [], ◌∷◌, ◌++◌, refl, codes}
+use Rattle.std.proofs.Common.{◌≡◌, ℕ, Bool, true, false, List, [], ◌∷◌, ◌++◌, replicate, refl, codes}
 use Rattle.fourvec.specs.declared.Bit.{Bit}
-use Rattle.fourvec.specs.declared.Bit.TheVariants.{Zero, Unknown}
+use Rattle.fourvec.specs.declared.Bit.TheVariants.{Zero, One, Unknown, Floating}
 use Rattle.fourvec.specs.Bits.{vector}
 use Rattle.sv_tree.specs.declared.exprs.Expr.{Expr}
 use Rattle.sv_tree.specs.declared.exprs.SystemName.TheVariants as system_name
@@ -12,6 +12,9 @@ use Rattle.sv_meaning.specs.Patterns.{paren, cast_literal, cast_name, system, un
 use Rattle.sv_meaning.specs.Faults.{Faults, fault, unknown_name, bad_width, not_constant, literal_range, bad_select, out_of_scope}
 use Rattle.sv_meaning.specs.Meanings.{own, assigned, fixed_faults, free_faults}
 use Rattle.sv_meaning.specs.Values.{mean}
+use Rattle.sv_literal.specs.Meaning.{meaning_of}
+use Rattle.sv_meaning.specs.Deeds.{mask, matches}
+use Rattle.sv_meaning.specs.Deeds as deeds
 use Rattle.sv_meaning.proofs.OnTrees.{expressions}
 use Rattle.sv_meaning.proofs.Trees.{at, word, lit, name, selected, op, span, two_of, one_of, times, scope, values}
 
@@ -84,6 +87,72 @@ three_times = (refl, refl, refl, refl)
 unknown_choice : Is (choose (lit 1 (codes "1'bx")) (lit 8 (codes "2'b0z")) (lit 16 (codes "2'b0z"))) 2 false (Unknown ∷ Zero ∷ [])
 unfolding expressions
 unknown_choice = (refl, refl, refl, refl)
+
+-- ---- literals in a longer context
+
+-- in 40 bits `'bz` has Z at each, `'hx` X; a known bit above leaves zeros, and so does a size
+all_floating : Gives (lit 1 (codes "'bz")) 40 (replicate 40 Floating)
+unfolding expressions
+all_floating = refl
+
+all_unknown : Gives (lit 1 (codes "'hx")) 40 (replicate 40 Unknown)
+unfolding expressions
+all_unknown = refl
+
+floating_above_one : Gives (lit 1 (codes "'bz1")) 40 (One ∷ replicate 39 Floating)
+unfolding expressions
+floating_above_one = refl
+
+zero_above : Gives (lit 1 (codes "'b0x")) 40 (Unknown ∷ replicate 39 Zero)
+unfolding expressions
+zero_above = refl
+
+sized_above : Gives (lit 1 (codes "32'hz")) 40 (replicate 32 Floating ++ replicate 8 Zero)
+unfolding expressions
+sized_above = refl
+
+-- by itself it has 32 bits
+floating : Is (lit 1 (codes "'bz")) 32 false (replicate 32 Floating)
+unfolding expressions
+floating = (refl, refl, refl, refl)
+
+-- 1'b0 ? 40'd1 : 'bz
+not_enabled : Is (choose (lit 1 (codes "1'b0")) (lit 8 (codes "40'd1")) (lit 16 (codes "'bz"))) 40 false (replicate 40 Floating)
+unfolding expressions
+not_enabled = (refl, refl, refl, refl)
+
+-- 'hx & 40'd3 is 40'bxx above zeros
+masked : Is (op (lit 1 (codes "'hx")) two.And 5 (lit 7 (codes "40'd3"))) 40 false (Unknown ∷ Unknown ∷ replicate 38 Zero)
+unfolding expressions
+masked = (refl, refl, refl, refl)
+
+-- 40'hff_0000_0000 | 'hx has its ones above, and X where 'hx stands over zeros
+over_unknown : Is (op (lit 1 (codes "40'hff_0000_0000")) two.Or 18 (lit 20 (codes "'hx"))) 40 false (replicate 32 Unknown ++ replicate 8 One)
+unfolding expressions
+over_unknown = (refl, refl, refl, refl)
+
+-- 'hx + 40'd1
+sum_with_unknown : Is (op (lit 1 (codes "'hx")) two.Add 5 (lit 7 (codes "40'd1"))) 40 false (replicate 40 Unknown)
+unfolding expressions
+sum_with_unknown = (refl, refl, refl, refl)
+
+-- as a label of `casez` in 40 bits `'hz` masks all, `32'hz` the lowest 32, and `'bz1` all but the lowest
+all_masked : mask 40 false (meaning_of (codes "'hz")) ≡ replicate 40 Zero
+unfolding expressions
+all_masked = refl
+
+low_masked : mask 40 false (meaning_of (codes "32'hz")) ≡ replicate 32 Zero ++ replicate 8 One
+unfolding expressions
+low_masked = refl
+
+one_compared : mask 40 false (meaning_of (codes "'bz1")) ≡ One ∷ replicate 39 Zero
+unfolding expressions
+one_compared = refl
+
+-- casez (40'h80_0000_0000) 'hz: matches
+wide_label : matches true 40 false (mean scope (lit 1 (codes "40'h80_0000_0000"))) values (mean scope (lit 20 (codes "'hz")) ∷ []) ≡ One ∷ []
+unfolding expressions deeds.matches
+wide_label = refl
 
 -- ---- selects
 

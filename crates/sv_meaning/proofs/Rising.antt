@@ -1,5 +1,5 @@
 -- Each expression's value has the length of its context and rises with what names read.
-use Rattle.std.proofs.Common.{◌≡◌, ℕ, zero, suc, ◌+◌, ◌-◌, ◌*◌, ◌≤◌, Bool, true, false, List, [], ◌∷◌, ◌++◌, length, take, replicate, refl, sym, ap, ◌∙◌, subst, arith, IsTrue, Option, Some, None, ℤ, pos, nat_abs, cond, nat_lt, inl, inr, if◌then◌else◌, ◌+ℤ◌, ◌-ℤ◌}
+use Rattle.std.proofs.Common.{◌≡◌, ℕ, zero, suc, ◌+◌, ◌-◌, ◌*◌, ◌≤◌, Bool, true, false, ◌||◌, List, [], ◌∷◌, ◌++◌, length, take, replicate, refl, sym, ap, ◌∙◌, subst, arith, IsTrue, Option, Some, None, ℤ, pos, nat_abs, cond, nat_lt, inl, inr, if◌then◌else◌, ◌+ℤ◌, ◌-ℤ◌}
 use Rattle.std.proofs.lemmas.List.{length-replicate, length-append, length-take}
 use Rattle.std.proofs.lemmas.Bool.{cases_Bool}
 use mathlib.Core.Former.{Count}
@@ -24,7 +24,7 @@ use Rattle.sv_outside.specs.declared.refusal.Place.{Place}
 use Rattle.sv_tree.specs.declared.word.Word.{Word}
 use Rattle.sv_meaning.specs.Faults.{Faults}
 use Rattle.sv_meaning.specs.Layouts.{genvar_is}
-use Rattle.sv_meaning.specs.Meanings.{Meaning, own, standing, joined, from, extend, fitted, constant_of, number_of, empty, beside, parts, concat, copies, repeated, to_sign, sized_by, cast_to, log_from, log_up, Step, to_member, to_index, to_range, Part, known_place, part_if, ranged, member_part, step_in, bits_at, with_part, chain_bits, chain_layout, all_indices, bits_from, selected, constant_named, named, literal_meaning, of_literal, whole}
+use Rattle.sv_meaning.specs.Meanings.{Meaning, own, standing, joined, from, extend, fitted, constant_of, number_of, empty, beside, parts, concat, copies, repeated, to_sign, sized_by, cast_to, log_from, log_up, Step, to_member, to_index, to_range, Part, known_place, part_if, ranged, member_part, step_in, bits_at, with_part, chain_bits, chain_layout, all_indices, bits_from, selected, constant_named, named, literal_meaning, top_goes_on, of_literal, whole}
 use Rattle.sv_meaning.specs.Values.{mean, means, step, steps, system_meaning, is_signed_word}
 use Rattle.sv_meaning.proofs.Good.{Rises, Good, own_long, own_rises, length-extend, extend-rises, good-standing, good-needs, good-from, good-none, good-chosen, good-unary, good-binary}
 
@@ -253,7 +253,7 @@ good-named w (Some genvar_is) all g = good-none _ _
 good-named w None all g = good-none _ _
 
 pub good-literal : (all : Faults) (p : Place) (l : LiteralValue) → Good (literal_meaning all p l)
-good-literal all p l = record { long = λ read w s h. filled l.fill w (first l.value) s l.value h; rises = λ r t i w s h. order.below-refl _ }
+good-literal all p l = record { long = λ read w s h. filled l.fill w (first l.value) (top_goes_on l || s) l.value h; rises = λ r t i w s h. order.below-refl _ }
   where
     filled : (b : Bool) (w : ℕ) (x : Bit) (s : Bool) (a : List Bit) → length a ≤ w → length (cond b (replicate w x) (extend s w a)) ≡ w
     filled true w x s a h = length-replicate w x

@@ -21,7 +21,7 @@ use Rattle.sv_literal.specs.declared.meaning.Literal.{Literal}
 use Rattle.sv_tree.specs.declared.word.Word.{Word}
 use Rattle.sv_meaning.specs.Faults.{Faults, fault, fault_if, or_then, Judged, provided, ◌>>=◌, loop_long}
 use Rattle.sv_meaning.specs.Layouts.{Name, Scope, number_is, NamedSignal, Read}
-use Rattle.sv_meaning.specs.Meanings.{Meaning, fixed_faults, free_faults, nowhere, nowhere_in_text, assigned, truth, named, literal_meaning, all_indices}
+use Rattle.sv_meaning.specs.Meanings.{Meaning, fixed_faults, free_faults, nowhere, assigned, truth, named, literal_value, all_indices}
 use Rattle.sv_meaning.specs.Values.{mean, binary_meaning}
 use Rattle.sv_meaning.specs.Forms.{Entry}
 use Rattle.sv_meaning.specs.Params.{converted_faults}
@@ -185,7 +185,7 @@ mask_bit Floating = Zero
 mask_bit b = One
 
 abbrev pub mask : ℕ → Bool → Literal → List Bit
-mask w s l = each mask_bit ((literal_meaning [] nowhere_in_text l).value nowhere w s)
+mask w s l = each mask_bit (literal_value l w s)
 
 -- in a `casez` the bits Z of a label that is a literal are not compared
 abbrev pub same_value : Bool → ℕ → Bool → Option Literal → List Bit → List Bit → List Bit

@@ -1,9 +1,9 @@
 -- What an expression means: its length, its sign, its value at the size of a context, and what stands against it. One rule for each
 -- kind of operator. Sections are those of IEEE 1800-2017.
-use Rattle.std.specs.Prelude.{ℕ, zero, suc, ◌+◌, ◌-◌, ◌*◌, ◌^◌, max, Bool, true, false, ◌&&◌, not, nat_lt, nat_le, List, [], ◌∷◌, ◌++◌, length, take, replicate, Option, Some, None, ℤ, pos, negsuc, ◌+ℤ◌, ◌-ℤ◌, ◌*ℤ◌, nat_abs, int_lt, int_le, if◌then◌else◌}
+use Rattle.std.specs.Prelude.{ℕ, zero, suc, ◌+◌, ◌-◌, ◌*◌, ◌^◌, max, Bool, true, false, ◌&&◌, ◌||◌, not, nat_lt, nat_le, List, [], ◌∷◌, ◌++◌, length, take, replicate, Option, Some, None, ℤ, pos, negsuc, ◌+ℤ◌, ◌-ℤ◌, ◌*ℤ◌, nat_abs, int_lt, int_le, if◌then◌else◌}
 use Rattle.fourvec.specs.declared.Bit.{Bit}
 use Rattle.fourvec.specs.declared.Bit.TheVariants.{Unknown}
-use Rattle.fourvec.specs.Bits.{first, number, signed, vector, is_known, all_x, zext_of, sext_of, truth_of, cond_of}
+use Rattle.fourvec.specs.Bits.{first, top, number, signed, vector, is_known_bit, is_known, all_x, zext_of, sext_of, truth_of, cond_of}
 use Rattle.fourvec.specs.Spots.{window}
 use Rattle.sv_tree.specs.declared.exprs.RangeMark.{RangeMark}
 use Rattle.sv_tree.specs.declared.exprs.RangeMark.TheVariants as mark
@@ -414,12 +414,19 @@ literal_faults w =
     or_then (fault_if (not (is_literal w.text)) bad_token w.place)
     (or_then (fault_if (is_wide w.text) bad_width w.place) (fault_if (is_out_of_range w.text) literal_range w.place))
 
--- section 5.7.1
+-- section 5.7.1: an X or Z that is the highest bit of a literal without a size goes on in a longer context
+abbrev pub top_goes_on : Literal → Bool
+top_goes_on l = not l.sized && not (is_known_bit (top l.value))
+
+-- the bits of a literal in a context of such a length and sign
+abbrev pub literal_value : Literal → ℕ → Bool → List Bit
+literal_value l w s = if l.fill then replicate w (first l.value) else extend (top_goes_on l || s) w l.value
+
 abbrev pub literal_meaning : Faults → Place → Literal → Meaning
 literal_meaning all p l = record {
   size = length l.value;
   sign = l.signed;
-  value = λ read w s. if l.fill then replicate w (first l.value) else extend s w l.value;
+  value = λ read w s. literal_value l w s;
   constant = true;
   faults = λ c. all;
   names = [];
