@@ -8,4 +8,5 @@ pub mod Finding
 pub mod OnTrees
 pub mod Trees
 mod ExprRows
+mod FeedRows
 mod FormRows

@@ -1,5 +1,5 @@
 -- A design, laid flat by its scopes: what contributes to which bits, and which valuations settle.
-use Rattle.std.specs.Prelude.{ℕ, zero, suc, ◌+◌, ◌≡◌, Bool, true, false, ◌&&◌, not, ◌==◌, List, [], ◌∷◌, ◌++◌, map, filter, Contains, Option, Some, None, slice_get, if◌then◌else◌}
+use Rattle.std.specs.Prelude.{ℕ, zero, suc, ◌+◌, ◌<◌, ◌≡◌, Bool, true, false, ◌&&◌, not, ◌==◌, List, [], ◌∷◌, ◌++◌, map, filter, Contains, Option, Some, None, slice_get, if◌then◌else◌}
 use mathlib.Core.Former.{Count}
 use Rattle.fourvec.specs.declared.Bit.{Bit}
 use Rattle.sv_tree.specs.declared.exprs.Expr.{Expr, Name', Concat', Row_of-Expr, end_of-Expr, more_of-Expr}
@@ -8,9 +8,10 @@ use Rattle.sv_tree.specs.declared.stmts.Block.{Block}
 use Rattle.sv_tree.specs.declared.design.Way.{Way}
 use Rattle.sv_tree.specs.declared.design.Way.TheVariants as way
 use Rattle.sv_tree.specs.declared.word.Word.{Word}
+use Rattle.sv_outside.specs.declared.refusal.Place.{Place}
 use Rattle.sv_outside.specs.declared.text.Signal.{Signal}
 use Rattle.sv_meaning.specs.Faults.{Faults, fault, or_then, is_clear, bad_target}
-use Rattle.sv_meaning.specs.Layouts.{Name, Layout, width, Scope, signal_is, of_wires, Origin, NamedSignal, find}
+use Rattle.sv_meaning.specs.Layouts.{Layout, width, Scope, signal_is, of_wires, Origin, NamedSignal, find}
 use Rattle.sv_meaning.specs.Meanings.{Meaning, fixed_faults, free_faults, assigned, named}
 use Rattle.sv_meaning.specs.Values.{mean, steps}
 use Rattle.lhs_alias.specs.declared.segs.WireBit.{WireBit}
@@ -49,16 +50,20 @@ unfoldable mutual
   all_as_targets at end_of-Expr = []
   all_as_targets at (more_of-Expr x all) = as_targets at x ++ all_as_targets at all
 
--- what stands against an actual as a target: that it is none, or that one of its names is none
+-- what stands against a part of an actual as a target, where the actual begins at a place: that it is none, or that one of its names is none
 unfoldable mutual
-  pub actual_faults : Scope → Expr → Faults
-  actual_faults at (Name' w s all) = target_faults fixed_faults w (find w.text at) (steps at all)
-  actual_faults at (Concat' p s all) = or_then (all_actual_faults at all) (wide_target p (all_as_targets at all))
-  actual_faults at x = fault bad_target (mean at x).start
+  pub part_faults : Place → Scope → Expr → Faults
+  part_faults start at (Name' w s all) = target_faults fixed_faults start w (find w.text at) (steps at all)
+  part_faults start at (Concat' p s all) = or_then (all_part_faults start at all) (wide_target p (all_as_targets at all))
+  part_faults start at x = fault bad_target start
 
-  pub all_actual_faults : {m : Count} → Scope → Row_of-Expr m → Faults
-  all_actual_faults at end_of-Expr = []
-  all_actual_faults at (more_of-Expr x all) = actual_faults at x ++ all_actual_faults at all
+  pub all_part_faults : {m : Count} → Place → Scope → Row_of-Expr m → Faults
+  all_part_faults start at end_of-Expr = []
+  all_part_faults start at (more_of-Expr x all) = part_faults start at x ++ all_part_faults start at all
+
+-- what stands against the whole
+abbrev pub actual_faults : Scope → Expr → Faults
+actual_faults at x = part_faults (mean at x).start at x
 
 unfoldable pub are_present : {A : Type 0} → List (Option A) → Bool
 are_present [] = true
@@ -129,10 +134,11 @@ contributions d prev now = contributions_of d.works prev now
 
 -- ---- what stands against a design
 
+-- of a port that is not joined; an inout is never assigned (this project's rule)
 abbrev pub port_faults : Way → Scope → Expr → Faults
 port_faults way.Input at actual = free_faults (mean at actual)
 port_faults way.Output at actual = actual_faults at actual
-port_faults way.Inout at actual = actual_faults at actual ++ fault bad_target (mean at actual).start
+port_faults way.Inout at actual = free_faults (mean at actual) ++ fault bad_target (mean at actual).start
 
 -- where so many turns of loops were made before
 abbrev pub work_faults : Work → ℕ → Faults
@@ -217,28 +223,38 @@ reaches (assignment at to x) = bits_named (targets at to)
 reaches (block at b) = distinct (deed b.body at).targets
 reaches (port at w n x actual) = if is_joined at x actual then [] else port_reaches w at n x actual
 
--- a bit of one wire is joined to a bit of another
-pub record Touches (links : List Link) (a b : ℕ) : Type 0 where
-  pub here : ℕ
-  pub there : ℕ
-  pub joined : Linked links (bit a here) (bit b there)
+abbrev pub width_at : Design → ℕ → ℕ
+width_at d a = width_of_wire (slice_get d.wires a)
 
--- a wire that has the first bit of a class
-abbrev pub IsFirst : List Link → ℕ → Type 0
-IsFirst links a = (k : ℕ) × (first_bit links (bit a k) ≡ bit a k)
+-- A first wire has the first bit of some class of joined bits.
+pub record IsFirst (d : Design) (a : ℕ) : Type 0 where
+  pub at : ℕ
+  pub in_wire : at < width_at d a
+  pub is_first : first_bit (links_of d.works) (bit a at) ≡ bit a at
 
--- One wire feeds another
+-- the bit is joined to a bit of the wire
+pub record Touches (d : Design) (b : WireBit) (a : ℕ) : Type 0 where
+  pub place : ℕ
+  pub in_wire : place < width_at d a
+  pub joined : Linked (links_of d.works) b (bit a place)
+
+-- One first wire feeds another: some work contributes to a bit that is joined to a bit of the second, and names, in the present, a wire
+-- with a bit that is joined to a bit of the first.
 pub record Feeds (d : Design) (a b : ℕ) : Type 0 where
+  pub from_first : IsFirst d a
+  pub to_first : IsFirst d b
   pub work : Work
   pub is_there : Contains d.works work
-  pub reached_bit : WireBit
-  pub reached : Contains (reaches work) reached_bit
-  pub place : ℕ
-  pub into : Linked (links_of d.works) reached_bit (bit b place)
+  pub reached : WireBit
+  pub contributes : Contains (reaches work) reached
+  pub into : Touches d reached b
   pub name : ℕ
   pub named : Contains (names_now d.wires work) name
-  pub from : Touches (links_of d.works) name a
+  pub place : ℕ
+  pub in_wire : place < width_at d name
+  pub from : Touches d (bit name place) a
 
+-- a chain of feeding
 pub data Reaches (d : Design) : ℕ → ℕ → Type 0 where
   once : {a b : ℕ} → Feeds d a b → Reaches d a b
   further : {a b c : ℕ} → Feeds d a b → Reaches d b c → Reaches d a c

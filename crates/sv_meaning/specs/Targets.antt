@@ -26,11 +26,12 @@ abbrev pub target_of : Option What → List Step → Target
 target_of (Some (signal_is of_wires n x)) all = record { wire = n; layout = x; steps = all }
 target_of x all = record { wire = 0; layout = scalar false; steps = [] }
 
--- What stands against a name with selects as a target, its indices being judged so. Only nets and variables are targets (10.3.2, 10.4).
-abbrev pub target_faults : (Meaning → Faults) → Word → Option What → List Step → Faults
-target_faults judge w (Some (signal_is of_wires n x)) all = chain_faults judge x all
-target_faults judge w None all = fault unknown_name w.place
-target_faults judge w x all = fault bad_target w.place
+-- What stands against a name with selects as a target, its indices being judged so. Only nets and variables are targets (10.3.2, 10.4);
+-- for what is none a place is given.
+abbrev pub target_faults : (Meaning → Faults) → Place → Word → Option What → List Step → Faults
+target_faults judge p w (Some (signal_is of_wires n x)) all = chain_faults judge x all
+target_faults judge p w None all = fault unknown_name w.place
+target_faults judge p w x all = fault bad_target p
 
 -- the parts of a target, the most significant first
 unfoldable mutual
@@ -60,7 +61,7 @@ wide_target p all = fault_if (not (is_width (widths all))) bad_width p
 -- what stands against a target, its indices being judged so
 unfoldable mutual
   pub lvalue_faults : (Meaning → Faults) → Scope → Lvalue → Faults
-  lvalue_faults judge at (Name w all) = target_faults judge w (find w.text at) (map (step at) all)
+  lvalue_faults judge at (Name w all) = target_faults judge w.place w (find w.text at) (map (step at) all)
   lvalue_faults judge at (Concat' p s all) = or_then (all_lvalue_faults judge at all) (wide_target p (targets_of at all))
 
   pub all_lvalue_faults : {m : Count} → (Meaning → Faults) → Scope → Row_of-Lvalue m → Faults
