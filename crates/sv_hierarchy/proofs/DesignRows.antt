@@ -27,14 +27,14 @@ use Rattle.sv_tree.specs.declared.design.SourcePart.TheVariants as source_part
 use Rattle.sv_tree.specs.declared.design.Item.{Item, Variable, Param, Assign, Always, Inst, For', If', end_of-Item, more_of-Item, end_of-Gen, more_of-Gen, None'}
 use Rattle.sv_tree.specs.declared.design.Gen.{Block' as GenBlock}
 use Rattle.sv_meaning.specs.Patterns.{index}
-use Rattle.sv_meaning.specs.Faults.{Judged, fault, top_unclear, unknown_module, unknown_name, twice, bad_width, port_unknown, port_twice, bad_target, loop_long, instance_deep, wrong_assign}
+use Rattle.sv_meaning.specs.Faults.{Faults, Judged, fault, top_unclear, unknown_module, unknown_name, twice, bad_width, not_constant, port_unknown, port_twice, bad_target, loop_long, instance_deep, wrong_assign}
 use Rattle.lhs_alias.specs.declared.segs.WireBit.{WireBit}
 use Rattle.lhs_alias.specs.Segs.{bit as wire_bit}
 use Rattle.settling.specs.Settling.{Store, Contribution, given_to}
 use Rattle.sv_meaning.specs.Designs.{Design, contributions, links_of}
 use Rattle.sv_hierarchy.specs.Scopes.{State, Instance, scopes, instances, design, source_faults}
 use Rattle.sv_hierarchy.proofs.OnTrees.{designs_on_trees}
-use Rattle.sv_meaning.proofs.Trees.{at, word, lit, name, op}
+use Rattle.sv_meaning.proofs.Trees.{at, word, lit, name, selected, span, two_of, op}
 
 -- ---- parts of designs
 
@@ -314,6 +314,59 @@ port_again = refl
 no_actual : source_faults (source_of (leaf ∷ unit_of (codes "top") [] (instance 20 (codes "leaf") (codes "u") (connect 30 (codes "q") (lit 31 (codes "8'd1")) ∷ []) ∷ []) ∷ [])) None ≡ fault bad_target (at 31)
 unfolding designs_on_trees
 no_actual = refl
+
+-- .q({b, 8'd1}) and .q({{b, 8'd1}, c}): the whole actual is refused, at its first `{`. A name that is not declared, and an index that moves, have
+-- places of their own.
+abbrev joined_to : Expr → List Item
+joined_to x = Variable byte (word 40 (codes "b") ∷ word 41 (codes "c") ∷ []) ∷ instance 20 (codes "leaf") (codes "u") (connect 30 (codes "q") x ∷ []) ∷ []
+
+abbrev output_faults : Expr → Faults
+output_faults x = source_faults (source_of (leaf ∷ unit_of (codes "top") [] (joined_to x) ∷ [])) None
+
+no_part : output_faults (two_of 31 (name 32 (codes "b")) (lit 33 (codes "8'd1"))) ≡ fault bad_target (at 31)
+unfolding designs_on_trees
+no_part = refl
+
+no_inner_part : output_faults (two_of 31 (two_of 32 (name 33 (codes "b")) (lit 34 (codes "8'd1"))) (name 35 (codes "c"))) ≡ fault bad_target (at 31)
+unfolding designs_on_trees
+no_inner_part = refl
+
+no_such_part : output_faults (two_of 31 (name 32 (codes "b")) (name 33 (codes "d"))) ≡ fault unknown_name (at 33)
+unfolding designs_on_trees
+no_such_part = refl
+
+moving_part : output_faults (selected 31 (codes "b") (index (at 32) (name 33 (codes "c")))) ≡ fault not_constant (at 33)
+unfolding designs_on_trees
+moving_part = refl
+
+-- module both_ways (inout logic p); endmodule: its port is joined or refused, whatever the reason
+abbrev both_ways : Module
+both_ways = unit_of (codes "both_ways") (record { way = Some way.Inout; kind = None; form = Some bit; name = word 2 (codes "p") } ∷ []) []
+
+abbrev inout_faults : Expr → Faults
+inout_faults x =
+    source_faults (source_of (both_ways ∷ unit_of (codes "top") []
+    (Variable byte (word 40 (codes "b") ∷ word 41 (codes "c") ∷ []) ∷ instance 20 (codes "both_ways") (codes "u") (connect 30 (codes "p") x ∷ []) ∷ []) ∷ [])) None
+
+bit_in_range : inout_faults (selected 31 (codes "b") (index (at 32) (lit 33 (codes "7")))) ≡ []
+unfolding designs_on_trees
+bit_in_range = refl
+
+bit_out_of_range : inout_faults (selected 31 (codes "b") (index (at 32) (lit 33 (codes "8")))) ≡ fault bad_target (at 31)
+unfolding designs_on_trees
+bit_out_of_range = refl
+
+moving_bit : inout_faults (selected 31 (codes "b") (index (at 32) (name 33 (codes "c")))) ≡ fault bad_target (at 31)
+unfolding designs_on_trees
+moving_bit = refl
+
+moving_bounds : inout_faults (selected 31 (codes "b") (span 32 (name 33 (codes "c")) (lit 35 (codes "0")))) ≡ fault not_constant (at 33) ++ fault bad_target (at 31)
+unfolding designs_on_trees
+moving_bounds = refl
+
+no_such_index : inout_faults (selected 31 (codes "b") (index (at 32) (name 33 (codes "d")))) ≡ fault unknown_name (at 33) ++ fault bad_target (at 31)
+unfolding designs_on_trees
+no_such_index = refl
 
 -- each instance before its blocks, and these before the instances below it
 looped_blocks : blocks (scopes looped None) ≡ (codes "", None) ∷ (codes "g[0]", Some 0) ∷ (codes "g[1]", Some 0) ∷ (codes "g[0].u", Some 1) ∷ (codes "g[1].u", Some 2) ∷ []
