@@ -4,7 +4,8 @@ use Rattle.std.specs.List.{list_any}
 use Rattle.std.proofs.lemmas.Bool.Decides.{nat_tests}
 use Rattle.std.specs.Str.{bytes_eq}
 use Rattle.sv_outside.specs.declared.outside.FileErr.{FileErr}
-use Rattle.sv_outside.specs.Memory.{MemoryFiles, contents_under, contents_of, is_to_fail, one_more, within_limit, read_of, after_read, is_failed, IsErrorOf}
+use Rattle.sv_outside.specs.Memory.{MemoryFiles, contents_under, contents_of, is_to_fail, within_limit, read_of, after_read, IsErrorOf}
+use Rattle.sv_outside.specs.Outside.{counted, is_failed, one_more}
 use Rattle.sv_outside.specs.declared.outside.FileErr.TheVariants.{Failed, Long}
 
 pub contents_mapped : {A : Type 0} (files : List (List ℕ × A)) (items : A → List ℕ) (name : List ℕ) → contents_under (map (λ file. (file.0, items file.1)) files) (λ bytes. bytes) name ≡ contents_under files items name
@@ -70,7 +71,7 @@ answer_long (Ok bytes) files name h k = cc
 answer_long (Err e) files name h k = told_long files name (was_long e (read_of files name) h k)
 
 -- the files after an answer
-pub after_told : (list : List (List ℕ × List ℕ)) (failing : List ℕ) (calls faults new_calls new_faults : ℕ) (is_fault : Bool) (name : List ℕ) (files : MemoryFiles) → new_calls ≡ min (calls + 1) (2 ^ 64 - 1) → new_faults ≡ (if is_fault then one_more faults else faults) → is_fault ≡ is_failed (read_of files name) → record { list = list; failing = failing; calls = calls; faults = faults } ≡ files → record { list = list; failing = failing; calls = new_calls; faults = new_faults } ≡ after_read files name
+pub after_told : (list : List (List ℕ × List ℕ)) (failing : List ℕ) (calls faults new_calls new_faults : ℕ) (is_fault : Bool) (name : List ℕ) (files : MemoryFiles) → new_calls ≡ min (calls + 1) (2 ^ 64 - 1) → new_faults ≡ counted is_fault faults → is_fault ≡ is_failed (read_of files name) → record { list = list; failing = failing; calls = calls; faults = faults } ≡ files → record { list = list; failing = failing; calls = new_calls; faults = new_faults } ≡ after_read files name
 unfolding one_more
 after_told list failing calls faults new_calls new_faults is_fault name files e f g v =
     let P : MemoryFiles → Type 0 = λ m. is_fault ≡ is_failed (read_of m name) → record { list = list; failing = failing; calls = new_calls; faults = new_faults } ≡ after_read m name in

@@ -1,7 +1,8 @@
 -- Files and sinks in memory.
-use Rattle.std.specs.Prelude.{◌≡◌, ◌+◌, ◌-◌, ◌^◌, ◌&&◌, ◌==◌, not, min, nat_le, nat_lt, length, take, ℕ, Bool, true, false, List, [], ◌∷◌, ◌++◌, Option, Some, None, Result, Ok, Err, if◌then◌else◌}
+use Rattle.std.specs.Prelude.{◌≡◌, ◌+◌, ◌^◌, ◌&&◌, ◌==◌, not, min, nat_le, nat_lt, length, take, ℕ, Bool, List, [], ◌∷◌, ◌++◌, Option, Some, None, Result, Ok, Err, if◌then◌else◌}
 use Rattle.std.specs.List.{list_any}
 use Rattle.std.specs.Str.{bytes_eq}
+use Rattle.sv_outside.specs.Outside.{counted, is_failed, one_more}
 use Rattle.sv_outside.specs.declared.outside.FileErr.{FileErr}
 use Rattle.sv_outside.specs.declared.outside.FileErr.TheVariants.{Failed, Long, Memory}
 
@@ -9,10 +10,6 @@ use Rattle.sv_outside.specs.declared.outside.FileErr.TheVariants.{Failed, Long, 
 abbrev pub contents_under : {A : Type 0} → List (List ℕ × A) → (A → List ℕ) → List ℕ → Option (List ℕ)
 contents_under [] items name = None
 contents_under (file ∷ files) items name = if bytes_eq file.0 name then Some (items file.1) else contents_under files items name
-
--- one more, up to the greatest number of 64 bits
-unfoldable pub one_more : ℕ → ℕ
-one_more n = min (n + 1) (2 ^ 64 - 1)
 
 -- the call after so many is one that is to fail
 abbrev pub is_to_fail : List ℕ → ℕ → Bool
@@ -45,16 +42,9 @@ abbrev pub IsErrorOf : FileErr → Result (List ℕ) FileErr → Type 0
 IsErrorOf e (Ok bytes) = e ≡ Memory
 IsErrorOf e (Err other) = e ≡ other
 
--- the read failed, which is counted
-abbrev pub is_failed : {A : Type 0} → Result A FileErr → Bool
-is_failed (Ok bytes) = false
-is_failed (Err Failed) = true
-is_failed (Err Long) = false
-is_failed (Err Memory) = false
-
 -- the files after a read
 abbrev pub after_read : MemoryFiles → List ℕ → MemoryFiles
-after_read files name = record files { calls = one_more files.calls; faults = if is_failed (read_of files name) then one_more files.faults else files.faults }
+after_read files name = record files { calls = one_more files.calls; faults = counted (is_failed (read_of files name)) files.faults }
 
 -- ---- sinks
 

@@ -1,9 +1,9 @@
 // Files and a sink in memory, some of whose calls fail.
-ghost use Rattle.std.specs.Prelude.{◌≡◌, ◌≤◌, ◌<◌, ◌^◌, [], ℕ, List, Some, None, Ok, Err, if◌then◌else◌, ◌==◌, length, take, map, option_map, IfOk, IfErr, IfSome, OnErr, IsErrOf};
+ghost use Rattle.std.specs.Prelude.{◌≡◌, ◌≤◌, ◌<◌, ◌^◌, [], ℕ, List, Some, None, Ok, Err, if◌then◌else◌, ◌==◌, length, take, map, option_map, IfOk, IfErr, IfSome, OnOk, OnErr, IsErrOf};
 ghost use Rattle.std.specs.Result.{result_ok};
 ghost use Rattle.std.specs.List.{list_any};
-ghost use Rattle.sv_outside.specs.Memory.{MemoryFiles, MemorySink, contents_under, contents_of, within_limit, one_more, read_of, is_failed, IsErrorOf, after_read, share_of, takes, after_write};
-ghost use Rattle.sv_outside.specs.Outside.{Rose, with_text};
+ghost use Rattle.sv_outside.specs.Memory.{MemoryFiles, MemorySink, contents_under, contents_of, within_limit, read_of, IsErrorOf, after_read, share_of, takes, after_write};
+ghost use Rattle.sv_outside.specs.Outside.{counted, is_failed, one_more, with_text};
 
 use crate::{FileErr, Files, Name, Sink, SinkErr};
 use std::alloc::{AllocError, Global};
@@ -86,9 +86,9 @@ fn answer_of(
     copy_of(alloc, find(list, name))
 }
 
-#[tactic(auto, unfolding(crate::specs::Memory::one_more))]
+#[tactic(auto, unfolding(crate::specs::Outside::one_more))]
 fn faults_then(answer: &Result<Vec<u8>, FileErr>, faults: u64) -> u64
-    ensures { result ≡ (if is_failed answer.now then one_more faults else faults) }
+    ensures { result ≡ counted (is_failed answer.now) faults }
 {
     match answer {
         Err(FileErr::Failed) => faults.saturating_add(1),
@@ -109,7 +109,7 @@ impl Files for MemFiles {
     ghost faults = { λ m. m.faults };
 
     /// The contents, unless the call is to fail. Want of memory is the one other answer.
-    #[tactic(auto, using(crate::proofs::Contents::contents_mapped, crate::proofs::Contents::faults_alike), unfolding(crate::specs::Memory::one_more))]
+    #[tactic(auto, using(crate::proofs::Contents::contents_mapped, crate::proofs::Contents::faults_alike), unfolding(crate::specs::Outside::one_more))]
     fn read(&mut self, alloc: Global, name: &Name) -> Result<Vec<u8>, FileErr>
         ensures answered { IfOk result (λ bytes. read_of self.old name.now ≡ Ok bytes.items) }
         ensures refused { IfErr result (λ e. IsErrorOf e (read_of self.old name.now)) }
@@ -118,9 +118,9 @@ impl Files for MemFiles {
         // What holds of all files.
         ensures whole { IfOk result (λ bytes. IfSome (⟦<MemFiles as Files>⟧.contents self.old name.now) (λ told. bytes.items ≡ told)) }
         ensures limit { IfOk result (λ bytes. length bytes.items ≤ 2 ^ 24) }
-        ensures failed { IsErrOf result FileErr.Failed → Rose (⟦<MemFiles as Files>⟧.faults self.old) (⟦<MemFiles as Files>⟧.faults self.new) }
         ensures long { IsErrOf result FileErr.Long → IfSome (⟦<MemFiles as Files>⟧.contents self.old name.now) (λ told. 2 ^ 24 < length told) }
         ensures unchanged { (other : List ℕ) → ⟦<MemFiles as Files>⟧.contents self.new other ≡ ⟦<MemFiles as Files>⟧.contents self.old other }
+        ensures counted { ⟦<MemFiles as Files>⟧.faults self.new ≡ counted (is_failed result) (⟦<MemFiles as Files>⟧.faults self.old) }
         ensures counts_up { ⟦<MemFiles as Files>⟧.faults self.old ≤ ⟦<MemFiles as Files>⟧.faults self.new }
     {
         self.calls = self.calls.saturating_add(1);
@@ -184,7 +184,7 @@ impl Sink for MemSink {
     ghost faults = { λ s. s.faults };
 
     /// Takes its share of the piece, unless the call is to fail or lacks room. It takes no memory.
-    #[tactic(auto, unfolding(crate::specs::Memory::one_more))]
+    #[tactic(auto, unfolding(crate::specs::Outside::one_more))]
     fn write(&mut self, piece: &[u8]) -> Result<usize, SinkErr>
         requires { 0 < length piece.now }
         ensures answered { result_ok result ≡ (if takes self.old piece.now then Some (share_of self.old piece.now) else None) }
@@ -193,7 +193,8 @@ impl Sink for MemSink {
         // What holds of all sinks.
         ensures count { IfOk result (λ n. (0 < n) × (n ≤ length piece.now)) }
         ensures appended { IfOk result (λ n. ⟦<MemSink as Sink>⟧.written self.new ≡ with_text (⟦<MemSink as Sink>⟧.written self.old) (take n piece.now)) }
-        ensures failed { OnErr result (Rose (⟦<MemSink as Sink>⟧.faults self.old) (⟦<MemSink as Sink>⟧.faults self.new)) }
+        ensures failed { OnErr result (⟦<MemSink as Sink>⟧.faults self.new ≡ one_more (⟦<MemSink as Sink>⟧.faults self.old)) }
+        ensures kept { OnOk result (⟦<MemSink as Sink>⟧.faults self.new ≡ ⟦<MemSink as Sink>⟧.faults self.old) }
         ensures nothing { OnErr result (⟦<MemSink as Sink>⟧.written self.new ≡ ⟦<MemSink as Sink>⟧.written self.old) }
         ensures counts_up { ⟦<MemSink as Sink>⟧.faults self.old ≤ ⟦<MemSink as Sink>⟧.faults self.new }
     {

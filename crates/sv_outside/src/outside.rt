@@ -1,6 +1,6 @@
 // What is read and written, with the faults of each counted.
 ghost use Rattle.std.specs.Prelude.{◌≡◌, ◌≤◌, ◌<◌, ◌^◌, List, ℕ, Option, Some, length, take, IfOk, OnOk, OnErr, IsErrOf, IfSome};
-ghost use Rattle.sv_outside.specs.Outside.{Rose, with_text, IsPartWritten};
+ghost use Rattle.sv_outside.specs.Outside.{counted, is_failed, one_more, with_text, IsPartWritten};
 
 use crate::Name;
 use std::alloc::Global;
@@ -41,9 +41,9 @@ pub trait Files {
     fn read(&mut self, alloc: Global, name: &Name) -> Result<Vec<u8>, FileErr>
         ensures whole { IfOk result (λ bytes. IfSome (contents self.old name.now) (λ told. bytes.items ≡ told)) }
         ensures limit { IfOk result (λ bytes. length bytes.items ≤ 2 ^ 24) }
-        ensures failed { IsErrOf result FileErr.Failed → Rose (faults self.old) (faults self.new) }
         ensures long { IsErrOf result FileErr.Long → IfSome (contents self.old name.now) (λ told. 2 ^ 24 < length told) }
         ensures unchanged { (other : List ℕ) → contents self.new other ≡ contents self.old other }
+        ensures counted { faults self.new ≡ counted (is_failed result) (faults self.old) }
         ensures counts_up { faults self.old ≤ faults self.new };
 }
 
@@ -61,15 +61,18 @@ pub trait Sink {
         requires { 0 < length piece.now }
         ensures count { IfOk result (λ n. (0 < n) × (n ≤ length piece.now)) }
         ensures appended { IfOk result (λ n. written self.new ≡ with_text (written self.old) (take n piece.now)) }
-        ensures failed { OnErr result (Rose (faults self.old) (faults self.new)) }
+        ensures failed { OnErr result (faults self.new ≡ one_more (faults self.old)) }
+        ensures kept { OnOk result (faults self.new ≡ faults self.old) }
         ensures nothing { OnErr result (written self.new ≡ written self.old) }
         ensures counts_up { faults self.old ≤ faults self.new };
 }
 
-/// Writes the whole text at the end, or fails after a front of it, which may be empty. It takes no memory.
+/// Writes the whole text at the end, or ends at the first write that fails, after a front of the text, which may be
+/// empty. It takes no memory.
 pub fn put_all<K: Sink>(sink: &mut K, text: &[u8]) -> Result<(), SinkErr>
     ensures whole { OnOk result (K.written sink.new ≡ with_text (K.written sink.old) text.now) }
-    ensures failed { OnErr result (Rose (K.faults sink.old) (K.faults sink.new)) }
+    ensures failed { OnErr result (K.faults sink.new ≡ one_more (K.faults sink.old)) }
+    ensures kept { OnOk result (K.faults sink.new ≡ K.faults sink.old) }
     ensures part { OnErr result (IsPartWritten (K.written sink.old) (K.written sink.new) text.now) }
     ensures counts_up { K.faults sink.old ≤ K.faults sink.new }
 {

@@ -55,6 +55,7 @@ impl<R: std::rt::Files> Files for RealFiles<R> {
 
     ghost faults = { λ f. f.faults };
 
+    #[tactic(auto, unfolding(crate::specs::Outside::one_more))]
     fn read(&mut self, alloc: Global, name: &Name) -> Result<Vec<u8>, FileErr> {
         let result = read_file(&self.rt, alloc, name);
         if let Err(FileErr::Failed) = result {
@@ -88,6 +89,7 @@ impl<W: Write> Sink for RealSink<W> {
 
     ghost faults = { λ s. s.faults };
 
+    #[tactic(auto, unfolding(crate::specs::Outside::one_more))]
     fn write(&mut self, piece: &[u8]) -> Result<usize, SinkErr> {
         match self.to.write(piece) {
             Ok(taken) if taken > 0 => Ok(taken),

@@ -1,4 +1,4 @@
-use Rattle.std.proofs.Common.{◌++◌, take, arith, append_assoc}
+use Rattle.std.proofs.Common.{◌∙◌, ◌++◌, take, arith, append_assoc}
 use Rattle.std.proofs.lemmas.Grind.{common_steps}
 use Rattle.std.proofs.lemmas.List.{take-append-drop}
 use Rattle.sv_outside.proofs.Written.{with_text-twice}
@@ -8,6 +8,7 @@ pub loop-rest-preserved : goal.loop-rest-preserved
 loop-rest-preserved g c =
     let w = c.loop-rest.invariant.written in
     record {
+      kept = c.in_ok-taken.ensures.kept ∙ c.loop-rest.invariant.kept;
       counts_up = omega (arith, c.loop-rest.invariant.counts_up, c.in_ok-taken.ensures.counts_up);
       written = (w.0 ++ take c.in_ok-taken.taken c.loop-rest.rest.now, grind (arith, common_steps, w.1, take-append-drop, append_assoc), grind (arith, w.2, c.in_ok-taken.ensures.appended, with_text-twice));
     }

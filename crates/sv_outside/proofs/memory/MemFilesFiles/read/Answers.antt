@@ -1,6 +1,7 @@
 use Rattle.std.proofs.Common.{◌≡◌, subst, Result, Ok, IfOk, IfErr, List, ℕ}
 use Rattle.sv_outside.specs.declared.outside.FileErr.{FileErr}
-use Rattle.sv_outside.specs.Memory.{read_of, IsErrorOf, is_failed}
+use Rattle.sv_outside.specs.Memory.{read_of, IsErrorOf}
+use Rattle.sv_outside.specs.Outside.{is_failed}
 use Rattle.sv_outside.proofs.Contents.{read_told, answer_whole, answer_long, faults_alike, after_told}
 use Rattle.sv_outside.proofs.memory.MemFilesFiles.read.Goals as goal
 
