@@ -1,14 +1,15 @@
 -- A table over the wires of a design: what it drives and samples, and its faults (this project's rules).
-use Rattle.std.specs.Prelude.{ℕ, ◌+◌, ◌==◌, ◌||◌, ◌≤◌, ◌<◌, not, Bool, false, List, [], ◌∷◌, ◌++◌, take, map, filter, Option, Some, None, is_none, is_some, All, length, ◌≡◌}
+use Rattle.std.specs.Prelude.{ℕ, ◌+◌, ◌==◌, ◌||◌, ◌≤◌, ◌<◌, not, Bool, false, List, [], ◌∷◌, ◌++◌, take, map, filter, Option, Some, None, is_none, is_some, All, length, slice_index_or, ◌≡◌}
 use Rattle.std.specs.List.{flat_map, list_any}
 use Rattle.std.specs.Str.{bytes_eq}
 use Rattle.sv_outside.specs.declared.refusal.Refusal.{Refusal}
 use Rattle.sv_outside.specs.declared.text.Signal.{Signal}
 use Rattle.svtv_table.specs.Drives.{drive_in, phase_drive}
 use Rattle.svtv_table.specs.Faults.{fault, fault_if, at_each}
-use Rattle.svtv_table.specs.Names.{is_among, names_in, number_of, signal_of, width_of, width_under, wire_number, wire_of}
+use Rattle.svtv_table.specs.Names.{is_among, names_in, no_signal, number_of, signal_of, width_of, width_under, wire_number, wire_of}
 use Rattle.svtv_table.specs.declared.bound.Bound.{Bound}
 use Rattle.svtv_table.specs.declared.bound.Drive.{Drive}
+use Rattle.svtv_table.specs.declared.bound.Drive.TheVariants as drive
 use Rattle.svtv_table.specs.declared.bound.Sample.{Sample}
 use Rattle.svtv_table.specs.declared.bound.VarDecl.{VarDecl}
 use Rattle.svtv_table.specs.declared.table.Cell.{Cell}
@@ -158,7 +159,32 @@ bind_faults wires table = at_each (row_faults wires (variables_of wires table.ro
 
 -- ---- what holds of all that is bound
 
--- each number of a wire is below the number of wires, each row has a drive for each phase, and each phase is one of them
-pub record IsWithin (wires : List Signal) (bound : Bound) : Type 0 where
-  pub drives : All (λ row. (row.0 < length wires) × (length row.1 ≡ bound.phases)) bound.drives
-  pub samples : All (λ sample. (sample.wire < length wires) × (sample.phase < bound.phases)) bound.samples
+abbrev pub wire_width : List Signal → ℕ → ℕ
+wire_width wires number = (slice_index_or wires number no_signal).width
+
+abbrev pub var_width : List VarDecl → ℕ → ℕ
+var_width vars number = (slice_index_or vars number (record { name = []; width = 0 })).width
+
+-- the drive is as wide as its wire: its vector is, or its variable, which is there
+abbrev pub IsAsWide : List VarDecl → ℕ → Drive → Type 0
+IsAsWide vars width (drive.Fixed value) = length value ≡ width
+IsAsWide vars width (drive.Chosen number flips) = (number < length vars) × (var_width vars number ≡ width)
+IsAsWide vars width drive.Free = Unit {0}
+
+-- the row names a wire, and has for each phase a drive that is as wide
+pub record IsDriven (wires : List Signal) (vars : List VarDecl) (phases : ℕ) (row : ℕ × List Drive) : Type 0 where
+  pub wire : row.0 < length wires
+  pub long : length row.1 ≡ phases
+  pub widths : All (IsAsWide vars (wire_width wires row.0)) row.1
+
+-- the sample is of a wire, as wide as it, and of a phase
+pub record IsSampled (wires : List Signal) (phases : ℕ) (sample : Sample) : Type 0 where
+  pub wire : sample.wire < length wires
+  pub phase : sample.phase < phases
+  pub width : sample.width ≡ wire_width wires sample.wire
+
+-- What the table drives and samples fits these wires, and no wire has two rows.
+pub record IsBound (wires : List Signal) (bound : Bound) : Type 0 where
+  pub drives : All (IsDriven wires bound.vars bound.phases) bound.drives
+  pub apart : (i j : ℕ) → i < length bound.drives → j < length bound.drives → (slice_index_or bound.drives i (0, [])).0 ≡ (slice_index_or bound.drives j (0, [])).0 → i ≡ j
+  pub samples : All (IsSampled wires bound.phases) bound.samples
