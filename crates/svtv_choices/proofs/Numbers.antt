@@ -50,7 +50,7 @@ choice_back (x ∷ vars) (v ∷ choice) w k =
 
 -- ---- the choice of a number
 
-widths_are : (vars : List VarDecl) (n : ℕ) → map (λ v. length v) (choice_of vars n) ≡ map (λ v. v.width) vars
+pub widths_are : (vars : List VarDecl) (n : ℕ) → map (λ v. length v) (choice_of vars n) ≡ map (λ v. v.width) vars
 unfolding choice_of
 widths_are [] n = refl
 widths_are (x ∷ vars) n = rw (length-vector x.width n, widths_are vars (n / 2 ^ x.width)) refl

@@ -13,10 +13,10 @@ use Rattle.svtv_table.specs.Names.{name_of}
 use Rattle.svtv_table.specs.declared.bound.VarDecl.{VarDecl}
 use Rattle.svtv_table.proofs.Places.{is_placed}
 
-abbrev has : List ℕ → List VarDecl → Bool
+abbrev pub has : List ℕ → List VarDecl → Bool
 has name vars = list_any (λ v. bytes_eq name v.name) vars
 
-abbrev others : List ℕ → List VarDecl → List VarDecl
+abbrev pub others : List ℕ → List VarDecl → List VarDecl
 others name vars = filter (λ v. not (bytes_eq name v.name)) vars
 
 with_var_is : (vars : List VarDecl) (v : VarDecl) → with_var vars v ≡ cond (has v.name vars) vars (vars ++ v ∷ [])
@@ -26,7 +26,7 @@ apart : (bs cs ks : List ℕ) → bytes_eq bs cs ≡ false → bytes_eq bs ks �
 apart bs cs ks n y = nat_list_eq_equiv.symm cs ks ∙ sym (nat_list_eq_equiv.congr bs ks cs y) ∙ n
 
 -- what is not this name is found among the others
-has-others : (name other : List ℕ) (vars : List VarDecl) → bytes_eq name other ≡ false → has other (others name vars) ≡ has other vars
+pub has-others : (name other : List ℕ) (vars : List VarDecl) → bytes_eq name other ≡ false → has other (others name vars) ≡ has other vars
 has-others name other [] n = refl
 has-others name other (v ∷ vs) n = step (bytes_eq name v.name) refl (has-others name other vs n)
   where

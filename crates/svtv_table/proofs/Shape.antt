@@ -1,14 +1,15 @@
 -- The numbers in what is bound, for a table without faults.
-use Rattle.std.proofs.Common.{◌≡◌, ◌<◌, ◌≤◌, ◌+◌, ℕ, suc, List, [], ◌∷◌, ◌++◌, map, length, take, Bool, true, false, ◌||◌, Option, Some, None, refl, ◌∙◌, ap, arith}
-use Rattle.std.specs.Prelude.{is_none, not, unwrap_or}
+use Rattle.std.proofs.Common.{◌≡◌, ◌<◌, ◌≤◌, ◌+◌, ℕ, suc, List, [], ◌∷◌, ◌++◌, map, length, take, Bool, true, false, ◌||◌, Option, Some, None, refl, ◌∙◌, ap, subst, arith}
+use Rattle.std.specs.Prelude.{All, is_none, not, unwrap_or}
 use Rattle.std.specs.List.{AllByRecursion}
 use Rattle.std.proofs.lemmas.List.{length-map}
 use Rattle.std.proofs.lemmas.List.Elements.{All-from_recursion, recursion_from_All}
 use Rattle.sv_outside.specs.declared.refusal.Refusal.{Refusal}
 use Rattle.sv_outside.specs.declared.text.Signal.{Signal}
-use Rattle.svtv_table.specs.Binding.{IsWithin, bind_faults, bound_of, cell_sample, drives_of, driven_by, driven_in, faults_after, faults_by, lacks_signal, row_faults, sampled_by, sampled_in, samples_of, variables_of, wire_faults}
+use Rattle.svtv_table.specs.Binding.{IsAsWide, IsBound, IsDriven, IsSampled, wire_width, bind_faults, bound_of, cell_sample, drives_of, driven_by, driven_in, faults_after, faults_by, lacks_signal, row_faults, sampled_by, sampled_in, samples_of, variables_of, wire_faults}
+use Rattle.svtv_table.specs.Drives.{phase_drive}
 use Rattle.svtv_table.specs.Faults.{at_each, fault, fault_if}
-use Rattle.svtv_table.specs.Names.{path_of, signal_of, width_of, wire_number, wire_of}
+use Rattle.svtv_table.specs.Names.{path_of, signal_at, signal_of, width_of, wire_number, wire_of}
 use Rattle.svtv_table.specs.Reading.{IsWellFormed}
 use Rattle.svtv_table.specs.declared.bound.Drive.{Drive}
 use Rattle.svtv_table.specs.declared.bound.Sample.{Sample}
@@ -19,8 +20,10 @@ use Rattle.svtv_table.specs.declared.table.Row.{Row}
 use Rattle.svtv_table.specs.declared.table.RowKind.{RowKind}
 use Rattle.svtv_table.specs.declared.table.RowKind.TheVariants.{In, Out}
 use Rattle.svtv_table.specs.declared.table.Table.{Table}
+use Rattle.svtv_table.proofs.Apart.{drives_apart}
 use Rattle.svtv_table.proofs.Formed.{both_none}
 use Rattle.svtv_table.proofs.Places.{within_from}
+use Rattle.svtv_table.proofs.Widths.{Declares, declares, drives_wide}
 
 all_append : {A : Type 0} (P : A → Type 0) (xs ys : List A) → AllByRecursion P xs → AllByRecursion P ys → AllByRecursion P (xs ++ ys)
 all_append P [] ys h k = k
@@ -50,58 +53,78 @@ length-at_each : {A B : Type 0} (u : ℕ → B) (n : ℕ) (xs : List A) → leng
 length-at_each u n [] = refl
 length-at_each u n (x ∷ xs) = ap (λ m. suc m) (length-at_each u (n + 1) xs)
 
+row_there : (wires : List Signal) (vars : List VarDecl) (before : List Row) (line : ℕ) (row : Row) → faults_after wires vars before line row ≡ [] → is_none (wire_of wires row.path) ≡ false
+unfolding faults_after wire_faults
+row_there wires vars before line row h =
+    let fine : fault_if (lacks_signal wires row.kind row.path) (fault 29 line 2) ≡ [] = (both_none (wire_faults wires line row) (faults_by wires vars before line row.kind row) h).0 in
+    has_wire wires row.kind row.path (no_fault (lacks_signal wires row.kind row.path) (fault 29 line 2) fine)
+
+row_by_kind : (wires : List Signal) (vars : List VarDecl) (before : List Row) (line : ℕ) (row : Row) → faults_after wires vars before line row ≡ [] → faults_by wires vars before line row.kind row ≡ []
+unfolding faults_after
+row_by_kind wires vars before line row h = (both_none (wire_faults wires line row) (faults_by wires vars before line row.kind row) h).1
+
+-- the width under a path is that of the wire of its number
+number_width : (wires : List Signal) (o : Option ℕ) → is_none o ≡ false → (signal_at wires o).width ≡ wire_width wires (unwrap_or o 0)
+number_width wires None h = cc
+number_width wires (Some n) h = refl
+
+path_width : (wires : List Signal) (path : List ℕ) → is_none (wire_of wires path) ≡ false → width_of wires path ≡ wire_width wires (wire_number wires path)
+path_width wires path h = number_width wires (wire_of wires path) h
+
 module _ (wires : List Signal) (phases : ℕ) where
-  abbrev IsDriven : ℕ × List Drive → Type 0
-  IsDriven d = (d.0 < length wires) × (length d.1 ≡ phases)
+  one_sample : (wire width n : ℕ) (c : Cell) → wire < length wires → width ≡ wire_width wires wire → n < phases → AllByRecursion (IsSampled wires phases) (cell_sample wire width n c)
+  one_sample wire width n cell.Empty w e l = tt
+  one_sample wire width n (cell.Literal a) w e l = tt
+  one_sample wire width n cell.Zed w e l = tt
+  one_sample wire width n (cell.Named name) w e l = (record { wire = w; phase = l; width = e }, tt)
+  one_sample wire width n cell.Flip w e l = tt
+  one_sample wire width n cell.Free w e l = tt
 
-  abbrev IsSampled : Sample → Type 0
-  IsSampled s = (s.wire < length wires) × (s.phase < phases)
+  all_samples : (wire width n : ℕ) (cells : List Cell) → wire < length wires → width ≡ wire_width wires wire → n + length cells ≤ phases → AllByRecursion (IsSampled wires phases) (at_each (cell_sample wire width) n cells)
+  all_samples wire width n [] w e l = tt
+  all_samples wire width n (c ∷ cs) w e l =
+      all_append (IsSampled wires phases) (cell_sample wire width n c) (at_each (cell_sample wire width) (n + 1) cs) (one_sample wire width n c w e (omega (arith, l))) (all_samples wire width (n + 1) cs w e (omega (arith, l)))
 
-  one_sample : (wire width n : ℕ) (c : Cell) → wire < length wires → n < phases → AllByRecursion IsSampled (cell_sample wire width n c)
-  one_sample wire width n cell.Empty w l = tt
-  one_sample wire width n (cell.Literal a) w l = tt
-  one_sample wire width n cell.Zed w l = tt
-  one_sample wire width n (cell.Named name) w l = ((w, l), tt)
-  one_sample wire width n cell.Flip w l = tt
-  one_sample wire width n cell.Free w l = tt
+  row_driven : (vars : List VarDecl) (before : List Row) (line : ℕ) (kind : RowKind) (row : Row) → is_none (wire_of wires row.path) ≡ false → length row.cells ≡ phases → faults_by wires vars before line kind row ≡ []
+      → (kind ≡ In → Declares vars row.cells) → AllByRecursion (IsDriven wires vars phases) (driven_by wires vars kind row)
+  row_driven vars before line In row t l f d = (
+    record {
+      wire = wire_below wires row.path t;
+      long = length-at_each _ 0 row.cells ∙ l;
+      widths = subst (λ w. All (IsAsWide vars w) (at_each (phase_drive (width_of wires row.path) vars row.cells) 0 row.cells)) (path_width wires row.path t) (drives_wide _ (width_of wires row.path) vars line row.cells f (d refl));
+    },
+    tt,
+  )
+  row_driven vars before line Out row t l f d = tt
 
-  all_samples : (wire width n : ℕ) (cells : List Cell) → wire < length wires → n + length cells ≤ phases → AllByRecursion IsSampled (at_each (cell_sample wire width) n cells)
-  all_samples wire width n [] w l = tt
-  all_samples wire width n (c ∷ cs) w l =
-      all_append IsSampled (cell_sample wire width n c) (at_each (cell_sample wire width) (n + 1) cs) (one_sample wire width n c w (omega (arith, l))) (all_samples wire width (n + 1) cs w (omega (arith, l)))
+  row_sampled : (kind : RowKind) (row : Row) → is_none (wire_of wires row.path) ≡ false → length row.cells ≡ phases → AllByRecursion (IsSampled wires phases) (sampled_by wires kind row)
+  row_sampled In row t l = tt
+  row_sampled Out row t l = all_samples (wire_number wires row.path) (width_of wires row.path) 0 row.cells (wire_below wires row.path t) (path_width wires row.path t) (omega (arith, l))
 
-  row_driven : (vars : List VarDecl) (kind : RowKind) (row : Row) → wire_number wires row.path < length wires → length row.cells ≡ phases → AllByRecursion IsDriven (driven_by wires vars kind row)
-  row_driven vars In row w l = ((w, length-at_each _ 0 row.cells ∙ l), tt)
-  row_driven vars Out row w l = tt
-
-  row_sampled : (kind : RowKind) (row : Row) → wire_number wires row.path < length wires → length row.cells ≡ phases → AllByRecursion IsSampled (sampled_by wires kind row)
-  row_sampled In row w l = tt
-  row_sampled Out row w l = all_samples (wire_number wires row.path) (width_of wires row.path) 0 row.cells w (omega (arith, l))
-
-  row_wire : (vars : List VarDecl) (before : List Row) (line : ℕ) (row : Row) → faults_after wires vars before line row ≡ [] → wire_number wires row.path < length wires
-  unfolding faults_after wire_faults
-  row_wire vars before line row h =
-      let fine : fault_if (lacks_signal wires row.kind row.path) (fault 29 line 2) ≡ [] = (both_none (wire_faults wires line row) (faults_by wires vars before line row.kind row) h).0 in
-      wire_below wires row.path (has_wire wires row.kind row.path (no_fault (lacks_signal wires row.kind row.path) (fault 29 line 2) fine))
-
-  all_driven : (vars : List VarDecl) (all : List Row) (n : ℕ) (rows : List Row) → at_each (row_faults wires vars all) n rows ≡ [] → AllByRecursion (λ row. length row.cells ≡ phases) rows → AllByRecursion IsDriven (drives_of wires vars rows)
-  all_driven vars all n [] h l = tt
-  all_driven vars all n (row ∷ rows) h l =
+  all_driven : (vars : List VarDecl) (all : List Row) (n : ℕ) (rows : List Row) → at_each (row_faults wires vars all) n rows ≡ [] → AllByRecursion (λ row. length row.cells ≡ phases) rows
+      → AllByRecursion (λ row. row.kind ≡ In → Declares vars row.cells) rows → AllByRecursion (IsDriven wires vars phases) (drives_of wires vars rows)
+  all_driven vars all n [] h l d = tt
+  all_driven vars all n (row ∷ rows) h l d =
       let parts = both_none (row_faults wires vars all n row) (at_each (row_faults wires vars all) (n + 1) rows) h in
-      all_append IsDriven (driven_in wires vars row) (drives_of wires vars rows) (row_driven vars row.kind row (row_wire vars (take n all) (n + 1) row parts.0) l.0) (all_driven vars all (n + 1) rows parts.1 l.1)
+      all_append (IsDriven wires vars phases) (driven_in wires vars row) (drives_of wires vars rows)
+      (row_driven vars (take n all) (n + 1) row.kind row (row_there wires vars (take n all) (n + 1) row parts.0) l.0 (row_by_kind wires vars (take n all) (n + 1) row parts.0) d.0)
+      (all_driven vars all (n + 1) rows parts.1 l.1 d.1)
 
-  all_sampled : (vars : List VarDecl) (all : List Row) (n : ℕ) (rows : List Row) → at_each (row_faults wires vars all) n rows ≡ [] → AllByRecursion (λ row. length row.cells ≡ phases) rows → AllByRecursion IsSampled (samples_of wires rows)
+  all_sampled : (vars : List VarDecl) (all : List Row) (n : ℕ) (rows : List Row) → at_each (row_faults wires vars all) n rows ≡ [] → AllByRecursion (λ row. length row.cells ≡ phases) rows → AllByRecursion (IsSampled wires phases) (samples_of wires rows)
   all_sampled vars all n [] h l = tt
   all_sampled vars all n (row ∷ rows) h l =
       let parts = both_none (row_faults wires vars all n row) (at_each (row_faults wires vars all) (n + 1) rows) h in
-      all_append IsSampled (sampled_in wires row) (samples_of wires rows) (row_sampled row.kind row (row_wire vars (take n all) (n + 1) row parts.0) l.0) (all_sampled vars all (n + 1) rows parts.1 l.1)
+      all_append (IsSampled wires phases) (sampled_in wires row) (samples_of wires rows) (row_sampled row.kind row (row_there wires vars (take n all) (n + 1) row parts.0) l.0) (all_sampled vars all (n + 1) rows parts.1 l.1)
 
-pub is_within : (wires : List Signal) (table : Table) → IsWellFormed table → bind_faults wires table ≡ [] → IsWithin wires (bound_of wires table)
+pub is_bound : (wires : List Signal) (table : Table) → IsWellFormed table → bind_faults wires table ≡ [] → IsBound wires (bound_of wires table)
 unfolding bind_faults bound_of
-is_within wires table formed h =
-    let cells : AllByRecursion (λ row. length row.cells ≡ table.phases) table.rows = recursion_from_All (λ (row : Row). length row.cells ≡ table.phases) table.rows formed.cells in
-    let vars = variables_of wires table.rows in
+is_bound wires table formed h =
+    let rows = table.rows in
+    let vars = variables_of wires rows in
+    let cells : AllByRecursion (λ row. length row.cells ≡ table.phases) rows = recursion_from_All (λ (row : Row). length row.cells ≡ table.phases) rows formed.cells in
+    let named : AllByRecursion (λ row. row.kind ≡ In → Declares vars row.cells) rows = recursion_from_All (λ (row : Row). row.kind ≡ In → Declares vars row.cells) rows (λ i d l k. declares wires rows i d l k) in
     record {
-      drives = All-from_recursion (IsDriven wires table.phases) (drives_of wires vars table.rows) (all_driven wires table.phases vars table.rows 0 table.rows h cells);
-      samples = All-from_recursion (IsSampled wires table.phases) (samples_of wires table.rows) (all_sampled wires table.phases vars table.rows 0 table.rows h cells);
+      drives = All-from_recursion (IsDriven wires vars table.phases) (drives_of wires vars rows) (all_driven wires table.phases vars rows 0 rows h cells named);
+      apart = λ i j l k e. drives_apart wires table h i j (0, []) l k e;
+      samples = All-from_recursion (IsSampled wires table.phases) (samples_of wires rows) (all_sampled wires table.phases vars rows 0 rows h cells);
     }

@@ -178,7 +178,7 @@ pub fn bind(alloc: Global, table: &Table, wires: &[Signal]) -> Result<Bound, Tex
     ensures fine { OnOk result (spec.bind_faults wires.now table.now ≡ []) }
     ensures err { IfErr result (Stops (spec.bind_faults wires.now table.now)) }
     ensures means { IfOk result (Means wires.now table.now.rows) }
-    ensures within { IfOk result (spec.IsWithin wires.now) }
+    ensures is_bound { IfOk result (spec.IsBound wires.now) }
     ensures distinct { IfOk result (λ bound. IsDistinct bytes_eq (map names.name_of bound.vars)) }
     ensures var_widths { IfOk result (λ bound. All (λ var. spec.HasWidth var.width) bound.vars) }
 {
