@@ -26,11 +26,11 @@ use Rattle.sv_cursor.specs.declared.sort.Sort.TheVariants as s
 use Rattle.sv_cursor.specs.Sorts.{sort, keyword_text, mark_text}
 use Rattle.sv_cursor.proofs.Tested.{mark_here, literal_here, id_here, keyword_here, system_here}
 use Rattle.sv_expr_parser.specs.declared.ends.Open.{Open}
-use Rattle.sv_expr_parser.specs.Signs.{unary_name, binary_name}
+use Rattle.sv_expr_words.specs.Signs.{unary_name, binary_name}
 use Rattle.sv_expr_parser.specs.Ends.{nothing_open, ended, going_on, opened, closed, asked, answered, after_mark, after_sort, after, all_after, may_end, CanEnd}
 use Rattle.sv_expr_parser.specs.Parsed.{IsSpelledBy}
-use Rattle.sv_expr_parser.proofs.Tokens.{some_mark}
-use Rattle.sv_expr_parser.proofs.Climbing.{binary_text}
+use Rattle.sv_expr_reader.proofs.Tokens.{some_mark}
+use Rattle.sv_expr_reader.proofs.Climbing.{binary_text}
 
 -- What is open changes so from the first list up to the second.
 abbrev pub Changes : (Open → Open) → List Token → List Token → Type 0

@@ -11,14 +11,14 @@ use Rattle.sv_cursor.specs.declared.error.ParseErr.{ParseErr}
 use Rattle.sv_cursor.specs.declared.error.ParseErr.TheVariants.{Memory, Syntax, TooDeep}
 use Rattle.sv_cursor.specs.Parsers.{Outcome, Reads}
 use Rattle.sv_cursor.proofs.Readers.{Agrees, Placed}
-use Rattle.sv_expr_parser.specs.Reading.{expr}
-use Rattle.sv_expr_parser.specs.Answers.{IsSpelled, Decides}
+use Rattle.sv_expr_reader.specs.Reading.{expr}
+use Rattle.sv_expr_reader.specs.Answers.{IsSpelled, Decides}
 use Rattle.sv_expr_parser.specs.Parsed.{IsSpelledBy, NoneBeyond, IsFront, RefusesFront, IsLongest, Refuses}
 use Rattle.sv_expr_parser.specs.Ends.{CanEnd, all_after, nothing_open, ended}
-use Rattle.sv_expr_parser.proofs.Tokens.{Bad, moved_expr}
+use Rattle.sv_expr_reader.proofs.Tokens.{Bad, moved_expr}
 use Rattle.sv_expr_parser.proofs.Endings.{can_end}
-use Rattle.sv_expr_parser.proofs.Heights.{short}
-use Rattle.sv_expr_parser.proofs.Laws.{expr_reader, decides, stops_at_end}
+use Rattle.sv_expr_reader.proofs.Heights.{short}
+use Rattle.sv_expr_reader.proofs.Laws.{expr_reader, decides, stops_at_end}
 
 -- ---- a front of the tokens
 

@@ -1,16 +1,3 @@
-pub mod Bounded
-pub mod Capped
-pub mod Climbing
 pub mod Endings
-pub mod First
 pub mod Fronts
-pub mod Heights
-pub mod Laws
-pub mod Level
-pub mod Parts
-pub mod Primaries
-pub mod SelectParts
 pub mod Shifted
-pub mod Targets
-pub mod Tokens
-pub mod Turns

@@ -5,7 +5,7 @@ use Rattle.sv_outside.specs.declared.refusal.Place.{Place}
 use Rattle.sv_outside.specs.declared.text.Token.{Token}
 use Rattle.sv_tree.specs.declared.exprs.Expr.{Expr}
 use Rattle.sv_cursor.specs.declared.error.ParseErr.TheVariants.{Syntax, TooDeep}
-use Rattle.sv_expr_parser.specs.Answers.{IsSpelled}
+use Rattle.sv_expr_reader.specs.Answers.{IsSpelled}
 use Rattle.sv_cursor.specs.Refusals.{refused, syntax_number_of, place_at}
 use Rattle.sv_expr_parser.specs.Parsed.{IsLongest, IsParsed}
 

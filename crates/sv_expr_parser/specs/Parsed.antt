@@ -9,8 +9,8 @@ use Rattle.sv_tree.specs.Nesting.{expr_depths, IsTooDeep}
 use Rattle.sv_cursor.specs.declared.error.ParseErr.{ParseErr}
 use Rattle.sv_cursor.specs.declared.error.ParseErr.TheVariants.{Memory, Syntax, TooDeep}
 use Rattle.sv_cursor.specs.Refusals.{place_at, syntax_number_of, refused}
-use Rattle.sv_expr_parser.specs.Answers.{IsSpelled}
-use Rattle.sv_expr_parser.specs.Reading.{expr}
+use Rattle.sv_expr_reader.specs.Answers.{IsSpelled}
+use Rattle.sv_expr_reader.specs.Reading.{expr}
 
 -- The first n tokens spell the expression.
 abbrev pub IsSpelledBy : Expr → List Token → ℕ → Type 0

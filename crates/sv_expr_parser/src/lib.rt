@@ -1,16 +1,7 @@
-//! Expressions are read by precedence climbing.
+//! The longest expression from a token on.
 #![tactic(auto)]
 
 mod ends;
-mod grammar;
-mod nesting;
-mod openers;
-mod operators;
 mod parse;
-mod signs;
-mod tails;
 
-pub use openers::{Joiner, Opener, SelectOpener};
-pub use operators::{begins, expr, selects};
 pub use parse::parse_expr;
-pub use tails::{BraceTail, NameTail};

@@ -2,12 +2,12 @@
 ghost use Rattle.std.specs.Prelude.{◌≤◌, length};
 ghost use Rattle.sv_cursor.specs.Parsers.{Reads};
 ghost use Rattle.sv_expr_parser.specs.Parsed.{IsFront, IsLongest, IsParsed, NoneBeyond, Refuses, RefusesFront};
-ghost use Rattle.sv_expr_parser.specs.Reading.{expr as expr_read};
+ghost use Rattle.sv_expr_reader.specs.Reading.{expr as expr_read};
 
 use crate::ends::last_end;
-use crate::operators::expr;
 use std::alloc::Global;
 use sv_cursor::{Cursor, ParseErr, place_at, refusal, syntax_number};
+use sv_expr_reader::expr;
 use sv_outside::{Place, TextErr, Token};
 use sv_tree::Expr;
 

@@ -10,7 +10,7 @@ use Rattle.sv_cursor.specs.Sorts.{sort}
 use Rattle.sv_cursor.specs.Parsers.{told}
 use Rattle.sv_cursor.specs.Tests.{if_so, is_mark, same_mark, mark_test}
 use Rattle.sv_cursor.proofs.Tested.{mark_told, mark_here}
-use Rattle.sv_expr_parser.specs.Signs.{opener, opener_test}
+use Rattle.sv_expr_words.specs.Signs.{opener, opener_test}
 use Rattle.sv_instance_parser.specs.declared.openers.PinsOpener.TheVariants as pins_by
 use Rattle.sv_word_parser.specs.Combined.{sort_test}
 use Rattle.sv_instance_parser.specs.Pins.{ordered_if, pins_by_mark, pins_by_sort}

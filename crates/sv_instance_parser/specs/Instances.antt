@@ -16,7 +16,7 @@ use Rattle.sv_tree.specs.declared.design.Item.TheVariants as it
 use Rattle.sv_cursor.specs.declared.sort.Mark.TheVariants as m
 use Rattle.sv_cursor.specs.Parsers.{Parser, ◌<$>◌, ◌⊗◌, refuse, token, by_told, maybe_read, many}
 use Rattle.sv_cursor.specs.Tests.{mark_test, id_test, mark}
-use Rattle.sv_expr_parser.specs.Signs.{opener_test}
+use Rattle.sv_expr_words.specs.Signs.{opener_test}
 use Rattle.sv_instance_parser.specs.declared.openers.PinsOpener.{PinsOpener}
 use Rattle.sv_instance_parser.specs.declared.openers.PinsOpener.TheVariants as pins_by
 use Rattle.sv_word_parser.specs.declared.openers.TailOpener.{TailOpener}

@@ -4,7 +4,7 @@ use Rattle.sv_cursor.specs.declared.sort.Mark.{Mark as MarkName}
 use Rattle.sv_cursor.specs.declared.sort.Mark.TheVariants as m
 use Rattle.sv_cursor.specs.declared.sort.Sort.{Sort}
 use Rattle.sv_cursor.specs.declared.sort.Sort.TheVariants as s
-use Rattle.sv_expr_parser.specs.Signs.{opener}
+use Rattle.sv_expr_words.specs.Signs.{opener}
 use Rattle.sv_instance_parser.specs.declared.openers.PinsOpener.{PinsOpener}
 use Rattle.sv_instance_parser.specs.declared.openers.PinsOpener.TheVariants as pins_by
 

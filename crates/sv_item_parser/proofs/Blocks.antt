@@ -24,7 +24,7 @@ use Rattle.sv_cursor.specs.Sorts.{mark_text, keyword_text}
 use Rattle.sv_cursor.specs.Tests.{same_mark, mark_test}
 use Rattle.sv_cursor.specs.Parsers.{Parser, told}
 use Rattle.sv_cursor.proofs.Readers.{IsReader, IsMoved}
-use Rattle.sv_expr_parser.proofs.Tokens.{Any, placed_mark, some_mark}
+use Rattle.sv_expr_reader.proofs.Tokens.{Any, placed_mark, some_mark}
 use Rattle.sv_item_parser.specs.declared.tails.AlwaysTail.{AlwaysTail}
 use Rattle.sv_item_parser.specs.declared.tails.AlwaysTail.TheVariants as tail
 use Rattle.sv_word_parser.specs.declared.openers.AlwaysWord.{AlwaysWord}

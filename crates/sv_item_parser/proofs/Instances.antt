@@ -27,9 +27,9 @@ use Rattle.sv_cursor.specs.Sorts.{mark_text}
 use Rattle.sv_cursor.specs.Tests.{first_sort, same_mark, mark_test}
 use Rattle.sv_cursor.specs.Parsers.{Parser, told}
 use Rattle.sv_cursor.proofs.Readers.{IsReader, IsMoved}
-use Rattle.sv_expr_parser.specs.declared.openers.Opener.{Opener}
-use Rattle.sv_expr_parser.specs.Signs.{opener, opener_test}
-use Rattle.sv_expr_parser.proofs.Tokens.{Any, Stops}
+use Rattle.sv_expr_words.specs.declared.openers.Opener.{Opener}
+use Rattle.sv_expr_words.specs.Signs.{opener, opener_test}
+use Rattle.sv_expr_reader.proofs.Tokens.{Any, Stops}
 use Rattle.sv_instance_parser.specs.declared.openers.PinsOpener.{PinsOpener}
 use Rattle.sv_instance_parser.specs.declared.openers.PinsOpener.TheVariants as pins_by
 use Rattle.sv_word_parser.specs.declared.openers.TailOpener.{TailOpener}

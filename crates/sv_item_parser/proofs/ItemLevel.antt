@@ -30,7 +30,7 @@ use Rattle.sv_cursor.specs.Sorts.{mark_text, keyword_text}
 use Rattle.sv_cursor.specs.Tests.{same_mark, mark_test, keyword_test, keyword}
 use Rattle.sv_cursor.specs.Parsers.{Outcome, Parser, and_then, ◌>>=◌, pure, refuse, too_deep, told, branch, many}
 use Rattle.sv_cursor.proofs.Readers.{IsReader, IsMoved, BadAt, Agrees, meets_weaker, less_reader, choose_reader, refuse_reader, deep_reader}
-use Rattle.sv_expr_parser.proofs.Tokens.{Stops}
+use Rattle.sv_expr_reader.proofs.Tokens.{Stops}
 use Rattle.sv_word_parser.specs.declared.openers.ItemOpener.{ItemOpener}
 use Rattle.sv_word_parser.specs.declared.openers.ItemOpener.TheVariants as item_by
 use Rattle.sv_instance_parser.specs.declared.tails.NameTail.{NameTail}

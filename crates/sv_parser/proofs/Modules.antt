@@ -22,7 +22,7 @@ use Rattle.sv_cursor.specs.Sorts.{mark_text, keyword_text}
 use Rattle.sv_cursor.specs.Tests.{same_mark, same_keyword, mark_test}
 use Rattle.sv_cursor.specs.Parsers.{told, cons}
 use Rattle.sv_cursor.proofs.Readers.{IsReader, IsMoved, BadAt, less_reader, nests_reader}
-use Rattle.sv_expr_parser.proofs.Tokens.{Any, Stops}
+use Rattle.sv_expr_reader.proofs.Tokens.{Any, Stops}
 use Rattle.sv_word_parser.specs.Combined.{word_of, word_test}
 use Rattle.sv_word_parser.specs.Words.{way_by_word, net_by_word}
 use Rattle.sv_type_parser.specs.Params.{TypedName, made_port}

@@ -22,9 +22,9 @@ use Rattle.sv_cursor.specs.Sorts.{mark_text, keyword_text}
 use Rattle.sv_cursor.specs.Tests.{first_sort, same_mark, is_mark, mark_test, keyword_test}
 use Rattle.sv_cursor.specs.Parsers.{Parser, told}
 use Rattle.sv_cursor.proofs.Readers.{IsReader, IsMoved, less_reader}
-use Rattle.sv_expr_parser.specs.declared.openers.Opener.{Opener}
-use Rattle.sv_expr_parser.specs.Signs.{opener, opener_test}
-use Rattle.sv_expr_parser.proofs.Tokens.{placed_mark, some_mark}
+use Rattle.sv_expr_words.specs.declared.openers.Opener.{Opener}
+use Rattle.sv_expr_words.specs.Signs.{opener, opener_test}
+use Rattle.sv_expr_reader.proofs.Tokens.{placed_mark, some_mark}
 use Rattle.sv_word_parser.specs.declared.openers.StmtOpener.{StmtOpener}
 use Rattle.sv_word_parser.specs.Combined.{sort_test}
 use Rattle.sv_word_parser.specs.Words.{stmt_by_sort}

@@ -23,12 +23,12 @@ use Rattle.sv_cursor.specs.Sorts.{mark_text, keyword_text}
 use Rattle.sv_cursor.specs.Tests.{first_sort, same_keyword, is_keyword, keyword_test}
 use Rattle.sv_cursor.specs.Parsers.{Outcome, and_then, told, branch, refuse}
 use Rattle.sv_cursor.proofs.Readers.{Agrees}
-use Rattle.sv_expr_parser.specs.declared.openers.Opener.{Opener}
-use Rattle.sv_expr_parser.specs.Signs.{opener, opener_test}
-use Rattle.sv_expr_parser.specs.Reading.{expr, level, prefix, prefix_for, climb}
-use Rattle.sv_expr_parser.proofs.Tokens.{Bad}
-use Rattle.sv_expr_parser.proofs.Heights.{short}
-use Rattle.sv_expr_parser.proofs.Laws.{expr_reader}
+use Rattle.sv_expr_words.specs.declared.openers.Opener.{Opener}
+use Rattle.sv_expr_words.specs.Signs.{opener, opener_test}
+use Rattle.sv_expr_reader.specs.Reading.{expr, level, prefix, prefix_for, climb}
+use Rattle.sv_expr_reader.proofs.Tokens.{Bad}
+use Rattle.sv_expr_reader.proofs.Heights.{short}
+use Rattle.sv_expr_reader.proofs.Laws.{expr_reader}
 use Rattle.sv_word_parser.specs.declared.openers.TargetOpener.{TargetOpener}
 use Rattle.sv_word_parser.specs.declared.openers.StmtOpener.{StmtOpener}
 use Rattle.sv_word_parser.specs.declared.openers.StmtOpener.TheVariants as stmt_by

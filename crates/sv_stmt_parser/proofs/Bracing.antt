@@ -12,7 +12,7 @@ use Rattle.sv_cursor.specs.declared.sort.Mark.TheVariants as m
 use Rattle.sv_cursor.specs.Tests.{mark_test, id_test, mark}
 use Rattle.sv_cursor.specs.Parsers.{Outcome, Parser, and_then, ◌>>=◌, ◌<$>◌, ◌⊗◌, pure, refuse, told, next, take_told, token, branch, cons, many_from, many}
 use Rattle.sv_cursor.proofs.Readers.{Meets, then_meets, meets_weaker}
-use Rattle.sv_expr_parser.specs.Reading.{expr, selects}
+use Rattle.sv_expr_reader.specs.Reading.{expr, selects}
 use Rattle.sv_stmt_parser.specs.declared.lvalues.OpenBrace.{OpenBrace}
 use Rattle.sv_word_parser.specs.declared.openers.TargetOpener.{TargetOpener}
 use Rattle.sv_word_parser.specs.declared.openers.TargetOpener.TheVariants as target_by

@@ -26,7 +26,7 @@ use Rattle.sv_cursor.specs.Parsers.{Parser, told, token}
 use Rattle.sv_cursor.proofs.Readers.{IsReader, IsMoved, Told, one_nest, token_reader, less_reader, pure_reader}
 use Rattle.sv_cursor.proofs.Sorted.{equal}
 use Rattle.sv_cursor.proofs.Tested.{name_of, told_of_name}
-use Rattle.sv_expr_parser.proofs.Tokens.{Any, Stops, outside}
+use Rattle.sv_expr_reader.proofs.Tokens.{Any, Stops, outside}
 use Rattle.sv_stmt_parser.specs.declared.tails.StepTail.{StepTail}
 use Rattle.sv_stmt_parser.specs.declared.tails.StepTail.TheVariants as tail
 use Rattle.sv_word_parser.specs.declared.openers.StepOpener.{StepOpener}

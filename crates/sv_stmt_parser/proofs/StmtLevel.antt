@@ -31,8 +31,8 @@ use Rattle.sv_cursor.specs.Sorts.{mark_text, keyword_text}
 use Rattle.sv_cursor.specs.Tests.{same_keyword, keyword_test}
 use Rattle.sv_cursor.specs.Parsers.{Parser, told}
 use Rattle.sv_cursor.proofs.Readers.{IsReader, BadAt, deep_reader}
-use Rattle.sv_expr_parser.specs.Signs.{opener}
-use Rattle.sv_expr_parser.proofs.Tokens.{placed_mark, some_mark}
+use Rattle.sv_expr_words.specs.Signs.{opener}
+use Rattle.sv_expr_reader.proofs.Tokens.{placed_mark, some_mark}
 use Rattle.sv_stmt_parser.specs.declared.tails.BranchTail.{BranchTail}
 use Rattle.sv_stmt_parser.specs.declared.tails.BranchTail.TheVariants as branch_tail
 use Rattle.sv_word_parser.specs.declared.openers.StmtOpener.{StmtOpener}

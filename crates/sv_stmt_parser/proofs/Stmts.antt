@@ -25,8 +25,8 @@ use Rattle.sv_cursor.specs.Tests.{same_keyword}
 use Rattle.sv_cursor.specs.Parsers.{token}
 use Rattle.sv_cursor.proofs.Readers.{IsReader, Told, one_nest, token_reader, less_reader}
 use Rattle.sv_cursor.proofs.Tested.{mark_here, sort_mark}
-use Rattle.sv_expr_parser.specs.Signs.{opener, opener_test}
-use Rattle.sv_expr_parser.proofs.Tokens.{Any, outside}
+use Rattle.sv_expr_words.specs.Signs.{opener, opener_test}
+use Rattle.sv_expr_reader.proofs.Tokens.{Any, outside}
 use Rattle.sv_word_parser.specs.Combined.{sign_of}
 use Rattle.sv_word_parser.specs.Words.{assign_by_mark}
 use Rattle.sv_stmt_parser.specs.Stmts.{with_place, assign_test, Turns, turns}
@@ -92,7 +92,7 @@ pub assign_no_select : (c : AssignMark × Place) (i o : List Token) → AssignSp
 assign_no_select (x, p) [] o h = absurd h
 assign_no_select (x, p) (a ∷ i) o h = no_select (so.Mark (assign_name x)) (a ∷ i) (mark_here a (assign_name x) h.0.0 (h.0.1 ∙ assign_texts x)) (by_mark x)
   where
-    by_mark : (x : AssignMark) → Rattle.sv_expr_parser.specs.Signs.select_opener (so.Mark (assign_name x)) ≡ None
+    by_mark : (x : AssignMark) → Rattle.sv_expr_words.specs.Signs.select_opener (so.Mark (assign_name x)) ≡ None
     by_mark assign_mark.Blocking = refl
     by_mark assign_mark.Nonblocking = refl
 

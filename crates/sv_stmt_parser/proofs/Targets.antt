@@ -23,11 +23,11 @@ use Rattle.sv_cursor.specs.Sorts.{mark_text}
 use Rattle.sv_cursor.specs.Tests.{same_mark, mark_test, mark}
 use Rattle.sv_cursor.specs.Parsers.{Outcome, Parser, ◌>>=◌, and_then, pure, told, branch, refuse}
 use Rattle.sv_cursor.proofs.Readers.{IsReader, BadAt, Agrees, Chain, meets_weaker, nests_reader, less_reader, refuse_reader}
-use Rattle.sv_expr_parser.specs.Signs.{select_test, select_opener}
-use Rattle.sv_expr_parser.specs.Reading.{expr, selects}
-use Rattle.sv_expr_parser.proofs.Tokens.{Bad, Any}
-use Rattle.sv_expr_parser.proofs.SelectParts.{select_part, selects_reader, chain_of, of_chain}
-use Rattle.sv_expr_parser.proofs.Laws.{expr_reader}
+use Rattle.sv_expr_words.specs.Signs.{select_test, select_opener}
+use Rattle.sv_expr_reader.specs.Reading.{expr, selects}
+use Rattle.sv_expr_reader.proofs.Tokens.{Bad, Any}
+use Rattle.sv_expr_reader.proofs.SelectParts.{select_part, selects_reader, chain_of, of_chain}
+use Rattle.sv_expr_reader.proofs.Laws.{expr_reader}
 use Rattle.sv_word_parser.specs.declared.openers.TargetOpener.{TargetOpener}
 use Rattle.sv_word_parser.specs.declared.openers.TargetOpener.TheVariants as target_by
 use Rattle.sv_word_parser.specs.Combined.{◌◂◌, sort_test, listed}

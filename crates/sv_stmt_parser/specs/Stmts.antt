@@ -19,7 +19,7 @@ use Rattle.sv_cursor.specs.declared.sort.Mark.TheVariants as m
 use Rattle.sv_cursor.specs.Sorts.{sort}
 use Rattle.sv_cursor.specs.Parsers.{Parser, ◌<$>◌, ◌▷◌, ◌⊗◌, refuse, too_deep, token, by_told, maybe_read, many}
 use Rattle.sv_cursor.specs.Tests.{mark_test, keyword_test, id_test, mark, keyword}
-use Rattle.sv_expr_parser.specs.Signs.{opener_test}
+use Rattle.sv_expr_words.specs.Signs.{opener_test}
 use Rattle.sv_stmt_parser.specs.declared.tails.BranchTail.{BranchTail}
 use Rattle.sv_stmt_parser.specs.declared.tails.BranchTail.TheVariants as branch_tail
 use Rattle.sv_word_parser.specs.declared.openers.StmtOpener.{StmtOpener}

@@ -15,7 +15,7 @@ use Rattle.sv_tree.specs.declared.stmts.StepSign.{StepSign}
 use Rattle.sv_cursor.specs.declared.sort.Mark.TheVariants as m
 use Rattle.sv_cursor.specs.Parsers.{Parser, ◌<$>◌, ◌⊗◌, pure, refuse, token, by_told, maybe_read}
 use Rattle.sv_cursor.specs.Tests.{mark_test, id_test, mark}
-use Rattle.sv_expr_parser.specs.Reading.{expr, selects}
+use Rattle.sv_expr_reader.specs.Reading.{expr, selects}
 use Rattle.sv_word_parser.specs.declared.openers.TargetOpener.{TargetOpener}
 use Rattle.sv_word_parser.specs.declared.openers.TargetOpener.TheVariants as target_by
 use Rattle.sv_word_parser.specs.declared.openers.StepOpener.{StepOpener}

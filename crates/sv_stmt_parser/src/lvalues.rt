@@ -9,7 +9,7 @@ ghost use Rattle.sv_word_parser.specs.Words as words;
 use items::Items;
 use std::alloc::Global;
 use sv_cursor::{Cursor, Mark, ParseErr, Sort};
-use sv_expr_parser::selects;
+use sv_expr_reader::selects;
 use sv_outside::Place;
 use sv_tree::Lvalue;
 use sv_type_parser::{MOST_NESTING, MOST_OPEN};

@@ -4,7 +4,7 @@ ghost use Rattle.std.specs.Prelude.{◌≡◌, ◌∷◌, ◌++◌, is_some, IfO
 ghost use Rattle.sv_cursor.specs.Parsers as parser;
 ghost use Rattle.sv_cursor.specs.Parsers.{Reads, ◌⊗◌, ◌▷◌, told};
 ghost use Rattle.sv_cursor.specs.Tests as test;
-ghost use Rattle.sv_expr_parser.specs.Signs.{opener_test};
+ghost use Rattle.sv_expr_words.specs.Signs.{opener_test};
 ghost use Rattle.sv_word_parser.specs.Combined.{◌▸◌, ◌◂◌, sign_of, sort_test};
 ghost use Rattle.sv_type_parser.specs.Forms as forms;
 ghost use Rattle.sv_type_parser.specs.Lists as list;
@@ -19,7 +19,7 @@ use crate::tails::BranchTail;
 use items::{Boxed, Items, both};
 use std::alloc::{AllocError, Global};
 use sv_cursor::{Cursor, Keyword, Mark, ParseErr, Sort};
-use sv_expr_parser::begins;
+use sv_expr_words::begins;
 use sv_outside::Place;
 use sv_tree::{Arm, AssignMark, Expr, Step, Stmt, WholeWord, Word};
 use sv_type_parser::{expression, expressions, with_first};

@@ -14,9 +14,9 @@ use Rattle.sv_cursor.specs.declared.sort.Sort.TheVariants as s
 use Rattle.sv_cursor.specs.Sorts.{mark_text}
 use Rattle.sv_cursor.specs.Tests.{same_mark, is_mark}
 use Rattle.sv_cursor.proofs.Readers.{IsReader, BadAt, bad_map, nests_reader, less_reader}
-use Rattle.sv_expr_parser.specs.Signs.{select_test, joiner_test, strength_of, select_opener, joiner}
-use Rattle.sv_expr_parser.proofs.Tokens.{Bad, Stops}
-use Rattle.sv_expr_parser.proofs.Laws.{expr_reader}
+use Rattle.sv_expr_words.specs.Signs.{select_test, joiner_test, strength_of, select_opener, joiner}
+use Rattle.sv_expr_reader.proofs.Tokens.{Bad, Stops}
+use Rattle.sv_expr_reader.proofs.Laws.{expr_reader}
 use Rattle.sv_type_parser.specs.Forms.{expression}
 use Rattle.sv_type_parser.proofs.Rules.{Rule, rule_of, IsFirst, first_of_mark, no_mark, deeper}
 

@@ -32,7 +32,7 @@ use Rattle.sv_cursor.specs.Sorts.{mark_text, keyword_text}
 use Rattle.sv_cursor.specs.Tests.{first_sort, same_mark, mark_test}
 use Rattle.sv_cursor.specs.Parsers.{Parser, told}
 use Rattle.sv_cursor.proofs.Readers.{IsReader}
-use Rattle.sv_expr_parser.proofs.Tokens.{Any, Stops}
+use Rattle.sv_expr_reader.proofs.Tokens.{Any, Stops}
 use Rattle.sv_word_parser.specs.declared.openers.ParamOpener.{ParamOpener}
 use Rattle.sv_word_parser.specs.declared.openers.ParamOpener.TheVariants as param_by
 use Rattle.sv_word_parser.specs.Combined.{word_of, word_test, sort_test}

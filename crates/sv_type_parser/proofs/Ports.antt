@@ -23,7 +23,7 @@ use Rattle.sv_cursor.specs.declared.sort.Sort.TheVariants as so
 use Rattle.sv_cursor.specs.Tests.{first_sort}
 use Rattle.sv_cursor.specs.Parsers.{told}
 use Rattle.sv_cursor.proofs.Readers.{IsReader, IsMoved, BadAt}
-use Rattle.sv_expr_parser.proofs.Tokens.{Any}
+use Rattle.sv_expr_reader.proofs.Tokens.{Any}
 use Rattle.sv_word_parser.specs.declared.openers.TypeOpener.{TypeOpener}
 use Rattle.sv_word_parser.specs.declared.openers.TypeOpener.TheVariants as type_by
 use Rattle.sv_word_parser.specs.Combined.{word_of, word_test, sort_test}

@@ -20,7 +20,7 @@ use Rattle.sv_cursor.specs.Tests.{first_sort, same_keyword, is_mark, is_keyword,
 use Rattle.sv_cursor.specs.Parsers.{Parser, ◌<$>◌, ◌▷◌, ◌⊗◌, pure, refuse, told, token, branch, by_told, maybe_read, cons, many}
 use Rattle.sv_cursor.proofs.Readers.{IsReader, IsMoved, BadAt, Meets, Told, one_nest, token_reader, pair_reader, equal_reader, nests_reader, less_reader, choose_reader, refuse_reader, pure_reader, maybe_reader, moved_maybe, many_reader, moved_each, moved_told, moved_pair, moved_less, then_meets}
 use Rattle.sv_cursor.proofs.Tested.{mark_here, sort_mark, mark_tells, mark_at_of, told_of_mark_at, name_of, told_of_name, keyword_here, key_at_of, told_of_key_at, id_here}
-use Rattle.sv_expr_parser.proofs.Tokens.{outside, Any, placed_mark, some_mark, told_to_mark}
+use Rattle.sv_expr_reader.proofs.Tokens.{outside, Any, placed_mark, some_mark, told_to_mark}
 use Rattle.sv_word_parser.specs.Combined.{◌▸◌, ◌◂◌, word_of, word_test, sign_of, sign_test, sort_test, listed, some_of}
 
 pub record Rule (Bad : Nesting → Type 0) (depth : ℕ) (A : Type 0) : Type 1 where

@@ -30,7 +30,7 @@ use Rattle.sv_cursor.specs.Sorts.{mark_text, keyword_text}
 use Rattle.sv_cursor.specs.Tests.{first_sort, same_mark, is_mark, mark_test}
 use Rattle.sv_cursor.specs.Parsers.{Parser, told}
 use Rattle.sv_cursor.proofs.Readers.{IsReader, BadAt, deep_reader}
-use Rattle.sv_expr_parser.proofs.Tokens.{Any, Stops, told_of_mark}
+use Rattle.sv_expr_reader.proofs.Tokens.{Any, Stops, told_of_mark}
 use Rattle.sv_word_parser.specs.declared.openers.TypeOpener.{TypeOpener}
 use Rattle.sv_word_parser.specs.declared.openers.TypeOpener.TheVariants as type_by
 use Rattle.sv_word_parser.specs.Combined.{word_of, word_test, sort_test}

@@ -16,7 +16,7 @@ use Rattle.sv_cursor.specs.declared.sort.Keyword.TheVariants as key
 use Rattle.sv_cursor.specs.declared.sort.Mark.TheVariants as m
 use Rattle.sv_cursor.specs.Parsers.{Parser, ◌<$>◌, ◌⊗◌, refuse, too_deep, token, by_told, maybe_read, many}
 use Rattle.sv_cursor.specs.Tests.{mark_test, id_test, mark, keyword}
-use Rattle.sv_expr_parser.specs.Reading.{expr}
+use Rattle.sv_expr_reader.specs.Reading.{expr}
 use Rattle.sv_word_parser.specs.declared.openers.TypeOpener.{TypeOpener}
 use Rattle.sv_word_parser.specs.declared.openers.TypeOpener.TheVariants as type_by
 use Rattle.sv_word_parser.specs.Combined.{◌▸◌, ◌◂◌, word_test, sort_test, listed, some_of}

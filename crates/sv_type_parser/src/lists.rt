@@ -3,7 +3,7 @@ ghost use Rattle.std.specs.Prelude.{◌≡◌, ◌∷◌, IfOk};
 ghost use Rattle.sv_cursor.specs.Parsers as parser;
 ghost use Rattle.sv_cursor.specs.Parsers.{Reads};
 ghost use Rattle.sv_cursor.specs.Tests as test;
-ghost use Rattle.sv_expr_parser.specs.Reading as expr_spec;
+ghost use Rattle.sv_expr_reader.specs.Reading as expr_spec;
 ghost use Rattle.sv_word_parser.specs.Combined.{listed};
 ghost use Rattle.sv_type_parser.specs.Forms as spec;
 ghost use Rattle.sv_type_parser.specs.Lists as list;
@@ -11,7 +11,7 @@ ghost use Rattle.sv_type_parser.specs.Lists as list;
 use items::{Items, both};
 use std::alloc::{AllocError, Global};
 use sv_cursor::{Cursor, Mark, ParseErr};
-use sv_expr_parser::expr;
+use sv_expr_reader::expr;
 use sv_tree::{Expr, Word};
 use sv_word_parser::sees;
 

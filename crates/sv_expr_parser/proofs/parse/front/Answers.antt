@@ -1,5 +1,5 @@
 use Rattle.std.proofs.Common.{◌≡◌, ◌<◌, length, take, Ok, sym, ◌∙◌, arith}
-use Rattle.sv_expr_parser.specs.Reading.{expr}
+use Rattle.sv_expr_reader.specs.Reading.{expr}
 use Rattle.sv_expr_parser.proofs.Fronts.{front_whole, front_part, refuses_front}
 use Rattle.sv_expr_parser.proofs.parse.front.Goals as goal
 

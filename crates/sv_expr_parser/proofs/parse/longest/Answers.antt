@@ -1,5 +1,5 @@
 use Rattle.std.proofs.Common.{◌≡◌, Ok, arith}
-use Rattle.sv_expr_parser.specs.Reading.{expr}
+use Rattle.sv_expr_reader.specs.Reading.{expr}
 use Rattle.sv_expr_parser.proofs.Fronts.{read_longest, refuses, left_less}
 use Rattle.sv_expr_parser.proofs.parse.longest.Goals as goal
 

@@ -1,6 +1,6 @@
 use Rattle.std.proofs.Common.{◌≡◌, ap, sym, ◌∙◌, Err, arith}
 use Rattle.sv_stmt_parser.specs.Stmts.{stmt}
-use Rattle.sv_expr_parser.proofs.Turns.{deeper}
+use Rattle.sv_expr_reader.proofs.Turns.{deeper}
 use Rattle.sv_stmt_parser.proofs.statements.+stmt.Goals as goal
 
 pub returns : goal.returns

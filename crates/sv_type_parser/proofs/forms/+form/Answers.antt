@@ -1,6 +1,6 @@
 use Rattle.std.proofs.Common.{◌≡◌, ap, sym, ◌∙◌, Err, arith}
 use Rattle.sv_type_parser.specs.Forms.{form}
-use Rattle.sv_expr_parser.proofs.Turns.{deeper}
+use Rattle.sv_expr_reader.proofs.Turns.{deeper}
 use Rattle.sv_type_parser.proofs.forms.+form.Goals as goal
 
 pub returns : goal.returns

@@ -1,6 +1,6 @@
 use Rattle.std.proofs.Common.{◌≡◌, ap, sym, ◌∙◌, Err, arith}
 use Rattle.sv_item_parser.specs.Regions.{loop_of}
-use Rattle.sv_expr_parser.proofs.Turns.{deeper}
+use Rattle.sv_expr_reader.proofs.Turns.{deeper}
 use Rattle.sv_item_parser.proofs.regions.Regions.counted.Goals as goal
 
 pub returns : goal.returns

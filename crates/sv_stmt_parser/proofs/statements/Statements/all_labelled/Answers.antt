@@ -2,7 +2,7 @@ use Rattle.std.proofs.Common.{◌+◌, ◌-◌, length, sym, ◌∙◌, rules, a
 use Rattle.std.proofs.lemmas.Grind.{common_steps}
 use Rattle.sv_cursor.specs.Parsers.{many_from}
 use Rattle.sv_cursor.proofs.Turns.{handed, after_none, many_ends, many_stops, many_fails, many_goes}
-use Rattle.sv_expr_parser.specs.Signs.{opener_test}
+use Rattle.sv_expr_words.specs.Signs.{opener_test}
 use Rattle.sv_stmt_parser.specs.Stmts.{stmt, labelled, all_labelled}
 use Rattle.sv_stmt_parser.proofs.statements.Statements.all_labelled.Goals as goal
 

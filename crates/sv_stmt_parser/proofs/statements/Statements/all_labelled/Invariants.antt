@@ -1,7 +1,7 @@
 use Rattle.std.proofs.Common.{◌≡◌, ◌-◌}
 use Rattle.sv_cursor.specs.Parsers.{many_from}
 use Rattle.sv_cursor.proofs.Turns.{after}
-use Rattle.sv_expr_parser.specs.Signs.{opener_test}
+use Rattle.sv_expr_words.specs.Signs.{opener_test}
 use Rattle.sv_stmt_parser.specs.Stmts.{stmt, labelled, all_labelled}
 use Rattle.sv_stmt_parser.proofs.statements.Statements.all_labelled.Given as goal
 

@@ -1,0 +1,12 @@
+pub mod Bounded
+pub mod Capped
+pub mod Climbing
+pub mod Heights
+pub mod Laws
+pub mod Level
+pub mod Parts
+pub mod Primaries
+pub mod SelectParts
+pub mod Targets
+pub mod Tokens
+pub mod Turns

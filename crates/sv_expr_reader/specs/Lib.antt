@@ -1,0 +1,5 @@
+pub mod Answers
+pub mod Climbing
+pub mod Heights
+pub mod Nests
+pub mod Reading

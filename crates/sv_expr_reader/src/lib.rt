@@ -1,0 +1,10 @@
+//! Expressions are read by precedence climbing, from a cursor on and to a depth.
+#![tactic(auto)]
+
+mod grammar;
+mod nesting;
+mod operators;
+mod tails;
+
+pub use operators::{expr, selects};
+pub use tails::{BraceTail, NameTail};

@@ -1,0 +1,80 @@
+// How many expressions hold the token of an expression that most hold.
+ghost use Rattle.std.specs.Prelude.{◌≡◌};
+ghost use Rattle.sv_expr_reader.specs.Heights.{capped, capped_all, capped_chain, capped_select};
+
+use sv_tree::{Expr, Select};
+
+/// The height, which stops at 255. What holds the left operand of a chain of operators looks at each of its tokens
+/// once more, and at most 201 times, since a higher one is no part.
+#[cycle(height)]
+#[tactic(auto, using(crate::proofs::Capped::capped_made))]
+pub fn height(x: &Expr) -> u8
+    ensures { result ≡ capped x.now }
+{
+    match x {
+        Expr::Literal(_) => 0,
+        Expr::Name(_, all) => selects_height(all.as_slice()),
+        Expr::Paren(_, inner) => height(inner.get()).saturating_add(1),
+        Expr::Concat(_, all) => all_height(all.as_slice()).saturating_add(1),
+        Expr::Repeat(_, count, all) => {
+            let first = height(count.get());
+            first.max(all_height(all.as_slice())).saturating_add(1)
+        }
+        Expr::CastLiteral(_, inner) => height(inner.get()).saturating_add(1),
+        Expr::CastName(_, inner) => height(inner.get()).saturating_add(1),
+        Expr::CastParen(_, size, inner) => {
+            let first = height(size.get());
+            first.max(height(inner.get())).saturating_add(1)
+        }
+        Expr::CastSign(_, _, inner) => height(inner.get()).saturating_add(1),
+        Expr::System(_, _, inner) => height(inner.get()).saturating_add(1),
+        Expr::Unary(_, _, operand) => height(operand.get()).saturating_add(1),
+        Expr::Binary(left, _, _, right) => {
+            let first = height(left.get());
+            first.max(height(right.get())).saturating_add(1)
+        }
+        Expr::Choose(test, first, second) => {
+            let most = height(test.get()).max(height(first.get()));
+            most.max(height(second.get())).saturating_add(1)
+        }
+    }
+}
+
+#[cycle(height)]
+#[tactic(auto, using(crate::proofs::Capped::all_next, crate::proofs::Capped::none_yet))]
+fn all_height(all: &[Expr]) -> u8
+    ensures { result ≡ capped_all all.now }
+{
+    let mut most = 0;
+    for x in all {
+        most = most.max(height(x));
+    }
+    most
+}
+
+#[cycle(height)]
+#[tactic(auto, using(crate::proofs::Capped::capped_made))]
+fn select_height(x: &Select) -> u8
+    ensures { result ≡ capped_select x.now }
+{
+    match x {
+        Select::Member(_, _) => 1,
+        Select::Index(_, at) => height(at.get()).saturating_add(1),
+        Select::Range(_, first, _, second) => {
+            let most = height(first.get());
+            most.max(height(second.get())).saturating_add(1)
+        }
+    }
+}
+
+#[cycle(height)]
+#[tactic(auto, using(crate::proofs::Capped::chain_next, crate::proofs::Capped::no_select_yet))]
+fn selects_height(all: &[Select]) -> u8
+    ensures { result ≡ capped_chain all.now }
+{
+    let mut most = 0;
+    for x in all {
+        most = most.max(select_height(x));
+    }
+    most
+}

@@ -1,0 +1,175 @@
+// Operators between expressions, by precedence climbing.
+ghost use Rattle.std.specs.Prelude.{◌≡◌, nat_lt, Ok, Err};
+ghost use Rattle.sv_cursor.specs.Parsers.{Reads, told};
+ghost use Rattle.sv_expr_reader.specs.Climbing as climbing;
+ghost use Rattle.sv_expr_reader.specs.Nests.{Nests};
+ghost use Rattle.sv_expr_reader.specs.Reading as spec;
+ghost use Rattle.sv_expr_words.specs.Signs as sign;
+
+use crate::grammar::Grammar;
+use crate::nesting::height;
+use items::{Boxed, Items};
+use std::alloc::Global;
+use sv_cursor::{Cursor, Mark, ParseErr};
+use sv_expr_words::{Joiner, binary_mark, joiner, right_level, strength};
+use sv_tree::{BinaryOp, Expr, Select};
+
+fn stronger(joiner: Joiner, least: u8) -> Option<Joiner>
+    ensures { result ≡ climbing.stronger least joiner }
+{
+    if strength(joiner) <= least {
+        None
+    } else {
+        Some(joiner)
+    }
+}
+
+// The operator that comes next, where it is not looser than this level.
+fn goes_on(tokens: &Cursor<'_>, least: u8) -> Option<Joiner>
+    ensures { result ≡ climbing.goes_on least (told sign.joiner_test tokens.now) }
+{
+    match joiner(tokens) {
+        Some(next) => stronger(next, least),
+        None => None,
+    }
+}
+
+// The refusal stands no later than the next token.
+fn earlier(error: ParseErr, tokens: &Cursor<'_>) -> ParseErr
+    ensures { spec.later {A = climbing.Tree} (Err error) tokens.now ≡ Err result }
+{
+    match error {
+        ParseErr::Memory => ParseErr::Memory,
+        ParseErr::Syntax(left) => ParseErr::Syntax(left.min(tokens.left())),
+        ParseErr::TooDeep(deep, left) => ParseErr::TooDeep(deep, left.min(tokens.left())),
+    }
+}
+
+impl<F: Fn(Global, &mut Cursor<'_>, u8, u8) -> Result<Expr, ParseErr>> Grammar<F> {
+    #[tactic(auto, using(crate::proofs::Turns::fits))]
+    fn fits(&self, x: &Expr) -> bool
+        ensures { result ≡ nat_lt (spec.height x.now) self.now.depth }
+    {
+        height(x) < self.depth
+    }
+
+    fn joined(&self, tokens: &mut Cursor<'_>, left: Expr, op: BinaryOp) -> Result<Expr, ParseErr>
+        requires { Nests self.now.depth (F.pre self.now.expr) (F.post self.now.expr) }
+        ensures { Reads (spec.operated self.now.depth (spec.expr self.now.depth) left (Joiner.Binary op) tokens.old) result tokens.new }
+    {
+        let left = Boxed::new(self.alloc, left)?;
+        let place = tokens.mark(binary_mark(op))?;
+        let right = self.part(tokens, right_level(op))?;
+        Ok(Expr::Binary(left, op, place, right))
+    }
+
+    fn chosen(&self, tokens: &mut Cursor<'_>, test: Expr) -> Result<Expr, ParseErr>
+        requires { Nests self.now.depth (F.pre self.now.expr) (F.post self.now.expr) }
+        ensures { Reads (spec.operated self.now.depth (spec.expr self.now.depth) test Joiner.Choose tokens.old) result tokens.new }
+    {
+        let test = Boxed::new(self.alloc, test)?;
+        tokens.mark(Mark::Question)?;
+        let first = self.part(tokens, 0)?;
+        tokens.mark(Mark::Colon)?;
+        let second = self.part(tokens, 1)?;
+        Ok(Expr::Choose(test, first, second))
+    }
+
+    fn operated(
+        &self,
+        tokens: &mut Cursor<'_>,
+        left: Expr,
+        joiner: Joiner,
+    ) -> Result<Expr, ParseErr>
+        requires { Nests self.now.depth (F.pre self.now.expr) (F.post self.now.expr) }
+        ensures { Reads (spec.operated self.now.depth (spec.expr self.now.depth) left joiner tokens.old) result tokens.new }
+    {
+        match joiner {
+            Joiner::Binary(op) => self.joined(tokens, left, op),
+            Joiner::Choose => self.chosen(tokens, left),
+        }
+    }
+
+    // What was read from there on lies too deep for one operator more: reading it again as a part shows the token.
+    fn again<'a>(
+        &self,
+        tokens: &mut Cursor<'a>,
+        from: &Cursor<'a>,
+        least: u8,
+    ) -> Result<Expr, ParseErr>
+        requires { Nests self.now.depth (F.pre self.now.expr) (F.post self.now.expr) }
+        ensures { Reads (spec.later (spec.expr self.now.depth least from.now) tokens.old) result tokens.new }
+    {
+        let mut part = from.copy();
+        match self.expr(&mut part, least) {
+            Ok(x) => {
+                if part.left() <= tokens.left() {
+                    *tokens = part;
+                    Ok(x)
+                } else {
+                    drop(x);
+                    Err(tokens.refuse())
+                }
+            }
+            Err(error) => Err(earlier(error, tokens)),
+        }
+    }
+
+    fn climb<'a>(
+        &self,
+        tokens: &mut Cursor<'a>,
+        least: u8,
+        from: &Cursor<'a>,
+        mut left: Expr,
+    ) -> Result<Expr, ParseErr>
+        requires { Nests self.now.depth (F.pre self.now.expr) (F.post self.now.expr) }
+        ensures { Reads (spec.climb self.now.depth (spec.expr self.now.depth) least from.now (climbing.turns from.now) left tokens.old) result tokens.new }
+    {
+        for _turn in 0..from.left() {
+            let Some(next) = goes_on(tokens, least) else {
+                return Ok(left);
+            };
+            if !self.fits(&left) {
+                drop(left);
+                return self.again(tokens, from, least);
+            }
+            left = self.operated(tokens, left, next)?;
+        }
+        Ok(left)
+    }
+
+    /// An expression of this level or a tighter one.
+    #[tactic(auto, unfolding(crate::specs::Reading::level))]
+    pub fn level(&self, tokens: &mut Cursor<'_>, least: u8) -> Result<Expr, ParseErr>
+        requires { Nests self.now.depth (F.pre self.now.expr) (F.post self.now.expr) }
+        ensures { Reads (spec.level self.now.depth (spec.expr self.now.depth) least tokens.old) result tokens.new }
+    {
+        let from = tokens.copy();
+        let first = self.prefix(tokens)?;
+        self.climb(tokens, least, &from, first)
+    }
+}
+
+/// An expression of a level (0 is the loosest, 13 what has no operator between two of its parts), in which fewer than
+/// `depth` expressions hold a token. The cursor stands behind it then.
+pub fn expr(alloc: Global, tokens: &mut Cursor<'_>, depth: u8, least: u8) -> Result<Expr, ParseErr>
+    ensures { Reads (spec.expr depth least tokens.old) result tokens.new }
+{
+    if depth == 0 {
+        return Err(tokens.too_deep());
+    }
+    Grammar {
+        alloc,
+        depth: depth - 1,
+        expr,
+    }
+    .level(tokens, least)
+}
+
+/// The selects behind the name of a target, a range being the last, in whose expressions fewer than `depth` hold a
+/// token. The cursor stands behind them then.
+pub fn selects(alloc: Global, tokens: &mut Cursor<'_>, depth: u8) -> Result<Items<Select>, ParseErr>
+    ensures { Reads (spec.selects depth (spec.expr depth) tokens.old) result tokens.new }
+{
+    Grammar { alloc, depth, expr }.selects(tokens)
+}
