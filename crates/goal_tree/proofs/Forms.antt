@@ -13,8 +13,8 @@ use Rattle.sv_cursor.specs.Sorts.{mark_text}
 use Rattle.sv_cursor.specs.Tests.{same_mark}
 use Rattle.sv_cursor.specs.Parsers.{told}
 use Rattle.sv_cursor.proofs.Readers.{IsReader, IsMoved, less_reader}
-use Rattle.sv_expr_parser.proofs.Laws.{expr_reader}
-use Rattle.sv_expr_parser.proofs.Tokens.{Any, Bad, Stops, placed_mark, stops_at_mark}
+use Rattle.sv_expr_reader.proofs.Laws.{expr_reader}
+use Rattle.sv_expr_reader.proofs.Tokens.{Any, Bad, Stops, placed_mark, stops_at_mark}
 use Rattle.goal_tree.proofs.Rules.{Rule, the_mark, before, seq, closing, several, some_rule, tree_reads, tree_moved, name_rule, rule_of}
 use Rattle.goal_tree.specs.declared.tree.GoalTree.{GoalTree}
 use Rattle.goal_tree.specs.Goals as g

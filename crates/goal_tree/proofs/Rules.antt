@@ -12,7 +12,7 @@ use Rattle.sv_cursor.specs.Tests.{mark_test, id_test, mark}
 use Rattle.sv_cursor.specs.Parsers.{Parser, ◌<$>◌, ◌⊗◌, told, token, cons, many}
 use Rattle.sv_cursor.proofs.Readers.{IsReader, IsMoved, Told, one_nest, token_reader, pair_reader, equal_reader, less_reader, many_reader, moved_each, moved_told, moved_pair, moved_less}
 use Rattle.sv_cursor.proofs.Tested.{mark_at_of, told_of_mark_at, name_of, told_of_name}
-use Rattle.sv_expr_parser.proofs.Tokens.{outside, Any, placed_mark, some_mark}
+use Rattle.sv_expr_reader.proofs.Tokens.{outside, Any, placed_mark, some_mark}
 use Rattle.goal_tree.specs.Goals.{some}
 use Rattle.goal_tree.specs.Reading.{◌▸◌, ◌◂◌, some_of}
 

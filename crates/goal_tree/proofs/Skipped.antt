@@ -7,7 +7,7 @@ use Rattle.sv_tree.specs.Nesting.{expr_depths}
 use Rattle.sv_tree.proofs.Counted.{counted_expr}
 use Rattle.sv_cursor.specs.Parsers.{Outcome, token, told, take_told, next}
 use Rattle.sv_cursor.proofs.Readers.{Meets}
-use Rattle.sv_expr_parser.proofs.Laws.{expr_reader}
+use Rattle.sv_expr_reader.proofs.Laws.{expr_reader}
 use Rattle.goal_tree.specs.Reading.{expression, last}
 
 module _ {A : Type 0} (i j : List Token) (a : A) where

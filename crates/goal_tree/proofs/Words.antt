@@ -12,7 +12,7 @@ use Rattle.sv_cursor.specs.Tests.{if_so}
 use Rattle.sv_cursor.specs.Parsers.{told, token}
 use Rattle.sv_cursor.proofs.Sorted.{equal}
 use Rattle.sv_cursor.proofs.Readers.{Told, one_nest, token_reader, less_reader, moved_told, moved_less}
-use Rattle.sv_expr_parser.proofs.Tokens.{outside, Any}
+use Rattle.sv_expr_reader.proofs.Tokens.{outside, Any}
 use Rattle.goal_tree.proofs.Rules.{Fixed, placed_key, some_key}
 use Rattle.goal_tree.specs.Reading.{is_word_of, word_test}
 

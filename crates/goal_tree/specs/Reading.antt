@@ -12,7 +12,7 @@ use Rattle.sv_cursor.specs.declared.error.ParseErr.TheVariants.{Syntax}
 use Rattle.sv_cursor.specs.declared.sort.Mark.TheVariants as m
 use Rattle.sv_cursor.specs.Parsers.{Parser, and_then, ◌<$>◌, ◌⊗◌, token, cons, many}
 use Rattle.sv_cursor.specs.Tests.{if_so, id_test, mark}
-use Rattle.sv_expr_parser.specs.Reading.{expr}
+use Rattle.sv_expr_reader.specs.Reading.{expr}
 use Rattle.goal_tree.specs.declared.tree.GoalTree.{GoalTree}
 
 -- ---- parsers made of others

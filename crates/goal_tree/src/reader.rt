@@ -8,7 +8,7 @@ ghost use Rattle.sv_cursor.specs.Tests as test;
 use std::alloc::Global;
 use std::marker::Model;
 use sv_cursor::{Cursor, Mark, ParseErr};
-use sv_expr_parser::expr;
+use sv_expr_reader::expr;
 use sv_outside::{Kind, Place, Token};
 use sv_tree::{Expr, Word};
 
