@@ -79,7 +79,7 @@ abbrev pub made_always : BlockKind × Stmt → Block
 made_always c = record { kind = c.0; body = c.1 }
 
 unfoldable pub always : Parser Block
-always = made_always <$> (kind ⊗ stmt 201)
+always = made_always <$> (kind ⊗ stmt 200)
 
 -- ---- items that hold no items
 
@@ -93,7 +93,7 @@ abbrev pub made_variable : TypeTree × List Word → Item
 made_variable c = it.Variable c.0 c.1
 
 unfoldable pub variable : Parser Item
-variable = made_variable <$> (form 201 ⊗ (names ◂ mark m.Semicolon))
+variable = made_variable <$> (form 200 ⊗ (names ◂ mark m.Semicolon))
 
 unfoldable pub genvar : Parser Item
 genvar = it.Genvar <$> (keyword key.Genvar ▸ (names ◂ mark m.Semicolon))

@@ -144,7 +144,7 @@ module _ (stmt : Parser Stmt) where
   unfoldable pub stmt_level : Parser Stmt
   stmt_level = by_told (sort_test stmt_by_sort) stmt_for refuse
 
--- statements, in which fewer than so many hold a token
+-- statements, of which at most so many hold a token
 unfoldable pub stmt : ℕ → Parser Stmt
 stmt zero = too_deep
 stmt (suc n) = stmt_level (stmt n)

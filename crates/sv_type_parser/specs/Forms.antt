@@ -142,7 +142,7 @@ module _ (form : Parser TypeTree) where
   unfoldable pub type_level : Parser TypeTree
   type_level = by_told (sort_test type_by_sort) type_for refuse
 
--- types, of which fewer than so many hold a token
+-- types, of which at most so many hold a token
 unfoldable pub form : ℕ → Parser TypeTree
 form zero = too_deep
 form (suc t) = type_level (form t)
@@ -151,4 +151,4 @@ abbrev pub made_typedef : TypeTree × Word → Typedef
 made_typedef c = record { form = c.0; name = c.1 }
 
 unfoldable pub typedef : Parser Typedef
-typedef = made_typedef <$> (keyword key.Typedef ▸ (form 201 ⊗ (token id_test ◂ mark m.Semicolon)))
+typedef = made_typedef <$> (keyword key.Typedef ▸ (form 200 ⊗ (token id_test ◂ mark m.Semicolon)))

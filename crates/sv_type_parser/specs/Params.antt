@@ -117,7 +117,7 @@ unfoldable pub untyped : Parser TypedName
 untyped = made_untyped <$> (token id_test ⊗ maybe_read (sort_test behind_by_sort) behind_type)
 
 unfoldable pub typed : Parser TypedName
-typed = made_typed <$> (form 201 ⊗ token id_test)
+typed = made_typed <$> (form 200 ⊗ token id_test)
 
 unfoldable pub typed_name : Parser TypedName
 typed_name = by_told (sort_test word_type_by_sort) (λ _. typed) untyped
