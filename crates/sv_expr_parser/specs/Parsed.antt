@@ -5,10 +5,14 @@ use Rattle.sv_outside.specs.declared.refusal.TextErr.{TextErr}
 use Rattle.sv_outside.specs.declared.refusal.TextErr.TheVariants as text_err
 use Rattle.sv_outside.specs.declared.text.Token.{Token}
 use Rattle.sv_tree.specs.declared.exprs.Expr.{Expr}
-use Rattle.sv_tree.specs.Nesting.{expr_depths, IsTooDeep}
+use Rattle.sv_tree.specs.Nesting.{expr_depths, IsOverAt, IsTooDeep}
 use Rattle.sv_cursor.specs.declared.error.ParseErr.{ParseErr}
 use Rattle.sv_cursor.specs.declared.error.ParseErr.TheVariants.{Memory, Syntax, TooDeep}
+use Rattle.sv_cursor.specs.declared.sort.Mark.TheVariants as m
+use Rattle.sv_cursor.specs.Parsers.{told}
+use Rattle.sv_cursor.specs.Tests.{mark_test}
 use Rattle.sv_cursor.specs.Refusals.{place_at, syntax_number_of, refused}
+use Rattle.sv_expr_words.specs.Signs.{select_test, joiner_test}
 use Rattle.sv_expr_reader.specs.Answers.{IsSpelled}
 use Rattle.sv_expr_reader.specs.Reading.{expr}
 
@@ -24,12 +28,22 @@ pub record NoneBeyond (tokens : List Token) (m : ℕ) : Type 0 where
 pub record NoneAtAll (tokens : List Token) : Type 0 where
   pub none : (y : Expr) (n : ℕ) → n ≤ length tokens → IsSpelledBy y tokens n → ⊥
 
+-- No expression goes on with the first of these tokens: it is no `'`, begins no select and is no operator.
+abbrev pub NoneGoesOn : List Token → Type 0
+NoneGoesOn o = (told (mark_test m.Tick) o ≡ None) × (told select_test o ≡ None) × (told joiner_test o ≡ None)
+
+-- No expression at the front takes at most m of the tokens and stands before a token with which none goes on, but for those in which the
+-- token with that number lies too deep.
+pub record NoneEnds (tokens : List Token) (m k : ℕ) : Type 0 where
+  pub none : (y : Expr) (n : ℕ) → n ≤ m → IsSpelledBy y tokens n → NoneGoesOn (drop n tokens) → IsOverAt (expr_depths y) k
+
 -- what an answer says of the first m tokens
 abbrev pub IsFront : List Token → ℕ → Result (Option Expr) ParseErr → Type 0
 IsFront tokens m (Ok (Some x)) = IsSpelledBy x tokens m × ((y : Expr) → IsSpelledBy y tokens m → y ≡ x)
 IsFront tokens m (Ok None) = (y : Expr) → IsSpelledBy y tokens m → ⊥
 IsFront tokens m (Err (Syntax left)) = ⊥
-IsFront tokens m (Err (TooDeep deep left)) = (deep ≤ length tokens) × IsTooDeep IsSpelled expr_depths tokens (length tokens - deep)
+IsFront tokens m (Err (TooDeep deep left)) =
+    (deep ≤ length tokens) × IsTooDeep IsSpelled expr_depths tokens (length tokens - deep) × NoneEnds tokens m (length tokens - deep)
 IsFront tokens m (Err Memory) = Unit {0}
 
 -- The same of a refusal, told by the number of tokens that are left of the first m.
@@ -37,22 +51,26 @@ abbrev pub RefusesFront : List Token → ℕ → ParseErr → Type 0
 RefusesFront tokens m (Syntax left) = (y : Expr) → IsSpelledBy y tokens m → ⊥
 RefusesFront tokens m (TooDeep deep left) =
     (deep ≤ m) × IsTooDeep IsSpelled expr_depths tokens (length tokens - (deep + (length tokens - m)))
+    × NoneEnds tokens m (length tokens - (deep + (length tokens - m)))
 RefusesFront tokens m Memory = Unit {0}
 
 -- An answer is the longest expression at the front of the tokens, and how many of them it takes. Where the syntax is refused there is none,
--- and reading from the front stops at the token with so many left. Where nesting is refused, it exceeds the limit.
+-- and reading from the front stops at the token with so many left. Where nesting is refused, it exceeds the limit, and no expression ends
+-- at the front in which it does not.
 abbrev pub IsLongest : List Token → Result (Expr × ℕ) ParseErr → Type 0
 IsLongest tokens (Ok p) =
     (p.1 ≤ length tokens) × IsSpelledBy p.0 tokens p.1 × ((y : Expr) → IsSpelledBy y tokens p.1 → y ≡ p.0)
     × ((y : Expr) (n : ℕ) → n ≤ length tokens → IsSpelledBy y tokens n → n ≤ p.1)
 IsLongest tokens (Err (Syntax left)) = (left ≤ length tokens) × (expr 201 0 tokens ≡ Err (Syntax left)) × NoneAtAll tokens
-IsLongest tokens (Err (TooDeep deep left)) = (deep ≤ length tokens) × IsTooDeep IsSpelled expr_depths tokens (length tokens - deep)
+IsLongest tokens (Err (TooDeep deep left)) =
+    (deep ≤ length tokens) × IsTooDeep IsSpelled expr_depths tokens (length tokens - deep) × NoneEnds tokens (length tokens) (length tokens - deep)
 IsLongest tokens (Err Memory) = Unit {0}
 
 -- Where reading is refused at a token with so many left, no expression reaches beyond it.
 abbrev pub Refuses : List Token → ParseErr → Type 0
 Refuses tokens (Syntax left) = (left ≤ length tokens) × (expr 201 0 tokens ≡ Err (Syntax left)) × NoneBeyond tokens (length tokens - left)
-Refuses tokens (TooDeep deep left) = (deep ≤ length tokens) × IsTooDeep IsSpelled expr_depths tokens (length tokens - deep)
+Refuses tokens (TooDeep deep left) =
+    (deep ≤ length tokens) × IsTooDeep IsSpelled expr_depths tokens (length tokens - deep) × NoneEnds tokens (length tokens) (length tokens - deep)
 Refuses tokens Memory = Unit {0}
 
 -- ---- from a token on
@@ -69,9 +87,11 @@ pub record IsSyntax (tokens : List Token) (end : Place) (at : ℕ) (e : TextErr)
   pub stops : expr 201 0 (drop at tokens) ≡ Err (Syntax left)
   pub is : e ≡ refused (syntax_number_of (slice_get tokens (length tokens - left))) (place_at tokens end (length tokens - left))
 
--- Nesting exceeds the limit at a token.
+-- Nesting exceeds the limit at a token, and no expression stands there before a token with which none goes on, but for those in which the
+-- token lies too deep.
 pub record IsDeep (tokens : List Token) (end : Place) (at : ℕ) (e : TextErr) : Type 0 where
   pub number : ℕ
+  pub none : (y : Expr) (n : ℕ) → SpelledFrom tokens at y n → NoneGoesOn (drop n tokens) → IsOverAt (expr_depths y) number
   pub deep : IsTooDeep IsSpelled expr_depths (drop at tokens) number
   pub is : e ≡ refused 9 (place_at tokens end (at + number))
 
