@@ -75,3 +75,7 @@ pub Grew-stages : (l j : ℕ) (rest away : List Lit) (a b c d : List Gate) → 0
 Grew-stages l j rest away a b c d some le few long g h k =
     let most : 3 * l * j + (length rest + 3 * l) ≤ 7 * l * l = stages_fit l j (length rest) some le few in
     Grew-then (3 * l * j) (length rest + 3 * length away) (7 * l * l) a b d (omega (arith, ap (λ n. 3 * n) long)) g (Grew-then (length rest) (3 * length away) (length rest + 3 * length away) b c d (omega arith) h k)
+
+-- one turn of a division: a sum of n columns, the test of the other bits, one node, and a choice
+pub turn_fits : (n d l : ℕ) → 0 < l → n + d ≤ l → 7 * n + (d + (1 + 3 * n)) ≤ 11 * l
+turn_fits n d l some le = omega arith

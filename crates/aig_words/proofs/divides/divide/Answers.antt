@@ -5,7 +5,9 @@ use Rattle.aig.specs.Graph.{constant_lit}
 use Rattle.aig.proofs.Growth.{Obeys-older}
 use Rattle.aig.proofs.Values.{always_from}
 use Rattle.aig_words.specs.Words.{number, IsWord, IsTurn, IsDivided}
-use Rattle.aig_words.proofs.Grown.{Grew-refl, Grew-then, IsWord-nil, IsWord-cons}
+use Rattle.std.proofs.lemmas.Result.{IfOk-from_err}
+use Rattle.aig_words.proofs.Steps.{turns_fit}
+use Rattle.aig_words.proofs.Grown.{Grew-refl, Grew-then, Grew-wider, IsWord-nil, IsWord-cons}
 use Rattle.aig_words.proofs.Numbers.{number-nil, divide_more}
 use Rattle.aig_words.proofs.divides.divide.Goals as goal
 
@@ -48,3 +50,40 @@ returns-clause-value c =
     let start : length a - c.loop-i.i ≡ 0 = omega arith in
     always_from _ _ (c.loop-i.invariant.graph (omega (arith, c.requires.some))) (λ v o.
     subst (λ (n : ℕ). IsDivided (drop n a) c.args.b.now c.loop-i.quotient.items c.loop-i.rest.items v) start (c.loop-i.invariant.value v o))
+
+pub returns-clause-grew : goal.returns-clause-grew
+returns-clause-grew c =
+    let l = length c.args.a.now in
+    let i = c.loop-i.i in
+    let end : i ≡ l = omega arith in
+    Grew-wider (11 * l * i) (11 * l * l) c.args.aig.now c.loop-i.aig (omega (arith, ap (λ n. 11 * l * n) end)) c.loop-i.invariant.grew
+
+pub returns-in_err-next-clause-grew : goal.returns-in_err-next-clause-grew
+returns-in_err-next-clause-grew c =
+    let l = length c.args.a.now in
+    let i = c.loop-i.i in
+    Grew-then (11 * l * i) (11 * length c.args.b.now) (11 * l * l) c.args.aig.now c.loop-i.aig _ (omega (arith, turns_fit 11 l i c.loop-i-test.true, c.requires.same)) c.loop-i.invariant.grew c.in_err-next.ensures.grew
+
+pub returns-in_err-quotient-clause-grew : goal.returns-in_err-quotient-clause-grew
+returns-in_err-quotient-clause-grew c =
+    let l = length c.args.a.now in
+    let i = c.loop-i.i in
+    Grew-then (11 * l * i) (11 * length c.args.b.now) (11 * l * l) c.args.aig.now c.loop-i.aig _ (omega (arith, turns_fit 11 l i c.loop-i-test.true, c.requires.same)) c.loop-i.invariant.grew c.in_ok-next.ensures.grew
+
+pub returns-in_err-next-clause-quotient : goal.returns-in_err-next-clause-quotient
+returns-in_err-next-clause-quotient c = IfOk-from_err _ _ c.from_residual.ensures.0
+
+pub returns-in_err-next-clause-rest : goal.returns-in_err-next-clause-rest
+returns-in_err-next-clause-rest c = IfOk-from_err _ _ c.from_residual.ensures.0
+
+pub returns-in_err-next-clause-value : goal.returns-in_err-next-clause-value
+returns-in_err-next-clause-value c = IfOk-from_err _ _ c.from_residual.ensures.0
+
+pub returns-in_err-quotient-clause-quotient : goal.returns-in_err-quotient-clause-quotient
+returns-in_err-quotient-clause-quotient c = IfOk-from_err _ _ c.from_residual-in_err-quotient.ensures.0
+
+pub returns-in_err-quotient-clause-rest : goal.returns-in_err-quotient-clause-rest
+returns-in_err-quotient-clause-rest c = IfOk-from_err _ _ c.from_residual-in_err-quotient.ensures.0
+
+pub returns-in_err-quotient-clause-value : goal.returns-in_err-quotient-clause-value
+returns-in_err-quotient-clause-value c = IfOk-from_err _ _ c.from_residual-in_err-quotient.ensures.0

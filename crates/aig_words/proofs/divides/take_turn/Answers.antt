@@ -1,12 +1,13 @@
-use Rattle.std.proofs.Common.{◌≡◌, ◌+◌, ◌*◌, ◌^◌, Bool, not, ◌&&◌, List, ◌∷◌, length, map, take, drop, cond, ltb, ap, subst, ◌∙◌, arith}
+use Rattle.std.proofs.Common.{◌≡◌, ◌+◌, ◌*◌, ◌^◌, ◌≤◌, Bool, not, ◌&&◌, List, ◌∷◌, length, map, take, drop, cond, ltb, ap, subst, ◌∙◌, arith, sym, add-one, length-drop}
 use Rattle.std.proofs.lemmas.List.{take_rest}
 use Rattle.std.proofs.lemmas.List.Elements.{All-take}
 use Rattle.aig.specs.declared.gate.Lit.{Lit}
 use Rattle.aig.specs.Graph.{holds, negation, IsIn}
 use Rattle.aig.proofs.Growth.{Obeys-older}
 use Rattle.aig.proofs.Values.{always_from}
-use Rattle.aig_words.specs.Words.{number, weight}
-use Rattle.aig_words.proofs.Grown.{negated_in}
+use Rattle.aig_words.specs.Words.{Grew, number, weight}
+use Rattle.std.proofs.lemmas.Result.{IfOk-from_err}
+use Rattle.aig_words.proofs.Grown.{Grew-refl, Grew-then, Grew-wider, turn_fits, negated_in}
 use Rattle.aig_words.proofs.Numbers.{turn_value}
 use Rattle.aig_words.proofs.Tables.{holds-negation}
 use Rattle.aig_words.proofs.divides.take_turn.Goals as goal
@@ -40,3 +41,143 @@ returns-clause-value c = always_from _ _ c.in_ok-left.ensures.value.graph (λ v 
     let left : number v c.in_ok-left.left.items ≡ cond taken (number v word) (number v (bit ∷ rest)) =
     c.in_ok-left.ensures.value.obeyed v o ∙ ap (λ (xs : List Lit). cond taken (number v xs) (number v c.deref-4.result.now)) c.deref-3.ensures.value ∙ ap (λ (xs : List Lit). cond taken (number v word) (number v xs)) last in
     turn_value v bit c.constant.result c.in_ok-fits.fits rest b word c.in_ok-left.left.items carry larger o.bottom c.constant.ensures c.requires.short less sum long far fits left)
+
+-- ---- what the graph has grown by, also where memory ends
+
+pub returns-clause-grew : goal.returns-clause-grew
+returns-clause-grew c =
+    let rest = c.args.rest.now in
+    let b = c.args.b.now in
+    let l = length b in
+    let n = length rest + 1 in
+    let d = length (drop n b) in
+    let parts : n + d ≤ l = omega (arith, length-drop n b, c.requires.short) in
+    let most : 7 * n + (d + (1 + 3 * n)) ≤ 11 * l = turn_fits n d l (omega (arith, c.requires.short)) parts in
+    let one : length c.deref.result.now ≡ n = ap (λ (xs : List Lit). length xs) (c.deref.ensures.value ∙ c.in_ok-shifted.ensures) ∙ sym (add-one (length rest)) in
+    let g1 : Grew (7 * n) c.args.aig.now c.sum_of.new.aig = Grew-wider (7 * length c.deref.result.now) (7 * n) c.args.aig.now _ (omega (arith, ap (λ k. 7 * k) one)) c.in_ok-word.ensures.grew in
+    let g2 : Grew (7 * n + d) c.args.aig.now c.any.new.aig = Grew-then (7 * n) d (7 * n + d) c.args.aig.now c.sum_of.new.aig _ (omega arith) g1
+    (subst (λ (xs : List Lit). Grew (length xs) c.sum_of.new.aig c.any.new.aig) (take_rest b n) c.in_ok-larger.ensures.grew) in
+    let g3 : Grew (7 * n + d + 1) c.args.aig.now c.and.new.self = Grew-then (7 * n + d) 1 (7 * n + d + 1) c.args.aig.now c.any.new.aig _ (omega arith) g2
+    (record { grows = c.in_ok-fits.ensures.grows; nodes = c.in_ok-fits.ensures.nodes; flat = c.in_ok-fits.ensures.flat }) in
+    let two : length c.deref-3.result.now ≡ n = ap (λ (xs : List Lit). length xs) c.deref-3.ensures.value ∙ c.in_ok-word.ensures.word.long ∙ one in
+    Grew-then (7 * n + d + 1) (3 * length c.deref-3.result.now) (11 * l) c.args.aig.now c.and.new.self _ (omega (arith, most, ap (λ k. 3 * k) two)) g3 c.in_ok-left.ensures.grew
+
+pub returns-in_err-shifted-clause-grew : goal.returns-in_err-shifted-clause-grew
+returns-in_err-shifted-clause-grew c = Grew-refl _ c.args.aig.now
+
+pub returns-in_err-complement-clause-grew : goal.returns-in_err-complement-clause-grew
+returns-in_err-complement-clause-grew c = Grew-refl _ c.args.aig.now
+
+pub returns-in_err-word-clause-grew : goal.returns-in_err-word-clause-grew
+returns-in_err-word-clause-grew c =
+    let rest = c.args.rest.now in
+    let b = c.args.b.now in
+    let l = length b in
+    let n = length rest + 1 in
+    let d = length (drop n b) in
+    let parts : n + d ≤ l = omega (arith, length-drop n b, c.requires.short) in
+    let most : 7 * n + (d + (1 + 3 * n)) ≤ 11 * l = turn_fits n d l (omega (arith, c.requires.short)) parts in
+    let one : length c.deref.result.now ≡ n = ap (λ (xs : List Lit). length xs) (c.deref.ensures.value ∙ c.in_ok-shifted.ensures) ∙ sym (add-one (length rest)) in
+    Grew-wider (7 * length c.deref.result.now) (11 * l) c.args.aig.now _ (omega (arith, most, ap (λ k. 7 * k) one)) c.in_err-word.ensures.grew
+
+pub returns-in_err-larger-clause-grew : goal.returns-in_err-larger-clause-grew
+returns-in_err-larger-clause-grew c =
+    let rest = c.args.rest.now in
+    let b = c.args.b.now in
+    let l = length b in
+    let n = length rest + 1 in
+    let d = length (drop n b) in
+    let parts : n + d ≤ l = omega (arith, length-drop n b, c.requires.short) in
+    let most : 7 * n + (d + (1 + 3 * n)) ≤ 11 * l = turn_fits n d l (omega (arith, c.requires.short)) parts in
+    let one : length c.deref.result.now ≡ n = ap (λ (xs : List Lit). length xs) (c.deref.ensures.value ∙ c.in_ok-shifted.ensures) ∙ sym (add-one (length rest)) in
+    let g1 : Grew (7 * n) c.args.aig.now c.sum_of.new.aig = Grew-wider (7 * length c.deref.result.now) (7 * n) c.args.aig.now _ (omega (arith, ap (λ k. 7 * k) one)) c.in_ok-word.ensures.grew in
+    Grew-then (7 * n) d (11 * l) c.args.aig.now c.sum_of.new.aig _ (omega (arith, most)) g1
+    (subst (λ (xs : List Lit). Grew (length xs) c.sum_of.new.aig c.any.new.aig) (take_rest b n) c.in_err-larger.ensures.grew)
+
+pub returns-in_err-fits-clause-grew : goal.returns-in_err-fits-clause-grew
+returns-in_err-fits-clause-grew c =
+    let rest = c.args.rest.now in
+    let b = c.args.b.now in
+    let l = length b in
+    let n = length rest + 1 in
+    let d = length (drop n b) in
+    let parts : n + d ≤ l = omega (arith, length-drop n b, c.requires.short) in
+    let most : 7 * n + (d + (1 + 3 * n)) ≤ 11 * l = turn_fits n d l (omega (arith, c.requires.short)) parts in
+    let one : length c.deref.result.now ≡ n = ap (λ (xs : List Lit). length xs) (c.deref.ensures.value ∙ c.in_ok-shifted.ensures) ∙ sym (add-one (length rest)) in
+    let g1 : Grew (7 * n) c.args.aig.now c.sum_of.new.aig = Grew-wider (7 * length c.deref.result.now) (7 * n) c.args.aig.now _ (omega (arith, ap (λ k. 7 * k) one)) c.in_ok-word.ensures.grew in
+    let g2 : Grew (7 * n + d) c.args.aig.now c.any.new.aig = Grew-then (7 * n) d (7 * n + d) c.args.aig.now c.sum_of.new.aig _ (omega arith) g1
+    (subst (λ (xs : List Lit). Grew (length xs) c.sum_of.new.aig c.any.new.aig) (take_rest b n) c.in_ok-larger.ensures.grew) in
+    Grew-then (7 * n + d) 1 (11 * l) c.args.aig.now c.any.new.aig _ (omega (arith, most)) g2
+    (record { grows = c.in_err-fits.ensures.grows; nodes = c.in_err-fits.ensures.nodes; flat = c.in_err-fits.ensures.flat })
+
+pub returns-in_err-left-clause-grew : goal.returns-in_err-left-clause-grew
+returns-in_err-left-clause-grew c =
+    let rest = c.args.rest.now in
+    let b = c.args.b.now in
+    let l = length b in
+    let n = length rest + 1 in
+    let d = length (drop n b) in
+    let parts : n + d ≤ l = omega (arith, length-drop n b, c.requires.short) in
+    let most : 7 * n + (d + (1 + 3 * n)) ≤ 11 * l = turn_fits n d l (omega (arith, c.requires.short)) parts in
+    let one : length c.deref.result.now ≡ n = ap (λ (xs : List Lit). length xs) (c.deref.ensures.value ∙ c.in_ok-shifted.ensures) ∙ sym (add-one (length rest)) in
+    let g1 : Grew (7 * n) c.args.aig.now c.sum_of.new.aig = Grew-wider (7 * length c.deref.result.now) (7 * n) c.args.aig.now _ (omega (arith, ap (λ k. 7 * k) one)) c.in_ok-word.ensures.grew in
+    let g2 : Grew (7 * n + d) c.args.aig.now c.any.new.aig = Grew-then (7 * n) d (7 * n + d) c.args.aig.now c.sum_of.new.aig _ (omega arith) g1
+    (subst (λ (xs : List Lit). Grew (length xs) c.sum_of.new.aig c.any.new.aig) (take_rest b n) c.in_ok-larger.ensures.grew) in
+    let g3 : Grew (7 * n + d + 1) c.args.aig.now c.and.new.self = Grew-then (7 * n + d) 1 (7 * n + d + 1) c.args.aig.now c.any.new.aig _ (omega arith) g2
+    (record { grows = c.in_ok-fits.ensures.grows; nodes = c.in_ok-fits.ensures.nodes; flat = c.in_ok-fits.ensures.flat }) in
+    let two : length c.deref-3.result.now ≡ n = ap (λ (xs : List Lit). length xs) c.deref-3.ensures.value ∙ c.in_ok-word.ensures.word.long ∙ one in
+    Grew-then (7 * n + d + 1) (3 * length c.deref-3.result.now) (11 * l) c.args.aig.now c.and.new.self _ (omega (arith, most, ap (λ k. 3 * k) two)) g3 c.in_err-left.ensures.grew
+
+pub returns-in_err-shifted-clause-bit_out : goal.returns-in_err-shifted-clause-bit_out
+returns-in_err-shifted-clause-bit_out c = IfOk-from_err _ _ c.from_residual.ensures.0
+
+pub returns-in_err-shifted-clause-word : goal.returns-in_err-shifted-clause-word
+returns-in_err-shifted-clause-word c = IfOk-from_err _ _ c.from_residual.ensures.0
+
+pub returns-in_err-shifted-clause-value : goal.returns-in_err-shifted-clause-value
+returns-in_err-shifted-clause-value c = IfOk-from_err _ _ c.from_residual.ensures.0
+
+pub returns-in_err-complement-clause-bit_out : goal.returns-in_err-complement-clause-bit_out
+returns-in_err-complement-clause-bit_out c = IfOk-from_err _ _ c.from_residual-in_err-complement.ensures.0
+
+pub returns-in_err-complement-clause-word : goal.returns-in_err-complement-clause-word
+returns-in_err-complement-clause-word c = IfOk-from_err _ _ c.from_residual-in_err-complement.ensures.0
+
+pub returns-in_err-complement-clause-value : goal.returns-in_err-complement-clause-value
+returns-in_err-complement-clause-value c = IfOk-from_err _ _ c.from_residual-in_err-complement.ensures.0
+
+pub returns-in_err-word-clause-bit_out : goal.returns-in_err-word-clause-bit_out
+returns-in_err-word-clause-bit_out c = IfOk-from_err _ _ c.from_residual-in_err-word.ensures.0
+
+pub returns-in_err-word-clause-word : goal.returns-in_err-word-clause-word
+returns-in_err-word-clause-word c = IfOk-from_err _ _ c.from_residual-in_err-word.ensures.0
+
+pub returns-in_err-word-clause-value : goal.returns-in_err-word-clause-value
+returns-in_err-word-clause-value c = IfOk-from_err _ _ c.from_residual-in_err-word.ensures.0
+
+pub returns-in_err-larger-clause-bit_out : goal.returns-in_err-larger-clause-bit_out
+returns-in_err-larger-clause-bit_out c = IfOk-from_err _ _ c.from_residual-in_err-larger.ensures.0
+
+pub returns-in_err-larger-clause-word : goal.returns-in_err-larger-clause-word
+returns-in_err-larger-clause-word c = IfOk-from_err _ _ c.from_residual-in_err-larger.ensures.0
+
+pub returns-in_err-larger-clause-value : goal.returns-in_err-larger-clause-value
+returns-in_err-larger-clause-value c = IfOk-from_err _ _ c.from_residual-in_err-larger.ensures.0
+
+pub returns-in_err-fits-clause-bit_out : goal.returns-in_err-fits-clause-bit_out
+returns-in_err-fits-clause-bit_out c = IfOk-from_err _ _ c.from_residual-in_err-fits.ensures.0
+
+pub returns-in_err-fits-clause-word : goal.returns-in_err-fits-clause-word
+returns-in_err-fits-clause-word c = IfOk-from_err _ _ c.from_residual-in_err-fits.ensures.0
+
+pub returns-in_err-fits-clause-value : goal.returns-in_err-fits-clause-value
+returns-in_err-fits-clause-value c = IfOk-from_err _ _ c.from_residual-in_err-fits.ensures.0
+
+pub returns-in_err-left-clause-bit_out : goal.returns-in_err-left-clause-bit_out
+returns-in_err-left-clause-bit_out c = IfOk-from_err _ _ c.from_residual-in_err-left.ensures.0
+
+pub returns-in_err-left-clause-word : goal.returns-in_err-left-clause-word
+returns-in_err-left-clause-word c = IfOk-from_err _ _ c.from_residual-in_err-left.ensures.0
+
+pub returns-in_err-left-clause-value : goal.returns-in_err-left-clause-value
+returns-in_err-left-clause-value c = IfOk-from_err _ _ c.from_residual-in_err-left.ensures.0

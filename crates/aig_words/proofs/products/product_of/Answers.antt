@@ -7,7 +7,8 @@ use Rattle.aig.proofs.Values.{always_from}
 use Rattle.aig_words.specs.declared.lists.Way.TheVariants.{Up}
 use Rattle.aig.proofs.Growth.{Obeys-older}
 use Rattle.aig_words.specs.Words.{number, Grew, IsWord, moved}
-use Rattle.aig_words.proofs.Grown.{Grew-refl, Grew-then, IsWord-zeros, zeros_in, some_node}
+use Rattle.std.proofs.lemmas.Result.{IfOk-from_err}
+use Rattle.aig_words.proofs.Grown.{Grew-refl, Grew-then, Grew-wider, IsWord-zeros, zeros_in, some_node}
 use Rattle.aig_words.proofs.Numbers.{number-nil, number-zeros, number-more}
 use Rattle.aig_words.proofs.Moves.{number-moved, length-moved}
 use Rattle.aig_words.proofs.Steps.{mul_step, turns_fit}
@@ -76,3 +77,62 @@ returns-clause-value c =
     let i = c.loop-i.i in
     always_from _ _ (c.loop-i.invariant.graph (omega (arith, c.requires.some))) (λ v o.
     c.loop-i.invariant.value v o ∙ ap (λ (xs : List Lit). (number v a * number v xs) % 2 ^ length a) (take_all i b (omega (arith, c.requires.same))))
+
+-- ---- where memory ends
+
+pub returns-in_err-none-clause-grew : goal.returns-in_err-none-clause-grew
+returns-in_err-none-clause-grew c = Grew-refl _ c.args.aig.now
+
+pub returns-in_err-total-clause-grew : goal.returns-in_err-total-clause-grew
+returns-in_err-total-clause-grew c = Grew-refl _ c.args.aig.now
+
+pub returns-in_err-moved-clause-grew : goal.returns-in_err-moved-clause-grew
+returns-in_err-moved-clause-grew c =
+    let l = length c.args.a.now in
+    let i = c.loop-i.i in
+    Grew-wider (10 * l * i) (10 * l * l) c.args.aig.now c.loop-i.aig (omega (arith, turns_fit 10 l i c.loop-i-test.true)) c.loop-i.invariant.grew
+
+pub returns-in_err-row-clause-grew : goal.returns-in_err-row-clause-grew
+returns-in_err-row-clause-grew c =
+    let a = c.args.a.now in
+    let l = length a in
+    let i = c.loop-i.i in
+    let moved : length c.deref.result.now ≡ l = ap (λ (xs : List Lit). length xs) (c.deref.ensures.value ∙ c.in_ok-moved.ensures) ∙ length-moved Up i a (omega (arith, c.loop-i-test.true)) in
+    Grew-then (10 * l * i) (3 * length c.deref.result.now) (10 * l * l) c.args.aig.now c.loop-i.aig _ (omega (arith, turns_fit 10 l i c.loop-i-test.true, ap (λ n. 3 * n) moved)) c.loop-i.invariant.grew c.in_err-row.ensures.grew
+
+pub returns-clause-grew : goal.returns-clause-grew
+returns-clause-grew c =
+    let l = length c.args.a.now in
+    let i = c.loop-i.i in
+    let end : i ≡ l = omega arith in
+    Grew-wider (10 * l * i) (10 * l * l) c.args.aig.now c.loop-i.aig (omega (arith, ap (λ n. 10 * l * n) end)) c.loop-i.invariant.grew
+
+pub returns-in_err-none-clause-word : goal.returns-in_err-none-clause-word
+returns-in_err-none-clause-word c = IfOk-from_err _ _ c.from_residual.ensures.0
+
+pub returns-in_err-none-clause-value : goal.returns-in_err-none-clause-value
+returns-in_err-none-clause-value c = IfOk-from_err _ _ c.from_residual.ensures.0
+
+pub returns-in_err-total-clause-word : goal.returns-in_err-total-clause-word
+returns-in_err-total-clause-word c = IfOk-from_err _ _ c.from_residual-in_err-total.ensures.0
+
+pub returns-in_err-total-clause-value : goal.returns-in_err-total-clause-value
+returns-in_err-total-clause-value c = IfOk-from_err _ _ c.from_residual-in_err-total.ensures.0
+
+pub returns-in_err-moved-clause-word : goal.returns-in_err-moved-clause-word
+returns-in_err-moved-clause-word c = IfOk-from_err _ _ c.from_residual-in_err-moved.ensures.0
+
+pub returns-in_err-moved-clause-value : goal.returns-in_err-moved-clause-value
+returns-in_err-moved-clause-value c = IfOk-from_err _ _ c.from_residual-in_err-moved.ensures.0
+
+pub returns-in_err-row-clause-word : goal.returns-in_err-row-clause-word
+returns-in_err-row-clause-word c = IfOk-from_err _ _ c.from_residual-in_err-row.ensures.0
+
+pub returns-in_err-row-clause-value : goal.returns-in_err-row-clause-value
+returns-in_err-row-clause-value c = IfOk-from_err _ _ c.from_residual-in_err-row.ensures.0
+
+pub returns-in_err-total-2-clause-word : goal.returns-in_err-total-2-clause-word
+returns-in_err-total-2-clause-word c = IfOk-from_err _ _ c.from_residual-in_err-total-2.ensures.0
+
+pub returns-in_err-total-2-clause-value : goal.returns-in_err-total-2-clause-value
+returns-in_err-total-2-clause-value c = IfOk-from_err _ _ c.from_residual-in_err-total-2.ensures.0

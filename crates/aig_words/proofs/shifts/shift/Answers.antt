@@ -6,7 +6,9 @@ use Rattle.aig.specs.Graph.{holds, constant_lit}
 use Rattle.aig.proofs.Growth.{Obeys-older}
 use Rattle.aig.proofs.Values.{always_from}
 use Rattle.aig_words.specs.Words.{number, Grew, IsWord, moved, shifted}
-use Rattle.aig_words.proofs.Grown.{Grew-refl, Grew-then, Grew-stages, some_node, moved_in, fills_later}
+use Rattle.std.proofs.lemmas.Result.{IfOk-from_err}
+use Rattle.aig_words.proofs.Steps.{stages_fit}
+use Rattle.aig_words.proofs.Grown.{Grew-refl, Grew-then, Grew-wider, Grew-stages, some_node, moved_in, fills_later}
 use Rattle.aig_words.proofs.Numbers.{number-nil, number-below}
 use Rattle.aig_words.proofs.Moves.{length-moved, number-moved, shifted_none, shift_more, shift_end}
 use Rattle.aig_words.proofs.shifts.shift.Goals as goal
@@ -101,3 +103,82 @@ returns-clause-value c = always_from _ _ c.in_ok-moved-2.ensures.value.graph (λ
     c.in_ok-moved-2.ensures.value.obeyed v o ∙ ap (λ n. cond far n (number v c.deref-3.result.now)) away ∙ ap (λ (xs : List Lit). cond far (shifted v way (length a) (number v a) (length a)) (number v xs)) c.deref-3.ensures.value in
     shift_end v way b (length a) (number v a) j (number v c.loop-j.word.items) (number v c.in_ok-moved-2.moved.items) far (number-below v a) c.loop-j.invariant.within late (c.loop-j.invariant.value v o1)
     (c.in_ok-far.ensures.value v o2 ∙ ap (λ (xs : List Lit). ltb 0 (number v xs)) (take_rest b j)) e)
+
+-- ---- where memory ends
+
+pub returns-in_err-word-clause-grew : goal.returns-in_err-word-clause-grew
+returns-in_err-word-clause-grew c = Grew-refl _ c.args.aig.now
+
+pub returns-in_err-moved-clause-grew : goal.returns-in_err-moved-clause-grew
+returns-in_err-moved-clause-grew c =
+    let l = length c.args.a.now in
+    let j = c.loop-j.j in
+    Grew-wider (3 * l * j) (7 * l * l) c.args.aig.now c.loop-j.aig (omega (arith, stages_fit l j 0 c.requires.some (omega (arith, c.loop-j.invariant.within, c.requires.same)) (omega arith))) c.loop-j.invariant.grew
+
+pub returns-in_err-word-2-clause-grew : goal.returns-in_err-word-2-clause-grew
+returns-in_err-word-2-clause-grew c =
+    let l = length c.args.a.now in
+    let j = c.loop-j.j in
+    let k = c.loop-j.k in
+    let long = c.loop-j.invariant.word.long in
+    let is_moved : c.deref-in-loop-j.result.now ≡ moved c.args.way k c.loop-j.word.items =
+    c.deref-in-loop-j.ensures.value ∙ c.in_ok-moved.ensures ∙ ap (λ (xs : List Lit). moved c.args.way k xs) c.deref.ensures.value in
+    let moved_long : length c.deref-in-loop-j.result.now ≡ l = ap (λ (xs : List Lit). length xs) is_moved ∙ length-moved c.args.way k c.loop-j.word.items (omega (arith, c.if-k-a.true, long)) ∙ long in
+    let most = stages_fit l j 0 c.requires.some (omega (arith, c.loop-j.invariant.within, c.requires.same)) (omega arith) in
+    Grew-then (3 * l * j) (3 * length c.deref-in-loop-j.result.now) (7 * l * l) c.args.aig.now c.loop-j.aig _ (omega (arith, most, ap (λ n. 3 * n) moved_long)) c.loop-j.invariant.grew c.in_err-word-2.ensures.grew
+
+pub returns-in_err-far-clause-grew : goal.returns-in_err-far-clause-grew
+returns-in_err-far-clause-grew c =
+    let l = length c.args.a.now in
+    let b = c.args.b.now in
+    let j = c.loop-j.j in
+    let few : length (drop j b) ≤ l = omega (arith, length-drop j b, c.requires.same) in
+    let most = stages_fit l j (length (drop j b)) c.requires.some (omega (arith, c.loop-j.invariant.within, c.requires.same)) few in
+    Grew-then (3 * l * j) (length (drop j b)) (7 * l * l) c.args.aig.now c.loop-j.aig _ (omega (arith, most)) c.loop-j.invariant.grew
+    (subst (λ (xs : List Lit). Grew (length xs) c.loop-j.aig c.any.new.aig) (take_rest b j) c.in_err-far.ensures.grew)
+
+pub returns-in_err-away-clause-grew : goal.returns-in_err-away-clause-grew
+returns-in_err-away-clause-grew c =
+    let l = length c.args.a.now in
+    let b = c.args.b.now in
+    let j = c.loop-j.j in
+    let few : length (drop j b) ≤ l = omega (arith, length-drop j b, c.requires.same) in
+    let most = stages_fit l j (length (drop j b)) c.requires.some (omega (arith, c.loop-j.invariant.within, c.requires.same)) few in
+    Grew-then (3 * l * j) (length (drop j b)) (7 * l * l) c.args.aig.now c.loop-j.aig _ (omega (arith, most)) c.loop-j.invariant.grew
+    (subst (λ (xs : List Lit). Grew (length xs) c.loop-j.aig c.any.new.aig) (take_rest b j) c.in_ok-far.ensures.grew)
+
+pub returns-in_err-word-clause-word : goal.returns-in_err-word-clause-word
+returns-in_err-word-clause-word c = IfOk-from_err _ _ c.from_residual.ensures.0
+
+pub returns-in_err-word-clause-value : goal.returns-in_err-word-clause-value
+returns-in_err-word-clause-value c = IfOk-from_err _ _ c.from_residual.ensures.0
+
+pub returns-in_err-moved-clause-word : goal.returns-in_err-moved-clause-word
+returns-in_err-moved-clause-word c = IfOk-from_err _ _ c.from_residual-in_err-moved.ensures.0
+
+pub returns-in_err-moved-clause-value : goal.returns-in_err-moved-clause-value
+returns-in_err-moved-clause-value c = IfOk-from_err _ _ c.from_residual-in_err-moved.ensures.0
+
+pub returns-in_err-word-2-clause-word : goal.returns-in_err-word-2-clause-word
+returns-in_err-word-2-clause-word c = IfOk-from_err _ _ c.from_residual-in_err-word-2.ensures.0
+
+pub returns-in_err-word-2-clause-value : goal.returns-in_err-word-2-clause-value
+returns-in_err-word-2-clause-value c = IfOk-from_err _ _ c.from_residual-in_err-word-2.ensures.0
+
+pub returns-in_err-far-clause-word : goal.returns-in_err-far-clause-word
+returns-in_err-far-clause-word c = IfOk-from_err _ _ c.from_residual-in_err-far.ensures.0
+
+pub returns-in_err-far-clause-value : goal.returns-in_err-far-clause-value
+returns-in_err-far-clause-value c = IfOk-from_err _ _ c.from_residual-in_err-far.ensures.0
+
+pub returns-in_err-away-clause-word : goal.returns-in_err-away-clause-word
+returns-in_err-away-clause-word c = IfOk-from_err _ _ c.from_residual-in_err-away.ensures.0
+
+pub returns-in_err-away-clause-value : goal.returns-in_err-away-clause-value
+returns-in_err-away-clause-value c = IfOk-from_err _ _ c.from_residual-in_err-away.ensures.0
+
+pub returns-in_err-moved-2-clause-word : goal.returns-in_err-moved-2-clause-word
+returns-in_err-moved-2-clause-word c = IfOk-from_err _ _ c.from_residual-in_err-moved-2.ensures.0
+
+pub returns-in_err-moved-2-clause-value : goal.returns-in_err-moved-2-clause-value
+returns-in_err-moved-2-clause-value c = IfOk-from_err _ _ c.from_residual-in_err-moved-2.ensures.0
