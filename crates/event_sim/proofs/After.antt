@@ -6,7 +6,8 @@ use Rattle.settling.specs.Events.{event, after_events}
 use Rattle.flat_net.specs.declared.flat.Flat.{Flat}
 use Rattle.flat_net.specs.Flats.{links_of, given_in}
 use Rattle.event_sim.specs.declared.sim.Sim.{Sim}
-use Rattle.event_sim.specs.Sims.{store_of, now_of, prev_of, stim_of, prev_values, stim_values}
+use Rattle.event_nets.specs.Tables.{store_of}
+use Rattle.event_sim.specs.Sims.{now_of, prev_of, stim_of, prev_values, stim_values}
 use Rattle.event_sim.specs.Steps.{net_of, after_steps, IsAfter}
 
 pub after-none : (flat : Flat) (sim : Sim) → ((n k : ℕ) → now_of sim n k ≡ Unknown) → IsAfter flat sim []

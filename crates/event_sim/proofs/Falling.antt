@@ -5,7 +5,7 @@ use Rattle.fourvec.specs.declared.Bit.{Bit}
 use Rattle.fourvec.specs.declared.Bit.TheVariants.{Zero, One, Unknown, Floating}
 use Rattle.fourvec.specs.Bits.{bit_below}
 use Rattle.svex_arena.specs.Values.{Vector}
-use Rattle.event_sim.specs.Sims.{store_of}
+use Rattle.event_nets.specs.Tables.{store_of}
 
 abbrev pub weight : Bit → ℕ
 weight Unknown = 1

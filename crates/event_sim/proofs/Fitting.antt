@@ -13,12 +13,13 @@ use Rattle.driver_resolve.specs.Drivers.{widths_of}
 use Rattle.flat_net.specs.declared.flat.Flat.{Flat}
 use Rattle.flat_net.specs.Flats.{IsFlat, links_of, given, given_in}
 use Rattle.event_sim.specs.declared.sim.Sim.{Sim}
-use Rattle.event_sim.specs.Gifts.{IsGift, IsTold, driver_gifts, stimulus_gifts}
+use Rattle.event_nets.specs.Gifts.{IsGift, IsTold, driver_gifts, stimulus_gifts}
 use Rattle.event_sim.specs.Passes.{HasValues}
 use Rattle.event_sim.specs.Rows.{Passed}
-use Rattle.event_sim.specs.Sims.{store_of, now_of, prev_of, stim_of, home_of, picked, Fits}
-use Rattle.event_sim.proofs.Homes.{links-inside, homes-below, start-at}
-use Rattle.event_sim.proofs.Giving.{none-outside}
+use Rattle.event_nets.specs.Tables.{store_of, home_of}
+use Rattle.event_sim.specs.Sims.{now_of, prev_of, stim_of, picked, Fits}
+use Rattle.event_nets.proofs.Homes.{links-inside, homes-below, start-at}
+use Rattle.event_nets.proofs.Giving.{none-outside}
 use Rattle.event_sim.proofs.Passing.{as-many, width-at, passed-event}
 use Rattle.event_sim.proofs.Flats.{phase_of, class-told, given-inside, all-sound}
 

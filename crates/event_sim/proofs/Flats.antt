@@ -30,14 +30,14 @@ use Rattle.driver_resolve.specs.declared.driver.Driver.{Driver}
 use Rattle.driver_resolve.specs.Drivers.{Phase, reading, drivers_give, stimuli_from, wire_bits, widths_of, is_wire, is_of_wires, IsDriver}
 use Rattle.flat_net.specs.declared.flat.Flat.{Flat}
 use Rattle.flat_net.specs.Flats.{IsFlat, links_of, given}
-use Rattle.event_sim.specs.declared.gift.Source.{Source}
-use Rattle.event_sim.specs.declared.gift.Source.TheVariants.{Value, Stimulus}
-use Rattle.event_sim.specs.Gifts.{source_in, told_of, told_bit, given_at, IsGift, IsTold, gifts_at, gifts_to, driver_gifts, stimulus_gifts}
+use Rattle.event_nets.specs.declared.gift.Source.{Source}
+use Rattle.event_nets.specs.declared.gift.Source.TheVariants.{Value, Stimulus}
+use Rattle.event_nets.specs.Gifts.{source_in, told_of, told_bit, given_at, IsGift, IsTold, gifts_at, gifts_to, driver_gifts, stimulus_gifts}
 use Rattle.event_sim.specs.Passes.{HasValues}
-use Rattle.event_sim.specs.Sims.{store_of, IsValuation, home_of}
-use Rattle.event_sim.proofs.Homes.{IsInside, links-inside, first-inside}
+use Rattle.event_nets.specs.Tables.{store_of, IsValuation, home_of}
+use Rattle.event_nets.proofs.Homes.{IsInside, links-inside, first-inside}
 use Rattle.event_sim.proofs.Telling.{told-resolved}
-use Rattle.event_sim.proofs.Giving.{AreInside, inside-append, given_at-append, given_to-append, HasDriverValues, drivers-give, drivers-inside, AreWires, wires-rest, wire-lies, stimuli-give, stimuli-inside}
+use Rattle.event_nets.proofs.Giving.{AreInside, inside-append, given_at-append, given_to-append, HasDriverValues, drivers-give, drivers-inside, AreWires, wires-rest, wire-lies, wires-are, stimuli-give, stimuli-inside}
 use Rattle.event_sim.proofs.Passing.{width-at}
 
 -- ---- what drivers read
@@ -82,17 +82,6 @@ pub all-have : (widths : List ℕ) (shapes : List Shape) → IsArena shapes → 
     → (drivers : List Driver) → All (IsDriver widths shapes) drivers → All (HasDriverValues shapes (phase_of rows) values) drivers
 all-have widths shapes i rows v u values h drivers ok =
     All-weaker (IsDriver widths shapes) (HasDriverValues shapes (phase_of rows) values) (has-values widths shapes i rows v u values h) drivers ok
-
--- ---- the wires
-
-pub wires-are : (wires : List Signal) → AreWires (widths_of wires) 0 wires
-wires-are wires = record {
-  is = λ k d lt.
-      let same : 0 + k ≡ k = zero-add k in (
-        omega (arith, lt, length-map wires (λ (s : Signal). s.width)),
-        ap (λ j. get_or (widths_of wires) j 0) same ∙ get_or-map (λ (s : Signal). s.width) wires k d 0 lt,
-      );
-}
 
 -- ---- what classes are told
 

@@ -14,10 +14,11 @@ use Rattle.settling.specs.Settling.{Link, given_to}
 use Rattle.settling.specs.Least.{Giving}
 use Rattle.settling.specs.Events.{resolved, event}
 use Rattle.svex_arena.specs.Values.{Vector}
-use Rattle.event_sim.specs.Gifts.{told_bit}
+use Rattle.event_nets.specs.Gifts.{told_bit}
 use Rattle.event_sim.specs.Rows.{takes, passed_bit, Passed}
-use Rattle.event_sim.specs.Sims.{store_of, IsValuation, home_of, picked}
-use Rattle.event_sim.proofs.Homes.{home-at, start-at}
+use Rattle.event_nets.specs.Tables.{store_of, IsValuation, home_of}
+use Rattle.event_sim.specs.Sims.{picked}
+use Rattle.event_nets.proofs.Homes.{home-at, start-at}
 
 pub width-at : (widths : List ℕ) (rows : List Vector) → IsValuation widths rows → (n : ℕ) → n < length widths → length (get_or rows n []) ≡ get_or widths n 0
 width-at widths rows v n h =

@@ -26,12 +26,12 @@ use Rattle.driver_resolve.specs.declared.driver.Driver.{Driver}
 use Rattle.driver_resolve.specs.Drivers.{Phase, driver_gives, drivers_give, wire_bits, stimuli_from, widths_of}
 use Rattle.flat_net.specs.declared.flat.Flat.{Flat}
 use Rattle.flat_net.specs.Flats.{IsFlat, links_of, given, given_in}
-use Rattle.event_sim.specs.Nets.{target_bits, input_bits, is_driven, is_net_bit, lowest, run_of, nets_of}
+use Rattle.event_nets.specs.Nets.{target_bits, input_bits, is_driven, is_net_bit, lowest, run_of, nets_of}
 use Rattle.event_sim.specs.Steps.{net_of, after_steps, StepsStayBelow, StepsRaise, RestIsLeast, FewChange, Changed, none, stayed, rose}
-use Rattle.event_sim.proofs.Homes.{links-inside, first-inside, same-itself}
+use Rattle.event_nets.proofs.Homes.{links-inside, first-inside, same-itself}
 use Rattle.event_sim.proofs.Stepping.{outside-undriven}
 use Rattle.event_sim.proofs.Falling.{weight, weight-falls, weight-same}
-use Rattle.event_sim.proofs.FlatNets.{run-inside}
+use Rattle.event_nets.proofs.FlatNets.{run-inside}
 use Rattle.event_sim.proofs.Settled.{given-rises}
 
 -- ---- nothing is given to a class that is not driven

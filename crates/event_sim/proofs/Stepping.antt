@@ -22,14 +22,15 @@ use Rattle.driver_resolve.specs.declared.driver.Driver.{Driver}
 use Rattle.driver_resolve.specs.Drivers.{wire_bits, widths_of, IsDriver}
 use Rattle.flat_net.specs.declared.flat.Flat.{Flat}
 use Rattle.flat_net.specs.Flats.{IsFlat, links_of}
-use Rattle.event_sim.specs.Nets.{target_bits, input_bits, is_driven, is_net_bit, run_of, nets_of, net_bits, low_of}
+use Rattle.event_nets.specs.Nets.{target_bits, input_bits, is_driven, is_net_bit, run_of, nets_of, net_bits, low_of}
 use Rattle.event_sim.specs.Rows.{takes}
-use Rattle.event_sim.specs.Sims.{store_of, IsValuation, picked}
-use Rattle.event_sim.proofs.Homes.{links-inside, first-inside, linked-inside, place-test, mapped-at}
-use Rattle.event_sim.proofs.Giving.{AreWires, wires-rest, wire-lies}
-use Rattle.event_sim.proofs.Flats.{wires-are}
+use Rattle.event_nets.specs.Tables.{store_of, IsValuation}
+use Rattle.event_sim.specs.Sims.{picked}
+use Rattle.event_nets.proofs.Homes.{links-inside, first-inside, linked-inside, place-test, mapped-at}
+use Rattle.event_nets.proofs.Giving.{AreWires, wires-rest, wire-lies}
+use Rattle.event_nets.proofs.Giving.{wires-are}
 use Rattle.event_sim.proofs.Passing.{store-outside}
-use Rattle.event_sim.proofs.FlatNets.{run-inside}
+use Rattle.event_nets.proofs.FlatNets.{run-inside}
 
 -- ---- only bits of the wires are driven
 

@@ -9,7 +9,8 @@ use Rattle.driver_resolve.specs.Drivers.{widths_of}
 use Rattle.flat_net.specs.declared.flat.Flat.{Flat}
 use Rattle.flat_net.specs.Flats.{links_of, given_in}
 use Rattle.event_sim.specs.declared.sim.Sim.{Sim}
-use Rattle.event_sim.specs.Sims.{store_of, IsValuation, now_of, prev_of, stim_of, prev_values, stim_values, picked}
+use Rattle.event_nets.specs.Tables.{store_of, IsValuation}
+use Rattle.event_sim.specs.Sims.{now_of, prev_of, stim_of, prev_values, stim_values, picked}
 use Rattle.event_sim.proofs.Passing.{as-many, width-at}
 
 pub swept : (flat : Flat) (old new : Sim) (net : Option ℕ) (stim prev : List Vector) → stim_values old ≡ stim → prev_values old ≡ prev

@@ -4,7 +4,7 @@ use Rattle.std.specs.List.{range_with_len}
 use Rattle.fourvec.specs.declared.Bit.{Bit}
 use Rattle.fourvec.specs.declared.Bit.TheVariants.{Unknown}
 use Rattle.svex_arena.specs.Values.{Vector}
-use Rattle.event_sim.specs.Gifts.{told_bit}
+use Rattle.event_nets.specs.Gifts.{told_bit}
 
 -- the net is taken; with none named, all are
 abbrev pub takes : Option ℕ → Option ℕ → Bool

@@ -9,21 +9,12 @@ use Rattle.svex_arena.specs.Values.{Vector}
 use Rattle.driver_resolve.specs.Drivers.{widths_of}
 use Rattle.flat_net.specs.declared.flat.Flat.{Flat}
 use Rattle.flat_net.specs.Flats.{links_of}
-use Rattle.event_sim.specs.declared.pass.Tables.{Tables}
 use Rattle.event_sim.specs.declared.sim.Sim.{Sim}
-use Rattle.event_sim.specs.Gifts.{driver_gifts, stimulus_gifts}
-use Rattle.event_sim.specs.Nets.{nets_of, low_of}
+pub use Rattle.event_nets.specs.Tables.{store_of, IsValuation}
+use Rattle.event_nets.specs.Tables.{home_of, AreTables}
 use Rattle.event_sim.specs.Rows.{takes}
 
 -- ---- valuations
-
--- the bits of vectors, one for each wire; X outside of the wires
-abbrev pub store_of : List Vector → Store
-store_of rows n k = slice_index_or (slice_index_or rows n []) k Unknown
-
--- a vector for each wire, of its width
-abbrev pub IsValuation : List ℕ → List Vector → Type 0
-IsValuation widths rows = map (λ row. length row) rows ≡ widths
 
 -- what the wires have now, what they had before, and what they are driven with from outside, the last two since the start
 abbrev pub now_values : Sim → List Vector
@@ -43,22 +34,6 @@ prev_of sim = store_of (prev_values sim)
 
 abbrev pub stim_of : Sim → Store
 stim_of sim = store_of (stim_values sim)
-
--- ---- tables
-
--- the place of the first bit of a bit's class
-abbrev pub home_of : List Link → List ℕ → WireBit → ℕ
-home_of links widths b = place_of widths (first_bit links b)
-
--- what is kept of the flat design
-pub record AreTables (flat : Flat) (tables : Tables) : Type 0 where
-  pub starts : tables.starts.items ≡ starts_of (widths_of flat.wires)
-  pub homes : tables.homes.items ≡ map (home_of (links_of flat.joins) (widths_of flat.wires)) (all_bits (widths_of flat.wires))
-  pub gifts : tables.gifts.items
-      ≡ driver_gifts (home_of (links_of flat.joins) (widths_of flat.wires)) flat.drivers
-      ++ stimulus_gifts (home_of (links_of flat.joins) (widths_of flat.wires)) 0 flat.wires
-  pub lows : tables.lows.items ≡ map (low_of (place_of (widths_of flat.wires)) flat) (all_bits (widths_of flat.wires))
-  pub nets : tables.nets.items ≡ map (place_of (widths_of flat.wires)) (nets_of flat)
 
 -- The simulation was made for this flat design.
 pub record Fits (flat : Flat) (sim : Sim) : Type 0 where

@@ -9,7 +9,7 @@ use Rattle.driver_resolve.specs.Drivers.{widths_of}
 use Rattle.flat_net.specs.declared.flat.Flat.{Flat}
 use Rattle.flat_net.specs.Flats.{links_of, given_in, Settles, IsLeastSettling}
 use Rattle.event_sim.specs.declared.sim.Sim.{Sim}
-use Rattle.event_sim.specs.Nets.{nets_of, net_bits}
+use Rattle.event_nets.specs.Nets.{nets_of, net_bits}
 use Rattle.event_sim.specs.Sims.{now_of, prev_of, stim_of}
 
 -- the bits of the net of a number

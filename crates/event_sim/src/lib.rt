@@ -2,14 +2,9 @@
 //! bit, until nothing changes. That is the least settling, in whatever order the nets are taken.
 #![tactic(auto)]
 
-mod gift;
 mod laws;
-mod lay;
-mod make;
-mod nets;
 mod pass;
 mod sim;
-mod values;
 
 pub use laws::steps_reach_the_least_settling;
 pub use sim::Sim;

@@ -5,39 +5,14 @@ ghost use Rattle.std.specs.Prelude.{◌≡◌, ◌≢◌, ◌↔◌, ℕ, ◌+�
 ghost use Rattle.fourvec.specs.declared.Bit.TheVariants.{Unknown};
 ghost use Rattle.svex_arena.specs.Arenas.{IsArena};
 ghost use Rattle.svex_arena.specs.Values.{value_at, read};
-ghost use Rattle.event_sim.specs.Gifts.{IsGift, source_in, gift_bit, told_bit, IsTold};
+ghost use Rattle.event_nets.specs.Gifts.{IsGift, source_in, gift_bit, told_bit, IsTold};
 ghost use Rattle.event_sim.specs.Rows.{takes, taken, passed_bit, passed_row, Passed};
 ghost use Rattle.event_sim.specs.Passes.{HasValues};
 
-use crate::gift::{Gift, Source, told_more};
+use event_nets::gift::{Gift, Source, told_more};
+use event_nets::tables::Tables;
 use fourvec::{Bit, Four};
 use svex_arena::{Arena, Env, Node, shape_value};
-
-/// What a flat design says of its bits, which stand in one row, wire by wire.
-pub struct Tables {
-    /// The place of each wire's lowest bit.
-    pub starts: Vec<usize>,
-    /// For each bit the place of the first bit of its class.
-    pub homes: Vec<usize>,
-    /// For each driven first bit the place of the lowest bit of its net.
-    pub lows: Vec<Option<usize>>,
-    /// The place of each net's lowest bit.
-    pub nets: Vec<usize>,
-    /// What is given to classes: the drivers in order, and then the inputs of the top.
-    pub gifts: Vec<Gift>,
-}
-
-impl Drop for Tables {
-    fn drop(self) {
-        let Tables {
-            starts: _,
-            homes: _,
-            lows: _,
-            nets: _,
-            gifts: _,
-        } = self;
-    }
-}
 
 /// What a pass computes: a value for each node, and for each first bit what its class is told.
 pub struct Work {

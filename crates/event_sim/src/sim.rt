@@ -6,17 +6,19 @@ ghost use Rattle.svex_arena.specs.Arenas.{IsArena};
 ghost use Rattle.settling.specs.Events.{event};
 ghost use Rattle.driver_resolve.specs.Drivers.{widths_of};
 ghost use Rattle.flat_net.specs.Flats.{IsFlat, links_of, given_in, IsLeastSettling};
-ghost use Rattle.event_sim.specs.Sims.{store_of, IsValuation, now_values, prev_values, stim_values, now_of, prev_of, stim_of, Fits, picked};
-ghost use Rattle.event_sim.specs.Nets.{nets_of, net_bits};
+ghost use Rattle.event_nets.specs.Tables.{store_of, IsValuation};
+ghost use Rattle.event_sim.specs.Sims.{now_values, prev_values, stim_values, now_of, prev_of, stim_of, Fits, picked};
+ghost use Rattle.event_nets.specs.Nets.{nets_of, net_bits};
 ghost use Rattle.event_sim.specs.Steps.{IsAfter};
 ghost use Rattle.flat_net.specs.declared.flat.Flat.{Flat};
 ghost use Rattle.lhs_alias.specs.Segs.{bit};
 
-use crate::lay::{join_all, lay, wire_widths};
-use crate::make::{env_of, tables_of};
-use crate::nets::low_of;
-use crate::pass::{Tables, Work};
-use crate::values::{copy_all, hold};
+use crate::pass::Work;
+use event_nets::lay::wire_widths;
+use event_nets::make::{env_of, tables_of};
+use event_nets::nets::low_of;
+use event_nets::tables::Tables;
+use event_nets::values::{copy_all, hold};
 use flat_net::{Flat, Valuation};
 use fourvec::Four;
 use std::alloc::{AllocError, Global};
@@ -47,13 +49,10 @@ impl Sim {
         ensures { IfOk result (λ sim. Fits flat.now sim) }
     {
         let widths = wire_widths(alloc, flat.wires.as_slice())?;
-        let joins = join_all(alloc, &widths, flat.joins.as_slice())?;
-        let mut starts = Vec::new(alloc);
         let mut told = Vec::new(alloc);
-        lay(&mut starts, &mut told, &widths)?;
-        let tables = tables_of(alloc, flat, &widths, &joins, starts)?;
-        let env = env_of(alloc, &widths)?;
+        let tables = tables_of(alloc, flat, &widths, &mut told)?;
         let values = vec![in alloc; Four::new(1, 1, 0); flat.arena.len()]?;
+        let env = env_of(alloc, &widths)?;
         Ok(Sim {
             tables,
             env,

@@ -2,8 +2,8 @@ use Rattle.std.proofs.Common.{◌≡◌, ◌<◌, [], length, get_or, sym, ap, �
 use Rattle.std.proofs.lemmas.List.{get_or_read}
 use Rattle.std.proofs.lemmas.Option.{get_or_from_slice_get}
 use Rattle.fourvec.specs.declared.Bit.TheVariants.{Unknown}
-use Rattle.event_sim.specs.Gifts.{source_in}
-use Rattle.event_sim.proofs.Reading.{row-there}
+use Rattle.event_nets.specs.Gifts.{source_in}
+use Rattle.event_nets.proofs.Reading.{row-there}
 use Rattle.event_sim.proofs.pass.bit_of.Goals as goal
 
 pub returns-in-Value : goal.returns-in-Value

@@ -1,5 +1,5 @@
 use Rattle.std.proofs.Common.{[], ◌∷◌, sym, ap, ◌∙◌}
-use Rattle.event_sim.proofs.Reading.{one-zero, one-one, one-unknown, one-floating}
+use Rattle.event_nets.proofs.Reading.{one-zero, one-one, one-unknown, one-floating}
 use Rattle.event_sim.proofs.pass.one.Goals as goal
 
 pub returns-in-Zero : goal.returns-in-Zero

@@ -1,6 +1,6 @@
 use Rattle.std.proofs.Common.{◌<◌, length, get_or, set, sym, ap, ◌∙◌, subst, arith}
 use Rattle.std.specs.Prelude.{None}
-use Rattle.event_sim.specs.Gifts.{told_with, IsGift}
+use Rattle.event_nets.specs.Gifts.{told_with, IsGift}
 use Rattle.event_sim.proofs.Telling.{told-more}
 use Rattle.event_sim.proofs.pass.tell_all.Goals as goal
 

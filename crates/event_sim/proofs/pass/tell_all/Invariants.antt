@@ -1,5 +1,5 @@
 use Rattle.std.proofs.Common.{take}
-use Rattle.event_sim.specs.Gifts.{IsTold}
+use Rattle.event_nets.specs.Gifts.{IsTold}
 use Rattle.event_sim.proofs.pass.tell_all.Given as goal
 
 abbrev pub invariant-loop-gift : goal.invariant-loop-gift

@@ -1,15 +1,13 @@
 use Rattle.std.proofs.Common.{ℕ, ◌≤◌, List, sym, ap, ◌∙◌, subst}
 use Rattle.std.specs.Prelude.{All}
 use Rattle.driver_resolve.specs.Drivers.{widths_of}
-use Rattle.event_sim.proofs.Making.{wires-narrow}
+use Rattle.event_nets.proofs.Making.{wires-narrow}
 use Rattle.event_sim.proofs.sim.Sim.new.Goals as goal
 
-pub join_all-requires-clause-widths : goal.join_all-requires-clause-widths
-join_all-requires-clause-widths c =
-    let P : List ℕ → Type 0 = All (λ width. (1 ≤ width) × (width ≤ 128)) in
-    subst P (sym (c.deref.ensures.value ∙ c.in_ok-widths.ensures ∙ ap (λ l. widths_of l) c.as_slice.ensures)) (wires-narrow c.args.flat.now.wires c.requires.wires)
+pub tables_of-requires-clause-widths : goal.tables_of-requires-clause-widths
+tables_of-requires-clause-widths c = c.deref.ensures.value ∙ c.in_ok-widths.ensures ∙ ap (λ l. widths_of l) c.as_slice.ensures
 
 pub env_of-requires : goal.env_of-requires
 env_of-requires c =
     let P : List ℕ → Type 0 = All (λ width. (1 ≤ width) × (width ≤ 128)) in
-    subst P (sym (c.deref-4.ensures.value ∙ c.in_ok-widths.ensures ∙ ap (λ l. widths_of l) c.as_slice.ensures)) (wires-narrow c.args.flat.now.wires c.requires.wires)
+    subst P (sym (c.deref-2.ensures.value ∙ c.in_ok-widths.ensures ∙ ap (λ l. widths_of l) c.as_slice.ensures)) (wires-narrow c.args.flat.now.wires c.requires.wires)

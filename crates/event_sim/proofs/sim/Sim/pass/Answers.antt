@@ -1,7 +1,7 @@
 use Rattle.std.proofs.Common.{List, length, sym, ap, ◌∙◌, subst}
 use Rattle.svex_arena.specs.Values.{Vector}
 use Rattle.driver_resolve.specs.Drivers.{widths_of}
-use Rattle.event_sim.specs.Sims.{IsValuation}
+use Rattle.event_nets.specs.Tables.{IsValuation}
 use Rattle.event_sim.proofs.Fitting.{gifts-fit, rows-fit, starts-fit, homes-fit, lows-fit, pass-now}
 use Rattle.event_sim.proofs.Passing.{passed-widths}
 use Rattle.event_sim.proofs.sim.Sim.pass.Goals as goal

@@ -2,7 +2,8 @@ use Rattle.std.proofs.Common.{◌≡◌, sym, ap, ◌∙◌, subst}
 use Rattle.std.specs.Prelude.{None}
 use Rattle.driver_resolve.specs.Drivers.{widths_of}
 use Rattle.flat_net.specs.Flats.{links_of, IsLeastSettling}
-use Rattle.event_sim.specs.Sims.{store_of, now_of, now_values, picked}
+use Rattle.event_nets.specs.Tables.{store_of}
+use Rattle.event_sim.specs.Sims.{now_of, now_values, picked}
 use Rattle.event_sim.proofs.Falling.{unknowns-fall}
 use Rattle.event_sim.proofs.Settled.{reached-none, reached-more, reached-raises, reached-rest}
 use Rattle.event_sim.proofs.Sweeping.{swept, lengths-same}

@@ -1,5 +1,6 @@
 use Rattle.std.proofs.Common.{◌≡◌}
-use Rattle.event_sim.specs.Sims.{store_of, prev_values, stim_values, now_of, Fits}
+use Rattle.event_nets.specs.Tables.{store_of}
+use Rattle.event_sim.specs.Sims.{prev_values, stim_values, now_of, Fits}
 use Rattle.event_sim.proofs.Falling.{unknowns}
 use Rattle.event_sim.proofs.Settled.{Reached}
 use Rattle.event_sim.proofs.sim.Sim.settle.Given as goal

@@ -1,7 +1,7 @@
 use Rattle.std.proofs.Common.{get_or, ap, ◌∙◌}
 use Rattle.lhs_alias.specs.Segs.{bit}
 use Rattle.flat_net.specs.Flats.{given_in}
-use Rattle.event_sim.specs.Nets.{nets_of}
+use Rattle.event_nets.specs.Nets.{nets_of}
 use Rattle.event_sim.specs.Sims.{prev_of, stim_of, now_values}
 use Rattle.event_sim.proofs.After.{after-more}
 use Rattle.event_sim.proofs.Stepping.{step-event, net-inside, net-low}

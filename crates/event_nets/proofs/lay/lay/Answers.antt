@@ -1,0 +1,31 @@
+use Rattle.std.proofs.Common.{◌<◌, ◌++◌, ◌∷◌, [], length, get_or, take, sym, ap, ◌∙◌, arith, length-append}
+use Rattle.lhs_alias.specs.Segs.{seg_bits}
+use Rattle.lhs_alias.specs.Joined.{starts_of, starts_from, all_bits, bits_from}
+use Rattle.lhs_alias.proofs.Row.{all_bits-take_more, starts_of-take_more}
+use Rattle.lhs_alias.proofs.SegBits.{length-seg_bits}
+use Rattle.event_nets.proofs.lay.lay.Goals as goal
+
+pub loop-width-init : goal.loop-width-init
+unfolding starts_of starts_from all_bits bits_from
+loop-width-init c = record { starts = c.requires.starts; told = ap (λ l. length l) c.requires.told }
+
+pub loop-width-preserved : goal.loop-width-preserved
+loop-width-preserved c =
+    let widths = c.args.widths.now in
+    let i = c.loop-width.width-index in
+    let within : i < length widths = omega arith in
+    let so_far = c.loop-width.invariant in
+    record {
+      starts = c.in_ok-add_wire.ensures.starts
+          ∙ ap (λ s. s ++ length c.loop-width.told.items ∷ []) so_far.starts
+          ∙ ap (λ n. starts_of (take i widths) ++ n ∷ []) so_far.told
+          ∙ sym (starts_of-take_more widths i 0 within);
+      told = omega (
+        arith,
+        c.in_ok-add_wire.ensures.told,
+        so_far.told,
+        ap (λ l. length l) (all_bits-take_more widths i 0 within),
+        length-append (all_bits (take i widths)) (seg_bits (record { wire = i; lo = 0; width = get_or widths i 0 })),
+        length-seg_bits (record { wire = i; lo = 0; width = get_or widths i 0 }),
+      );
+    }

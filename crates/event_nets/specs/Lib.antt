@@ -1,0 +1,4 @@
+pub mod Gifts
+pub mod Nets
+pub mod Runs
+pub mod Tables

@@ -1,0 +1,133 @@
+//! Takes all the memory of a simulation.
+
+ghost use Rattle.std.specs.Prelude.{◌≡◌, ◌<◌, ◌≤◌, ◌^◌, [], length, All, IfOk, OnOk};
+ghost use Rattle.lhs_alias.specs.Joined.{Stands, starts_of, all_bits, widths_of as joined_widths};
+ghost use Rattle.driver_resolve.specs.Drivers.{widths_of};
+ghost use Rattle.flat_net.specs.Flats.{IsFlat, links_of};
+ghost use Rattle.event_nets.specs.Tables.{AreTables, IsValuation, gifts_of, homes_of, lows_of};
+
+use crate::gift::Gift;
+use crate::lay::{all_homes, give_drivers, give_inputs, join_all, lay};
+use crate::nets::{all_lows, driven_places, net_places};
+use crate::tables::Tables;
+use crate::values::unknown;
+use flat_net::Flat;
+use fourvec::{Bit, Four};
+use lhs_alias::Joins;
+use std::alloc::{AllocError, Global};
+use svex_arena::Env;
+
+// What is given to the classes of a flat design.
+fn gifts_of(
+    alloc: Global,
+    flat: &Flat,
+    joins: &Joins,
+    starts: &[usize],
+) -> Result<Vec<Gift>, AllocError>
+    requires flat { IsFlat flat.now }
+    requires joins { joined_widths joins.now ≡ widths_of flat.now.wires }
+    requires stands { Stands joins.now (links_of flat.now.joins) }
+    requires starts { starts.now ≡ starts_of (widths_of flat.now.wires) }
+    requires fits { length (all_bits (widths_of flat.now.wires)) < 2 ^ 64 }
+    ensures { IfOk result (λ gifts. gifts.items ≡ gifts_of flat.now) }
+{
+    let _ = flat.arena.len();
+    let mut gifts = Vec::new(alloc);
+    give_drivers(alloc, joins, starts, flat.drivers.as_slice(), &mut gifts)?;
+    give_inputs(alloc, joins, starts, flat.wires.as_slice(), &mut gifts)?;
+    Ok(gifts)
+}
+
+// For each bit that lies in a net the place of the net's lowest bit.
+fn lows_of(
+    alloc: Global,
+    flat: &Flat,
+    widths: &[u8],
+    homes: &[usize],
+    gifts: &[Gift],
+) -> Result<Vec<Option<usize>>, AllocError>
+    requires flat { IsFlat flat.now }
+    requires widths { widths.now ≡ widths_of flat.now.wires }
+    requires homes { homes.now ≡ homes_of flat.now }
+    requires gifts { gifts.now ≡ gifts_of flat.now }
+    ensures { IfOk result (λ lows. lows.items ≡ lows_of flat.now) }
+{
+    let driven = driven_places(alloc, homes.len(), gifts)?;
+    all_lows(alloc, homes, &driven, widths)
+}
+
+// The tables of a flat design over its joins.
+fn tables_over(
+    alloc: Global,
+    flat: &Flat,
+    widths: &[u8],
+    joins: &Joins,
+    starts: Vec<usize>,
+) -> Result<Tables, AllocError>
+    requires flat { IsFlat flat.now }
+    requires widths { widths.now ≡ widths_of flat.now.wires }
+    requires joins { joined_widths joins.now ≡ widths_of flat.now.wires }
+    requires stands { Stands joins.now (links_of flat.now.joins) }
+    requires starts { starts.items ≡ starts_of (widths_of flat.now.wires) }
+    requires fits { length (all_bits (widths_of flat.now.wires)) < 2 ^ 64 }
+    ensures { IfOk result (λ tables. AreTables flat.now tables) }
+{
+    let homes = all_homes(alloc, joins, &starts, widths)?;
+    let gifts = gifts_of(alloc, flat, joins, &starts)?;
+    let lows = lows_of(alloc, flat, widths, &homes, &gifts)?;
+    let nets = net_places(alloc, &lows)?;
+    Ok(Tables {
+        starts,
+        homes,
+        lows,
+        nets,
+        gifts,
+    })
+}
+
+/// The tables of a flat design, and room for what each bit is told.
+pub fn tables_of(
+    alloc: Global,
+    flat: &Flat,
+    widths: &[u8],
+    told: &mut Vec<Option<Bit>>,
+) -> Result<Tables, AllocError>
+    requires flat { IsFlat flat.now }
+    requires widths { widths.now ≡ widths_of flat.now.wires }
+    requires told { told.old.items ≡ [] }
+    ensures tables { IfOk result (λ tables. AreTables flat.now tables) }
+    ensures told { OnOk result (length told.new.items ≡ length (all_bits (widths_of flat.now.wires))) }
+{
+    let joins = join_all(alloc, widths, flat.joins.as_slice())?;
+    let mut starts = Vec::new(alloc);
+    lay(&mut starts, told, widths)?;
+    tables_over(alloc, flat, widths, &joins, starts)
+}
+
+// X at every bit of wires.
+fn unknowns(alloc: Global, widths: &[u8]) -> Result<Vec<Four>, AllocError>
+    requires { All (λ width. (1 ≤ width) × (width ≤ 128)) widths.now }
+    ensures { IfOk result (λ values. IsValuation widths.now values.items) }
+{
+    let mut values = Vec::new(alloc);
+    for width in widths {
+        values.push(unknown(*width))?;
+    }
+    Ok(values)
+}
+
+/// Room for three valuations of wires.
+pub fn env_of(alloc: Global, widths: &[u8]) -> Result<Env, AllocError>
+    requires { All (λ width. (1 ≤ width) × (width ≤ 128)) widths.now }
+    ensures present { IfOk result (λ env. IsValuation widths.now env.present) }
+    ensures previous { IfOk result (λ env. IsValuation widths.now env.previous) }
+    ensures stim { IfOk result (λ env. IsValuation widths.now env.stim) }
+{
+    Ok(Env {
+        present: unknowns(alloc, widths)?,
+        previous: unknowns(alloc, widths)?,
+        stim: unknowns(alloc, widths)?,
+        chosen: Vec::new(alloc),
+        sampled: Vec::new(alloc),
+    })
+}
