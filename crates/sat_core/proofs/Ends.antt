@@ -13,7 +13,7 @@ use Rattle.refute_check.specs.Entry.{Entry, no_entry}
 use Rattle.refute_check.specs.Accepted.{IsDerived, IsAccepted, known, known_of, entry_at}
 use Rattle.refute_check.proofs.Derivations.{known_below}
 use Rattle.refute_check.proofs.Refutes.{holds_or_not}
-use Rattle.sat_core.specs.Trail.{IsQuiet, all_of}
+use Rattle.sat_state.specs.Trail.{IsQuiet, all_of}
 use Rattle.refute_check.specs.Fresh.{IsNew, IsFresh}
 
 -- every clause names variables in range

@@ -1,16 +1,1 @@
-pub mod Trails
-pub mod Learns
-pub mod Steps
-pub mod Learned
 pub mod Ends
-pub mod Watches
-pub mod Rests
-pub mod Rows
-pub mod Pushes
-pub mod Backs
-pub mod Starts
-pub mod Restarts
-pub mod Queues
-pub mod Places
-pub mod Shorter
-pub mod Stores

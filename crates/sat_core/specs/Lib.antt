@@ -1,12 +1,1 @@
-pub mod Lists
-pub mod Trail
-pub mod Learn
-pub mod Watch
-pub mod Visited
-pub mod Walk
-pub mod Found
-pub mod Lesson
 pub mod End
-pub mod Start
-pub mod Queue
-pub mod Store

@@ -4,27 +4,27 @@ ghost use Rattle.std.specs.Prelude.{◌≡◌, ℕ, ◌*◌, ◌+◌, ◌<◌, �
 ghost use Rattle.std.specs.List.{All};
 ghost use Rattle.cnf.specs.Formula.{Formula, formula_of};
 ghost use Rattle.cnf.specs.Clauses.{AllBelow, all_open, valuation};
-ghost use Rattle.sat_core.specs.Trail.{IsQuiet};
-ghost use Rattle.sat_core.specs.Watch.{rows};
-ghost use Rattle.sat_core.specs.Found.{IsFound};
-ghost use Rattle.sat_core.specs.Lesson.{IsHalfway, IsReady};
+ghost use Rattle.sat_state.specs.Trail.{IsQuiet};
+ghost use Rattle.sat_state.specs.Watch.{rows};
+ghost use Rattle.sat_search.specs.Found.{IsFound};
+ghost use Rattle.sat_search.specs.Lesson.{IsHalfway, IsReady};
 ghost use Rattle.sat_core.specs.End.{IsRightEnd, IsRightStop};
 
-use crate::back::restart;
-use crate::learn::{Notes, learn};
-use crate::lists::make_all_room;
-use crate::order::Preference;
-use crate::search::search;
-use crate::start::start;
-use crate::store::Store;
-use crate::trail::Trail;
-use crate::watch::{Pair, Watch};
 use cnf::{Cnf, Dim};
 use refute_check::{Log, Step};
+use sat_search::back::restart;
+use sat_search::learn::{Notes, learn};
+use sat_search::search::conflict_of;
+use sat_search::start::start;
+use sat_state::lists::{empty_lists, make_all_room};
+use sat_state::order::Preference;
+use sat_state::store::Store;
+use sat_state::trail::Trail;
+use sat_state::watch::{Pair, Watch};
 use std::alloc::{AllocError, Global};
 
 /// How the search ended.
-#[derive(Debug, Drop)]
+#[derive(Drop)]
 pub enum SatEnd {
     /// A value for each variable, by its number. Each clause holds.
     Sat(Vec<bool>),
@@ -48,32 +48,6 @@ fn is_spent(budget: Option<u64>, steps: usize) -> bool
     match budget {
         None => false,
         Some(n) => n <= steps as u64,
-    }
-}
-
-/// The number of a false clause: the one that was found before, or one that a search finds.
-fn conflict_of(
-    alloc: Global,
-    trail: &mut Trail,
-    pairs: &mut Vec<Pair>,
-    lists: &mut [Vec<Watch>],
-    found: Option<usize>,
-    from: usize,
-    store: &Store,
-) -> Result<Option<usize>, AllocError>
-    requires width { AllBelow (length trail.old.values) store.now }
-    requires ready { IsReady (length trail.old.values) store.now pairs.old.items (rows lists.old) trail.old }
-    requires found { IsFound store.now (valuation trail.old.values) found (IsHalfway store.now pairs.old.items trail.old from) }
-    ensures ready { OnOk result (IsReady (length trail.old.values) store.now pairs.new.items (rows lists.new) trail.new) }
-    ensures found { IfOk result (λ found. IsFound store.now (valuation trail.new.values) found
-        (IsQuiet store.now (valuation trail.new.values) × All (λ o. o ≡ None → ⊥) trail.new.values)) }
-{
-    match found {
-        Some(k) => Ok(Some(k)),
-        None => {
-            let next = search(alloc, trail, pairs.as_mut_slice(), lists, from, store)?;
-            Ok(next)
-        }
     }
 }
 
@@ -199,18 +173,6 @@ fn run(
     run_on(
         alloc, clauses, budget, trail, seen, lists, notes, &mut store,
     )
-}
-
-/// Empty lists.
-fn empty_lists(alloc: Global, count: usize) -> Result<Vec<Vec<Watch>>, AllocError>
-    ensures count { IfOk result (λ lists. length (rows lists.items) ≡ count) }
-    ensures empty { IfOk result (λ lists. All (λ row. row ≡ []) (rows lists.items)) }
-{
-    let mut lists = Vec::new(alloc);
-    for _ in 0..count {
-        lists.push(Vec::new(alloc))?;
-    }
-    Ok(lists)
 }
 
 // Clauses of gates have some of one or two literals. Where there are none, no variable is nearer to inputs than others.

@@ -6,19 +6,19 @@ use Rattle.cnf.specs.Clauses.{AllBelow, valuation}
 use Rattle.refute_check.specs.Entry.{Entry}
 use Rattle.refute_check.specs.Accepted.{IsAccepted, IsDerived}
 use Rattle.refute_check.specs.Fresh.{IsFresh, IsNew}
-use Rattle.sat_core.specs.declared.watch.Pair.{Pair}
-use Rattle.sat_core.specs.declared.watch.Watch.{Watch}
-use Rattle.sat_core.specs.Trail.{IsQuiet, all_of}
-use Rattle.sat_core.specs.Watch.{rows}
-use Rattle.sat_core.specs.Found.{IsFound}
-use Rattle.sat_core.specs.Start.{IsStarted}
-use Rattle.sat_core.specs.Lesson.{IsReady, IsHalfway, IsLast}
+use Rattle.sat_state.specs.declared.watch.Pair.{Pair}
+use Rattle.sat_state.specs.declared.watch.Watch.{Watch}
+use Rattle.sat_state.specs.Trail.{IsQuiet, all_of}
+use Rattle.sat_state.specs.Watch.{rows}
+use Rattle.sat_search.specs.Found.{IsFound}
+use Rattle.sat_search.specs.Start.{IsStarted}
+use Rattle.sat_search.specs.Lesson.{IsReady, IsHalfway, IsLast}
 use Rattle.std.proofs.lemmas.List.{append-nil}
 use Rattle.cnf.specs.declared.Dim.{Dim}
-use Rattle.sat_core.proofs.Learned.{known_push}
+use Rattle.sat_search.proofs.Learned.{known_push}
 use Rattle.sat_core.proofs.Ends.{all_below, fresh_push, accepted_push, sat_end, spent, within_more}
-use Rattle.sat_core.proofs.Restarts.{restarted}
-use Rattle.sat_core.proofs.Starts.{started_none, started_all}
+use Rattle.sat_search.proofs.Restarts.{restarted}
+use Rattle.sat_search.proofs.Starts.{started_none, started_all}
 use Rattle.std.proofs.lemmas.Result.{IfOk-from_err}
 use Rattle.sat_core.proofs.solver.learn_all.Goals as goal
 

@@ -4,10 +4,10 @@ use Rattle.cnf.specs.Formula.{formula_of}
 use Rattle.cnf.specs.Clauses.{all_open, valuation}
 use Rattle.refute_check.specs.Fresh.{IsFresh}
 use Rattle.refute_check.specs.Count.{free_count}
-use Rattle.sat_core.specs.Trail.{all_of}
-use Rattle.sat_core.specs.Watch.{rows}
-use Rattle.sat_core.specs.Found.{IsFound}
-use Rattle.sat_core.specs.Lesson.{IsReady, IsHalfway}
+use Rattle.sat_state.specs.Trail.{all_of}
+use Rattle.sat_state.specs.Watch.{rows}
+use Rattle.sat_search.specs.Found.{IsFound}
+use Rattle.sat_search.specs.Lesson.{IsReady, IsHalfway}
 use Rattle.sat_core.proofs.solver.learn_all.Given as goal
 
 abbrev pub invariant-conflicts : goal.invariant-conflicts

@@ -2,14 +2,14 @@ use Rattle.std.proofs.Common.{◌≡◌, ℕ, length, List, map, sym, ◌∙◌,
 use Rattle.cnf.specs.declared.Dim.{Dim}
 use Rattle.cnf.specs.Formula.{formula_of}
 use Rattle.cnf.specs.Clauses.{AllBelow, valuation}
-use Rattle.sat_core.specs.declared.watch.Pair.{Pair}
-use Rattle.sat_core.specs.declared.watch.Watch.{Watch}
-use Rattle.sat_core.specs.Watch.{rows}
-use Rattle.sat_core.specs.Found.{IsFound}
+use Rattle.sat_state.specs.declared.watch.Pair.{Pair}
+use Rattle.sat_state.specs.declared.watch.Watch.{Watch}
+use Rattle.sat_state.specs.Watch.{rows}
+use Rattle.sat_search.specs.Found.{IsFound}
 use Rattle.sat_core.specs.End.{IsRightStop}
-use Rattle.sat_core.specs.Start.{IsStarted}
-use Rattle.sat_core.specs.Lesson.{IsReady, IsHalfway}
-use Rattle.sat_core.proofs.Starts.{started_none, started_all}
+use Rattle.sat_search.specs.Start.{IsStarted}
+use Rattle.sat_search.specs.Lesson.{IsReady, IsHalfway}
+use Rattle.sat_search.proofs.Starts.{started_none, started_all}
 use Rattle.std.proofs.lemmas.Result.{IfOk-from_err}
 use Rattle.sat_core.proofs.solver.run_on.Goals as goal
 

@@ -1,5 +1,0 @@
-use Rattle.sat_core.specs.Queue.{IsQueue}
-use Rattle.sat_core.proofs.queue.Queue.bump_all.Given as goal
-
-abbrev pub invariant-loop-var : goal.invariant-loop-var
-invariant-loop-var l = IsQueue l.values l.self.list.items l.self.stamps.items l.self.clock l.self.next

@@ -1,0 +1,11 @@
+pub mod Learns
+pub mod Steps
+pub mod Learned
+pub mod Watches
+pub mod Rests
+pub mod Rows
+pub mod Pushes
+pub mod Backs
+pub mod Starts
+pub mod Restarts
+pub mod Shorter

@@ -1,0 +1,66 @@
+use Rattle.std.proofs.Common.{◌<◌, List, length, sym, subst, arith}
+use Rattle.std.proofs.lemmas.Result.{IfOk-from_err}
+use Rattle.cnf.specs.declared.Dim.{Dim}
+use Rattle.cnf.specs.Clauses.{all_open}
+use Rattle.refute_check.specs.Count.{free_count}
+use Rattle.sat_state.specs.Lists.{TrailLists}
+use Rattle.sat_search.specs.Lesson.{IsReady}
+use Rattle.sat_state.specs.Watch.{rows}
+use Rattle.sat_search.proofs.learn.learn.Goals as goal
+
+pub returns-in_err-left : goal.returns-in_err-left
+returns-in_err-left c =
+    let e = c.from_residual.ensures.0 in
+    record {
+      refuted = IfOk-from_err _ _ e;
+      learned = IfOk-from_err _ _ e;
+      less = IfOk-from_err _ _ e;
+      ready = IfOk-from_err _ _ e;
+      half = IfOk-from_err _ _ e;
+    }
+
+pub returns-in_err-push : goal.returns-in_err-push
+returns-in_err-push c =
+    let e = c.from_residual-in_err-push.ensures.0 in
+    record {
+      refuted = IfOk-from_err _ _ e;
+      learned = IfOk-from_err _ _ e;
+      less = IfOk-from_err _ _ e;
+      ready = IfOk-from_err _ _ e;
+      half = IfOk-from_err _ _ e;
+    }
+
+pub returns-in_err-after_conflict : goal.returns-in_err-after_conflict
+returns-in_err-after_conflict c =
+    let e = c.from_residual-in_err-after_conflict.ensures.0 in
+    record {
+      refuted = IfOk-from_err _ _ e;
+      learned = IfOk-from_err _ _ e;
+      less = IfOk-from_err _ _ e;
+      ready = IfOk-from_err _ _ e;
+      half = IfOk-from_err _ _ e;
+    }
+
+pub returns-in_err-from : goal.returns-in_err-from
+returns-in_err-from c =
+    let e = c.from_residual-in_err-from.ensures.0 in
+    record {
+      refuted = IfOk-from_err _ _ e;
+      learned = IfOk-from_err _ _ e;
+      less = IfOk-from_err _ _ e;
+      ready = IfOk-from_err _ _ e;
+      half = IfOk-from_err _ _ e;
+    }
+
+pub returns : goal.returns
+returns c =
+    let taught = c.in_ok-left.ensures.taught (omega (arith, c.if-left-eq0.false)) in
+    let made = c.in_ok-from.ensures in
+    let vars = length c.args.trail.now.values in
+    record {
+      refuted = tt;
+      learned = (_, made.step, made.store, taught.new);
+      less = subst (λ (db : List (List Dim)). free_count vars db all_open < free_count vars c.args.store.now all_open) (sym made.store) taught.less;
+      ready = subst (λ (t : TrailLists). IsReady (length t.values) c.take_up.new.store c.take_up.new.pairs.items (rows c.take_up.new.lists) c.take_up.new.trail) c.after_conflict.ensures made.ready;
+      half = made.half;
+    }

@@ -1,0 +1,41 @@
+use Rattle.std.proofs.Common.{◌≡◌, List, map, subst, ap}
+use Rattle.std.specs.List.{Contains}
+use Rattle.cnf.specs.declared.Dim.{Dim}
+use Rattle.cnf.specs.Clauses.{Valuation, valuation, IsUnit, IsConflict}
+use Rattle.refute_check.specs.Accepted.{clause_at}
+use Rattle.sat_search.specs.Start.{first_of}
+use Rattle.sat_search.proofs.Rests.{below_assigned, now_assigned}
+use Rattle.sat_search.proofs.Starts.{one_true}
+use Rattle.std.proofs.lemmas.Result.{IfOk-from_err}
+use Rattle.sat_search.proofs.start.force.Goals as goal
+
+pub returns-in_ok-assign-in-Unit-clause-grown : goal.returns-in_ok-assign-in-Unit-clause-grown
+returns-in_ok-assign-in-Unit-clause-grown c =
+    below_assigned c.args.trail.now.values c.assign.new.self.values c.args.trail.now.entries c.assign.new.self.entries _ c.requires.forced.sound.tracks c.in_ok-assign-in-Unit.ensures.tracks c.in_ok-assign-in-Unit.ensures.entries
+
+pub returns-in_ok-assign-in-Unit-clause-found : goal.returns-in_ok-assign-in-Unit-clause-found
+returns-in_ok-assign-in-Unit-clause-found c =
+    let cl = clause_at (map (λ v. v.items) c.args.clauses.now) c.args.k in (
+      c.in-Unit.d,
+      subst (λ (l : List Dim). Contains l c.in-Unit.d) c.given.ensures c.in-Unit.ensures.inside,
+      now_assigned c.assign.new.self.values c.args.trail.now.entries c.assign.new.self.entries _ c.in_ok-assign-in-Unit.ensures.tracks c.in_ok-assign-in-Unit.ensures.entries,
+    )
+
+pub returns-in-Neither-clause-found : goal.returns-in-Neither-clause-found
+returns-in-Neither-clause-found c =
+    let cl = clause_at (map (λ v. v.items) c.args.clauses.now) c.args.k in
+    let see : valuation c.values.result.now ≡ valuation c.args.trail.now.values = ap valuation c.values.ensures in
+    let neither : (IsConflict (valuation c.args.trail.now.values) cl → ⊥) × ((x : Dim) → IsUnit (valuation c.args.trail.now.values) cl x → ⊥) =
+    subst (λ (a : Valuation). (IsConflict a cl → ⊥) × ((x : Dim) → IsUnit a cl x → ⊥)) see
+    (subst (λ (l : List Dim). (IsConflict (valuation c.values.result.now) l → ⊥) × ((x : Dim) → IsUnit (valuation c.values.result.now) l x → ⊥)) c.given.ensures c.in-Neither.ensures) in
+    one_true (valuation c.args.trail.now.values) cl (first_of cl) c.requires.same neither.0 neither.1
+
+pub returns-in_err-assign-in-Unit : goal.returns-in_err-assign-in-Unit
+returns-in_err-assign-in-Unit c =
+    let e = c.from_residual.ensures.0 in
+    record {
+      forced = IfOk-from_err _ _ e;
+      width = IfOk-from_err _ _ e;
+      grown = IfOk-from_err _ _ e;
+      found = IfOk-from_err _ _ e;
+    }

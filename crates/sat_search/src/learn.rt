@@ -1,0 +1,467 @@
+//! From a conflict back to a new clause.
+
+ghost use Rattle.std.specs.Prelude.{◌≢◌, ◌≡◌, ℕ, ◌+◌, ◌*◌, ◌<◌, ◌≤◌, Bool, true, false, Option, Some, None, length, OnOk, IfOk, MatchBool, IsTrue, List, [], ◌∷◌, ◌++◌, reverse, take, IfNone, IfSome};
+ghost use Rattle.std.specs.List.{All, filter};
+ghost use Rattle.cnf.specs.Clauses.{AllBelow, AreBelow, IsConflict, all_open, valuation};
+ghost use Rattle.refute_check.specs.Entry.{Entry};
+ghost use Rattle.refute_check.specs.Fresh.{IsNew};
+ghost use Rattle.refute_check.specs.Count.{free_count};
+ghost use Rattle.refute_check.specs.Accepted.{clause_at};
+ghost use Rattle.sat_state.specs.declared.trail.Assigned.{Assigned};
+ghost use Rattle.sat_state.specs.Trail.{falses, Tracks, IsSound};
+ghost use Rattle.sat_search.specs.Lesson.{IsHalfway, IsLast, IsReady, IsTaught};
+ghost use Rattle.sat_state.specs.Watch.{first_pair, rows, with_pair};
+ghost use Rattle.sat_search.specs.Learn.{seen_at, IsClear, IsAnchored, IsAlone, IsTraced, Explains, StopsBelow, Suffices};
+
+use crate::back::{go_back, is_clear};
+use cnf::Dim;
+use refute_check::Step;
+use sat_state::lists::{Uses, add_to, make_room};
+use sat_state::lit::Lit;
+use sat_state::store::Store;
+use sat_state::trail::{Assigned, Trail};
+use sat_state::watch::{Pair, Watch};
+use std::alloc::{AllocError, Global};
+
+/// What is kept from one conflict to the next, for speed alone.
+pub struct Notes {
+    /// The variables that the newest conflict marked.
+    walked: Vec<usize>,
+    /// Its hints, which the log gets a copy of.
+    hints: Vec<usize>,
+    /// How many clauses contain each literal.
+    pub uses: Uses,
+}
+
+impl Drop for Notes {
+    fn drop(self) {
+        let Notes {
+            walked: _,
+            hints: _,
+            uses: _,
+        } = self;
+    }
+}
+
+impl Notes {
+    /// Before the first conflict, with no clause, for so many literals.
+    pub fn new(alloc: Global, literals: usize) -> Result<Notes, AllocError> {
+        Ok(Notes {
+            walked: Vec::new(alloc),
+            hints: Vec::new(alloc),
+            uses: Uses::new(alloc, literals)?,
+        })
+    }
+}
+
+/// Marks a variable. Answers how many (one or none) were not marked and had their value at the newest level.
+fn mark_one(trail: &Trail, seen: &mut [bool], var: usize) -> usize
+    requires range { var < length seen.old }
+    requires width { length seen.old ≡ length trail.now.values }
+    ensures marked { seen_at seen.new var ≡ true }
+    ensures more { (v : ℕ) → seen_at seen.old v ≡ true → seen_at seen.new v ≡ true }
+{
+    if seen[var] {
+        return 0;
+    }
+    seen[var] = true;
+    if trail.level_of(var) == trail.level() {
+        1
+    } else {
+        0
+    }
+}
+
+/// Marks the variables of a clause. Answers how many were not marked and had their value at the newest level.
+fn mark(trail: &Trail, seen: &mut [bool], clause: &[Lit]) -> usize
+    requires range { AreBelow (length seen.old) clause.now }
+    requires width { length seen.old ≡ length trail.now.values }
+    ensures marked { All (λ d. seen_at seen.new d.var ≡ true) clause.now }
+    ensures more { (v : ℕ) → seen_at seen.old v ≡ true → seen_at seen.new v ≡ true }
+{
+    let mut count: usize = 0;
+    for d in clause {
+        count = count.saturating_add(mark_one(trail, seen, d.dim().var));
+    }
+    count
+}
+
+// Writes down a variable that was marked.
+fn note(walked: &mut Vec<usize>, var: usize) -> Result<(), AllocError> {
+    walked.push(var)?;
+    Ok(())
+}
+
+// Writes down a variable whose literal is dropped. Only where the busiest variables are preferred it counts.
+fn note_dropped(trail: &Trail, walked: &mut Vec<usize>, var: usize) -> Result<(), AllocError> {
+    if trail.is_busy_turn() {
+        walked.push(var)?;
+    }
+    Ok(())
+}
+
+/// Whether the newest variable is the only one that is seen since the last decision, which there is.
+fn is_alone(trail: &[Assigned], seen: &[bool]) -> bool
+    requires { All (λ e. e.dim.var < length seen.now) trail.now }
+    ensures { IsTrue result → IsAlone seen.now (reverse trail.now) }
+{
+    let n = trail.len();
+    if n == 0 {
+        return false;
+    }
+    if trail[n - 1].reason.is_none() {
+        return true;
+    }
+    is_clear(&trail[..n - 1], seen)
+}
+
+/// Traces a conflict back, and writes the hints that lead to it, the last one first, and the variables that were seen, the
+/// newest first. Answers how much of the trail is left: nothing, or up to the one literal of its level that is seen.
+fn trace(
+    trail: &Trail,
+    seen: &mut [bool],
+    walked: &mut Vec<usize>,
+    store: &Store,
+    conflict: usize,
+    hints: &mut Vec<usize>,
+) -> Result<usize, AllocError>
+    requires width { AllBelow (length trail.now.values) store.now }
+    requires sound { IsSound store.now trail.now.values trail.now.entries }
+    requires seen { length seen.old ≡ length trail.now.values }
+    requires hints { hints.old.items ≡ [] }
+    requires known { conflict < length store.now }
+    requires conflict { IsConflict (valuation trail.now.values) (clause_at store.now conflict) }
+    ensures range { IfOk result (λ n. n ≤ length trail.now.entries) }
+    ensures explains { IfOk result (λ n. Explains store.now (reverse (take n trail.now.entries)) seen.new hints.new.items) }
+    ensures traced { IfOk result (λ n. IsTraced seen.new (reverse (take n trail.now.entries))) }
+{
+    let entries = trail.entries();
+    let mut count = mark(trail, seen, store.clause(conflict));
+    hints.push(conflict)?;
+    let mut i = entries.len();
+    while i > 0 {
+        let e = entries[i - 1];
+        if seen[e.dim.var] {
+            note(walked, e.dim.var)?;
+            if count <= 1 && is_alone(&entries[..i], seen) {
+                return Ok(i);
+            }
+            match e.reason {
+                None => {
+                    return Ok(i);
+                }
+                Some(r) => {
+                    let more = mark(trail, seen, store.clause(r));
+                    seen[e.dim.var] = false;
+                    count = count.saturating_add(more).saturating_sub(1);
+                    hints.push(r)?;
+                }
+            }
+        }
+        i -= 1;
+    }
+    Ok(0)
+}
+
+// Whether it is the variable of this literal, or that one is seen.
+fn is_covered(seen: &[bool], d: Dim, var: usize) -> bool
+    requires { d.var < length seen.now }
+    ensures { IsTrue result → d.var ≢ var → seen_at seen.now d.var ≡ true }
+{
+    d.var == var || seen[d.var]
+}
+
+/// Whether each other variable of a clause is seen.
+fn is_implied(seen: &[bool], clause: &[Lit], var: usize) -> bool
+    requires { AreBelow (length seen.now) clause.now }
+    ensures { IsTrue result → All (λ d. d.var ≢ var → seen_at seen.now d.var ≡ true) clause.now }
+{
+    for d in clause {
+        if !is_covered(seen, d.dim(), var) {
+            return false;
+        }
+    }
+    true
+}
+
+/// Drops the literal at a place of the trail, which is not the last of the first `left`, if it is seen and the others imply
+/// it; else notes its variable.
+fn drop_implied(
+    trail: &Trail,
+    seen: &mut [bool],
+    walked: &mut Vec<usize>,
+    left: usize,
+    i: usize,
+    store: &Store,
+    hints: &mut Vec<usize>,
+) -> Result<(), AllocError>
+    requires width { AllBelow (length trail.now.values) store.now }
+    requires sound { IsSound store.now trail.now.values trail.now.entries }
+    requires seen { length seen.old ≡ length trail.now.values }
+    requires place { i + 1 < left }
+    requires range { left ≤ length trail.now.entries }
+    requires enough { Suffices store.now (reverse (take left trail.now.entries)) seen.old hints.old.items }
+    requires traced { IsTraced seen.old (reverse (take left trail.now.entries)) }
+    ensures enough { OnOk result (Suffices store.now (reverse (take left trail.now.entries)) seen.new hints.new.items) }
+    ensures traced { OnOk result (IsTraced seen.new (reverse (take left trail.now.entries))) }
+{
+    let e = trail.entries()[i];
+    if !seen[e.dim.var] {
+        return Ok(());
+    }
+    match e.reason {
+        None => note(walked, e.dim.var),
+        Some(r) => {
+            if !is_implied(seen, store.clause(r), e.dim.var) {
+                return note(walked, e.dim.var);
+            }
+            note_dropped(trail, walked, e.dim.var)?;
+            seen[e.dim.var] = false;
+            hints.push(r)?;
+            Ok(())
+        }
+    }
+}
+
+/// Drops the literals that the others imply, but the last of the first `left`, and notes the variables of the rest.
+fn shorten(
+    trail: &Trail,
+    seen: &mut [bool],
+    walked: &mut Vec<usize>,
+    left: usize,
+    store: &Store,
+    hints: &mut Vec<usize>,
+) -> Result<(), AllocError>
+    requires width { AllBelow (length trail.now.values) store.now }
+    requires sound { IsSound store.now trail.now.values trail.now.entries }
+    requires seen { length seen.old ≡ length trail.now.values }
+    requires range { left ≤ length trail.now.entries }
+    requires enough { Suffices store.now (reverse (take left trail.now.entries)) seen.old hints.old.items }
+    requires traced { IsTraced seen.old (reverse (take left trail.now.entries)) }
+    ensures enough { OnOk result (Suffices store.now (reverse (take left trail.now.entries)) seen.new hints.new.items) }
+    ensures traced { OnOk result (IsTraced seen.new (reverse (take left trail.now.entries))) }
+{
+    let mut next = left;
+    while next > 1 {
+        next -= 1;
+        drop_implied(trail, seen, walked, left, next - 1, store, hints)?;
+    }
+    Ok(())
+}
+
+/// The literals of the trail that are seen, the newest first. There is room for so many from the beginning.
+fn collect(
+    alloc: Global,
+    trail: &[Assigned],
+    seen: &[bool],
+    room: usize,
+) -> Result<Vec<Dim>, AllocError>
+    requires { All (λ e. e.dim.var < length seen.now) trail.now }
+    ensures { IfOk result (λ clause. clause.items ≡ filter (λ d. seen_at seen.now d.var) (falses trail.now)) }
+{
+    let mut clause = Vec::with_capacity(alloc, room)?;
+    let mut i = trail.len();
+    while i > 0 {
+        i -= 1;
+        let e = trail[i];
+        if seen[e.dim.var] {
+            clause.push(e.dim)?;
+        }
+    }
+    Ok(clause)
+}
+
+/// A new clause, with why it follows, and how much of the trail stood up to its first literal.
+#[derive(Drop)]
+struct Taught {
+    left: usize,
+    step: Step,
+}
+
+/// Learns a clause from a conflict. It is empty where nothing of the trail is left; then the clauses are refuted.
+fn teach(
+    alloc: Global,
+    trail: &Trail,
+    seen: &mut [bool],
+    walked: &mut Vec<usize>,
+    hints: &mut Vec<usize>,
+    store: &Store,
+    conflict: usize,
+) -> Result<Taught, AllocError>
+    requires width { AllBelow (length trail.now.values) store.now }
+    requires sound { IsSound store.now trail.now.values trail.now.entries }
+    requires seen { length seen.old ≡ length trail.now.values }
+    requires known { conflict < length store.now }
+    requires conflict { IsConflict (valuation trail.now.values) (clause_at store.now conflict) }
+    ensures range { IfOk result (λ t. t.left ≤ length trail.now.entries) }
+    ensures last { IfOk result (λ t. t.left ≡ 0 → IsLast (length trail.now.values) store.now t.step) }
+    ensures taught { IfOk result (λ t. 0 < t.left → IsTaught (length trail.now.values) store.now trail.now.entries seen.new t.left t.step) }
+{
+    walked.clear();
+    hints.clear();
+    let left = trace(trail, seen, walked, store, conflict, hints)?;
+    let traced = walked.len();
+    shorten(trail, seen, walked, left, store, hints)?;
+    let room = walked.len().saturating_sub(traced).saturating_add(1);
+    let clause = collect(alloc, &trail.entries()[..left], seen, room)?;
+    hints.reverse();
+    let kept = Vec::from_slice(alloc, hints.as_slice())?;
+    Ok(Taught {
+        left,
+        step: Step {
+            clause,
+            hints: kept,
+        },
+    })
+}
+
+/// The first two literals of a clause that is not empty, or twice the only one.
+fn first_two(clause: &[Dim]) -> Result<Pair, AllocError>
+    requires { 0 < length clause.now }
+    ensures { IfOk result (λ pair. pair ≡ first_pair clause.now) }
+{
+    let a = clause[0];
+    let b = clause.get(1).copied().unwrap_or(a);
+    Pair::of(a, b)
+}
+
+/// Watches the pair of the clause k.
+pub fn watch_pair(
+    pairs: &mut Vec<Pair>,
+    lists: &mut [Vec<Watch>],
+    pair: Pair,
+    k: usize,
+) -> Result<(), AllocError>
+    requires first { 2 * pair.a.var + 1 < length lists.old }
+    requires second { 2 * pair.b.var + 1 < length lists.old }
+    ensures pairs { OnOk result (pairs.new.items ≡ pairs.old.items ++ pair ∷ []) }
+    ensures lists { OnOk result (rows lists.new ≡ with_pair (rows lists.old) pair k) }
+{
+    let a = pair.a;
+    let b = pair.b;
+    pairs.push(Pair { a, b })?;
+    add_to(
+        lists,
+        a,
+        Watch {
+            clause: k,
+            blocker: b,
+        },
+    )?;
+    add_to(
+        lists,
+        b,
+        Watch {
+            clause: k,
+            blocker: a,
+        },
+    )?;
+    Ok(())
+}
+
+/// Takes the trail back to where the new clause has one open literal, adds the clause, and makes that literal true. Answers
+/// from where to propagate.
+fn take_up(
+    trail: &mut Trail,
+    seen: &[bool],
+    pairs: &mut Vec<Pair>,
+    lists: &mut [Vec<Watch>],
+    store: &mut Store,
+    steps: &mut Vec<Step>,
+    uses: &mut Uses,
+    left: usize,
+    step: Step,
+) -> Result<usize, AllocError>
+    requires ready { IsReady (length trail.old.values) store.old pairs.old.items (rows lists.old) trail.old }
+    requires seen { length seen.now ≡ length trail.old.values }
+    requires some { 0 < left }
+    requires range { left ≤ length trail.old.entries }
+    requires taught { IsTaught (length trail.old.values) store.old trail.old.entries seen.now left step }
+    ensures step { OnOk result (steps.new.items ≡ steps.old.items ++ step ∷ []) }
+    ensures store { OnOk result (store.new ≡ store.old ++ step.clause ∷ []) }
+    ensures ready { OnOk result (IsReady (length trail.old.values) store.new pairs.new.items (rows lists.new) trail.new) }
+    ensures half { IfOk result (λ from. IsHalfway store.new pairs.new.items trail.new from) }
+{
+    let top = trail.entries()[left - 1].dim;
+    go_back(trail, seen, left);
+    let reason = store.len();
+    let pair = first_two(step.clause.as_slice())?;
+    store.push(step.clause.as_slice())?;
+    make_room(lists, uses, store.clause(reason))?;
+    watch_pair(pairs, lists, pair, reason)?;
+    steps.push(step)?;
+    let from = trail.entries().len();
+    trail.assign(Assigned {
+        dim: Dim {
+            var: top.var,
+            negated: !top.negated,
+        },
+        reason: Some(reason),
+    })?;
+    Ok(from)
+}
+
+// Takes the marks away.
+fn clear_marks(seen: &mut [bool], walked: &[usize]) {
+    for var in walked {
+        if let Some(mark) = seen.get_mut(*var) {
+            *mark = false;
+        }
+    }
+}
+
+/// Learns a clause from a conflict, and makes its first literal true. Answers from where to propagate; or None where the clauses
+/// are refuted, and then the last step is empty.
+pub fn learn(
+    alloc: Global,
+    trail: &mut Trail,
+    seen: &mut [bool],
+    pairs: &mut Vec<Pair>,
+    lists: &mut [Vec<Watch>],
+    store: &mut Store,
+    steps: &mut Vec<Step>,
+    notes: &mut Notes,
+    conflict: usize,
+) -> Result<Option<usize>, AllocError>
+    requires width { AllBelow (length trail.old.values) store.old }
+    requires ready { IsReady (length trail.old.values) store.old pairs.old.items (rows lists.old) trail.old }
+    requires seen { length seen.old ≡ length trail.old.values }
+    requires known { conflict < length store.old }
+    requires conflict { IsConflict (valuation trail.old.values) (clause_at store.old conflict) }
+    ensures refuted { IfOk result (λ from. IfNone from ((s : Entry) × (steps.new.items ≡ steps.old.items ++ s ∷ [])
+        × IsLast (length trail.old.values) store.old s)) }
+    ensures learned { IfOk result (λ from. IfSome from (λ _. (s : Entry) × (steps.new.items ≡ steps.old.items ++ s ∷ [])
+        × (store.new ≡ store.old ++ s.clause ∷ []) × IsNew (length trail.old.values) store.old s)) }
+    ensures less { IfOk result (λ from. IfSome from (λ _. free_count (length trail.old.values) store.new all_open
+        < free_count (length trail.old.values) store.old all_open)) }
+    ensures ready { IfOk result (λ from. IfSome from (λ _. IsReady (length trail.old.values) store.new pairs.new.items (rows lists.new) trail.new)) }
+    ensures half { IfOk result (λ from. IfSome from (λ n. IsHalfway store.new pairs.new.items trail.new n)) }
+{
+    let Taught { left, step } = teach(
+        alloc,
+        trail,
+        seen,
+        &mut notes.walked,
+        &mut notes.hints,
+        store,
+        conflict,
+    )?;
+    if left == 0 {
+        steps.push(step)?;
+        return Ok(None);
+    }
+    trail.after_conflict(&mut notes.walked, store.len().saturating_add(1))?;
+    let from = take_up(
+        trail,
+        seen,
+        pairs,
+        lists,
+        store,
+        steps,
+        &mut notes.uses,
+        left,
+        step,
+    )?;
+    clear_marks(seen, &notes.walked);
+    Ok(Some(from))
+}

@@ -1,0 +1,8 @@
+//! The search for a solution: propagation over watched literals, decisions, and new clauses that are learned from conflicts.
+#![tactic(auto)]
+
+pub mod back;
+pub mod learn;
+pub mod search;
+pub mod start;
+mod walk;

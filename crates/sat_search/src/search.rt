@@ -1,0 +1,166 @@
+//! Propagation and decisions, up to a conflict or a solution.
+
+ghost use Rattle.std.specs.Prelude.{◌≡◌, ℕ, ◌+◌, ◌<◌, ◌≤◌, Option, Some, None, length, OnOk, IfOk, MatchOption, reverse};
+ghost use Rattle.std.specs.List.{All};
+ghost use Rattle.cnf.specs.Clauses.{AllBelow, valuation};
+ghost use Rattle.sat_state.specs.Trail.{IsQuiet, IsSound, open_count};
+ghost use Rattle.sat_state.specs.Watch.{AllHalf, ArePairs, AreLists, IsCalm, Listed, WasCalm, rows};
+ghost use Rattle.sat_search.specs.Walk.{before};
+ghost use Rattle.sat_search.specs.Found.{IsFound};
+ghost use Rattle.sat_search.specs.Lesson.{IsHalfway, IsReady};
+
+use crate::walk::work_off;
+use cnf::Dim;
+use sat_state::lists::{close_gap, put_list, take_list};
+use sat_state::store::Store;
+use sat_state::trail::{Assigned, Trail};
+use sat_state::watch::{Pair, Watch};
+use std::alloc::{AllocError, Global};
+
+/// Looks at the clauses in which the literal at a place of the trail is watched, up to one that is false.
+fn look_through(
+    alloc: Global,
+    trail: &mut Trail,
+    pairs: &mut [Pair],
+    lists: &mut [Vec<Watch>],
+    at: usize,
+    store: &Store,
+) -> Result<Option<usize>, AllocError>
+    requires width { AllBelow (length trail.old.values) store.now }
+    requires sound { IsSound store.now trail.old.values trail.old.entries }
+    requires at { at < length trail.old.entries }
+    requires pairs { ArePairs store.now pairs.old }
+    requires lists { AreLists (length trail.old.values) store.now (rows lists.old) }
+    requires listed { Listed pairs.old (rows lists.old) }
+    requires half { AllHalf store.now pairs.old (before trail.old.entries at) (valuation trail.old.values) }
+    requires was { WasCalm store.now pairs.old (reverse trail.old.entries) }
+    ensures sound { OnOk result (IsSound store.now trail.new.values trail.new.entries) }
+    ensures width { OnOk result (length trail.new.values ≡ length trail.old.values) }
+    ensures place { OnOk result (at < length trail.new.entries) }
+    ensures longer { OnOk result (length trail.old.entries ≤ length trail.new.entries) }
+    ensures filled { OnOk result (open_count trail.new.values + length trail.new.entries ≡ open_count trail.old.values + length trail.old.entries) }
+    ensures pairs { OnOk result (ArePairs store.now pairs.new) }
+    ensures lists { OnOk result (AreLists (length trail.old.values) store.now (rows lists.new)) }
+    ensures listed { OnOk result (Listed pairs.new (rows lists.new)) }
+    ensures was { OnOk result (WasCalm store.now pairs.new (reverse trail.new.entries)) }
+    ensures found { IfOk result (λ found. IsFound store.now (valuation trail.new.values) found
+        (AllHalf store.now pairs.new (before trail.new.entries (at + 1)) (valuation trail.new.values))) }
+{
+    let d = trail.entries()[at].dim;
+    let mut list = take_list(alloc, lists, d);
+    let walk = work_off(trail, pairs, lists, list.as_mut_slice(), at, d, store)?;
+    close_gap(&mut list, walk.kept, walk.read);
+    put_list(lists, d, list);
+    Ok(walk.conflict)
+}
+
+/// Propagates from a place of the trail on, until some clause is false, whose number it answers, or nothing is left to do.
+fn propagate(
+    alloc: Global,
+    trail: &mut Trail,
+    pairs: &mut [Pair],
+    lists: &mut [Vec<Watch>],
+    from: usize,
+    store: &Store,
+) -> Result<Option<usize>, AllocError>
+    requires width { AllBelow (length trail.old.values) store.now }
+    requires sound { IsSound store.now trail.old.values trail.old.entries }
+    requires from { from ≤ length trail.old.entries }
+    requires pairs { ArePairs store.now pairs.old }
+    requires lists { AreLists (length trail.old.values) store.now (rows lists.old) }
+    requires listed { Listed pairs.old (rows lists.old) }
+    requires half { AllHalf store.now pairs.old (before trail.old.entries from) (valuation trail.old.values) }
+    requires was { WasCalm store.now pairs.old (reverse trail.old.entries) }
+    ensures sound { OnOk result (IsSound store.now trail.new.values trail.new.entries) }
+    ensures width { OnOk result (length trail.new.values ≡ length trail.old.values) }
+    ensures fewer { OnOk result (open_count trail.new.values ≤ open_count trail.old.values) }
+    ensures pairs { OnOk result (ArePairs store.now pairs.new) }
+    ensures lists { OnOk result (AreLists (length trail.old.values) store.now (rows lists.new)) }
+    ensures listed { OnOk result (Listed pairs.new (rows lists.new)) }
+    ensures was { OnOk result (WasCalm store.now pairs.new (reverse trail.new.entries)) }
+    ensures found { IfOk result (λ found. IsFound store.now (valuation trail.new.values) found
+        (IsCalm store.now pairs.new (valuation trail.new.values))) }
+{
+    let mut at = from;
+    while at < trail.entries().len() {
+        let found = look_through(alloc, trail, pairs, lists, at, store)?;
+        if found.is_some() {
+            return Ok(found);
+        }
+        at += 1;
+    }
+    Ok(None)
+}
+
+// Propagates from a place of the trail on, and decides, until some clause is false, whose number it answers, or each variable
+// has a value.
+fn search(
+    alloc: Global,
+    trail: &mut Trail,
+    pairs: &mut [Pair],
+    lists: &mut [Vec<Watch>],
+    from: usize,
+    store: &Store,
+) -> Result<Option<usize>, AllocError>
+    requires width { AllBelow (length trail.old.values) store.now }
+    requires sound { IsSound store.now trail.old.values trail.old.entries }
+    requires from { from ≤ length trail.old.entries }
+    requires pairs { ArePairs store.now pairs.old }
+    requires lists { AreLists (length trail.old.values) store.now (rows lists.old) }
+    requires listed { Listed pairs.old (rows lists.old) }
+    requires half { AllHalf store.now pairs.old (before trail.old.entries from) (valuation trail.old.values) }
+    requires was { WasCalm store.now pairs.old (reverse trail.old.entries) }
+    ensures sound { OnOk result (IsSound store.now trail.new.values trail.new.entries) }
+    ensures width { OnOk result (length trail.new.values ≡ length trail.old.values) }
+    ensures pairs { OnOk result (ArePairs store.now pairs.new) }
+    ensures lists { OnOk result (AreLists (length trail.old.values) store.now (rows lists.new)) }
+    ensures listed { OnOk result (Listed pairs.new (rows lists.new)) }
+    ensures was { OnOk result (WasCalm store.now pairs.new (reverse trail.new.entries)) }
+    ensures found { IfOk result (λ found. IsFound store.now (valuation trail.new.values) found
+        (IsQuiet store.now (valuation trail.new.values) × All (λ o. o ≡ None → ⊥) trail.new.values)) }
+{
+    let mut next = from;
+    loop {
+        match propagate(alloc, trail, pairs, lists, next, store)? {
+            Some(k) => return Ok(Some(k)),
+            None => {}
+        }
+        match trail.choose() {
+            None => return Ok(None),
+            Some(var) => {
+                next = trail.entries().len();
+                let negated = trail.phase_of(var);
+                trail.assign(Assigned {
+                    dim: Dim { var, negated },
+                    reason: None,
+                })?;
+            }
+        }
+    }
+}
+
+/// The number of a false clause: the one that was found before, or one that a search finds.
+pub fn conflict_of(
+    alloc: Global,
+    trail: &mut Trail,
+    pairs: &mut Vec<Pair>,
+    lists: &mut [Vec<Watch>],
+    found: Option<usize>,
+    from: usize,
+    store: &Store,
+) -> Result<Option<usize>, AllocError>
+    requires width { AllBelow (length trail.old.values) store.now }
+    requires ready { IsReady (length trail.old.values) store.now pairs.old.items (rows lists.old) trail.old }
+    requires found { IsFound store.now (valuation trail.old.values) found (IsHalfway store.now pairs.old.items trail.old from) }
+    ensures ready { OnOk result (IsReady (length trail.old.values) store.now pairs.new.items (rows lists.new) trail.new) }
+    ensures found { IfOk result (λ found. IsFound store.now (valuation trail.new.values) found
+        (IsQuiet store.now (valuation trail.new.values) × All (λ o. o ≡ None → ⊥) trail.new.values)) }
+{
+    match found {
+        Some(k) => Ok(Some(k)),
+        None => {
+            let next = search(alloc, trail, pairs.as_mut_slice(), lists, from, store)?;
+            Ok(next)
+        }
+    }
+}

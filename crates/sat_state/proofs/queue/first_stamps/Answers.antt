@@ -1,0 +1,29 @@
+use Rattle.std.proofs.Common.{◌≡◌, ◌+◌, ◌∙◌, length, ap, arith}
+use Rattle.std.proofs.lemmas.Result.{IfOk-from_err}
+use Rattle.std.proofs.lemmas.List.{length_push}
+use Rattle.sat_state.proofs.Queues.{stamped_more, stamped_all}
+use Rattle.sat_state.proofs.queue.first_stamps.Goals as goal
+
+pub returns-in_err-stamps : goal.returns-in_err-stamps
+returns-in_err-stamps c =
+    let e = c.from_residual.ensures.0 in
+    record {
+      count = IfOk-from_err _ _ e;
+      stamps = IfOk-from_err _ _ e;
+    }
+
+pub returns-in_err-push : goal.returns-in_err-push
+returns-in_err-push c =
+    let e = c.from_residual-in_err-push.ensures.0 in
+    record {
+      count = IfOk-from_err _ _ e;
+      stamps = IfOk-from_err _ _ e;
+    }
+
+pub loop-var-preserved : goal.loop-var-preserved
+loop-var-preserved c =
+    let pushed = c.in_ok-push.ensures.items in
+    record {
+      count = ap length pushed ∙ length_push _ _ ∙ ap (λ n. n + 1) c.loop-var.invariant.count;
+      stamps = rw pushed (stamped_more _ c.args.vars c.loop-var.var _ c.loop-var.invariant.count (omega arith) c.loop-var.invariant.stamps);
+    }
