@@ -3,9 +3,9 @@ use Rattle.std.proofs.Common.{◌≡◌, ℕ, suc, ◌+◌, ◌<◌, ◌≤◌, 
 use Rattle.std.specs.Prelude.{slice_index, slice_set}
 use Rattle.std.proofs.lemmas.Bool.{cases_eq, cases_lt}
 use Rattle.std.proofs.lemmas.List.{length-set, get_or-set_same, get_or-set_other, length-take-le, get_or_past, get_or-take}
-use Rattle.svex_arena.specs.declared.shape.Shape.{Shape}
-use Rattle.svex_arena.specs.declared.shape.Shape.TheVariants.{Const}
-use Rattle.svex_arena.specs.Shapes.{ChildrenBelow, FitsWidths, shape_at, width_at}
+use Rattle.svex_shape.specs.declared.shape.Shape.{Shape}
+use Rattle.svex_shape.specs.declared.shape.Shape.TheVariants.{Const}
+use Rattle.svex_shape.specs.Shapes.{ChildrenBelow, FitsWidths, shape_at, width_at}
 use Rattle.svex_arena.specs.Arenas.{IsArena, IsKept, Extends}
 use Rattle.svex_arena.specs.Buckets.{bucket_of, bucket_at, IsChained}
 use Rattle.svex_arena.proofs.Numbering.{map_children}

@@ -3,9 +3,9 @@ use Rattle.std.proofs.Common.{◌≡◌, ℕ, ◌+◌, ◌<◌, ◌≤◌, Bool,
 use Rattle.std.specs.Prelude.{slice_set}
 use Rattle.std.proofs.lemmas.Bool.{cases_eq}
 use Rattle.std.proofs.lemmas.List.{get_or-set_same, get_or-set_other}
-use Rattle.svex_arena.specs.declared.shape.Shape.{Shape}
-use Rattle.svex_arena.specs.Shapes.{OnChildren, ChildrenBelow, FitsWidths, shape_at, width_at}
-use Rattle.svex_arena.specs.Values.{Vector, Reading, HasWidths, value_of, value_at}
+use Rattle.svex_shape.specs.declared.shape.Shape.{Shape}
+use Rattle.svex_shape.specs.Shapes.{OnChildren, ChildrenBelow, FitsWidths, shape_at, width_at}
+use Rattle.svex_shape.specs.Values.{Vector, Reading, HasWidths, value_of, value_at}
 use Rattle.svex_arena.specs.Arenas.{IsArena}
 use Rattle.svex_arena.specs.Marks.{IsMarked, IsClosed, HasRoots}
 use Rattle.svex_arena.specs.Evaluated.{IsEvaluated, value_in, width_in}

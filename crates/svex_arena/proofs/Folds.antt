@@ -1,10 +1,10 @@
 -- What nodes give by folds over their shapes that read variables: values, and tests of variables.
 use Rattle.std.proofs.Common.{◌≡◌, ℕ, ◌<◌, Bool, true, false, List, length, refl, sym, ◌∙◌}
-use Rattle.svex_arena.specs.declared.shape.VarName.{VarName}
-use Rattle.svex_arena.specs.declared.shape.Shape.{Shape}
-use Rattle.svex_arena.specs.declared.shape.Shape.TheVariants.{Const, Var, Unary, Binary, Cond, Pick, Slice, Zext, Sext, DynSlice, DynPut}
-use Rattle.svex_arena.specs.Shapes.{OnChildren, ChildrenBelow, shape_at, at_node}
-use Rattle.svex_arena.specs.Values.{Vector, Reading, value_of, each_variable_of}
+use Rattle.svex_shape.specs.declared.shape.VarName.{VarName}
+use Rattle.svex_shape.specs.declared.shape.Shape.{Shape}
+use Rattle.svex_shape.specs.declared.shape.Shape.TheVariants.{Const, Var, Unary, Binary, Cond, Pick, Slice, Zext, Sext, DynSlice, DynPut}
+use Rattle.svex_shape.specs.Shapes.{OnChildren, ChildrenBelow, shape_at, at_node}
+use Rattle.svex_shape.specs.Values.{Vector, Reading, value_of, each_variable_of}
 use Rattle.svex_arena.specs.Substs.{renamed}
 use Rattle.svex_arena.proofs.Numbering.{ReadsChildren, node_step, every_node}
 use Rattle.svex_arena.proofs.Steps.{value_reads, variables_read}

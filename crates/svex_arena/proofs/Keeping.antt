@@ -4,10 +4,10 @@ use Rattle.std.specs.Prelude.{slice_index}
 use Rattle.std.proofs.lemmas.Bool.{cases_eq}
 use Rattle.std.proofs.lemmas.List.{length-append, get_or_append_left}
 use Rattle.std.proofs.Math.Seq.{get_or-append_seam}
-use Rattle.svex_arena.specs.declared.shape.Shape.{Shape}
-use Rattle.svex_arena.specs.declared.shape.Shape.TheVariants.{Const}
-use Rattle.svex_arena.specs.Shapes.{ChildrenBelow, FitsWidths, shape_at, width_at, width_of}
-use Rattle.svex_arena.specs.Arenas.{IsArena, IsKept, IsWidth, Extends}
+use Rattle.svex_shape.specs.declared.shape.Shape.{Shape}
+use Rattle.svex_shape.specs.declared.shape.Shape.TheVariants.{Const}
+use Rattle.svex_shape.specs.Shapes.{ChildrenBelow, FitsWidths, IsWidth, shape_at, width_at, width_of}
+use Rattle.svex_arena.specs.Arenas.{IsArena, IsKept, Extends}
 use Rattle.svex_arena.specs.Buckets.{bucket_of, bucket_at, IsChained, HasNone}
 use Rattle.svex_arena.proofs.Numbering.{map_children}
 use Rattle.svex_arena.proofs.Steps.{width-step, width_reads, width-extends, fits_same}

@@ -3,7 +3,6 @@ pub mod Steps
 pub mod Folds
 pub mod Widths
 pub mod Lifted
-pub mod Readings
 pub mod Marking
 pub mod Evaluating
 pub mod Chains

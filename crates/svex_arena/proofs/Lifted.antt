@@ -6,17 +6,17 @@ use Rattle.fourvec.specs.Laws.{Below}
 use Rattle.fourvec.proofs.Tables.{left_of, right_of}
 use Rattle.fourvec.proofs.Order.{below-refl, length-below, both}
 use Rattle.fourvec.specs.Bits.{all_x}
-use Rattle.svex_arena.proofs.Readings.{read_has_widths}
+use Rattle.svex_shape.proofs.Readings.{read_has_widths}
 use Rattle.fourvec.proofs.Monotone.{dyn_put_monotone, dyn_slice_monotone, unfloat_monotone, not_monotone, and_monotone, or_monotone, xor_monotone, res_monotone, red_and_monotone, red_or_monotone, red_xor_monotone, truth_monotone, neg_monotone, add_monotone, sub_monotone, mul_monotone, div_monotone, rem_monotone, lt_monotone, slt_monotone, shl_monotone, shr_monotone, sar_monotone, concat_monotone, eq_monotone, cond_monotone, pick_monotone, slice_monotone, zext_monotone, sext_monotone, sdiv_monotone, srem_monotone}
-use Rattle.svex_arena.specs.declared.shape.VarName.{VarName}
-use Rattle.svex_arena.specs.declared.shape.Un.{Un}
-use Rattle.svex_arena.specs.declared.shape.Un.TheVariants.{Unfloat, Not, Neg, RedAnd, RedOr, RedXor, Truth}
-use Rattle.svex_arena.specs.declared.shape.Bin.{Bin}
-use Rattle.svex_arena.specs.declared.shape.Bin.TheVariants.{And, Or, Xor, Eq, Lt, Slt, Add, Sub, Mul, Div, Rem, Sdiv, Srem, Res, Shl, Shr, Sar, Concat}
-use Rattle.svex_arena.specs.declared.shape.Shape.{Shape}
-use Rattle.svex_arena.specs.declared.shape.Shape.TheVariants.{Const, Var, Unary, Binary, Cond, Pick, Slice, Zext, Sext, DynSlice, DynPut}
-use Rattle.svex_arena.specs.Shapes.{OnChildren, shape_at, width_at, FitsWidths, FitsPair}
-use Rattle.svex_arena.specs.Values.{Vector, Reading, HasWidths, HasWidthsWhere, AgreesWhere, IsBelowWhere, Rows, RowsBelow, fitted, read, has_variable, held, value_in_rows, value_of, value_at, unary_value, binary_value, each_variable_of, each_variable}
+use Rattle.svex_shape.specs.declared.shape.VarName.{VarName}
+use Rattle.svex_shape.specs.declared.shape.Un.{Un}
+use Rattle.svex_shape.specs.declared.shape.Un.TheVariants.{Unfloat, Not, Neg, RedAnd, RedOr, RedXor, Truth}
+use Rattle.svex_shape.specs.declared.shape.Bin.{Bin}
+use Rattle.svex_shape.specs.declared.shape.Bin.TheVariants.{And, Or, Xor, Eq, Lt, Slt, Add, Sub, Mul, Div, Rem, Sdiv, Srem, Res, Shl, Shr, Sar, Concat}
+use Rattle.svex_shape.specs.declared.shape.Shape.{Shape}
+use Rattle.svex_shape.specs.declared.shape.Shape.TheVariants.{Const, Var, Unary, Binary, Cond, Pick, Slice, Zext, Sext, DynSlice, DynPut}
+use Rattle.svex_shape.specs.Shapes.{OnChildren, shape_at, width_at, FitsWidths, FitsPair}
+use Rattle.svex_shape.specs.Values.{Vector, Reading, HasWidths, HasWidthsWhere, AgreesWhere, IsBelowWhere, Rows, RowsBelow, fitted, read, has_variable, held, value_in_rows, value_of, value_at, unary_value, binary_value, each_variable_of, each_variable}
 use Rattle.svex_arena.specs.Arenas.{IsArena}
 use Rattle.svex_arena.proofs.Numbering.{every_node, map_children, join_children}
 use Rattle.svex_arena.proofs.Steps.{value-step, variables-step, value_reads, fits_same}

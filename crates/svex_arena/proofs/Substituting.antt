@@ -4,11 +4,11 @@ use Rattle.std.specs.Prelude.{slice_index}
 use Rattle.std.proofs.lemmas.Bool.{cases_eq, eqb-true, ltb-true}
 use Rattle.std.proofs.lemmas.List.{length-append, get_or_append_left}
 use Rattle.std.proofs.Math.Seq.{get_or-append_seam}
-use Rattle.svex_arena.specs.declared.shape.VarName.{VarName}
-use Rattle.svex_arena.specs.declared.shape.Shape.{Shape}
-use Rattle.svex_arena.specs.declared.shape.Shape.TheVariants.{Const, Var, Unary, Binary, Cond, Pick, Slice, Zext, Sext, DynSlice, DynPut}
-use Rattle.svex_arena.specs.Shapes.{OnChildren, ChildrenBelow, FitsWidths, shape_at, width_at, width_of, at_node}
-use Rattle.svex_arena.specs.Values.{Vector, value_of, value_at, each_variable_of}
+use Rattle.svex_shape.specs.declared.shape.VarName.{VarName}
+use Rattle.svex_shape.specs.declared.shape.Shape.{Shape}
+use Rattle.svex_shape.specs.declared.shape.Shape.TheVariants.{Const, Var, Unary, Binary, Cond, Pick, Slice, Zext, Sext, DynSlice, DynPut}
+use Rattle.svex_shape.specs.Shapes.{OnChildren, ChildrenBelow, FitsWidths, shape_at, width_at, width_of, at_node}
+use Rattle.svex_shape.specs.Values.{Vector, value_of, value_at, each_variable_of}
 use Rattle.svex_arena.specs.Arenas.{IsArena, Extends, Interned}
 use Rattle.svex_arena.specs.Marks.{IsMarked, IsClosed, HasRoots}
 use Rattle.svex_arena.specs.Substs.{Replacements, replacement_of, is_fitting, fitting, fits_variable, given_or, replaced, replaced_by_named, replacement_at, renamed, AnswersBy, AreAnswers, IsReplaced, IsReplacedByNamed, IsAnsweredSoFar, IsSubstituted, IsPicked, HasAnswers}

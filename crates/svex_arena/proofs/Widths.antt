@@ -1,14 +1,14 @@
 -- The width of a node's value.
 use Rattle.std.proofs.Common.{◌≡◌, ℕ, ◌<◌, List, length, refl, sym, ap, ◌∙◌}
 use Rattle.fourvec.proofs.Widths.{length-unfloat_of, length-not_of, length-neg_of, length-red_and_of, length-red_or_of, length-red_xor_of, length-truth_of, length-and_of, length-or_of, length-xor_of, length-eq_of, length-lt_of, length-slt_of, length-add_of, length-sub_of, length-mul_of, length-div_of, length-rem_of, length-sdiv_of, length-srem_of, length-res_of, length-shl_of, length-shr_of, length-sar_of, length-concat_of, length-slice_of, length-zext_of, length-sext_of, length-cond_of, length-pick_of, length-dyn_slice_of, length-dyn_put_of}
-use Rattle.svex_arena.specs.declared.shape.Un.{Un}
-use Rattle.svex_arena.specs.declared.shape.Un.TheVariants.{Unfloat, Not, Neg, RedAnd, RedOr, RedXor, Truth}
-use Rattle.svex_arena.specs.declared.shape.Bin.{Bin}
-use Rattle.svex_arena.specs.declared.shape.Bin.TheVariants.{And, Or, Xor, Eq, Lt, Slt, Add, Sub, Mul, Div, Rem, Sdiv, Srem, Res, Shl, Shr, Sar, Concat}
-use Rattle.svex_arena.specs.declared.shape.Shape.{Shape}
-use Rattle.svex_arena.specs.declared.shape.Shape.TheVariants.{Const, Var, Unary, Binary, Cond, Pick, Slice, Zext, Sext, DynSlice, DynPut}
-use Rattle.svex_arena.specs.Shapes.{OnChildren, shape_at, width_of, width_at, unary_width, binary_width, FitsWidths, FitsPair}
-use Rattle.svex_arena.specs.Values.{Vector, Reading, HasWidths, value_of, value_at, unary_value, binary_value}
+use Rattle.svex_shape.specs.declared.shape.Un.{Un}
+use Rattle.svex_shape.specs.declared.shape.Un.TheVariants.{Unfloat, Not, Neg, RedAnd, RedOr, RedXor, Truth}
+use Rattle.svex_shape.specs.declared.shape.Bin.{Bin}
+use Rattle.svex_shape.specs.declared.shape.Bin.TheVariants.{And, Or, Xor, Eq, Lt, Slt, Add, Sub, Mul, Div, Rem, Sdiv, Srem, Res, Shl, Shr, Sar, Concat}
+use Rattle.svex_shape.specs.declared.shape.Shape.{Shape}
+use Rattle.svex_shape.specs.declared.shape.Shape.TheVariants.{Const, Var, Unary, Binary, Cond, Pick, Slice, Zext, Sext, DynSlice, DynPut}
+use Rattle.svex_shape.specs.Shapes.{OnChildren, shape_at, width_of, width_at, unary_width, binary_width, FitsWidths, FitsPair}
+use Rattle.svex_shape.specs.Values.{Vector, Reading, HasWidths, value_of, value_at, unary_value, binary_value}
 use Rattle.svex_arena.specs.Arenas.{IsArena}
 use Rattle.svex_arena.proofs.Numbering.{every_node}
 use Rattle.svex_arena.proofs.Steps.{value-step, width-step, width_reads, fits_same}

@@ -1,7 +1,7 @@
 -- What holds of every arena, and how one grows.
 use Rattle.std.specs.Prelude.{◌≡◌, ℕ, ◌<◌, ◌≤◌, List, [], ◌∷◌, ◌++◌, length, ◌⊎◌, slice_index}
-use Rattle.svex_arena.specs.declared.shape.Shape.{Shape}
-use Rattle.svex_arena.specs.Shapes.{shape_at, ChildrenBelow, FitsWidths, width_at}
+use Rattle.svex_shape.specs.declared.shape.Shape.{Shape}
+use Rattle.svex_shape.specs.Shapes.{shape_at, ChildrenBelow, FitsWidths, width_at}
 use Rattle.svex_arena.specs.Buckets.{IsChained}
 
 -- children are earlier nodes, widths fit, and no two shapes are equal
@@ -21,10 +21,6 @@ pub record Extends (old new : List Shape) : Type 0 where
 abbrev pub Interned : List Shape → Shape → List Shape → ℕ → Type 0
 Interned old shape new node =
     (node < length new) × (shape_at new node ≡ shape) × ((new ≡ old) ⊎ ((new ≡ old ++ shape ∷ []) × (node ≡ length old)))
-
--- a width of 1 to 128 bits
-abbrev pub IsWidth : ℕ → Type 0
-IsWidth w = (0 < w) × (w ≤ 128)
 
 -- what an arena keeps: the widths of its nodes and the buckets of their shapes
 pub record IsKept (shapes : List Shape) (widths older newest : List ℕ) : Type 0 where

@@ -1,8 +1,8 @@
 -- The values that are computed so far.
 use Rattle.std.specs.Prelude.{◌≡◌, ℕ, ◌<◌, Bool, List, [], length, slice_index_or}
-use Rattle.svex_arena.specs.declared.shape.Shape.{Shape}
+use Rattle.svex_shape.specs.declared.shape.Shape.{Shape}
 use Rattle.svex_arena.specs.Marks.{IsMarked}
-use Rattle.svex_arena.specs.Values.{Vector, Reading, value_at}
+use Rattle.svex_shape.specs.Values.{Vector, Reading, value_at}
 
 abbrev pub value_in : List Vector → ℕ → Vector
 value_in done k = slice_index_or done k []

@@ -1,8 +1,8 @@
 -- Which nodes some roots reach, and marks on them.
 use Rattle.std.specs.Prelude.{◌≡◌, ℕ, ◌<◌, ◌≤◌, Bool, true, false, List, length, slice_index, slice_index_or, slice_set}
-use Rattle.svex_arena.specs.declared.shape.Shape.{Shape}
-use Rattle.svex_arena.specs.declared.shape.Shape.TheVariants.{Const, Var, Unary, Binary, Cond, Pick, Slice, Zext, Sext, DynSlice, DynPut}
-use Rattle.svex_arena.specs.Shapes.{OnChildren, IsChild, ChildrenBelow, shape_at}
+use Rattle.svex_shape.specs.declared.shape.Shape.{Shape}
+use Rattle.svex_shape.specs.declared.shape.Shape.TheVariants.{Const, Var, Unary, Binary, Cond, Pick, Slice, Zext, Sext, DynSlice, DynPut}
+use Rattle.svex_shape.specs.Shapes.{OnChildren, IsChild, ChildrenBelow, shape_at}
 
 -- the roots reach a node: it is one of them, or a child of a node that they reach
 pub data IsReached (shapes : List Shape) (roots : List ℕ) : ℕ → Type 0 where

@@ -1,22 +1,19 @@
 //! The arena: nodes by number, no two with equal shapes.
 
 ghost use Rattle.std.specs.Prelude.{◌≡◌, ℕ, ◌<◌, ◌≤◌, ◌+◌, [], ◌∷◌, ◌++◌, length, take, slice_index, IfOk, IfSome, OnOk, OnErr, IsTrue};
-ghost use Rattle.svex_arena.specs.Shapes.{ChildrenBelow, FitsWidths, OnChildren, shape_at, width_at, width_of};
-ghost use Rattle.svex_arena.specs.Values.{value_at, read, held, has_variable, each_variable};
-ghost use Rattle.svex_arena.specs.Arenas.{IsArena, IsKept, IsWidth, Interned, Extends};
+ghost use Rattle.svex_shape.specs.Shapes.{ChildrenBelow, FitsWidths, IsWidth, OnChildren, shape_at, width_at, width_of};
+ghost use Rattle.svex_shape.specs.Values.{value_at, read, held, has_variable, each_variable};
+ghost use Rattle.svex_arena.specs.Arenas.{IsArena, IsKept, Interned, Extends};
 ghost use Rattle.svex_arena.specs.Buckets.{IsChained, HasNone};
 ghost use Rattle.svex_arena.specs.Marks.{IsClosed, HasRoots, OnlyReached};
 
 use crate::buckets::{find, link, link_all, unlink_from};
-use crate::env::Env;
 use crate::eval::node_value;
 use crate::marks::marks_of;
-use crate::node::Node;
-use crate::shape::Shape;
-use crate::width::shape_width;
 use fourvec::Four;
 use std::alloc::{AllocError, Global};
 use std::marker::Model;
+use svex_shape::{Env, Node, Shape, shape_width};
 
 /// A graph of expressions in which no two nodes have equal shapes. Contracts see the list of its shapes, by the numbers of the
 /// nodes; children have lower numbers.
@@ -43,7 +40,7 @@ impl Drop for Arena {
 
 impl Model for Arena {
     ghost use Rattle.std.specs.Prelude.{List};
-    ghost use Rattle.svex_arena.specs.declared.shape.Shape.{Shape};
+    ghost use Rattle.svex_shape.specs.declared.shape.Shape.{Shape};
     ghost use Rattle.svex_arena.specs.Arenas.{IsKept};
 
     ghost Value = { List Shape };
@@ -54,7 +51,6 @@ impl Model for Arena {
 }
 
 // Makes new buckets, about two for each node.
-#[tactic(auto)]
 fn grow(
     alloc: Global,
     shapes: &[Shape],
@@ -150,7 +146,6 @@ fn width_over(shapes: &[Shape], widths: &[u8], shape: &Shape) -> u8
 }
 
 // The node of a shape, which is a new one where no node has it.
-#[tactic(auto, using(crate::proofs::Keeping::chained_kept))]
 fn intern_in(
     alloc: Global,
     shapes: &mut Vec<Shape>,

@@ -1,18 +1,16 @@
 //! The values of nodes.
 
 ghost use Rattle.std.specs.Prelude.{◌≡◌, ℕ, ◌<◌, ◌≤◌, ◌+◌, [], ◌∷◌, length, slice_index_or, IfOk};
-ghost use Rattle.svex_arena.specs.Shapes.{ChildrenBelow, FitsWidths, FitsPair, shape_at};
-ghost use Rattle.svex_arena.specs.Values.{unary_value, binary_value, value_of, value_at, read};
+ghost use Rattle.svex_shape.specs.Shapes.{ChildrenBelow, FitsWidths, FitsPair, shape_at};
+ghost use Rattle.svex_shape.specs.Values.{unary_value, binary_value, value_of, value_at, read};
 ghost use Rattle.svex_arena.specs.Arenas.{IsArena};
 ghost use Rattle.svex_arena.specs.Marks.{IsClosed, IsMarked, HasRoots};
 ghost use Rattle.svex_arena.specs.Evaluated.{IsEvaluated, value_in, width_in};
 
-use crate::env::Env;
 use crate::marks::marks_of;
-use crate::node::Node;
-use crate::shape::{Bin, Shape, Un};
 use fourvec::Four;
 use std::alloc::{AllocError, Global};
+use svex_shape::{Bin, Env, Node, Shape, Un};
 
 /// The value of an operator on one vector.
 pub fn unary(op: &Un, a: &Four) -> Four
@@ -57,7 +55,7 @@ pub fn binary(op: &Bin, a: &Four, b: &Four) -> Four
 }
 
 /// The value of a shape over the values of its children.
-#[tactic(auto, unfolding(crate::specs::Values::value_of))]
+#[tactic(auto, unfolding(svex_shape::specs::Values::value_of))]
 pub fn shape_value(shape: &Shape, env: &Env, done: &[Four]) -> Four
     requires children { ChildrenBelow (length done.now) shape.now }
     requires fits { FitsWidths (width_in done.now) shape.now }

@@ -1,11 +1,10 @@
 //! Whether a shape fits an arena's nodes.
 
 ghost use Rattle.std.specs.Prelude.{◌≡◌, ◌↔◌, ℕ, ◌<◌, ◌≤◌, ◌+◌, length, slice_index, IsTrue};
-ghost use Rattle.svex_arena.specs.Shapes.{ChildrenBelow, FitsWidths, FitsPair, width_at};
+ghost use Rattle.svex_shape.specs.Shapes.{ChildrenBelow, FitsWidths, FitsPair, width_at};
 
 use crate::arena::Arena;
-use crate::node::Node;
-use crate::shape::{Bin, Shape};
+use svex_shape::{Bin, Node, Shape};
 
 fn fits_pair(op: &Bin, a: u8, b: u8) -> bool
     ensures { IsTrue result ↔ FitsPair op.now a b }

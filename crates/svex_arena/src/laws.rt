@@ -2,10 +2,10 @@
 
 ghost use Rattle.std.specs.Prelude.{◌≡◌, ℕ, ◌<◌, Bool, List, length, IsTrue};
 ghost use Rattle.fourvec.specs.Laws.{Below};
-ghost use Rattle.svex_arena.specs.declared.shape.VarName.{VarName};
-ghost use Rattle.svex_arena.specs.declared.shape.Shape.{Shape};
-ghost use Rattle.svex_arena.specs.Shapes.{shape_at, width_at, width_of};
-ghost use Rattle.svex_arena.specs.Values.{Rows, Reading, HasWidthsWhere, AgreesWhere, IsBelowWhere, RowsBelow, value_of, value_at, each_variable_of, each_variable, read};
+ghost use Rattle.svex_shape.specs.declared.shape.VarName.{VarName};
+ghost use Rattle.svex_shape.specs.declared.shape.Shape.{Shape};
+ghost use Rattle.svex_shape.specs.Shapes.{shape_at, width_at, width_of};
+ghost use Rattle.svex_shape.specs.Values.{Rows, Reading, HasWidthsWhere, AgreesWhere, IsBelowWhere, RowsBelow, value_of, value_at, each_variable_of, each_variable, read};
 ghost use Rattle.svex_arena.specs.Arenas.{Extends};
 
 use crate::arena::Arena;

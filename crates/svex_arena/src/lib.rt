@@ -6,22 +6,16 @@
 
 mod arena;
 mod buckets;
-mod env;
 mod eval;
 mod fitting;
 mod laws;
 mod marks;
-mod node;
-mod shape;
 mod subst;
-mod width;
 
 pub use arena::Arena;
-pub use env::Env;
 pub use eval::{binary, shape_value, unary};
 pub use laws::{
     nodes_follow_shapes, nodes_stay, values_depend_on_mentioned, values_have_widths, values_rise,
 };
-pub use node::Node;
-pub use shape::{Bin, Shape, Un, VarName};
 pub use subst::{Subst, rename};
+pub use svex_shape::{Bin, Env, Node, Shape, Un, VarName};

@@ -1,12 +1,11 @@
 //! Which nodes some roots reach.
 
 ghost use Rattle.std.specs.Prelude.{◌≡◌, ℕ, ◌<◌, ◌≤◌, length, slice_index, slice_index_or, slice_set, replicate, false, true, if◌then◌else◌, IfOk};
-ghost use Rattle.svex_arena.specs.Shapes.{ChildrenBelow, shape_at};
+ghost use Rattle.svex_shape.specs.Shapes.{ChildrenBelow, shape_at};
 ghost use Rattle.svex_arena.specs.Marks.{marked, IsClosed, OnlyReached, OnlyRoots, HasEarlierChildren, HasRoots};
 
-use crate::node::Node;
-use crate::shape::Shape;
 use std::alloc::{AllocError, Global};
+use svex_shape::{Node, Shape};
 
 // Marks the children of a shape.
 fn mark_children(shape: &Shape, marks: &mut [bool])

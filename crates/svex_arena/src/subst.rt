@@ -1,17 +1,16 @@
 //! Replacing variables by nodes.
 
 ghost use Rattle.std.specs.Prelude.{◌≡◌, ℕ, ◌<◌, ◌≤◌, ◌+◌, [], length, slice_index, IfOk, IfSome, None, Option, map, ◌∷◌, ◌++◌};
-ghost use Rattle.svex_arena.specs.Shapes.{ChildrenBelow, FitsWidths, shape_at, width_at};
-ghost use Rattle.svex_arena.specs.Values.{value_at, read, Rows};
+ghost use Rattle.svex_shape.specs.Shapes.{ChildrenBelow, FitsWidths, shape_at, width_at};
+ghost use Rattle.svex_shape.specs.Values.{value_at, read, Rows};
 ghost use Rattle.svex_arena.specs.Arenas.{IsArena, Extends};
 ghost use Rattle.svex_arena.specs.Marks.{IsClosed, IsMarked, HasRoots};
 ghost use Rattle.svex_arena.specs.Substs.{replacement_of, fitting, replacement_at, renamed, entry_at, AreAnswers, IsReplaced, IsReplacedByNamed, IsSubstituted, IsPicked, HasAnswers};
 
 use crate::arena::Arena;
-use crate::node::Node;
-use crate::shape::{Shape, VarName};
 use std::alloc::{AllocError, Global};
 use std::marker::Model;
+use svex_shape::{Node, Shape, VarName};
 
 /// The nodes that are named for variables, to replace them: a list for each kind by number. Contracts see the five lists.
 pub struct Subst {

@@ -2,10 +2,10 @@ use Rattle.std.proofs.Common.{◌≡◌, ◌<◌, ◌+◌, ◌∷◌, [], ◌++�
 use Rattle.std.specs.Prelude.{slice_index}
 use Rattle.std.proofs.lemmas.Result.{IfOk-from_err}
 use Rattle.std.proofs.lemmas.List.{length_push}
-use Rattle.svex_arena.specs.declared.shape.Shape.{Shape}
+use Rattle.svex_shape.specs.declared.shape.Shape.{Shape}
 use Rattle.svex_arena.specs.Arenas.{IsArena, IsKept}
 use Rattle.svex_arena.specs.Buckets.{IsChained, HasNone}
-use Rattle.svex_arena.specs.Shapes.{ChildrenBelow, FitsWidths, width_of, width_at}
+use Rattle.svex_shape.specs.Shapes.{ChildrenBelow, FitsWidths, width_of, width_at}
 use Rattle.svex_arena.proofs.Keeping.{chained_kept, kept_again, kept_more}
 use Rattle.svex_arena.proofs.arena.intern_in.Goals as goal
 

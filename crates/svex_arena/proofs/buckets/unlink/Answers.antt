@@ -1,7 +1,7 @@
 use Rattle.std.proofs.Common.{◌≡◌, length, [], ap, ◌∙◌}
 use Rattle.std.proofs.lemmas.List.{get_or_read}
-use Rattle.svex_arena.specs.declared.shape.Shape.TheVariants.{Const}
-use Rattle.svex_arena.specs.Shapes.{shape_at}
+use Rattle.svex_shape.specs.declared.shape.Shape.TheVariants.{Const}
+use Rattle.svex_shape.specs.Shapes.{shape_at}
 use Rattle.svex_arena.specs.Buckets.{bucket_of}
 use Rattle.svex_arena.proofs.Cutting.{chained_less}
 use Rattle.svex_arena.proofs.buckets.unlink.Goals as goal

@@ -1,5 +1,5 @@
 use Rattle.std.proofs.Common.{◌≡◌, length}
-use Rattle.svex_arena.specs.Values.{read}
+use Rattle.svex_shape.specs.Values.{read}
 use Rattle.svex_arena.specs.Evaluated.{IsEvaluated}
 use Rattle.svex_arena.proofs.eval.evaluate_all.Given as goal
 

@@ -1,11 +1,11 @@
 use Rattle.std.proofs.Common.{◌≡◌, [], sym, ap, ◌∙◌, subst, rules, arith}
 use Rattle.std.proofs.lemmas.List.{get_or_read}
-use Rattle.svex_arena.specs.declared.shape.Shape.TheVariants.{Const}
-use Rattle.svex_arena.specs.Shapes.{FitsWidths, shape_at}
-use Rattle.svex_arena.specs.Values.{read, value_of}
+use Rattle.svex_shape.specs.declared.shape.Shape.TheVariants.{Const}
+use Rattle.svex_shape.specs.Shapes.{FitsWidths, shape_at}
+use Rattle.svex_shape.specs.Values.{read, value_of}
 use Rattle.svex_arena.specs.Evaluated.{value_in, width_in}
 use Rattle.svex_arena.specs.Marks.{IsMarked}
-use Rattle.svex_arena.proofs.Readings.{read_has_widths}
+use Rattle.svex_shape.proofs.Readings.{read_has_widths}
 use Rattle.svex_arena.proofs.Evaluating.{next_fits, next_is, evaluated_marked}
 use Rattle.svex_arena.proofs.eval.evaluate_marked.Goals as goal
 

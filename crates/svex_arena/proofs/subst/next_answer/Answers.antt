@@ -1,6 +1,6 @@
 use Rattle.std.proofs.Common.{◌≡◌, length, get_or, true, false, sym, subst, arith}
 use Rattle.std.proofs.lemmas.Grind.{common_steps}
-use Rattle.svex_arena.specs.Shapes.{FitsWidths, width_at, shape_at}
+use Rattle.svex_shape.specs.Shapes.{FitsWidths, width_at, shape_at}
 use Rattle.svex_arena.proofs.Substituting.{next_unmarked, next_fits}
 use Rattle.svex_arena.proofs.subst.next_answer.Goals as goal
 

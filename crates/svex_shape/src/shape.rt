@@ -6,7 +6,7 @@ use crate::node::Node;
 use fourvec::{Four, Spot};
 
 /// A variable, by its number among those of its kind.
-#[derive(Clone, Copy, PartialEq, Eq, Hash, Debug)]
+#[derive(Clone, Copy, PartialEq, Eq)]
 pub enum VarName {
     /// A wire in the present phase.
     Now(usize),
@@ -21,7 +21,7 @@ pub enum VarName {
 }
 
 /// An operator on one vector, as the call of `Four` of this name. The first three keep the width, the others give one bit.
-#[derive(Clone, Copy, PartialEq, Eq, Hash, Debug)]
+#[derive(Clone, Copy, PartialEq, Eq)]
 pub enum Un {
     Unfloat,
     Not,
@@ -36,7 +36,7 @@ pub enum Un {
 ///
 /// The operands have one width, but those of `Shl`, `Shr`, `Sar` and `Concat`. `Eq`, `Lt` and `Slt` give one bit, `Concat` the sum
 /// of the widths, at most 128, and the others the width of the first operand.
-#[derive(Clone, Copy, PartialEq, Eq, Hash, Debug)]
+#[derive(Clone, Copy, PartialEq, Eq)]
 pub enum Bin {
     And,
     Or,
@@ -60,7 +60,7 @@ pub enum Bin {
 }
 
 /// An operator and its children, the nodes that it computes from. Widths are in bits, 1 to 128.
-#[derive(Clone, Copy, PartialEq, Eq, Hash, Debug)]
+#[derive(Clone, Copy)]
 pub enum Shape {
     Const(Four),
     /// A variable and its width.

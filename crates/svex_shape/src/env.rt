@@ -2,7 +2,7 @@
 
 ghost use Rattle.std.specs.Prelude.{◌≡◌, ℕ, ◌<◌, ◌≤◌, [], slice_index_or};
 ghost use Rattle.fourvec.specs.Bits.{all_x};
-ghost use Rattle.svex_arena.specs.Values.{read, fitted};
+ghost use Rattle.svex_shape.specs.Values.{read, fitted};
 
 use crate::shape::VarName;
 use fourvec::Four;
@@ -19,7 +19,7 @@ pub struct Env {
 }
 
 impl Model for Env {
-    ghost use Rattle.svex_arena.specs.Values.{Rows};
+    ghost use Rattle.svex_shape.specs.Values.{Rows};
 
     ghost Value = { Rows };
 
@@ -34,7 +34,7 @@ impl Model for Env {
 
 // X at every bit.
 #[tactic(auto, using(crate::proofs::Readings::x_widened, fourvec::proofs::Basic::views))]
-pub(crate) fn unknown(width: u8) -> Four
+fn unknown(width: u8) -> Four
     requires some { 0 < width }
     requires most { width ≤ 128 }
     ensures { result ≡ all_x width }

@@ -4,15 +4,15 @@ use Rattle.fourvec.specs.declared.Bit.{Bit}
 use Rattle.fourvec.specs.Bits.{unfloat_of, not_of, neg_of, red_and_of, red_or_of, red_xor_of, truth_of, and_of, or_of, xor_of, eq_of, lt_of, slt_of, add_of, sub_of, mul_of, div_of, rem_of, sdiv_of, srem_of, res_of, shl_of, shr_of, sar_of, concat_of, slice_of, zext_of, sext_of, cond_of, pick_of, all_x}
 use Rattle.fourvec.specs.Spots.{dyn_slice_of, dyn_put_of}
 use Rattle.fourvec.specs.Laws.{Below}
-use Rattle.svex_arena.specs.declared.shape.VarName.{VarName}
-use Rattle.svex_arena.specs.declared.shape.VarName.TheVariants.{Now, Prev, Stim, Chosen, Sampled}
-use Rattle.svex_arena.specs.declared.shape.Un.{Un}
-use Rattle.svex_arena.specs.declared.shape.Un.TheVariants.{Unfloat, Not, Neg, RedAnd, RedOr, RedXor, Truth}
-use Rattle.svex_arena.specs.declared.shape.Bin.{Bin}
-use Rattle.svex_arena.specs.declared.shape.Bin.TheVariants.{And, Or, Xor, Eq, Lt, Slt, Add, Sub, Mul, Div, Rem, Sdiv, Srem, Res, Shl, Shr, Sar, Concat}
-use Rattle.svex_arena.specs.declared.shape.Shape.{Shape}
-use Rattle.svex_arena.specs.declared.shape.Shape.TheVariants.{Const, Var, Unary, Binary, Cond, Pick, Slice, Zext, Sext, DynSlice, DynPut}
-use Rattle.svex_arena.specs.Shapes.{at_node}
+use Rattle.svex_shape.specs.declared.shape.VarName.{VarName}
+use Rattle.svex_shape.specs.declared.shape.VarName.TheVariants.{Now, Prev, Stim, Chosen, Sampled}
+use Rattle.svex_shape.specs.declared.shape.Un.{Un}
+use Rattle.svex_shape.specs.declared.shape.Un.TheVariants.{Unfloat, Not, Neg, RedAnd, RedOr, RedXor, Truth}
+use Rattle.svex_shape.specs.declared.shape.Bin.{Bin}
+use Rattle.svex_shape.specs.declared.shape.Bin.TheVariants.{And, Or, Xor, Eq, Lt, Slt, Add, Sub, Mul, Div, Rem, Sdiv, Srem, Res, Shl, Shr, Sar, Concat}
+use Rattle.svex_shape.specs.declared.shape.Shape.{Shape}
+use Rattle.svex_shape.specs.declared.shape.Shape.TheVariants.{Const, Var, Unary, Binary, Cond, Pick, Slice, Zext, Sext, DynSlice, DynPut}
+use Rattle.svex_shape.specs.Shapes.{at_node}
 
 abbrev pub Vector : Type 0
 Vector = List Bit

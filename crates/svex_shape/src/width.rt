@@ -1,8 +1,7 @@
 //! The widths of shapes.
 
 ghost use Rattle.std.specs.Prelude.{◌≡◌, ℕ, ◌<◌, ◌≤◌, ◌+◌, length, slice_index};
-ghost use Rattle.svex_arena.specs.Shapes.{ChildrenBelow, FitsWidths, FitsPair, OnChildren, width_of, unary_width, binary_width};
-ghost use Rattle.svex_arena.specs.Arenas.{IsWidth};
+ghost use Rattle.svex_shape.specs.Shapes.{ChildrenBelow, FitsWidths, FitsPair, IsWidth, OnChildren, width_of, unary_width, binary_width};
 
 use crate::shape::{Bin, Shape, Un};
 

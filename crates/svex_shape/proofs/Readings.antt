@@ -4,7 +4,7 @@ use Rattle.std.proofs.lemmas.List.{length-replicate}
 use Rattle.std.proofs.lemmas.Bool.{eqb-true}
 use Rattle.fourvec.specs.declared.Bit.TheVariants.{Unknown}
 use Rattle.fourvec.specs.Bits.{planes, all_x, sext_of}
-use Rattle.svex_arena.specs.Values.{Vector, Rows, HasWidths, fitted, read, value_in_rows}
+use Rattle.svex_shape.specs.Values.{Vector, Rows, HasWidths, fitted, read, value_in_rows}
 
 one_x : planes 1 1 0 ≡ Unknown ∷ []
 unfolding planes

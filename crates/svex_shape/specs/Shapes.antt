@@ -1,11 +1,11 @@
 -- Shapes, their children and their widths. An arena is the list of its shapes, the oldest first.
 use Rattle.std.specs.Prelude.{◌≡◌, ℕ, zero, suc, ◌+◌, ◌<◌, ◌≤◌, ◌==◌, ◌⊎◌, List, [], length, slice_index_or, if◌then◌else◌}
-use Rattle.svex_arena.specs.declared.shape.Un.{Un}
-use Rattle.svex_arena.specs.declared.shape.Un.TheVariants.{Unfloat, Not, Neg}
-use Rattle.svex_arena.specs.declared.shape.Bin.{Bin}
-use Rattle.svex_arena.specs.declared.shape.Bin.TheVariants.{Eq, Lt, Slt, Shl, Shr, Sar, Concat}
-use Rattle.svex_arena.specs.declared.shape.Shape.{Shape}
-use Rattle.svex_arena.specs.declared.shape.Shape.TheVariants.{Const, Var, Unary, Binary, Cond, Pick, Slice, Zext, Sext, DynSlice, DynPut}
+use Rattle.svex_shape.specs.declared.shape.Un.{Un}
+use Rattle.svex_shape.specs.declared.shape.Un.TheVariants.{Unfloat, Not, Neg}
+use Rattle.svex_shape.specs.declared.shape.Bin.{Bin}
+use Rattle.svex_shape.specs.declared.shape.Bin.TheVariants.{Eq, Lt, Slt, Shl, Shr, Sar, Concat}
+use Rattle.svex_shape.specs.declared.shape.Shape.{Shape}
+use Rattle.svex_shape.specs.declared.shape.Shape.TheVariants.{Const, Var, Unary, Binary, Cond, Pick, Slice, Zext, Sext, DynSlice, DynPut}
 
 -- the shape of a node
 abbrev pub shape_at : List Shape → ℕ → Shape
@@ -66,6 +66,10 @@ binary_width Lt a b = 1
 binary_width Slt a b = 1
 binary_width Concat a b = a + b
 binary_width op a b = a
+
+-- a width of 1 to 128 bits
+abbrev pub IsWidth : ℕ → Type 0
+IsWidth w = (0 < w) × (w ≤ 128)
 
 -- the width of a shape over the widths of nodes
 unfoldable pub width_of : (ℕ → ℕ) → Shape → ℕ
