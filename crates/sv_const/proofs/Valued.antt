@@ -9,12 +9,12 @@ use Rattle.sv_meaning.specs.Meanings.{Meaning, nowhere, constant_at, fixed_fault
 use Rattle.sv_typed.specs.declared.tree.Typed.{Typed}
 use Rattle.sv_typed.specs.Typed.{Stands, worth}
 use Rattle.sv_typed.proofs.Sound.{some_bits, most_bits}
-use Rattle.sv_const.specs.declared.layout.Known.{Known}
-use Rattle.sv_const.specs.declared.layout.Size.{Size}
-use Rattle.sv_const.specs.Judging.{IsTyped, IsCause}
+use Rattle.sv_names.specs.declared.layout.Known.{Known}
+use Rattle.sv_names.specs.declared.layout.Size.{Size}
+use Rattle.sv_typing.specs.Judging.{IsTyped, IsCause}
 use Rattle.sv_const.specs.Sizes.{IsConstant, IsSize}
-use Rattle.sv_const.proofs.Lists.{in_second, in_fault, no_fault, then_clear}
-use Rattle.sv_const.proofs.OfRules.{cause_first}
+use Rattle.sv_typing.proofs.Lists.{in_second, in_fault, no_fault, then_clear}
+use Rattle.sv_typing.proofs.OfRules.{cause_first}
 
 pub value_is : (w : ℕ) (t : Typed) (m : Meaning) → Stands t m → constant_at w m ≡ worth t nowhere (max w t.width) t.signed
 unfolding Stands

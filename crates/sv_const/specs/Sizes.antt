@@ -2,9 +2,9 @@
 use Rattle.std.specs.Prelude.{◌≡◌, ℕ, ◌≤◌, false, [], Result, Ok, Err}
 use Rattle.sv_outside.specs.declared.refusal.TextErr.{TextErr}
 use Rattle.sv_meaning.specs.Meanings.{Meaning, constant_at, fixed_faults_at}
-use Rattle.sv_const.specs.declared.layout.Known.{Known}
-use Rattle.sv_const.specs.declared.layout.Size.{Size}
-use Rattle.sv_const.specs.Judging.{IsCause}
+use Rattle.sv_names.specs.declared.layout.Known.{Known}
+use Rattle.sv_names.specs.declared.layout.Size.{Size}
+use Rattle.sv_typing.specs.Judging.{IsCause}
 
 -- the value and the sign of a constant at the larger of a width and its own length, against which nothing stands
 pub record IsConstant (width : ℕ) (m : Meaning) (k : Known) : Type 0 where

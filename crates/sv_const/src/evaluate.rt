@@ -3,25 +3,19 @@ ghost use Rattle.std.specs.Prelude.{◌≡◌, ◌≤◌, true, false, IfOk, map
 ghost use Rattle.sv_meaning.specs.Meanings.{Meaning};
 ghost use Rattle.sv_meaning.specs.Values.{mean, step};
 ghost use Rattle.sv_typed.specs.Typed as typed_is;
-ghost use Rattle.sv_const.specs.Judging.{Judges, Fixes};
-ghost use Rattle.sv_const.specs.Kinds.{layout_is, IsSound};
-ghost use Rattle.sv_const.specs.Names.{names_are};
-ghost use Rattle.sv_const.specs.Picks.{rule_faults};
-ghost use Rattle.sv_const.specs.Roots.{JudgesChain};
+ghost use Rattle.sv_typing.specs.Judging.{Judges, Fixes};
+ghost use Rattle.sv_names.specs.Kinds.{layout_is, IsSound};
+ghost use Rattle.sv_names.specs.Names.{names_are};
+ghost use Rattle.sv_typing.specs.Picks.{rule_faults};
+ghost use Rattle.sv_typing.specs.Roots.{JudgesChain};
 ghost use Rattle.sv_const.specs.Sizes.{JudgesConstant, JudgesSize};
 
-use crate::begins::start;
-use crate::chain::{Chain, IndexRule};
-use crate::cursor::{Cursor, Each};
-use crate::fixed::Fixed;
-use crate::names::Names;
-use crate::refusals::refusal;
-use crate::typing::{chain_behind, fixed, typed};
-use crate::{Known, Layout, Size};
 use std::alloc::Global;
+use sv_names::{Cursor, Each, Known, Layout, Names, Size};
 use sv_outside::{Place, TextErr};
 use sv_tree::{Expr, Select};
 use sv_typed::Typed;
+use sv_typing::{Chain, Fixed, IndexRule, chain_behind, fixed, refusal, start, typed};
 
 // The value of a typed constant at the larger of a width and its own length, or E15 where it begins.
 #[tactic(auto, using(sv_typed::proofs::Sound::most_bits))]
@@ -56,7 +50,7 @@ fn size_of(x: Result<Typed, TextErr>) -> Result<Size, TextErr>
 
 /// The value of a constant expression at the larger of a width (0 to 128 bits) and its own length, wholly 0 and 1; or why
 /// it is refused: E2, E12, E14, E15, E16, E23 or E25 (IEEE 1800-2017, 11.2.1).
-#[tactic(auto, using(crate::proofs::Arms::sound_of_judged))]
+#[tactic(auto, using(sv_typing::proofs::Arms::sound_of_judged))]
 pub fn eval_const(
     alloc: Global,
     expr: &Expr,

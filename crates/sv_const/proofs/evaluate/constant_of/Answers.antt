@@ -4,7 +4,7 @@ use Rattle.std.proofs.lemmas.Result.{err_from_is_err_and}
 use Rattle.fourvec.specs.Bits.{is_known}
 use Rattle.sv_meaning.specs.Meanings.{fixed_faults_at, nowhere}
 use Rattle.sv_typed.specs.Typed.{worth}
-use Rattle.sv_const.proofs.Judged.{typed_ok, typed_err}
+use Rattle.sv_typing.proofs.Judged.{typed_ok, typed_err}
 use Rattle.sv_const.proofs.Valued.{constant_ok, constant_unknown, constant_cause}
 use Rattle.sv_const.proofs.evaluate.constant_of.Goals as goal
 

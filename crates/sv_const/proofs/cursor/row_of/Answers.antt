@@ -1,5 +1,0 @@
-use Rattle.sv_const.proofs.Sound.{row_is_sound}
-use Rattle.sv_const.proofs.cursor.row_of.Goals as goal
-
-pub returns-in-Dim-clause-sound : goal.returns-in-Dim-clause-sound
-returns-in-Dim-clause-sound c = row_is_sound c.args.layout.now c.in-Dim.each c.in-Dim.left c.in-Dim.right c.get.result c.requires c.in-Dim.is c.get.ensures

@@ -1,7 +1,0 @@
-use Rattle.std.proofs.Common.{◌∙◌}
-use Rattle.sv_const.specs.Linked.{latest_of}
-use Rattle.sv_const.proofs.links.Links.latest.Goals as goal
-
-pub returns : goal.returns
-unfolding latest_of
-returns c = λ names linked. c.copied.ensures ∙ (c.get.ensures.value ∙ linked.latest c.args.name.now)

@@ -1,8 +1,0 @@
-use Rattle.std.proofs.lemmas.Result.{err_from_is_err_and}
-use Rattle.sv_const.proofs.OfRules.{pair_cause}
-use Rattle.sv_const.proofs.rules.pair_typed.Goals as goal
-
-pub returns-in_err-x : goal.returns-in_err-x
-returns-in_err-x c = λ m n d h k.
-    let p = err_from_is_err_and c.from_residual.result c.from_residual.ensures.1 in
-    rw (p.1, p.2) (pair_cause c.args.op m n d c.in_err-x.field-0.0 (c.in_err-x.ensures m n d h k))

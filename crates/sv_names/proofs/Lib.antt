@@ -1,0 +1,4 @@
+pub mod Sound
+pub mod Lookups
+pub mod Latest
+pub mod Ends

@@ -1,0 +1,4 @@
+pub mod Kinds
+pub mod Linked
+pub mod Names
+pub mod Cursors

@@ -1,0 +1,13 @@
+//! Layouts of bits with the places in them, and what names stand for at a place of a text.
+#![tactic(auto)]
+
+mod cursor;
+mod layout;
+mod links;
+mod names;
+mod scope;
+
+pub use cursor::{Cursor, Each, Part, Row};
+pub use layout::{Field, Form, Known, Layout, Size, What};
+pub use names::{Frame, Names};
+pub use scope::Scope;

@@ -1,0 +1,71 @@
+// The places of names in a list.
+ghost use Rattle.std.specs.Prelude.{◌≡◌, ◌<◌, ◌∷◌, [], ◌++◌, List, length, get_or, OnOk, OnErr};
+ghost use Rattle.sv_names.specs.Linked.{IsLinked, last_among};
+ghost use Rattle.sv_meaning.specs.Layouts.{Name as Bytes};
+
+use std::alloc::{AllocError, Global};
+use std::collections::HashMap;
+
+/// The places of names in a list that grows and shrinks at its end: the last place of each name, and for each entry the
+/// place of the entry of the same name before it.
+#[derive(Drop)]
+pub(crate) struct Links {
+    alloc: Global,
+    latest: HashMap<Vec<u8>, usize>,
+    earlier: Vec<Option<usize>>,
+}
+
+impl Links {
+    /// Of no names.
+    pub(crate) fn new(alloc: Global) -> Links
+        ensures { IsLinked result [] }
+    {
+        Links {
+            alloc,
+            latest: HashMap::new(alloc),
+            earlier: Vec::new(alloc),
+        }
+    }
+
+    /// Goes on with one more name, at the end of the list. Where memory is out, the list is as before.
+    pub(crate) fn note(&mut self, name: &[u8]) -> Result<(), AllocError>
+        ensures ok { OnOk result ((names : List Bytes) → IsLinked self.old names → IsLinked self.new (names ++ name.now ∷ [])) }
+        ensures err { OnErr result ((names : List Bytes) → IsLinked self.old names → IsLinked self.new names) }
+    {
+        let key = name.to_vec(self.alloc)?;
+        self.earlier.reserve(1)?;
+        let before = self.latest.insert(key, self.earlier.len())?;
+        self.earlier.push_reserved(before);
+        Ok(())
+    }
+
+    /// Goes back to the list without its last name.
+    pub(crate) fn forget(&mut self, name: &[u8])
+        ensures { (names : List Bytes) → IsLinked self.old (names ++ name.now ∷ []) → IsLinked self.new names }
+    {
+        match self.earlier.pop().flatten() {
+            Some(place) => {
+                if let Some(latest) = self.latest.get_mut(name) {
+                    *latest = place;
+                }
+            }
+            None => {
+                let _ = self.latest.remove(name);
+            }
+        }
+    }
+
+    /// The last place of a name.
+    pub(crate) fn latest(&self, name: &[u8]) -> Option<usize>
+        ensures { (names : List Bytes) → IsLinked self.now names → result ≡ last_among names name.now (length names) }
+    {
+        self.latest.get(name).copied()
+    }
+
+    /// The last place before this one that has the same name.
+    pub(crate) fn earlier(&self, place: usize) -> Option<usize>
+        ensures { (names : List Bytes) → IsLinked self.now names → place < length names → result ≡ last_among names (get_or names place []) place }
+    {
+        self.earlier.get(place).copied().flatten()
+    }
+}

@@ -1,0 +1,121 @@
+// What names stand for at a place of a text.
+ghost use Rattle.std.specs.Prelude.{◌≡◌, [], ◌∷◌, ◌++◌, length, take, OnOk, OnErr, IfSome, MatchOption, option_map};
+ghost use Rattle.std.specs.Option.{option_copied};
+ghost use Rattle.sv_names.specs.declared.layout.What.TheVariants.{Number};
+ghost use Rattle.sv_names.specs.Kinds.{what_is, scope_is, WhatIsSound};
+ghost use Rattle.sv_names.specs.Names.{names_are, entries_of, frames_of, loops_of, fronts};
+ghost use Rattle.sv_meaning.specs.Layouts.{find};
+
+use crate::{Known, Scope, What};
+use std::alloc::{AllocError, Global};
+use sv_outside::Name;
+
+/// The first so many names of a scope.
+#[derive(Clone, Copy)]
+pub struct Frame<'a> {
+    scope: &'a Scope,
+    len: usize,
+}
+
+/// Fronts of scopes, the outermost first, and the variables of loops above them. Contracts see the one list of all.
+pub struct Names<'a> {
+    frames: Vec<Frame<'a>>,
+    loops: Scope,
+}
+
+impl Drop for Names<'_> {
+    fn drop(self) {
+        let Names {
+            frames: _,
+            loops: _,
+        } = self;
+    }
+}
+
+impl<'a> Names<'a> {
+    /// No names.
+    #[tactic(auto, using(crate::proofs::Lookups::no_fronts))]
+    pub fn new(alloc: Global) -> Names<'a>
+        ensures frames { frames_of result ≡ [] }
+        ensures loops { loops_of result ≡ [] }
+    {
+        Names {
+            frames: Vec::new(alloc),
+            loops: Scope::new(alloc),
+        }
+    }
+
+    /// Enters a scope, of which the first `len` names are declared. Where memory is out, nothing changes.
+    #[tactic(auto, using(crate::proofs::Lookups::one_frame))]
+    pub fn push_scope(&mut self, scope: &'a Scope, len: usize) -> Result<(), AllocError>
+        ensures frames { OnOk result (frames_of self.new ≡ frames_of self.old ++ take len scope.now) }
+        ensures loops { OnOk result (loops_of self.new ≡ loops_of self.old) }
+        ensures err { OnErr result (entries_of self.new ≡ entries_of self.old) }
+    {
+        self.frames.push(Frame { scope, len })?;
+        Ok(())
+    }
+
+    /// Enters a loop, whose variable has this value. Where memory is out, nothing changes.
+    pub fn push_loop(&mut self, name: Name, value: Known) -> Result<(), AllocError>
+        ensures frames { frames_of self.new ≡ frames_of self.old }
+        ensures loops { OnOk result (loops_of self.new ≡ loops_of self.old ++ (name, Number value) ∷ []) }
+        ensures err { OnErr result (loops_of self.new ≡ loops_of self.old) }
+    {
+        self.loops.push(name, What::Number(value))
+    }
+
+    /// How many loops are entered.
+    pub fn loops(&self) -> usize
+        ensures { result ≡ length (loops_of self.now) }
+    {
+        self.loops.len()
+    }
+
+    /// Leaves all loops but the first so many.
+    pub fn leave_loops(&mut self, count: usize)
+        ensures frames { frames_of self.new ≡ frames_of self.old }
+        ensures loops { loops_of self.new ≡ take count (loops_of self.old) }
+    {
+        self.loops.truncate(count);
+    }
+
+    /// Leaves the innermost loop, if there is one.
+    pub fn pop_loop(&mut self) -> Option<(Name, What)>
+        ensures frames { frames_of self.new ≡ frames_of self.old }
+        ensures loops { MatchOption result
+            ((loops_of self.old ≡ []) × (loops_of self.new ≡ []))
+            (λ last. loops_of self.old ≡ loops_of self.new ++ last ∷ []) }
+    {
+        self.loops.pop()
+    }
+
+    /// What a name stands for: the last that was declared under it.
+    #[tactic(auto, using(crate::proofs::Lookups::found_above, crate::proofs::Lookups::found_below))]
+    pub fn find(&self, name: &[u8]) -> Option<&What>
+        ensures is { option_map what_is (option_copied result) ≡ find name.now (names_are self.now) }
+        ensures sound { IfSome result (λ what. WhatIsSound what.now) }
+    {
+        match self.loops.find(name, self.loops.len()) {
+            Some(what) => Some(what),
+            None => found_in(&self.frames, name),
+        }
+    }
+}
+
+// The last declaration of a name in the fronts of scopes.
+fn found_in<'a>(frames: &'a [Frame<'a>], name: &[u8]) -> Option<&'a What>
+    ensures is { option_map what_is (option_copied result) ≡ find name.now (scope_is (fronts frames.now)) }
+    ensures sound { IfSome result (λ what. WhatIsSound what.now) }
+{
+    let mut at = frames.len();
+    'frames: while at > 0 {
+        at -= 1;
+        let frame = frames[at];
+        match frame.scope.find(name, frame.len) {
+            Some(what) => return Some(what),
+            None => {}
+        }
+    }
+    None
+}

@@ -1,0 +1,17 @@
+pub mod Made
+pub mod Lists
+pub mod Read
+pub mod Starts
+pub mod Vectors
+pub mod Chains
+pub mod Judged
+pub mod Fixing
+pub mod OfRules
+pub mod Beside
+pub mod Naming
+pub mod Targets
+pub mod Arms
+pub mod Counts
+pub mod Steps
+pub mod Spans
+pub mod Differences

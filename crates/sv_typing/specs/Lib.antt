@@ -1,0 +1,6 @@
+pub mod Literals
+pub mod Judging
+pub mod Ranges
+pub mod Picks
+pub mod Roots
+pub mod Casts

@@ -1,0 +1,268 @@
+// Expressions typed by their productions.
+ghost use Rattle.std.specs.Prelude.{map};
+ghost use Rattle.sv_outside.specs.declared.refusal.Place.{Place};
+ghost use Rattle.sv_meaning.specs.Layouts.{find};
+ghost use Rattle.sv_meaning.specs.Meanings.{from, named};
+ghost use Rattle.sv_meaning.specs.Values.{mean, step, system_meaning};
+ghost use Rattle.sv_names.specs.Cursors.{cursor_is, CursorIsSound};
+ghost use Rattle.sv_typing.specs.Judging.{Judges, JudgesAll, Types, Fixes};
+ghost use Rattle.sv_names.specs.Names.{names_are};
+ghost use Rattle.sv_typing.specs.Picks.{Leads, rule_faults};
+ghost use Rattle.sv_typing.specs.Roots.{JudgesChain};
+
+use crate::begins::{is_signed, start};
+use crate::chain::{Chain, IndexRule, chain_of};
+use crate::constants::{fixed_index, fixed_of};
+use crate::picks::{between_pick, index_pick, many_pick, member_pick};
+use crate::position::Fixed;
+use crate::roots::{named_by, root_of, rule_of};
+use crate::rules::{chosen_typed, literal_typed, log_typed, one_typed, sign_typed, two_typed};
+use crate::sides::{cast_typed, concat_of, name_cast_typed, repeat_of};
+use items::Items;
+use std::alloc::Global;
+use sv_names::{Cursor, Names};
+use sv_outside::TextErr;
+use sv_tree::{Expr, RangeMark, Select, SystemName, Word};
+use sv_typed::{One, Pick, Turn, Typed, one_of, two_of};
+
+/// An expression typed over the names of a place, where it has to be `constant` or may name signals; or why it is refused:
+/// E2, E12, E14, E15, E16, E23 or E25.
+#[tactic(auto, using(crate::proofs::Arms::judged, crate::proofs::Arms::sound_of_judged))]
+#[cycle(expr)]
+pub fn typed(
+    alloc: Global,
+    expr: &Expr,
+    names: &Names<'_>,
+    constant: bool,
+) -> Result<Typed, TextErr>
+    ensures { Judges (mean (names_are names.now) expr.now) constant result }
+{
+    match expr {
+        Expr::Literal(word) => literal_typed(word),
+        Expr::Name(word, selects) => named_typed(alloc, word, selects.as_slice(), names, constant),
+        Expr::Paren(_, inner) => one_typed(
+            alloc,
+            One::Turned(Turn::Plus),
+            typed(alloc, inner.get(), names, constant),
+        ),
+        Expr::Concat(place, parts) => concat_of(
+            *place,
+            parts.as_slice(),
+            typed_parts(alloc, parts.as_slice(), names, constant),
+        ),
+        Expr::Repeat(place, count, parts) => repeat_of(
+            *place,
+            fixed(alloc, count.get(), names),
+            parts.as_slice(),
+            typed_parts(alloc, parts.as_slice(), names, constant),
+        ),
+        Expr::CastLiteral(word, inner) => cast_typed(
+            alloc,
+            word.place,
+            fixed_of(word.place, literal_typed(word)),
+            typed(alloc, inner.get(), names, constant),
+        ),
+        Expr::CastName(word, inner) => name_cast_typed(
+            alloc,
+            word,
+            names.find(word.text.bytes()),
+            constant,
+            typed(alloc, inner.get(), names, constant),
+        ),
+        Expr::CastParen(place, count, inner) => cast_typed(
+            alloc,
+            *place,
+            fixed_of(*place, typed(alloc, count.get(), names, true)),
+            typed(alloc, inner.get(), names, constant),
+        ),
+        Expr::CastSign(sign, _, inner) => sign_typed(
+            alloc,
+            is_signed(*sign),
+            typed(alloc, inner.get(), names, constant),
+        ),
+        Expr::System(name, _, inner) => system_typed(alloc, *name, inner.get(), names, constant),
+        Expr::Unary(op, _, inner) => one_typed(
+            alloc,
+            one_of(*op),
+            typed(alloc, inner.get(), names, constant),
+        ),
+        Expr::Binary(x, op, place, y) => two_typed(
+            alloc,
+            *place,
+            two_of(*op),
+            x.get(),
+            typed(alloc, x.get(), names, constant),
+            typed(alloc, y.get(), names, constant),
+        ),
+        Expr::Choose(condition, x, y) => chosen_typed(
+            alloc,
+            typed(alloc, condition.get(), names, constant),
+            typed(alloc, x.get(), names, constant),
+            typed(alloc, y.get(), names, constant),
+        ),
+    }
+}
+
+// A system function of an expression.
+#[tactic(auto, using(crate::proofs::Arms::system_is))]
+#[cycle(expr)]
+fn system_typed(
+    alloc: Global,
+    name: SystemName,
+    inner: &Expr,
+    names: &Names<'_>,
+    constant: bool,
+) -> Result<Typed, TextErr>
+    ensures { (p : Place) → Judges (from p (system_meaning name (mean (names_are names.now) inner.now))) constant result }
+{
+    match name {
+        SystemName::Signed => sign_typed(alloc, true, typed(alloc, inner, names, constant)),
+        SystemName::Unsigned => sign_typed(alloc, false, typed(alloc, inner, names, constant)),
+        SystemName::Clog2 => log_typed(alloc, fixed(alloc, inner, names)),
+    }
+}
+
+/// A constant position: the value of an expression at its own length, wholly 0 and 1; or why it is refused.
+#[tactic(auto, using(crate::proofs::Arms::fixed_expr, crate::proofs::Arms::sound_of_judged))]
+#[cycle(expr)]
+pub fn fixed(alloc: Global, expr: &Expr, names: &Names<'_>) -> Result<Fixed, TextErr>
+    ensures { Fixes (mean (names_are names.now) expr.now) result }
+{
+    fixed_of(start(expr), typed(alloc, expr, names, true))
+}
+
+// The parts of a concatenation.
+#[tactic(auto, using(crate::proofs::Arms::parts_of))]
+#[cycle(expr)]
+fn typed_parts(
+    alloc: Global,
+    all: &[Expr],
+    names: &Names<'_>,
+    constant: bool,
+) -> Result<Items<Typed>, TextErr>
+    ensures { JudgesAll (map (mean (names_are names.now)) all.now) constant result }
+{
+    let mut list = Items::new(alloc);
+    'parts: for expr in all {
+        let part = typed(alloc, expr, names, constant)?;
+        list.push(part)?;
+    }
+    Ok(list)
+}
+
+// A name with its selects.
+#[cycle(expr)]
+fn named_typed(
+    alloc: Global,
+    word: &Word,
+    selects: &[Select],
+    names: &Names<'_>,
+    constant: bool,
+) -> Result<Typed, TextErr>
+    ensures { Judges (named word.now (find word.now.text (names_are names.now)) (map (step (names_are names.now)) selects.now)) constant result }
+{
+    match root_of(word, names.find(word.text.bytes()), constant) {
+        Ok((at, root)) => {
+            named_by(
+                root,
+                chain_behind(alloc, at, selects, names, rule_of(constant)),
+            )
+        }
+        Err(why) => Err(why),
+    }
+}
+
+/// The selects behind a place of a layout as parts of its bits, where each index is judged so; or why they are refused.
+#[tactic(auto, using(crate::proofs::Arms::chained))]
+#[cycle(expr)]
+pub fn chain_behind(
+    alloc: Global,
+    at: Cursor<'_>,
+    selects: &[Select],
+    names: &Names<'_>,
+    rule: IndexRule,
+) -> Result<Chain, TextErr>
+    requires { CursorIsSound at }
+    ensures { JudgesChain (rule_faults rule) (cursor_is at.entry) (map (step (names_are names.now)) selects.now) result }
+{
+    let mut picks = Items::new(alloc);
+    let mut end = at;
+    'selects: for select in selects {
+        match select_step(alloc, end, select, names, rule) {
+            Ok((next, pick)) => {
+                picks.push(pick)?;
+                end = next;
+            }
+            Err(why) => return Err(why),
+        }
+    }
+    Ok(chain_of(picks, end))
+}
+
+// One select.
+#[tactic(auto, using(crate::proofs::Arms::steps))]
+#[cycle(expr)]
+fn select_step<'a>(
+    alloc: Global,
+    at: Cursor<'a>,
+    select: &Select,
+    names: &Names<'_>,
+    rule: IndexRule,
+) -> Result<(Cursor<'a>, Pick), TextErr>
+    requires { CursorIsSound at }
+    ensures { Leads (rule_faults rule) (cursor_is at.entry) (step (names_are names.now) select.now) result }
+{
+    match select {
+        Select::Member(place, word) => member_pick(at, *place, word.text.bytes()),
+        Select::Index(place, index) => {
+            index_pick(
+                alloc,
+                at,
+                *place,
+                typed_index(alloc, index.get(), names, rule),
+            )
+        }
+        Select::Range(place, left, mark, right) => match *mark {
+            RangeMark::To => between_pick(
+                at,
+                *place,
+                fixed(alloc, left.get(), names),
+                fixed(alloc, right.get(), names),
+            ),
+            RangeMark::Up => many_pick(
+                alloc,
+                at,
+                *place,
+                RangeMark::Up,
+                typed_index(alloc, left.get(), names, rule),
+                fixed(alloc, right.get(), names),
+            ),
+            RangeMark::Down => many_pick(
+                alloc,
+                at,
+                *place,
+                RangeMark::Down,
+                typed_index(alloc, left.get(), names, rule),
+                fixed(alloc, right.get(), names),
+            ),
+        },
+    }
+}
+
+// An index, judged so.
+#[tactic(auto, using(crate::proofs::Arms::sound_of_judged))]
+#[cycle(expr)]
+fn typed_index(
+    alloc: Global,
+    expr: &Expr,
+    names: &Names<'_>,
+    rule: IndexRule,
+) -> Result<Typed, TextErr>
+    ensures { Types (mean (names_are names.now) expr.now) (rule_faults rule (mean (names_are names.now) expr.now)) result }
+{
+    match rule {
+        IndexRule::Free => typed(alloc, expr, names, false),
+        IndexRule::Constant => typed(alloc, expr, names, true),
+        IndexRule::Fixed => fixed_index(start(expr), typed(alloc, expr, names, true)),
+    }
+}
