@@ -1,7 +1,0 @@
-use Rattle.fourvec.specs.Bits.{truth_of}
-use Rattle.sv_stmt.proofs.Making.{from_choice}
-use Rattle.sv_stmt.proofs.operators.chosen.Goals as goal
-
-pub returns-clause-ok : goal.returns-clause-ok
-returns-clause-ok c =
-    from_choice _ _ _ truth_of _ _ _ _ _ _ c.unary.ensures.stays c.requires.a c.requires.b c.in_ok-c.ensures.ok c.in_ok-node.ensures.ok

@@ -1,8 +1,0 @@
-use Rattle.sv_stmt.proofs.Pieces.{sliced_all, sliced_part}
-use Rattle.sv_stmt.proofs.parts.sliced.Goals as goal
-
-pub returns-then-width-clause-ok : goal.returns-then-width-clause-ok
-returns-then-width-clause-ok c = sliced_all _ _ _ _ _ c.len.ensures.arena c.requires.a c.width.ensures.is c.if-width.true c.requires.within
-
-pub returns-in_ok-node-clause-ok : goal.returns-in_ok-node-clause-ok
-returns-in_ok-node-clause-ok c = sliced_part _ _ _ _ _ _ c.in_ok-node.ensures.ok

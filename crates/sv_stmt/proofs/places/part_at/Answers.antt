@@ -1,5 +1,0 @@
-use Rattle.sv_stmt.proofs.Indices.{from_index}
-use Rattle.sv_stmt.proofs.places.part_at.Goals as goal
-
-pub returns-clause-ok : goal.returns-clause-ok
-returns-clause-ok c = from_index _ _ _ _ _ _ c.in_ok-node.ensures.ok

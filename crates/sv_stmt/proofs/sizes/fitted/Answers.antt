@@ -1,8 +1,0 @@
-use Rattle.sv_stmt.proofs.Sizing.{fitted_cut, fitted_kept}
-use Rattle.sv_stmt.proofs.sizes.fitted.Goals as goal
-
-pub returns-in_ok-node-clause-ok : goal.returns-in_ok-node-clause-ok
-returns-in_ok-node-clause-ok c = fitted_cut _ _ _ _ _ _ _ c.len.ensures.arena c.requires.a c.width.ensures.is c.if-width.true c.in_ok-node.ensures.ok
-
-pub returns-in_ok-node-2-clause-ok : goal.returns-in_ok-node-2-clause-ok
-returns-in_ok-node-2-clause-ok c = fitted_kept _ _ _ _ _ _ _ c.len.ensures.arena c.requires.a c.width.ensures.is c.if-width.false c.in_ok-node-2.ensures.ok
