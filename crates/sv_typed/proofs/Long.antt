@@ -1,5 +1,5 @@
 -- The bits of a sound expression are as many as its context has.
-use Rattle.std.proofs.Common.{◌≡◌, ℕ, zero, suc, ◌≤◌, max, Bool, true, false, ◌&&◌, List, length, replicate, Option, Some, None, refl, sym, ap, ◌∙◌, arith, cond}
+use Rattle.std.proofs.Common.{◌≡◌, ℕ, zero, suc, ◌≤◌, max, Bool, true, false, ◌&&◌, ◌||◌, List, length, replicate, Option, Some, None, refl, sym, ap, ◌∙◌, arith, cond}
 use Rattle.std.proofs.lemmas.List.{length-replicate, length-append}
 use mathlib.Core.Former.{Count}
 use Rattle.fourvec.specs.declared.Bit.{Bit}
@@ -8,7 +8,7 @@ use Rattle.fourvec.specs.Bits.{first, is_known, truth_of}
 use Rattle.fourvec.proofs.Widths as widths
 use Rattle.sv_literal.specs.declared.meaning.Literal as l
 use Rattle.sv_meaning.specs.Layouts.{Read}
-use Rattle.sv_meaning.specs.Meanings.{power_of, bits_at, bits_from, extend}
+use Rattle.sv_meaning.specs.Meanings.{power_of, bits_at, bits_from, extend, top_goes_on, literal_value}
 use Rattle.sv_meaning.proofs.Good.{length-extend, length-quotient, length-remainder, length-moved_down, length-less}
 use Rattle.sv_meaning.proofs.Rising.{length-copies, length-fitted, length-bits_at}
 use Rattle.sv_typed.specs.declared.ops.Turn.{Turn}
@@ -28,7 +28,7 @@ use Rattle.sv_typed.specs.declared.tree.Root.TheVariants.{Number, Signal}
 use Rattle.sv_typed.specs.declared.tree.Typed.{Typed}
 use Rattle.sv_typed.specs.declared.tree.TypedForm.{TypedForm, Literal, Named', Turned', Reduced', Computed', Moved', Compared', Combined', Chosen', Power', Concat', Repeat', Standing', Fitted', Row_of-Typed, end_of-Typed, more_of-Typed, Row_of-Pick, end_of-Pick, more_of-Pick}
 use Rattle.sv_typed.specs.Ops.{turned, reduced, computed, moved, compared, combined, combined_truths}
-use Rattle.sv_typed.specs.Typed.{form_worth, row_together, row_picked, row_width, row_picked_width, place_in, root_bits, root_width, raised, literal_bits, FormIsSound, RowIsSound, IsSound, worth, own}
+use Rattle.sv_typed.specs.Typed.{form_worth, row_together, row_picked, row_width, row_picked_width, place_in, root_bits, root_width, raised, FormIsSound, RowIsSound, IsSound, worth, own}
 
 -- ---- operators
 
@@ -105,12 +105,12 @@ row_picked_long (more_of-Pick v c place all) read a w e = row_picked_long all re
 
 -- ---- trees
 
-literal_long : (x : l.Literal) (n w : ℕ) (s : Bool) → length x.value ≡ n → n ≤ w → length (literal_bits x w s) ≡ w
+literal_long : (x : l.Literal) (n w : ℕ) (s : Bool) → length x.value ≡ n → n ≤ w → length (literal_value x w s) ≡ w
 literal_long x n w s e h = either x.fill
   where
-    either : (b : Bool) → length (cond b (replicate w (first x.value)) (extend s w x.value)) ≡ w
+    either : (b : Bool) → length (cond b (replicate w (first x.value)) (extend (top_goes_on x || s) w x.value)) ≡ w
     either true = length-replicate w (first x.value)
-    either false = length-extend s w x.value (omega arith)
+    either false = length-extend (top_goes_on x || s) w x.value (omega arith)
 
 mutual
   unfolding form_worth FormIsSound row_width

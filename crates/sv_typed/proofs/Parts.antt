@@ -8,7 +8,7 @@ use Rattle.fourvec.proofs.Moves.{extend_none}
 use Rattle.sv_outside.specs.declared.refusal.Place.{Place}
 use Rattle.sv_meaning.specs.Faults.{Faults, fault_if, or_then, bad_width}
 use Rattle.sv_meaning.specs.Layouts.{Read, NamedSignal}
-use Rattle.sv_meaning.specs.Meanings.{Meaning, from, needs, with_faults, standing, joined, parts, copies, concat, repeated, number_of, fixed_faults, is_width, all_loose, repeat_faults, extend}
+use Rattle.sv_meaning.specs.Meanings.{Meaning, from, with_faults, standing, parts, copies, concat, repeated, number_of, fixed_faults, is_width, all_loose, repeat_faults, extend}
 use Rattle.sv_meaning.specs.Meanings as meanings
 use Rattle.sv_typed.specs.declared.tree.Typed.{Typed}
 use Rattle.sv_typed.specs.declared.tree.TypedForm.TheVariants as f

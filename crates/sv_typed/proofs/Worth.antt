@@ -1,5 +1,5 @@
 -- The bits of each form of tree.
-use Rattle.std.proofs.Common.{◌≡◌, ℕ, zero, suc, ◌+◌, ◌≤◌, ◌<◌, ◌*◌, max, Bool, true, false, ◌&&◌, List, [], ◌∷◌, ◌++◌, length, take, drop, get_or, append_assoc, suc-mul, Option, Some, None, refl, sym, ap, ◌∙◌, arith, ℤ, cond}
+use Rattle.std.proofs.Common.{◌≡◌, ℕ, zero, suc, ◌+◌, ◌≤◌, ◌<◌, ◌*◌, max, Bool, true, false, ◌&&◌, ◌||◌, List, [], ◌∷◌, ◌++◌, length, replicate, take, drop, get_or, append_assoc, suc-mul, Option, Some, None, refl, sym, ap, ◌∙◌, arith, ℤ, cond}
 use Rattle.std.proofs.lemmas.Int.{ints}
 use Rattle.std.proofs.lemmas.List.{append-nil, take_all, at_drop_more, at_drop_all}
 use Rattle.std.proofs.Math.Seq.{take-suc}
@@ -7,11 +7,11 @@ use Rattle.std.proofs.Math.Nat.{mul-le-mul_right}
 use Rattle.fourvec.specs.declared.Bit.{Bit}
 use Rattle.fourvec.specs.declared.Bit.TheVariants.{Zero, Unknown}
 use Rattle.fourvec.specs.declared.Spot.{Spot}
-use Rattle.fourvec.specs.Bits.{truth_of, cond_of, all_x, is_known, number, planes}
+use Rattle.fourvec.specs.Bits.{first, truth_of, cond_of, all_x, is_known, number, planes}
 use Rattle.fourvec.specs.Spots.{window, place_of, dyn_slice_of}
 use Rattle.sv_literal.specs.declared.meaning.Literal as l
 use Rattle.sv_meaning.specs.Layouts.{Read}
-use Rattle.sv_meaning.specs.Meanings.{extend, fitted, copies, nowhere, bits_at, bits_from}
+use Rattle.sv_meaning.specs.Meanings.{extend, top_goes_on, literal_value, fitted, copies, nowhere, bits_at, bits_from}
 use Rattle.sv_typed.specs.declared.ops.Turn.{Turn}
 use Rattle.sv_typed.specs.declared.ops.Reduction.{Reduction}
 use Rattle.sv_typed.specs.declared.ops.Arithmetic.{Arithmetic}
@@ -27,13 +27,28 @@ use Rattle.sv_typed.specs.declared.tree.Typed.{Typed}
 use Rattle.sv_typed.specs.declared.tree.TypedForm.TheVariants as f
 use Rattle.sv_typed.specs.declared.tree.PickPlace.TheBlock.{shape-the_row-Typed-0, hidden-the_row-Typed-0}
 use Rattle.sv_typed.specs.Ops.{turned, reduced, computed, moved, compared, combined}
-use Rattle.sv_typed.specs.Typed.{form_worth, worth, own, literal_bits, raised, together, picked, place_in, pick_place, spot_place, root_bits}
+use Rattle.sv_typed.specs.Typed.{form_worth, worth, own, raised, together, picked, place_in, pick_place, spot_place, root_bits}
 use Rattle.sv_typed.proofs.Parts.{row_together_is}
 use Rattle.sv_typed.proofs.Named.{row_picked_is}
 
-pub worth_literal : (n : ℕ) (l : l.Literal) (read : Read) (w : ℕ) (s : Bool) → form_worth n (f.Literal l) read w s ≡ literal_bits l w s
+pub worth_literal : (n : ℕ) (l : l.Literal) (read : Read) (w : ℕ) (s : Bool) → form_worth n (f.Literal l) read w s ≡ literal_value l w s
 unfolding form_worth shape-the_row-Typed-0 hidden-the_row-Typed-0 denote.Hole.Carrier.hidden
 worth_literal n l read w s = refl
+
+-- ---- the ways in which a literal becomes as long as its context
+
+pub literal_filled : (x : l.Literal) (w : ℕ) (s : Bool) → x.fill ≡ true → replicate w (first x.value) ≡ literal_value x w s
+literal_filled x w s h = sym (ap (λ b. cond b (replicate w (first x.value)) (extend (top_goes_on x || s) w x.value)) h)
+
+pub literal_goes_on : (x : l.Literal) (w : ℕ) (s : Bool) → x.fill ≡ false → top_goes_on x ≡ true → extend true w x.value ≡ literal_value x w s
+literal_goes_on x w s h k =
+    sym (ap (λ b. cond b (replicate w (first x.value)) (extend (top_goes_on x || s) w x.value)) h ∙ ap (λ b. extend (b || s) w x.value) k)
+
+pub literal_extended : (x : l.Literal) (w : ℕ) (s : Bool) → x.fill ≡ false → top_goes_on x ≡ false → extend s w x.value ≡ literal_value x w s
+literal_extended x w s h k =
+    sym (ap (λ b. cond b (replicate w (first x.value)) (extend (top_goes_on x || s) w x.value)) h ∙ ap (λ b. extend (b || s) w x.value) k)
+
+pub ruleset literal_ways = (literal_filled, literal_goes_on, literal_extended)
 
 pub worth_named : (n : ℕ) (root : Root) (picks : List Pick) (read : Read) (w : ℕ) (s : Bool) → form_worth n (f.Named root picks) read w s ≡ extend s w (picked read picks (root_bits root read))
 unfolding form_worth shape-the_row-Typed-0 hidden-the_row-Typed-0 denote.Hole.Carrier.hidden

@@ -1,17 +1,17 @@
 -- What a typed expression stands for: its bits in a context, the signals that it names, and which trees are sound.
 -- Sections are those of IEEE 1800-2017.
-use Rattle.std.specs.Prelude.{◌≡◌, ℕ, ◌≤◌, ◌*◌, ◌+◌, max, Bool, true, false, ◌&&◌, List, [], ◌∷◌, ◌++◌, length, replicate, Option, Some, None, ℤ, pos, negsuc, if◌then◌else◌}
+use Rattle.std.specs.Prelude.{◌≡◌, ℕ, ◌≤◌, ◌*◌, ◌+◌, max, Bool, true, false, ◌&&◌, List, [], ◌∷◌, ◌++◌, length, Option, Some, None, ℤ, pos, negsuc, if◌then◌else◌}
 use Rattle.std.specs.List.{Contains}
 use mathlib.Core.Former.{Count}
 use Rattle.fourvec.specs.declared.Bit.{Bit}
 use Rattle.fourvec.specs.declared.Spot.{Spot}
-use Rattle.fourvec.specs.Bits.{first, is_known, all_x, truth_of, cond_of}
+use Rattle.fourvec.specs.Bits.{is_known, all_x, truth_of, cond_of}
 use Rattle.fourvec.specs.Spots.{place_of}
 use Rattle.sv_outside.specs.declared.refusal.Place.{Place}
 use Rattle.sv_literal.specs.declared.meaning.Literal as l
 use Rattle.sv_meaning.specs.Faults.{Faults}
 use Rattle.sv_meaning.specs.Layouts.{Read, Origin as Owner, of_wires, of_choice, of_samples, NamedSignal}
-use Rattle.sv_meaning.specs.Meanings.{Meaning, nowhere, extend, fitted, whole, power_of, copies, bits_at, bits_from}
+use Rattle.sv_meaning.specs.Meanings.{Meaning, nowhere, literal_value, extend, fitted, whole, power_of, copies, bits_at, bits_from}
 use Rattle.sv_typed.specs.declared.tree.Typed.{Typed}
 use Rattle.sv_typed.specs.declared.tree.TypedForm.{TypedForm, Literal, Named', Turned', Reduced', Computed', Moved', Compared', Combined', Chosen', Power', Concat', Repeat', Standing', Fitted', Row_of-Typed, end_of-Typed, more_of-Typed, Row_of-Pick, end_of-Pick, more_of-Pick}
 use Rattle.sv_typed.specs.declared.tree.Pick.{Pick}
@@ -52,10 +52,6 @@ spot_place spot at = if is_known at then Some (place_of spot at) else None
 
 -- ---- values
 
--- a literal in a context (5.7.1)
-abbrev pub literal_bits : l.Literal → ℕ → Bool → List Bit
-literal_bits l w s = if l.fill then replicate w (first l.value) else extend s w l.value
-
 -- the exponent that such bits give, none where a bit is unknown or the number is below 0
 abbrev pub natural : ℤ → Option ℕ
 natural (pos n) = Some n
@@ -71,7 +67,7 @@ raised w a (Some n) = power_of w a n
 -- The bits in a context of a width and sign, of a form whose own width comes first.
 unfoldable mutual
   pub form_worth : ℕ → TypedForm → Read → ℕ → Bool → List Bit
-  form_worth n (Literal l) read w s = literal_bits l w s
+  form_worth n (Literal l) read w s = literal_value l w s
   form_worth n (Named' root k picks) read w s = extend s w (row_picked picks read (root_bits root read))
   form_worth n (Turned' op t (more_of-Typed u p c x end_of-Typed)) read w s = turned op (form_worth u x read w s)
   form_worth n (Reduced' op t (more_of-Typed u p c x end_of-Typed)) read w s = extend s w (reduced op (form_worth u x read u p))

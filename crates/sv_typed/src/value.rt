@@ -1,29 +1,49 @@
 // The bits of typed expressions, where signals are unknown.
-ghost use Rattle.std.specs.Prelude.{◌≡◌, ◌≤◌, ◌*◌, ◌++◌, max, ◌&&◌, length};
+ghost use Rattle.std.specs.Prelude.{◌≡◌, ◌≤◌, ◌*◌, ◌++◌, max, ◌&&◌, not, length};
 ghost use Rattle.std.specs.List.{All};
+ghost use Rattle.fourvec.specs.Bits.{is_known_bit};
 ghost use Rattle.fourvec.specs.Spots.{window};
-ghost use Rattle.sv_meaning.specs.Meanings.{nowhere, bits_at, copies};
+ghost use Rattle.sv_meaning.specs.Meanings.{nowhere, top_goes_on, literal_value, bits_at, copies};
 ghost use Rattle.sv_typed.specs.Ops.{compared};
-ghost use Rattle.sv_typed.specs.Typed.{worth, own, together, picked, pick_place, spot_place, literal_bits, root_bits, root_width, width_together, picked_width, IsSound, PickIsSound, RootIsSound, LiteralIsSound, bits_of, AboveFits};
+ghost use Rattle.sv_typed.specs.Typed.{worth, own, together, picked, pick_place, spot_place, root_bits, root_width, width_together, picked_width, IsSound, PickIsSound, RootIsSound, LiteralIsSound, bits_of, AboveFits};
 
 use crate::bits::{extended, filled, fitted, raised, unknown};
 use crate::{
     Comparison, Pick, PickPlace, Root, Typed, TypedForm, chosen, combined, compared, computed,
     moved, reduced, turned,
 };
-use fourvec::{Four, Spot};
+use fourvec::{Bit, Four, Spot};
 use sv_literal::Literal;
 
+// Whether the highest bit of a literal goes on in a longer context: an X or Z, where there is no size (5.7.1).
+#[tactic(auto, using(fourvec::proofs::Moves::top_read))]
+fn top_goes_on(literal: &Literal) -> bool
+    ensures { result ≡ top_goes_on literal.now }
+{
+    let top = literal.value.bit(literal.value.width() - 1);
+    !literal.sized && is_unknown(top)
+}
+
+// Whether it is X or Z.
+fn is_unknown(bit: Bit) -> bool
+    ensures { result ≡ not (is_known_bit bit) }
+{
+    matches!(bit, Bit::Unknown | Bit::Floating)
+}
+
 // A literal in a context.
+#[tactic(auto, using(crate::proofs::Worth::literal_ways))]
 fn literal_bits(literal: &Literal, width: u8, signed: bool) -> Four
     requires sound { LiteralIsSound literal.now }
     requires fits { length literal.now.value ≤ width }
     requires most { width ≤ 128 }
-    ensures is { result ≡ literal_bits literal.now width signed }
+    ensures is { result ≡ literal_value literal.now width signed }
     ensures width { length result ≡ width }
 {
     if literal.fill {
         filled(width, &literal.value)
+    } else if top_goes_on(literal) {
+        extended(&literal.value, true, width)
     } else {
         extended(&literal.value, signed, width)
     }
