@@ -39,7 +39,7 @@ pub targets_name : (at : m.Scope) (w : Word) (all : List Select) → targets at 
 unfolding targets
 targets_name at w all = refl
 
-pub faults_name : (judge : Meaning → Faults) (at : m.Scope) (w : Word) (all : List Select) → lvalue_faults judge at (lv.Name w all) ≡ target_faults judge w (m.find w.text at) (map (step at) all)
+pub faults_name : (judge : Meaning → Faults) (at : m.Scope) (w : Word) (all : List Select) → lvalue_faults judge at (lv.Name w all) ≡ target_faults judge w.place w (m.find w.text at) (map (step at) all)
 unfolding lvalue_faults
 faults_name judge at w all = refl
 
@@ -208,10 +208,10 @@ narrow_one x all now e h k = let w : width_of_all now ≡ x.width + 0 = ap width
 -- ---- productions
 
 pub arm_name : (judge : Meaning → Faults) (at : m.Scope) (tree : Lvalue) (w : Word) (all given : List Select) (r : Result (List TypedTarget) TextErr) → tree ≡ lv.Name w all → given ≡ all →
-    JudgesTargets judge (target_faults judge w (m.find w.text at) (map (step at) given)) (target_of (m.find w.text at) (map (step at) given) ∷ []) r → JudgesTargets judge (lvalue_faults judge at tree) (targets at tree) r
+    JudgesTargets judge (target_faults judge w.place w (m.find w.text at) (map (step at) given)) (target_of (m.find w.text at) (map (step at) given) ∷ []) r → JudgesTargets judge (lvalue_faults judge at tree) (targets at tree) r
 arm_name judge at tree w all given r e g h =
-    targets_as judge _ (target_faults judge w (m.find w.text at) (map (step at) given)) _ (target_of (m.find w.text at) (map (step at) given) ∷ []) r
-    (ap (lvalue_faults judge at) e ∙ faults_name judge at w all ∙ ap (λ (z : List Select). target_faults judge w (m.find w.text at) (map (step at) z)) (sym g))
+    targets_as judge _ (target_faults judge w.place w (m.find w.text at) (map (step at) given)) _ (target_of (m.find w.text at) (map (step at) given) ∷ []) r
+    (ap (lvalue_faults judge at) e ∙ faults_name judge at w all ∙ ap (λ (z : List Select). target_faults judge w.place w (m.find w.text at) (map (step at) z)) (sym g))
     (ap (targets at) e ∙ targets_name at w all ∙ ap (λ (z : List Select). target_of (m.find w.text at) (map (step at) z) ∷ []) (sym g)) h
 
 pub arm_concat : (judge : Meaning → Faults) (at : m.Scope) (tree : Lvalue) (p : Place) (all given : List Lvalue) (r : Result (List TypedTarget) TextErr) → tree ≡ lv.Concat p all → given ≡ all →
@@ -221,6 +221,6 @@ arm_concat judge at tree p all given r e g h =
     (ap (lvalue_faults judge at) e ∙ faults_concat judge at p all ∙ ap (λ (z : List Lvalue). or_then (all_faults judge at z) (wide_target p (all_targets at z))) (sym g))
     (ap (targets at) e ∙ targets_concat at p all ∙ ap (all_targets at) (sym g)) h
 
-pub what_wire : (judge : Meaning → Faults) (w : Word) (what : What) (n : ℕ) (x : Layout) (steps : List Step) (r : Result TypedTarget TextErr) → what ≡ Wire n x →
-    JudgesTarget judge (chain_faults judge (layout_is x) steps) (record { wire = n; layout = layout_is x; steps = steps }) r → JudgesTarget judge (target_faults judge w (Some (what_is what)) steps) (target_of (Some (what_is what)) steps) r
-what_wire judge w what n x steps r e h = subst (λ (z : What). JudgesTarget judge (target_faults judge w (Some (what_is z)) steps) (target_of (Some (what_is z)) steps) r) (sym e) h
+pub what_wire : (judge : Meaning → Faults) (p : Place) (w : Word) (what : What) (n : ℕ) (x : Layout) (steps : List Step) (r : Result TypedTarget TextErr) → what ≡ Wire n x →
+    JudgesTarget judge (chain_faults judge (layout_is x) steps) (record { wire = n; layout = layout_is x; steps = steps }) r → JudgesTarget judge (target_faults judge p w (Some (what_is what)) steps) (target_of (Some (what_is what)) steps) r
+what_wire judge p w what n x steps r e h = subst (λ (z : What). JudgesTarget judge (target_faults judge p w (Some (what_is z)) steps) (target_of (Some (what_is z)) steps) r) (sym e) h

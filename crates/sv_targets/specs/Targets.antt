@@ -1,12 +1,13 @@
 -- Targets as code finds them (IEEE 1800-2017, 10.3.2, 10.4 and 11.5.1).
 use Rattle.std.specs.Prelude.{◌≡◌, ℕ, ◌+◌, ◌≤◌, List, [], ◌∷◌, ◌++◌, Result, Ok, Err}
 use Rattle.std.specs.List.{All, AllZip}
+use Rattle.sv_outside.specs.declared.refusal.Place.{Place}
 use Rattle.sv_outside.specs.declared.refusal.TextErr.{TextErr}
 use Rattle.sv_tree.specs.declared.stmts.Lvalue.{Lvalue}
 use Rattle.sv_outside.specs.declared.refusal.TextErr.TheVariants.{No}
 use Rattle.sv_tree.specs.declared.exprs.Expr.{Expr}
 use Rattle.sv_meaning.specs.Faults.{Faults, bad_target}
-use Rattle.sv_meaning.specs.Designs.{as_targets, actual_faults}
+use Rattle.sv_meaning.specs.Designs.{as_targets, part_faults}
 use Rattle.sv_meaning.specs.Layouts as m
 use Rattle.sv_meaning.specs.Meanings.{Meaning}
 use Rattle.sv_meaning.specs.Targets.{Target, lvalue_faults, targets}
@@ -69,14 +70,14 @@ all_targets at (x ∷ more) = targets at x ++ all_targets at more
 
 -- actuals in braces as code lists them
 
-unfoldable pub actual_list_faults : m.Scope → List Expr → Faults
-actual_list_faults at [] = []
-actual_list_faults at (x ∷ more) = actual_faults at x ++ actual_list_faults at more
+unfoldable pub actual_list_faults : Place → m.Scope → List Expr → Faults
+actual_list_faults start at [] = []
+actual_list_faults start at (x ∷ more) = part_faults start at x ++ actual_list_faults start at more
 
 unfoldable pub actual_list_targets : m.Scope → List Expr → List Target
 actual_list_targets at [] = []
 actual_list_targets at (x ∷ more) = as_targets at x ++ actual_list_targets at more
 
--- the refusal of what is no target
-abbrev pub no_target : Meaning → TextErr
-no_target x = No (record { number = bad_target; place = x.start; count = 0 })
+-- the refusal of what is no target in an actual that begins at a place
+abbrev pub no_target : Place → TextErr
+no_target p = No (record { number = bad_target; place = p; count = 0 })

@@ -1,30 +1,87 @@
 // Actuals of ports as targets (IEEE 1800-2017, 23.3.3).
 ghost use Rattle.std.specs.Prelude.{◌≡◌};
 ghost use Rattle.sv_const.specs.Names.{names_are};
-ghost use Rattle.sv_meaning.specs.Designs.{as_targets, actual_faults};
+ghost use Rattle.sv_meaning.specs.Designs.{as_targets, actual_faults, part_faults};
 ghost use Rattle.sv_meaning.specs.Layouts as m;
 ghost use Rattle.sv_meaning.specs.Meanings.{fixed_faults};
-ghost use Rattle.sv_meaning.specs.Values.{mean};
 ghost use Rattle.sv_targets.specs.Targets.{JudgesTargets, AreNarrow, actual_list_faults, actual_list_targets, no_target};
 
 use crate::targets::{TypedTarget, appended, braced, named_target, one_target};
 use items::Items;
 use std::alloc::Global;
 use sv_const::{IndexRule, Names, refusal, start};
-use sv_outside::TextErr;
+use sv_outside::{Place, TextErr};
 use sv_tree::Expr;
 
-// What is no name with selects and no concatenation: E19.
-fn not_assignable(actual: &Expr) -> TextErr
-    ensures { (at : m.Scope) → result ≡ no_target (mean at actual.now) }
+// What is no name with selects and no concatenation, in an actual that begins at a place: E19 there.
+fn not_assignable(begin: Place) -> TextErr
+    ensures { result ≡ no_target begin }
 {
-    TextErr::No(refusal(19, start(actual)))
+    TextErr::No(refusal(19, begin))
+}
+
+// The parts of a part of an actual that begins at a place.
+#[cycle(actual)]
+fn part_in(
+    alloc: Global,
+    actual: &Expr,
+    begin: Place,
+    names: &Names<'_>,
+) -> Result<Items<TypedTarget>, TextErr>
+    ensures is { JudgesTargets fixed_faults (part_faults begin (names_are names.now) actual.now) (as_targets (names_are names.now) actual.now) result }
+    ensures narrow { AreNarrow result }
+{
+    match actual {
+        Expr::Name(word, selects) => one_target(
+            alloc,
+            named_target(
+                alloc,
+                begin,
+                word,
+                selects.as_slice(),
+                names,
+                IndexRule::Fixed,
+            ),
+        ),
+        Expr::Concat(place, parts) => {
+            braced(*place, parts_in(alloc, parts.as_slice(), begin, names))
+        }
+        Expr::Literal(_) => Err(not_assignable(begin)),
+        Expr::Paren(_, _) => Err(not_assignable(begin)),
+        Expr::Repeat(_, _, _) => Err(not_assignable(begin)),
+        Expr::CastLiteral(_, _) => Err(not_assignable(begin)),
+        Expr::CastName(_, _) => Err(not_assignable(begin)),
+        Expr::CastParen(_, _, _) => Err(not_assignable(begin)),
+        Expr::CastSign(_, _, _) => Err(not_assignable(begin)),
+        Expr::System(_, _, _) => Err(not_assignable(begin)),
+        Expr::Unary(_, _, _) => Err(not_assignable(begin)),
+        Expr::Binary(_, _, _, _) => Err(not_assignable(begin)),
+        Expr::Choose(_, _, _) => Err(not_assignable(begin)),
+    }
+}
+
+#[cycle(actual)]
+fn parts_in(
+    alloc: Global,
+    parts: &[Expr],
+    begin: Place,
+    names: &Names<'_>,
+) -> Result<Items<TypedTarget>, TextErr>
+    ensures { JudgesTargets fixed_faults (actual_list_faults begin (names_are names.now) parts.now) (actual_list_targets (names_are names.now) parts.now) result }
+{
+    let mut all = Items::new(alloc);
+    'parts: for part in parts {
+        match appended(all, part_in(alloc, part, begin, names)) {
+            Ok(more) => all = more,
+            Err(why) => return Err(why),
+        }
+    }
+    Ok(all)
 }
 
 /// The parts of an actual that is a net or variable with selects or a concatenation of these, the most significant first,
-/// where each index is constant and wholly 0 and 1; or why it is refused: E12, E14, E19 or E23, or what an index is refused
-/// for.
-#[cycle(actual)]
+/// where each index is constant and wholly 0 and 1; or why it is refused: E19 where it begins, E12, E14 or E23, or what an
+/// index is refused for.
 pub fn typed_actual(
     alloc: Global,
     actual: &Expr,
@@ -33,42 +90,6 @@ pub fn typed_actual(
     ensures is { JudgesTargets fixed_faults (actual_faults (names_are names.now) actual.now) (as_targets (names_are names.now) actual.now) result }
     ensures narrow { AreNarrow result }
 {
-    match actual {
-        Expr::Name(word, selects) => one_target(
-            alloc,
-            named_target(alloc, word, selects.as_slice(), names, IndexRule::Fixed),
-        ),
-        Expr::Concat(place, parts) => {
-            braced(*place, typed_actuals(alloc, parts.as_slice(), names))
-        }
-        Expr::Literal(_) => Err(not_assignable(actual)),
-        Expr::Paren(_, _) => Err(not_assignable(actual)),
-        Expr::Repeat(_, _, _) => Err(not_assignable(actual)),
-        Expr::CastLiteral(_, _) => Err(not_assignable(actual)),
-        Expr::CastName(_, _) => Err(not_assignable(actual)),
-        Expr::CastParen(_, _, _) => Err(not_assignable(actual)),
-        Expr::CastSign(_, _, _) => Err(not_assignable(actual)),
-        Expr::System(_, _, _) => Err(not_assignable(actual)),
-        Expr::Unary(_, _, _) => Err(not_assignable(actual)),
-        Expr::Binary(_, _, _, _) => Err(not_assignable(actual)),
-        Expr::Choose(_, _, _) => Err(not_assignable(actual)),
-    }
-}
-
-#[cycle(actual)]
-fn typed_actuals(
-    alloc: Global,
-    parts: &[Expr],
-    names: &Names<'_>,
-) -> Result<Items<TypedTarget>, TextErr>
-    ensures { JudgesTargets fixed_faults (actual_list_faults (names_are names.now) parts.now) (actual_list_targets (names_are names.now) parts.now) result }
-{
-    let mut all = Items::new(alloc);
-    'parts: for part in parts {
-        match appended(all, typed_actual(alloc, part, names)) {
-            Ok(more) => all = more,
-            Err(why) => return Err(why),
-        }
-    }
-    Ok(all)
+    let begin = start(actual);
+    part_in(alloc, actual, begin, names)
 }

@@ -65,9 +65,10 @@ fn wire_target(
     }
 }
 
-// What a name stands for with its selects, or E19.
+// What a name stands for with its selects, or E19 at a place.
 fn what_target(
     alloc: Global,
+    begin: Place,
     word: &Word,
     what: &What,
     selects: &[Select],
@@ -75,7 +76,7 @@ fn what_target(
     rule: IndexRule,
 ) -> Result<TypedTarget, TextErr>
     requires { WhatIsSound what.now }
-    ensures { JudgesTarget (rule_faults rule) (t.target_faults (rule_faults rule) word.now (Some (what_is what.now)) (map (step (names_are names.now)) selects.now)) (t.target_of (Some (what_is what.now)) (map (step (names_are names.now)) selects.now)) result }
+    ensures { JudgesTarget (rule_faults rule) (t.target_faults (rule_faults rule) begin word.now (Some (what_is what.now)) (map (step (names_are names.now)) selects.now)) (t.target_of (Some (what_is what.now)) (map (step (names_are names.now)) selects.now)) result }
 {
     match what {
         What::Wire { number, layout } => wire_target(
@@ -83,26 +84,27 @@ fn what_target(
             layout,
             select_chain(alloc, layout, selects, names, rule),
         ),
-        What::Number(_) => Err(TextErr::No(refusal(19, word.place))),
-        What::Kind(_) => Err(TextErr::No(refusal(19, word.place))),
-        What::Chosen { .. } => Err(TextErr::No(refusal(19, word.place))),
-        What::Sampled { .. } => Err(TextErr::No(refusal(19, word.place))),
-        What::Genvar => Err(TextErr::No(refusal(19, word.place))),
+        What::Number(_) => Err(TextErr::No(refusal(19, begin))),
+        What::Kind(_) => Err(TextErr::No(refusal(19, begin))),
+        What::Chosen { .. } => Err(TextErr::No(refusal(19, begin))),
+        What::Sampled { .. } => Err(TextErr::No(refusal(19, begin))),
+        What::Genvar => Err(TextErr::No(refusal(19, begin))),
     }
 }
 
-/// A name with its selects as a target, or E12 or E19.
+/// A name with its selects as a target, or E12, or E19 at a place.
 pub(crate) fn named_target(
     alloc: Global,
+    begin: Place,
     word: &Word,
     selects: &[Select],
     names: &Names<'_>,
     rule: IndexRule,
 ) -> Result<TypedTarget, TextErr>
-    ensures { JudgesTarget (rule_faults rule) (t.target_faults (rule_faults rule) word.now (m.find word.now.text (names_are names.now)) (map (step (names_are names.now)) selects.now)) (t.target_of (m.find word.now.text (names_are names.now)) (map (step (names_are names.now)) selects.now)) result }
+    ensures { JudgesTarget (rule_faults rule) (t.target_faults (rule_faults rule) begin word.now (m.find word.now.text (names_are names.now)) (map (step (names_are names.now)) selects.now)) (t.target_of (m.find word.now.text (names_are names.now)) (map (step (names_are names.now)) selects.now)) result }
 {
     match names.find(word.text.bytes()) {
-        Some(what) => what_target(alloc, word, what, selects, names, rule),
+        Some(what) => what_target(alloc, begin, word, what, selects, names, rule),
         None => Err(TextErr::No(refusal(12, word.place))),
     }
 }
@@ -185,7 +187,7 @@ fn target_in(
     match target {
         Lvalue::Name(word, selects) => one_target(
             alloc,
-            named_target(alloc, word, selects.as_slice(), names, rule),
+            named_target(alloc, word.place, word, selects.as_slice(), names, rule),
         ),
         Lvalue::Concat(place, parts) => braced(
             *place,

@@ -16,7 +16,7 @@ target_in-returns-in-Name-clause-is t c =
     let w = c.in-Name.word in
     let steps = map (step at) c.as_slice.result.now in
     arm_name judge at c.args.target.now w c.in-Name.selects c.as_slice.result.now c.one_target.result c.in-Name.is c.as_slice.ensures
-    (c.one_target.ensures.is judge (target_faults judge w (find w.text at) steps) (target_of (find w.text at) steps) c.named_target.ensures)
+    (c.one_target.ensures.is judge (target_faults judge w.place w (find w.text at) steps) (target_of (find w.text at) steps) c.named_target.ensures)
 
 pub target_in-returns-in-Name-clause-narrow : goal.target_in-returns-in-Name-clause-narrow
 target_in-returns-in-Name-clause-narrow t c =
@@ -24,7 +24,7 @@ target_in-returns-in-Name-clause-narrow t c =
     let judge = rule_faults c.args.rule in
     let w = c.in-Name.word in
     let steps = map (step at) c.as_slice.result.now in
-    c.one_target.ensures.narrow judge (target_faults judge w (find w.text at) steps) (target_of (find w.text at) steps) c.named_target.ensures
+    c.one_target.ensures.narrow judge (target_faults judge w.place w (find w.text at) steps) (target_of (find w.text at) steps) c.named_target.ensures
 
 pub target_in-returns-in-Concat-clause-is : goal.target_in-returns-in-Concat-clause-is
 target_in-returns-in-Concat-clause-is t c =
