@@ -224,7 +224,7 @@ mutual
 
 -- ---- headers
 
-header_keeps : (before : Header) (all : List ParPort) → Keeps (header_params before all)
+pub header_keeps : (before : Header) (all : List ParPort) → Keeps (header_params before all)
 unfolding header_params
 header_keeps before [] st last i h = subst Inv (same_ok st last h) i
 header_keeps before (p ∷ more) st last i h =
@@ -243,19 +243,19 @@ unfolding walk_all
 constants_wires [] st last h = sym (ap (λ (z : State). z.wires) (same_ok st last h))
 constants_wires (d ∷ more) st last h = let b = bind_ok (add_constant d st) (walk_all add_constant more) last h in constants_wires more b.0 last b.2 ∙ constant_wires d st b.0 b.1
 
-formed_wires : (t : TypeTree) (st : State) (y : Layout × State) → formed t st ≡ Ok y → y.1.wires ≡ st.wires
+pub formed_wires : (t : TypeTree) (st : State) (y : Layout × State) → formed t st ≡ Ok y → y.1.wires ≡ st.wires
 formed_wires t st y h =
     let a = bind_ok (form (seen st) t) _ y h in
     let b = bind_ok (add_constants a.0.1 st) (λ s. Ok (a.0.0, s)) y a.2 in
     sym (ap (λ (z : Layout × State). z.1.wires) (same_ok (a.0.0, b.0) y b.2)) ∙ constants_wires a.0.1 st b.0 b.1
 
 -- what an added wire leaves
-record Added (x : Layout) (st last : State) : Type 0 where
-  wire : Signal
-  is : last.wires ≡ st.wires ++ wire ∷ []
-  wide : wire.width ≡ width x
+pub record Added (x : Layout) (st last : State) : Type 0 where
+  pub wire : Signal
+  pub is : last.wires ≡ st.wires ++ wire ∷ []
+  pub wide : wire.width ≡ width x
 
-wire_added : (input : Bool) (x : Layout) (w : Word) (st last : State) → add_wire input x w st ≡ Ok last → Added x st last
+pub wire_added : (input : Bool) (x : Layout) (w : Word) (st last : State) → add_wire input x w st ≡ Ok last → Added x st last
 wire_added input x w st last h =
     let b = bind_ok (declare w st) _ last h in
     let same : st.wires ≡ b.0.wires = ap (λ (z : State). z.wires) (provided_ok _ _ b.0 b.1) in
@@ -331,10 +331,10 @@ ports_keep top before x (p ∷ more) st y i h =
 
 -- ---- instances
 
-begun_good : (m : Known) (path : Name) (parent : ℕ) (params : List Given) (st : State) → Inv st → Inv (begun m path parent params st)
+pub begun_good : (m : Known) (path : Name) (parent : ℕ) (params : List Given) (st : State) → Inv st → Inv (begun m path parent params st)
 begun_good m path parent params st i = (levels_push st.wires st.levels _ i.0 (record { nets = none_good st.wires; consts = none_good st.wires }), i.1)
 
-instance_keeps : (top : Bool) (m : Module) (at : Front) (pins : List Connection) → Keeps (instance_walk top m at pins)
+pub instance_keeps : (top : Bool) (m : Module) (at : Front) (pins : List Connection) → Keeps (instance_walk top m at pins)
 instance_keeps top m at pins st last i h =
     let a = bind_ok (header_params (param_word.Parameter, None) m.params st) _ last h in
     let b = bind_ok (header_ports top way.Input (scalar false) (ports_of m) a.0) _ last a.2 in
@@ -361,7 +361,7 @@ child_walk_keeps (suc deep) all c st last i h =
 
 -- ---- the file level, and the whole
 
-library_keeps : (parts : List SourcePart) (all : Library) (st : State) (y : Library × State) → Inv st → library parts all st ≡ Ok y → Inv y.1
+pub library_keeps : (parts : List SourcePart) (all : Library) (st : State) (y : Library × State) → Inv st → library parts all st ≡ Ok y → Inv y.1
 unfolding library
 library_keeps [] all st y i h = subst (λ (z : Library × State). Inv z.1) (same_ok (all, st) y h) i
 library_keeps (source_part.Module m ∷ more) all st y i h =
@@ -370,7 +370,7 @@ library_keeps (source_part.Module m ∷ more) all st y i h =
 library_keeps (source_part.Typedef d ∷ more) all st y i h = let b = bind_ok (add_typedef d st) _ y h in library_keeps more all b.0 y (typedef_keeps d st b.0 i b.1) b.2
 library_keeps (source_part.Param p ∷ more) all st y i h = let b = bind_ok (add_params p st) _ y h in library_keeps more all b.0 y (params_keep p st b.0 i b.1) b.2
 
-file_good : Inv file_state
+pub file_good : Inv file_state
 unfolding LevelsAreGood AreGood WorksAreGood
 file_good = ((record { nets = tt; consts = tt }, tt), tt)
 

@@ -1,4 +1,6 @@
 pub mod Good
+pub mod Above
 pub mod Plain
 pub mod Keeping
 pub mod Seen
+pub mod Closing

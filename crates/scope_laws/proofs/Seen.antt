@@ -18,7 +18,7 @@ level_good wires [] n h = record { nets = tt; consts = tt }
 level_good wires (x ∷ more) zero h = h.0
 level_good wires (x ∷ more) (suc n) h = level_good wires more n h.1
 
-live_good : (wires : List Signal) (all : List Level) (fronts : List Front) → LevelsAreGood wires all → AreGood wires (live_along all fronts)
+pub live_good : (wires : List Signal) (all : List Level) (fronts : List Front) → LevelsAreGood wires all → AreGood wires (live_along all fronts)
 unfolding live_along
 live_good wires all [] h = none_good wires
 live_good wires all (f ∷ more) h =

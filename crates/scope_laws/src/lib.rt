@@ -1,7 +1,7 @@
 //! Laws of the scopes of a design.
 #![tactic(auto)]
 
-ghost use Rattle.std.specs.Prelude.{◌≡◌, ℕ, Contains, Option, Ok};
+ghost use Rattle.std.specs.Prelude.{◌≡◌, ◌<◌, ℕ, Contains, Option, Ok};
 ghost use Rattle.sv_tree.specs.declared.design.Source.{Source};
 ghost use Rattle.sv_tree.specs.declared.design.Way.{Way};
 ghost use Rattle.sv_tree.specs.declared.exprs.Expr.{Expr};
@@ -9,12 +9,16 @@ ghost use Rattle.sv_meaning.specs.Layouts.{Name, Layout, width, of_wires, NamedS
 ghost use Rattle.sv_hierarchy.specs.Scopes.{Front, State, connecting, live_at, scopes};
 ghost use Rattle.scope_laws.specs.Wires.{IsWire};
 
-/// Each signal that a place in a design sees is a wire of the design, of its width, and so is each connected port.
-#[tactic(auto, using(crate::proofs::Seen::seen_are_wires, crate::proofs::Seen::ports_are_wires))]
+/// Each signal that a place in a design sees is a wire of the design, of its width, and so is each connected port, which is numbered
+/// above all that the place of its instance sees (IEEE 1800-2017 23.3.3; the order of wires is this tool's own).
+#[tactic(auto, using(crate::proofs::Seen::seen_are_wires, crate::proofs::Seen::ports_are_wires, crate::proofs::Closing::ports_stand_above))]
 pub fn names_are_wires()
     ensures seen { (source : Source) (top : Option Name) (st : State) → scopes source top ≡ Ok st
         → (at : Front) (s : NamedSignal) → Declared (live_at st.levels at) s → IsWire st.wires s }
     ensures ports { (source : Source) (top : Option Name) (st : State) → scopes source top ≡ Ok st
         → (at : Front) (way : Way) (n : ℕ) (x : Layout) (actual : Expr) → Contains st.works (record { at = at; task = connecting way n x actual })
         → IsWire st.wires (record { owner = of_wires; number = n; width = width x }) }
+    ensures above { (source : Source) (top : Option Name) (st : State) → scopes source top ≡ Ok st
+        → (at : Front) (way : Way) (n : ℕ) (x : Layout) (actual : Expr) → Contains st.works (record { at = at; task = connecting way n x actual })
+        → (s : NamedSignal) → Declared (live_at st.levels at) s → s.number < n }
 {}
