@@ -299,13 +299,17 @@ fixed_are judge (x ∷ all) (t ∷ ts) h = let s = h.0 in ap (λ b. b && are_fix
 
 -- ---- all of it
 
-pub lowered_ok : (f : Faults) (ts : List Target) (r : Result (List TypedTarget) TextErr) (all : List TypedTarget) (slots_now : Slots) (x : lowered.Target) (w : ℕ) → r ≡ Ok all → JudgesTargets fixed_faults f ts r → AreNarrow r → w ≡ min 255 (width_of_all all) → x.width ≡ w → slots_now ≡ slots_of all → AreParts slots_now x.parts → x.fixed ≡ all_fixed all → IsLowered f ts x
-lowered_ok f ts r all slots_now x w e h n k v s p g =
+pub lowered_ok : (f : Faults) (ts : List Target) (r : Result (List TypedTarget) TextErr) (all : List TypedTarget) (slots_now : Slots) (x : lowered.Target) (w : ℕ) → r ≡ Ok all → JudgesTargets fixed_faults f ts r → AreNarrow r → IfOk r (λ (z : List TypedTarget). 1 ≤ width_of_all z) → w ≡ min 255 (width_of_all all) → x.width ≡ w → slots_now ≡ slots_of all → AreParts slots_now x.parts → x.fixed ≡ all_fixed all → IsLowered f ts x
+lowered_ok f ts r all slots_now x w e h n some k v s p g =
     let a = targets_ok fixed_faults f ts r all e h in
     let most : width_of_all all ≤ 128 = subst AreNarrow e n in
+    let least : 1 ≤ width_of_all all = subst (λ (z : Result (List TypedTarget) TextErr). IfOk z (λ (y : List TypedTarget). 1 ≤ width_of_all y)) e some in
+    let same : width_of_all all ≡ x.width = small (width_of_all all) w x.width most k v in
     record {
       clear = a.clear;
-      width = widths_are fixed_faults all ts a.stand ∙ (let i : width_of_all all ≡ x.width = small (width_of_all all) w x.width most k v in i);
+      width = widths_are fixed_faults all ts a.stand ∙ same;
+      some = omega (arith, same, least);
+      most = omega (arith, same, most);
       parts = subst (λ (z : Slots). AreParts z x.parts) (s ∙ sym (slots_are fixed_faults all ts a.stand)) p;
       fixed = fixed_are fixed_faults all ts a.stand ∙ sym g;
     }

@@ -1,7 +1,9 @@
 -- Runs of bits as parts.
-use Rattle.std.proofs.Common.{◌≡◌, ℕ, zero, suc, ◌+◌, ◌-◌, ◌≤◌, ◌<◌, List, [], ◌∷◌, ◌++◌, length, take, get_or, map, replicate, Option, Some, None, Result, Ok, Err, IfOk, All, reverse, refl, sym, ap, ◌∙◌, subst, arith, append_assoc}
+use Rattle.std.proofs.Common.{◌≡◌, ℕ, zero, suc, ◌+◌, ◌-◌, ◌≤◌, ◌<◌, Bool, false, List, [], ◌∷◌, ◌++◌, length, take, get_or, map, replicate, Option, Some, None, Result, Ok, Err, IfOk, All, reverse, refl, sym, ap, ◌∙◌, subst, arith, append_assoc}
 use Rattle.std.proofs.lemmas.List.{append-nil, map-append, take_all, reverse-append}
-use Rattle.std.proofs.lemmas.List.Elements.{All-from_recursion, recursion_from_All}
+use Rattle.std.proofs.lemmas.List.Elements.{All-from_recursion, recursion_from_All, All-push}
+use Rattle.std.specs.Prelude.{◌==◌}
+use Rattle.std.proofs.lemmas.Bool.Decides.{nat_tests}
 use Rattle.std.proofs.Math.Seq.{take-suc}
 use Rattle.std.specs.List.{AllByRecursion}
 use Rattle.lhs_alias.specs.declared.segs.Seg.{Seg}
@@ -49,7 +51,7 @@ pub runs_begin : (all : Slots) (parts : List Part) (run : List WireBit) → part
 unfolding spread end_of Ascend
 runs_begin all parts run p r =
     let R : List Part → List WireBit → Type 0 = λ x y. Runs all 0 x y in
-    subst (λ (x : List Part). R x run) (sym p) (subst (λ (y : List WireBit). R [] y) (sym r) (record { gap = 0; is = refl; place = omega arith; ascend = tt; segs = λ k d lt. absurd (omega arith) }))
+    subst (λ (x : List Part). R x run) (sym p) (subst (λ (y : List WireBit). R [] y) (sym r) (record { gap = 0; is = refl; place = omega arith; ascend = tt; segs = λ k d lt. absurd (omega arith); some = λ k d lt. absurd (omega arith) }))
 
 pub runs_bit : (all : Slots) (i : ℕ) (parts : List Part) (run now : List WireBit) (b : WireBit) → i < length all → Some b ≡ get_or all i (Some b) → now ≡ run ++ b ∷ [] → Runs all i parts run → Runs all (i + 1) parts now
 runs_bit all i parts run now b lt e g h =
@@ -62,6 +64,7 @@ runs_bit all i parts run now b lt e g h =
       place = let l = length_more run b in let p = h.place in omega arith;
       ascend = h.ascend;
       segs = h.segs;
+      some = h.some;
     })
   where
     length_more : (xs : List WireBit) (x : WireBit) → length (xs ++ x ∷ []) ≡ length xs + 1
@@ -79,10 +82,11 @@ runs_none all i parts now lt e g h =
       place = let p = h.place in omega arith;
       ascend = h.ascend;
       segs = h.segs;
+      some = h.some;
     })
 
-pub runs_closed : (all : Slots) (end : ℕ) (parts now : List Part) (run : List WireBit) (segs : List Seg) → Runs all end parts run → lhs_bits segs ≡ run → AreSegs segs → now ≡ parts ++ record { lo = end - length run; to = segs } ∷ [] → Runs all end now []
-runs_closed all end parts now run segs h e s g =
+pub runs_closed : (all : Slots) (end : ℕ) (parts now : List Part) (run : List WireBit) (segs : List Seg) → 1 ≤ length run → Runs all end parts run → lhs_bits segs ≡ run → AreSegs segs → now ≡ parts ++ record { lo = end - length run; to = segs } ∷ [] → Runs all end now []
+runs_closed all end parts now run segs there h e s g =
     let p : Part = record { lo = end - length run; to = segs } in
     let l : length (lhs_bits segs) ≡ length run = ap length e in
     let pl = h.place in
@@ -96,8 +100,12 @@ runs_closed all end parts now run segs h e s g =
       place = omega arith;
       ascend = ascend_more 0 parts p h.ascend (omega arith);
       segs = All-from_recursion (λ x. AreSegs x.to) (parts ++ p ∷ []) (segs_more parts p (recursion_from_All (λ x. AreSegs x.to) parts h.segs) s);
+      some = All-push (λ (x : Part). 1 ≤ length (lhs_bits x.to)) parts p h.some (omega (arith, l, there));
     } in
     subst (λ (z : List Part). Runs all end z []) (sym g) made
+
+pub nonempty : (b : Bool) (n : ℕ) → b ≡ (n == 0) → b ≡ false → 1 ≤ n
+nonempty b n e f = grind (arith, nat_tests)
 
 pub runs_as : (all : Slots) (end : ℕ) (parts : List Part) (run : List WireBit) → run ≡ [] → Runs all end parts run → Runs all end parts []
 runs_as all end parts run e h = subst (λ (z : List WireBit). Runs all end parts z) e h
@@ -108,6 +116,7 @@ runs_end all end parts lt h = record {
   is = sym (take_all end all lt) ∙ h.is ∙ append-nil (spread 0 parts ++ replicate h.gap None);
   ascend = h.ascend;
   segs = h.segs;
+  some = h.some;
 }
 
 -- ---- bits as segments

@@ -71,12 +71,13 @@ unfoldable pub Ascend : ℕ → List Part → Type 0
 Ascend at [] = Unit {0}
 Ascend at (p ∷ more) = (at ≤ p.lo) × Ascend (p.lo + length (lhs_bits p.to)) more
 
--- The parts have exactly the bits that slots have, each at its place.
+-- The parts have exactly the bits that slots have, each at its place, and each part has some.
 pub record AreParts (all : Slots) (parts : List Part) : Type 0 where
   pub gap : ℕ
   pub is : all ≡ spread 0 parts ++ replicate gap None
   pub ascend : Ascend 0 parts
   pub segs : All (λ p. AreSegs p.to) parts
+  pub some : All (λ p. 1 ≤ length (lhs_bits p.to)) parts
 
 -- where parts end
 unfoldable pub end_of : ℕ → List Part → ℕ
@@ -90,11 +91,14 @@ pub record Runs (all : Slots) (at : ℕ) (parts : List Part) (run : List WireBit
   pub place : end_of 0 parts + gap + length run ≡ at
   pub ascend : Ascend 0 parts
   pub segs : All (λ p. AreSegs p.to) parts
+  pub some : All (λ p. 1 ≤ length (lhs_bits p.to)) parts
 
--- A target with its width, its bits that are there, and whether its indices are constant and known, against which nothing stands
+-- A target with its width, 1 to 128 bits, its bits that are there, and whether its indices are constant and known, against which nothing stands
 pub record IsLowered (f : Faults) (ts : List Target) (x : parts.Target) : Type 0 where
   pub clear : f ≡ []
   pub width : widths ts ≡ x.width
+  pub some : 1 ≤ x.width
+  pub most : x.width ≤ 128
   pub parts : AreParts (slots ts) x.parts
   pub fixed : are_fixed ts ≡ x.fixed
 

@@ -7,7 +7,7 @@ ghost use Rattle.sv_meaning.specs.Faults.{Faults};
 ghost use Rattle.sv_meaning.specs.Meanings.{fixed_faults};
 ghost use Rattle.sv_meaning.specs.Targets as t;
 ghost use Rattle.sv_targets.specs.Slots.{Slots, IsNear, Runs, AreParts, JudgesParts};
-ghost use Rattle.sv_targets.specs.Targets.{JudgesTargets, AreNarrow, TargetIsSound};
+ghost use Rattle.sv_targets.specs.Targets.{JudgesTargets, AreNarrow, TargetIsSound, width_of_all};
 
 use crate::actuals::typed_actual;
 use crate::fixed::are_fixed;
@@ -134,6 +134,7 @@ fn parts_of(alloc: Global, all: &[Option<WireBit>]) -> Result<Items<Part>, Alloc
 // Targets as parts of wires.
 fn lowered(alloc: Global, targets: Result<Items<TypedTarget>, TextErr>) -> Result<Target, TextErr>
     requires narrow { AreNarrow targets }
+    requires some { IfOk targets (λ all. 1 ≤ width_of_all all) }
     requires sound { IfOk targets (λ all. All TargetIsSound all) }
     ensures { (f : Faults) (ts : List t.Target) → JudgesTargets fixed_faults f ts targets → JudgesParts f ts result }
 {

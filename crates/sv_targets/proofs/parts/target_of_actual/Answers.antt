@@ -1,6 +1,7 @@
 use Rattle.sv_meaning.specs.Designs.{as_targets, actual_faults}
 use Rattle.sv_meaning.specs.Meanings.{fixed_faults}
 use Rattle.sv_const.specs.Names.{names_are}
+use Rattle.sv_targets.proofs.Having.{actuals_some}
 use Rattle.sv_targets.proofs.Slotting.{sound_targets}
 use Rattle.sv_targets.proofs.parts.target_of_actual.Goals as goal
 
@@ -8,6 +9,9 @@ pub lowered-requires-clause-sound : goal.lowered-requires-clause-sound
 lowered-requires-clause-sound c =
     let at = names_are c.args.names.now in
     sound_targets fixed_faults (actual_faults at c.args.actual.now) (as_targets at c.args.actual.now) c.typed_actual.result c.typed_actual.ensures.is
+
+pub lowered-requires-clause-some : goal.lowered-requires-clause-some
+lowered-requires-clause-some c = actuals_some (names_are c.args.names.now) c.args.actual.now c.typed_actual.result c.typed_actual.ensures.is
 
 pub returns : goal.returns
 returns c =
