@@ -8,7 +8,7 @@ use Rattle.flat_net.specs.declared.flat.Flat.{Flat}
 use Rattle.sv_elab.specs.Elaborated.{IsElaborated}
 use Rattle.sv_meaning.specs.Designs.{Design}
 use Rattle.sv_outside.specs.declared.text.Signal.{Signal}
-use Rattle.svtv_choices.proofs.Apart.{drives_apart}
+use Rattle.svtv_table.proofs.Apart.{drives_apart}
 use Rattle.svtv_decide.specs.Trials.{Poses, bench}
 use Rattle.svtv_runs.specs.Runs.{AreApart}
 use Rattle.svtv_runs.proofs.Runs.{least_run_stands, least_run_is_one}
@@ -18,12 +18,12 @@ use Rattle.svtv_table.specs.Names.{signal_at, wire_of, width_of, wire_number}
 use Rattle.svtv_table.specs.Stimuli.{drive_value, values_of}
 use Rattle.svtv_table.specs.declared.bound.Drive.{Drive}
 use Rattle.svtv_table.specs.declared.bound.Sample.{Sample}
-use Rattle.svtv_table.specs.declared.table.Cell.{Cell}
-use Rattle.svtv_table.specs.declared.table.Cell.TheVariants as cell
-use Rattle.svtv_table.specs.declared.table.Row.{Row}
-use Rattle.svtv_table.specs.declared.table.RowKind.{RowKind}
-use Rattle.svtv_table.specs.declared.table.RowKind.TheVariants.{In, Out}
-use Rattle.svtv_table.specs.declared.table.Table.{Table}
+use Rattle.table_cells.specs.declared.table.Cell.{Cell}
+use Rattle.table_cells.specs.declared.table.Cell.TheVariants as cell
+use Rattle.table_cells.specs.declared.table.Row.{Row}
+use Rattle.table_cells.specs.declared.table.RowKind.{RowKind}
+use Rattle.table_cells.specs.declared.table.RowKind.TheVariants.{In, Out}
+use Rattle.table_cells.specs.declared.table.Table.{Table}
 use Rattle.svtv_table.proofs.Meaning.{means}
 use Rattle.svtv.specs.Answers.{HaveRuns}
 use Rattle.svtv.specs.Files.{bench_of}

@@ -7,7 +7,7 @@ use Rattle.sv_outside.specs.declared.refusal.TextErr.TheVariants as e
 use Rattle.sv_outside.specs.declared.text.Signal.{Signal}
 use Rattle.svtv_table.specs.Binding.{bind_faults}
 use Rattle.svtv_table.specs.Faults as faults
-use Rattle.svtv_table.specs.declared.table.Table.{Table}
+use Rattle.table_cells.specs.declared.table.Table.{Table}
 use Rattle.svtv.specs.Files.{Text, Told, IsTableText}
 use Rattle.svtv.specs.Refusals.{RefusesTable, TooLong, at_first}
 use Rattle.svtv.specs.Stopping.{Stops, StopsAt, IsOf}

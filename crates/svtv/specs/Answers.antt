@@ -12,7 +12,7 @@ use Rattle.svtv_report.specs.Texts.{report, value_lines}
 use Rattle.svtv_runs.specs.Runs.{Run}
 use Rattle.svtv_table.specs.Binding.{bind_faults}
 use Rattle.svtv_table.specs.Stimuli.{IsChoice}
-use Rattle.svtv_table.specs.declared.table.Table.{Table}
+use Rattle.table_cells.specs.declared.table.Table.{Table}
 use Rattle.svtv_verdicts.specs.Benches.{Bench, HasOneLeast, IsLeastUnder, sampled_in}
 use Rattle.svtv_verdicts.specs.Verdicts.{Verdict, proved, vacuous, failed, undecided, IsRight}
 use Rattle.svtv_words.specs.Commands.{Command, IsCommand, prove, sim}

@@ -19,7 +19,7 @@ use Rattle.svtv_table.specs.Stimuli.{stimuli_of}
 use Rattle.svtv_table.specs.Valuing.{values_faults, values_of}
 use Rattle.svtv_table.specs.declared.bound.Sample.{Sample}
 use Rattle.svtv_table.specs.declared.bound.VarDecl.{VarDecl}
-use Rattle.svtv_table.specs.declared.table.Table.{Table}
+use Rattle.table_cells.specs.declared.table.Table.{Table}
 use Rattle.svtv_verdicts.specs.Benches.{Bench}
 
 abbrev pub Text : Type 0

@@ -11,7 +11,7 @@ use Rattle.sv_tree.specs.Nesting.{Depths, IsOverAt}
 use Rattle.sv_tree.specs.NestingDesign.{source_depths}
 use Rattle.svtv_table.specs.declared.bound.Sample.{Sample}
 use Rattle.svtv_table.specs.declared.bound.VarDecl.{VarDecl}
-use Rattle.svtv_table.specs.declared.table.Table.{Table}
+use Rattle.table_cells.specs.declared.table.Table.{Table}
 use Rattle.svtv_words.specs.Commands.{Command, prove, sim}
 use Rattle.svtv.specs.Files.{Text, Told, IsDesignFile, IsTableFile, AreGoalsFile, IsValuesFile, samples_in, vars_of}
 use Rattle.svtv.specs.Refusals.{HasRoom}

@@ -25,7 +25,7 @@ use Rattle.svtv_table.specs.Reading.{table_faults}
 use Rattle.svtv_table.specs.Valuing.{values_faults}
 use Rattle.svtv_table.specs.declared.bound.Sample.{Sample}
 use Rattle.svtv_table.specs.declared.bound.VarDecl.{VarDecl}
-use Rattle.svtv_table.specs.declared.table.Table.{Table}
+use Rattle.table_cells.specs.declared.table.Table.{Table}
 use Rattle.svtv_words.specs.Commands.{Command, prove, sim}
 use Rattle.svtv.specs.Files.{Text, Told, IsDesignFile, IsTableText, IsTableFile, vars_of, samples_in}
 

@@ -15,8 +15,8 @@ use Rattle.sv_literal.specs.Value.{fitted}
 use Rattle.sv_literal.specs.declared.meaning.Literal.{Literal}
 use Rattle.sv_literal.proofs.Vectors.{length-fitted}
 use Rattle.sv_outside.specs.declared.refusal.Refusal.{Refusal}
-use Rattle.svtv_table.specs.Cells.{has_value, known_literal}
-use Rattle.svtv_table.specs.Drives.{constant}
+use Rattle.table_cells.specs.Cells.{has_value, known_literal}
+use Rattle.table_cells.specs.Constants.{constant}
 use Rattle.svtv_table.specs.Faults.{at_each, fault, fault_if}
 use Rattle.svtv_table.specs.Names.{name_of, number_of, width_at, width_under}
 use Rattle.svtv_table.specs.Stimuli.{IsChoice}

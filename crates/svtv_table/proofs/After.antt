@@ -16,8 +16,8 @@ use Rattle.svtv_table.specs.Names.{path_of, width_of, wire_of}
 use Rattle.svtv_table.specs.declared.binding.Work.{Work}
 use Rattle.svtv_table.specs.declared.bound.VarDecl.{VarDecl}
 use Rattle.svtv_table.specs.declared.samples.Samples.{Samples}
-use Rattle.svtv_table.specs.declared.table.Row.{Row}
-use Rattle.svtv_table.specs.declared.table.RowKind.TheVariants.{In}
+use Rattle.table_cells.specs.declared.table.Row.{Row}
+use Rattle.table_cells.specs.declared.table.RowKind.TheVariants.{In}
 use Rattle.svtv_table.proofs.Places.{same_place}
 
 pub on_ok_all : {T E A B C D : Type 0} (r : Result T E) → OnOk r A → OnOk r B → OnOk r C → (A → B → C → D) → OnOk r D

@@ -12,10 +12,10 @@ use Rattle.svtv_table.specs.Faults.{at_each, fault, fault_if}
 use Rattle.svtv_table.specs.Names.{signal_of, wire_number, wire_of}
 use Rattle.svtv_table.specs.declared.bound.Drive.{Drive}
 use Rattle.svtv_table.specs.declared.bound.VarDecl.{VarDecl}
-use Rattle.svtv_table.specs.declared.table.Row.{Row}
-use Rattle.svtv_table.specs.declared.table.RowKind.{RowKind}
-use Rattle.svtv_table.specs.declared.table.RowKind.TheVariants.{In, Out}
-use Rattle.svtv_table.specs.declared.table.Table.{Table}
+use Rattle.table_cells.specs.declared.table.Row.{Row}
+use Rattle.table_cells.specs.declared.table.RowKind.{RowKind}
+use Rattle.table_cells.specs.declared.table.RowKind.TheVariants.{In, Out}
+use Rattle.table_cells.specs.declared.table.Table.{Table}
 use Rattle.svtv_table.proofs.Formed.{both_none}
 use Rattle.svtv_table.proofs.Places.{same_place}
 

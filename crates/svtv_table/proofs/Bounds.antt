@@ -15,10 +15,10 @@ use Rattle.svtv_table.specs.declared.bound.Bound.{Bound}
 use Rattle.svtv_table.specs.declared.bound.Drive.{Drive}
 use Rattle.svtv_table.specs.declared.bound.Sample.{Sample}
 use Rattle.svtv_table.specs.declared.bound.VarDecl.{VarDecl}
-use Rattle.svtv_table.specs.declared.table.Row.{Row}
-use Rattle.svtv_table.specs.declared.table.RowKind.{RowKind}
-use Rattle.svtv_table.specs.declared.table.RowKind.TheVariants.{In, Out}
-use Rattle.svtv_table.specs.declared.table.Table.{Table}
+use Rattle.table_cells.specs.declared.table.Row.{Row}
+use Rattle.table_cells.specs.declared.table.RowKind.{RowKind}
+use Rattle.table_cells.specs.declared.table.RowKind.TheVariants.{In, Out}
+use Rattle.table_cells.specs.declared.table.Table.{Table}
 use Rattle.svtv_table.proofs.Declared.{all_distinct, collected}
 
 abbrev made : ℕ → List VarDecl → List (ℕ × List Drive) → List Sample → Bound

@@ -8,15 +8,15 @@ use Rattle.sv_literal.specs.Meaning.{meaning_of}
 use Rattle.sv_literal.specs.declared.meaning.Literal.{Literal}
 use Rattle.sv_outside.specs.declared.refusal.Refusal.{Refusal}
 use Rattle.svtv_table.specs.Faults.{at_each, fault, fault_if}
-use Rattle.svtv_table.specs.Cells.{in_cell, out_cell, known_literal, constant_cell, is_cell_name, is_empty, has_value}
+use Rattle.table_cells.specs.Cells.{in_cell, out_cell, known_literal, constant_cell, is_cell_name, is_empty, has_value}
 use Rattle.std.specs.Str.{bytes_eq}
 use Rattle.svtv_table.specs.Fields.{field_at}
 use Rattle.svtv_table.specs.Reading.{table_faults, table_of, IsWellFormed, IsKnownCell, record_faults, count_in, cell_in, row_of, front_faults, kind_of}
-use Rattle.svtv_table.specs.declared.table.Cell.{Cell}
-use Rattle.svtv_table.specs.declared.table.Cell.TheVariants as cell
-use Rattle.svtv_table.specs.declared.table.Row.{Row}
-use Rattle.svtv_table.specs.declared.table.RowKind.{RowKind}
-use Rattle.svtv_table.specs.declared.table.RowKind.TheVariants.{In, Out}
+use Rattle.table_cells.specs.declared.table.Cell.{Cell}
+use Rattle.table_cells.specs.declared.table.Cell.TheVariants as cell
+use Rattle.table_cells.specs.declared.table.Row.{Row}
+use Rattle.table_cells.specs.declared.table.RowKind.{RowKind}
+use Rattle.table_cells.specs.declared.table.RowKind.TheVariants.{In, Out}
 
 pub both_none : (fs gs : List Refusal) → fs ++ gs ≡ [] → (fs ≡ []) × (gs ≡ [])
 both_none [] gs h = (refl, h)

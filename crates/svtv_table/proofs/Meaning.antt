@@ -9,19 +9,20 @@ use Rattle.fourvec.specs.Bits.{each, is_known, not_of}
 use Rattle.sv_outside.specs.declared.refusal.Refusal.{Refusal}
 use Rattle.sv_outside.specs.declared.text.Signal.{Signal}
 use Rattle.svtv_table.specs.Binding.{cell_differs, drive_faults, drives_of, driven_by, driven_in, faults_after, faults_by, bind_faults, bound_of, in_faults, phase_faults, row_faults, variables_of, wire_faults}
-use Rattle.svtv_table.specs.Drives.{constant, drive_before, drive_in, drive_of, fits, flipped_drive, held, phase_drive}
+use Rattle.svtv_table.specs.Drives.{drive_before, drive_in, drive_of, flipped_drive, held, phase_drive}
+use Rattle.table_cells.specs.Constants.{constant, fits}
 use Rattle.svtv_table.specs.Faults.{at_each, fault, fault_if}
 use Rattle.svtv_table.specs.Names.{width_of, wire_number}
 use Rattle.svtv_table.specs.Stimuli.{IsChoice, Means, drive_value, given, stimuli_by, stimuli_of, stimulus, stimulus_before, stimulus_of, values_of}
 use Rattle.svtv_table.specs.declared.bound.Drive.{Drive}
 use Rattle.svtv_table.specs.declared.bound.Drive.TheVariants as drive
 use Rattle.svtv_table.specs.declared.bound.VarDecl.{VarDecl}
-use Rattle.svtv_table.specs.declared.table.Cell.{Cell}
-use Rattle.svtv_table.specs.declared.table.Cell.TheVariants as cell
-use Rattle.svtv_table.specs.declared.table.Row.{Row}
-use Rattle.svtv_table.specs.declared.table.RowKind.{RowKind}
-use Rattle.svtv_table.specs.declared.table.RowKind.TheVariants.{In, Out}
-use Rattle.svtv_table.specs.declared.table.Table.{Table}
+use Rattle.table_cells.specs.declared.table.Cell.{Cell}
+use Rattle.table_cells.specs.declared.table.Cell.TheVariants as cell
+use Rattle.table_cells.specs.declared.table.Row.{Row}
+use Rattle.table_cells.specs.declared.table.RowKind.{RowKind}
+use Rattle.table_cells.specs.declared.table.RowKind.TheVariants.{In, Out}
+use Rattle.table_cells.specs.declared.table.Table.{Table}
 use Rattle.svtv_table.proofs.Formed.{both_none, none_at}
 
 -- ---- the complement of the complement

@@ -7,10 +7,10 @@ use Rattle.svtv_table.specs.Faults.{fault, Stops, StopsText}
 use Rattle.svtv_table.specs.Fields.{fields_in, trimmed, IsRecords}
 use Rattle.csv.specs.Reading.{AreRecords, default_config, strip_bom}
 use Rattle.csv.specs.declared.parser.State.TheVariants as st
-use Rattle.svtv_table.specs.Cells.{cell_of}
+use Rattle.table_cells.specs.Cells.{cell_of}
 use Rattle.svtv_table.specs.Reading.{cell_fault, cell_in}
-use Rattle.svtv_table.specs.declared.table.Cell.{Cell}
-use Rattle.svtv_table.specs.declared.table.RowKind.{RowKind}
+use Rattle.table_cells.specs.declared.table.Cell.{Cell}
+use Rattle.table_cells.specs.declared.table.RowKind.{RowKind}
 use Rattle.sv_outside.specs.declared.refusal.Refusal.{Refusal}
 
 pub bad_cell : (kind : RowKind) (line at : ℕ) (text : List ℕ) (e : TextErr) → cell_of kind text ≡ None → e ≡ No (fault 28 line (at + 1)) → Stops (cell_fault kind line at text) e

@@ -10,7 +10,7 @@ use Rattle.std.proofs.lemmas.Map.Keys.{apart_from_distinct}
 use Rattle.fourvec.specs.declared.Bit.{Bit}
 use Rattle.sv_literal.specs.Meaning.{meaning_of}
 use Rattle.sv_outside.specs.declared.refusal.Refusal.{Refusal}
-use Rattle.svtv_table.specs.Drives.{constant}
+use Rattle.table_cells.specs.Constants.{constant}
 use Rattle.svtv_table.specs.Faults.{fault, fault_if}
 use Rattle.svtv_table.specs.Following.{is_valued, with_value}
 use Rattle.svtv_table.specs.Names.{name_of, number_of, width_at, width_under}

@@ -17,17 +17,18 @@ use Rattle.sv_literal.proofs.Vectors.{length-fitted}
 use Rattle.sv_outside.specs.declared.refusal.Refusal.{Refusal}
 use Rattle.sv_outside.specs.declared.text.Signal.{Signal}
 use Rattle.svtv_table.specs.Binding.{IsAsWide, cell_differs, declared_by, declared_in, differs, drive_faults, first_of_each, in_faults, phase_faults, var_width, variables_of}
-use Rattle.svtv_table.specs.Drives.{chosen, constant, drive_before, drive_in, drive_of, fits, flipped_drive, held, held_before, phase_drive, unless_empty}
+use Rattle.svtv_table.specs.Drives.{chosen, drive_before, drive_in, drive_of, flipped_drive, held, held_before, phase_drive, unless_empty}
+use Rattle.table_cells.specs.Constants.{constant, fits}
 use Rattle.svtv_table.specs.Faults.{at_each, fault, fault_if}
 use Rattle.svtv_table.specs.Names.{name_in, name_of, names_in, number_of, width_at, width_of}
 use Rattle.svtv_table.specs.declared.bound.Drive.{Drive}
 use Rattle.svtv_table.specs.declared.bound.Drive.TheVariants as drive
 use Rattle.svtv_table.specs.declared.bound.VarDecl.{VarDecl}
-use Rattle.svtv_table.specs.declared.table.Cell.{Cell}
-use Rattle.svtv_table.specs.declared.table.Cell.TheVariants as cell
-use Rattle.svtv_table.specs.declared.table.Row.{Row}
-use Rattle.svtv_table.specs.declared.table.RowKind.{RowKind}
-use Rattle.svtv_table.specs.declared.table.RowKind.TheVariants.{In, Out}
+use Rattle.table_cells.specs.declared.table.Cell.{Cell}
+use Rattle.table_cells.specs.declared.table.Cell.TheVariants as cell
+use Rattle.table_cells.specs.declared.table.Row.{Row}
+use Rattle.table_cells.specs.declared.table.RowKind.{RowKind}
+use Rattle.table_cells.specs.declared.table.RowKind.TheVariants.{In, Out}
 use Rattle.svtv_table.proofs.Declared.{has, has-others, others}
 use Rattle.svtv_table.proofs.Formed.{both_none, none_at}
 use Rattle.svtv_table.proofs.Places.{is_placed, some_from, within_from}

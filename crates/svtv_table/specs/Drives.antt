@@ -1,26 +1,16 @@
 -- What drives an input in each phase (this project's rules).
-use Rattle.std.specs.Prelude.{ℕ, zero, suc, ◌||◌, not, Bool, false, List, [], ◌∷◌, drop, replicate, slice_index_or, Option, Some, None, unwrap_or, if◌then◌else◌}
+use Rattle.std.specs.Prelude.{ℕ, zero, suc, not, Bool, false, List, [], ◌∷◌, replicate, slice_index_or, Option, Some, None, unwrap_or, if◌then◌else◌}
 use Rattle.fourvec.specs.declared.Bit.{Bit}
-use Rattle.fourvec.specs.declared.Bit.TheVariants.{Zero, Floating}
-use Rattle.fourvec.specs.Bits.{all_zero, first, is_known, not_of}
-use Rattle.sv_literal.specs.Value.{fitted}
+use Rattle.fourvec.specs.declared.Bit.TheVariants.{Floating}
+use Rattle.fourvec.specs.Bits.{is_known, not_of}
 use Rattle.sv_literal.specs.declared.meaning.Literal.{Literal}
 use Rattle.svtv_table.specs.Names.{number_of}
 use Rattle.svtv_table.specs.declared.bound.Drive.{Drive}
 use Rattle.svtv_table.specs.declared.bound.Drive.TheVariants as drive
 use Rattle.svtv_table.specs.declared.bound.VarDecl.{VarDecl}
-use Rattle.svtv_table.specs.declared.table.Cell.{Cell}
-use Rattle.svtv_table.specs.declared.table.Cell.TheVariants as cell
-
--- ---- constants
-
--- the bits past a width are 0; a fill has as many bits as are wanted
-unfoldable pub fits : Literal → ℕ → Bool
-fits literal width = literal.fill || all_zero (drop width literal.value)
-
--- the vector of a width: a fill repeats its bit, and any other is cut or extended with 0
-unfoldable pub constant : Literal → ℕ → List Bit
-constant literal width = if literal.fill then replicate width (first literal.value) else fitted width Zero literal.value
+use Rattle.table_cells.specs.Constants.{constant, fits}
+use Rattle.table_cells.specs.declared.table.Cell.{Cell}
+use Rattle.table_cells.specs.declared.table.Cell.TheVariants as cell
 
 -- ---- the cell that counts in a phase
 

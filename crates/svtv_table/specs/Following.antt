@@ -8,7 +8,7 @@ use Rattle.svtv_table.specs.Names.{wire_of}
 use Rattle.svtv_table.specs.declared.binding.Work.{Work}
 use Rattle.svtv_table.specs.declared.bound.VarDecl.{VarDecl}
 use Rattle.svtv_table.specs.declared.samples.Samples.{Samples}
-use Rattle.svtv_table.specs.declared.table.Row.{Row}
+use Rattle.table_cells.specs.declared.table.Row.{Row}
 
 -- the index is that of the samples' names
 abbrev pub AreNamed : Samples → Type 0

@@ -4,8 +4,8 @@ use Rattle.std.specs.List.{position_from, flat_map}
 use Rattle.std.specs.Str.{bytes_eq}
 use Rattle.sv_outside.specs.declared.text.Signal.{Signal}
 use Rattle.svtv_table.specs.declared.bound.VarDecl.{VarDecl}
-use Rattle.svtv_table.specs.declared.table.Cell.{Cell}
-use Rattle.svtv_table.specs.declared.table.Cell.TheVariants as cell
+use Rattle.table_cells.specs.declared.table.Cell.{Cell}
+use Rattle.table_cells.specs.declared.table.Cell.TheVariants as cell
 
 -- the number of the first of the names that is this one, from 0
 unfoldable pub place_of : List (List ℕ) → List ℕ → Option ℕ

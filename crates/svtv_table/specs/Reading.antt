@@ -3,15 +3,15 @@ use Rattle.std.specs.Prelude.{◌≡◌, ◌==◌, ◌+◌, ◌-◌, not, nat_lt
 use Rattle.std.specs.Str.{bytes_eq}
 use Rattle.fourvec.specs.Bits.{is_known}
 use Rattle.sv_outside.specs.declared.refusal.Refusal.{Refusal}
-use Rattle.svtv_table.specs.Cells.{cell_of}
+use Rattle.table_cells.specs.Cells.{cell_of}
 use Rattle.svtv_table.specs.Faults.{fault, fault_if, at_each}
 use Rattle.svtv_table.specs.Fields.{field_at}
-use Rattle.svtv_table.specs.declared.table.Cell.{Cell}
-use Rattle.svtv_table.specs.declared.table.Cell.TheVariants as cell
-use Rattle.svtv_table.specs.declared.table.Row.{Row}
-use Rattle.svtv_table.specs.declared.table.RowKind.{RowKind}
-use Rattle.svtv_table.specs.declared.table.RowKind.TheVariants.{In, Out}
-use Rattle.svtv_table.specs.declared.table.Table.{Table}
+use Rattle.table_cells.specs.declared.table.Cell.{Cell}
+use Rattle.table_cells.specs.declared.table.Cell.TheVariants as cell
+use Rattle.table_cells.specs.declared.table.Row.{Row}
+use Rattle.table_cells.specs.declared.table.RowKind.{RowKind}
+use Rattle.table_cells.specs.declared.table.RowKind.TheVariants.{In, Out}
+use Rattle.table_cells.specs.declared.table.Table.{Table}
 
 -- the word in the first field
 unfoldable pub kind_of : List ℕ → Option RowKind

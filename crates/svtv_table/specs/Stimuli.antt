@@ -5,18 +5,19 @@ use Rattle.fourvec.specs.declared.Bit.{Bit}
 use Rattle.fourvec.specs.declared.Bit.TheVariants.{Floating}
 use Rattle.fourvec.specs.Bits.{is_known, not_of}
 use Rattle.sv_outside.specs.declared.text.Signal.{Signal}
-use Rattle.svtv_table.specs.Drives.{constant, held}
+use Rattle.svtv_table.specs.Drives.{held}
+use Rattle.table_cells.specs.Constants.{constant}
 use Rattle.svtv_table.specs.Faults.{at_each}
 use Rattle.svtv_table.specs.Names.{number_of, width_of, wire_number}
 use Rattle.svtv_table.specs.declared.bound.Bound.{Bound}
 use Rattle.svtv_table.specs.declared.bound.Drive.{Drive}
 use Rattle.svtv_table.specs.declared.bound.Drive.TheVariants as drive
 use Rattle.svtv_table.specs.declared.bound.VarDecl.{VarDecl}
-use Rattle.svtv_table.specs.declared.table.Cell.{Cell}
-use Rattle.svtv_table.specs.declared.table.Cell.TheVariants as cell
-use Rattle.svtv_table.specs.declared.table.Row.{Row}
-use Rattle.svtv_table.specs.declared.table.RowKind.{RowKind}
-use Rattle.svtv_table.specs.declared.table.RowKind.TheVariants.{In, Out}
+use Rattle.table_cells.specs.declared.table.Cell.{Cell}
+use Rattle.table_cells.specs.declared.table.Cell.TheVariants as cell
+use Rattle.table_cells.specs.declared.table.Row.{Row}
+use Rattle.table_cells.specs.declared.table.RowKind.{RowKind}
+use Rattle.table_cells.specs.declared.table.RowKind.TheVariants.{In, Out}
 
 -- a vector of 0 and 1 for each variable, as wide as it
 pub record IsChoice (vars : List VarDecl) (choice : List (List Bit)) : Type 0 where

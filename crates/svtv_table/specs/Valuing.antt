@@ -6,8 +6,8 @@ use Rattle.fourvec.specs.declared.Bit.{Bit}
 use Rattle.sv_literal.specs.Meaning.{meaning_of}
 use Rattle.sv_literal.specs.declared.meaning.Literal.{Literal}
 use Rattle.sv_outside.specs.declared.refusal.Refusal.{Refusal}
-use Rattle.svtv_table.specs.Cells.{known_literal}
-use Rattle.svtv_table.specs.Drives.{constant, fits}
+use Rattle.table_cells.specs.Cells.{known_literal}
+use Rattle.table_cells.specs.Constants.{constant, fits}
 use Rattle.svtv_table.specs.Faults.{at_each, fault, fault_if}
 use Rattle.svtv_table.specs.Fields.{field_at}
 use Rattle.svtv_table.specs.Names.{width_under}

@@ -16,10 +16,10 @@ use crate::faults::refused;
 use crate::index::Index;
 use crate::names::{Target, Variables, Wires, variables_of, wire_of, wires_of};
 use crate::samples::{Samples, sample_cells};
-use crate::table::{Row, RowKind, Table};
 use items::Items;
 use std::alloc::Global;
 use sv_outside::{Signal, TextErr};
+use table_cells::{Row, RowKind, Table};
 
 /// What rows drive and sample, and which wires have an `in` row.
 #[derive(Drop)]

@@ -1,6 +1,5 @@
 // What drives an input in each phase.
 ghost use Rattle.std.specs.Prelude.{◌≡◌, ◌≤◌, ◌<◌, ◌+◌, ◌^◌, [], ℕ, List, Option, replicate, length, IfOk, IfErr, OnOk};
-ghost use Rattle.fourvec.specs.Bits.{all_zero};
 ghost use Rattle.fourvec.specs.declared.Bit.TheVariants.{Floating};
 ghost use Rattle.svtv_table.specs.Binding.{HasWidth, cell_differs, drive_faults, phase_faults};
 ghost use Rattle.svtv_table.specs.Drives as spec;
@@ -9,48 +8,14 @@ ghost use Rattle.svtv_table.specs.Faults.{Stops, at_each};
 use crate::bound::Drive;
 use crate::faults::refused;
 use crate::names::{Target, Variables, number_of, width_under};
-use crate::table::Cell;
 use fourvec::Four;
 use items::Items;
 use std::alloc::Global;
 use sv_literal::Literal;
 use sv_outside::{Name, TextErr};
+use table_cells::{Cell, constant, fits};
 
-#[tactic(auto, using(sv_literal::proofs::Vectors::is_zero_on_planes))]
-fn is_zero(value: &Four) -> bool
-    ensures { result ≡ all_zero value.now }
-{
-    value.up() == 0 && value.low() == 0
-}
-
-/// Whether the bits of a literal past a width are 0. A fill has as many bits as are wanted.
-#[tactic(auto, using(crate::proofs::Constants::fits_short, crate::proofs::Constants::fits_long), unfolding(crate::specs::Drives::fits))]
-pub fn fits(literal: &Literal, width: u8) -> bool
-    requires { HasWidth width }
-    ensures { result ≡ spec.fits literal.now width }
-{
-    let own = literal.value.width();
-    literal.fill || own <= width || is_zero(&literal.value.slice(width, own - width))
-}
-
-/// The vector of a width: a fill repeats its bit, and any other literal is cut or extended with 0.
-#[tactic(auto, using(crate::proofs::Constants::filled, crate::proofs::Constants::extended, crate::proofs::Constants::cut), unfolding(crate::specs::Drives::constant))]
-pub fn constant(literal: &Literal, width: u8) -> Four
-    requires { HasWidth width }
-    ensures { result ≡ spec.constant literal.now width }
-{
-    let value = literal.value;
-    let own = value.width();
-    if literal.fill {
-        value.slice(0, 1).sext(width)
-    } else if own < width {
-        value.zext(width)
-    } else {
-        value.slice(0, width)
-    }
-}
-
-#[tactic(auto, using(crate::proofs::Constants::filled), unfolding(fourvec::specs::Bits::planes))]
+#[tactic(auto, using(table_cells::proofs::Constants::filled), unfolding(fourvec::specs::Bits::planes))]
 fn floating(width: u8) -> Four
     requires { HasWidth width }
     ensures { result ≡ replicate width Floating }

@@ -7,7 +7,6 @@
 
 mod binding;
 mod bound;
-mod cells;
 mod drives;
 mod faults;
 mod fields;
@@ -15,11 +14,10 @@ mod index;
 mod names;
 mod read;
 mod samples;
-mod table;
 mod values;
 
 pub use binding::bind;
 pub use bound::{Bound, Drive, Sample, VarDecl};
 pub use read::read_table;
-pub use table::{Cell, Row, RowKind, Table};
+pub use table_cells::{Cell, Row, RowKind, Table};
 pub use values::read_values;

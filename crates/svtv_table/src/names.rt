@@ -7,9 +7,9 @@ ghost use Rattle.svtv_table.specs.Names.{name_in, name_of, names_in, path_of};
 
 use crate::bound::VarDecl;
 use crate::index::Index;
-use crate::table::{Cell, Row, RowKind};
 use std::alloc::{AllocError, Global};
 use sv_outside::{Name, Signal};
+use table_cells::{Cell, Row, RowKind};
 
 /// The wires of a design, of which the first with a path counts.
 #[derive(Drop)]

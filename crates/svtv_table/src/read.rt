@@ -5,14 +5,13 @@ ghost use Rattle.svtv_table.specs.Faults.{Stops, StopsText, at_each};
 ghost use Rattle.svtv_table.specs.Fields.{fields_in, IsRecords};
 ghost use Rattle.svtv_table.specs.Reading as spec;
 
-use crate::cells::cell_of;
 use crate::faults::refused;
 use crate::fields::{all_records, count_of, field_at};
-use crate::table::{Cell, Row, RowKind, Table};
 use csv::ByteRecord;
 use items::Items;
 use std::alloc::Global;
 use sv_outside::{Name, TextErr};
+use table_cells::{Cell, Row, RowKind, Table, cell_of};
 
 #[tactic(auto, unfolding(crate::specs::Reading::kind_of))]
 fn kind_of(text: &[u8]) -> Option<RowKind>

@@ -10,9 +10,9 @@ use crate::bound::Sample;
 use crate::faults::refused;
 use crate::index::Index;
 use crate::names::{Target, Variables, number_of};
-use crate::table::Cell;
 use items::Items;
 use sv_outside::{Name, TextErr};
+use table_cells::Cell;
 
 /// Samples, with an index of their names.
 #[derive(Drop)]

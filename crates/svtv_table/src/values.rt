@@ -5,7 +5,7 @@ ghost use Rattle.std.specs.Str.{bytes_eq};
 ghost use Rattle.csv.specs.Records.{fields_of};
 ghost use Rattle.sv_literal.specs.Meaning.{meaning_of};
 ghost use Rattle.svtv_table.specs.Binding.{HasWidth};
-ghost use Rattle.svtv_table.specs.Drives.{constant};
+ghost use Rattle.table_cells.specs.Constants.{constant};
 ghost use Rattle.svtv_table.specs.Faults.{Stops, StopsText, at_each, fault, fault_if};
 ghost use Rattle.svtv_table.specs.Fields.{IsRecords, fields_in};
 ghost use Rattle.svtv_table.specs.Following.{is_valued, with_value};
@@ -14,8 +14,6 @@ ghost use Rattle.svtv_table.specs.Names.{name_of, number_of, width_under};
 ghost use Rattle.svtv_table.specs.Valuing as spec;
 
 use crate::bound::VarDecl;
-use crate::cells::known_literal;
-use crate::drives::{constant, fits};
 use crate::faults::refused;
 use crate::fields::{all_records, count_of, field_at};
 use crate::index::Index;
@@ -24,8 +22,9 @@ use csv::ByteRecord;
 use fourvec::Four;
 use std::alloc::{AllocError, Global};
 use sv_outside::TextErr;
+use table_cells::{constant, fits, known_literal};
 
-#[tactic(auto, using(crate::proofs::Literals::meaning_of_known), unfolding(crate::specs::Valuing::is_value, crate::specs::Faults::Stops))]
+#[tactic(auto, using(table_cells::proofs::Literals::meaning_of_known), unfolding(crate::specs::Valuing::is_value, crate::specs::Faults::Stops))]
 fn value_of(text: &[u8], width: u8, line: usize) -> Result<Four, TextErr>
     requires { HasWidth width }
     ensures value { IfOk result (λ value. value ≡ constant (meaning_of text.now) width) }

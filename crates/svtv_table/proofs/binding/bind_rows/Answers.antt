@@ -3,7 +3,7 @@ use Rattle.std.proofs.lemmas.List.{length-take-le, take_all, take_more}
 use Rattle.svtv_table.specs.Binding.{faults_after, row_faults}
 use Rattle.svtv_table.specs.Faults.{Stops, at_each}
 use Rattle.svtv_table.specs.Following.{Follows}
-use Rattle.svtv_table.specs.declared.table.Row.{Row}
+use Rattle.table_cells.specs.declared.table.Row.{Row}
 use Rattle.svtv_table.proofs.Each.{each_none, go_on, handed_on, stop_at}
 use Rattle.svtv_table.proofs.binding.bind_rows.Goals as goal
 

@@ -1,6 +1,6 @@
 use Rattle.std.proofs.Common.{arith, ◌≡◌, [], Some, None, ap, sym, ◌∙◌, ◌∷◌, ◌++◌}
 use Rattle.svtv_table.specs.Fields.{fields_in}
-use Rattle.svtv_table.specs.Cells.{cell_of}
+use Rattle.table_cells.specs.Cells.{cell_of}
 use Rattle.svtv_table.specs.Reading.{cell_fault, cell_in, cell_faults}
 use Rattle.svtv_table.proofs.Each.{go_on, stop_at, grow_map}
 use Rattle.svtv_table.proofs.Rows.{bad_cell, fine_cell, cell_in_some}

@@ -3,7 +3,7 @@ use Rattle.std.specs.Prelude.{unwrap_or}
 use Rattle.std.specs.List.{list_any}
 use Rattle.std.proofs.lemmas.List.{get_or-map, length-map, take_all, take_more}
 use Rattle.sv_literal.specs.Meaning.{meaning_of}
-use Rattle.svtv_table.specs.Drives.{constant}
+use Rattle.table_cells.specs.Constants.{constant}
 use Rattle.svtv_table.specs.Faults.{Stops, at_each}
 use Rattle.svtv_table.specs.Fields.{fields_in}
 use Rattle.svtv_table.specs.Following.{is_valued, with_value}

@@ -1,6 +1,6 @@
 use Rattle.std.proofs.Common.{◌∙◌, sym}
-use Rattle.svtv_table.proofs.Literals.{known, unknown, refused}
-use Rattle.svtv_table.proofs.cells.known_literal.Goals as goal
+use Rattle.table_cells.proofs.Literals.{known, unknown, refused}
+use Rattle.table_cells.proofs.cells.known_literal.Goals as goal
 
 pub returns-in_default : goal.returns-in_default
 returns-in_default c =

@@ -7,7 +7,7 @@ use Rattle.sv_literal.specs.declared.meaning.LitErr.{LitErr}
 use Rattle.sv_literal.specs.declared.meaning.LitErr.TheVariants.{Shape, Wide, Range}
 use Rattle.sv_literal.specs.declared.meaning.Literal.{Literal}
 use Rattle.fourvec.specs.Bits.{is_known}
-use Rattle.svtv_table.specs.Cells.{known_literal, has_value}
+use Rattle.table_cells.specs.Cells.{known_literal, has_value}
 
 -- what `literal` says of its refusals
 pub record Refuses (text : List ℕ) (r : Result Literal LitErr) : Type 0 where

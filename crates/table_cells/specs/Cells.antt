@@ -6,10 +6,10 @@ use Rattle.sv_outside.specs.Words.{is_id}
 use Rattle.sv_outside.specs.Literals.{is_literal}
 use Rattle.sv_literal.specs.Meaning.{is_wide, is_out_of_range, meaning_of}
 use Rattle.sv_literal.specs.declared.meaning.Literal.{Literal}
-use Rattle.svtv_table.specs.declared.table.Cell.{Cell}
-use Rattle.svtv_table.specs.declared.table.Cell.TheVariants as cell
-use Rattle.svtv_table.specs.declared.table.RowKind.{RowKind}
-use Rattle.svtv_table.specs.declared.table.RowKind.TheVariants.{In, Out}
+use Rattle.table_cells.specs.declared.table.Cell.{Cell}
+use Rattle.table_cells.specs.declared.table.Cell.TheVariants as cell
+use Rattle.table_cells.specs.declared.table.RowKind.{RowKind}
+use Rattle.table_cells.specs.declared.table.RowKind.TheVariants.{In, Out}
 
 -- a literal that has a value (5.7.1)
 abbrev pub has_value : List ℕ → Bool

@@ -1,6 +1,6 @@
 // What a field says as a cell.
 ghost use Rattle.std.specs.Prelude.{◌≡◌, IfOk};
-ghost use Rattle.svtv_table.specs.Cells as spec;
+ghost use Rattle.table_cells.specs.Cells as spec;
 
 use crate::table::{Cell, RowKind};
 use std::alloc::{AllocError, Global};
