@@ -15,7 +15,7 @@ use Rattle.sv_meaning.specs.Targets.{Target, widths, present, put, write, write_
 use Rattle.sv_meaning.specs.Deeds as deeds
 use Rattle.sv_meaning.specs.Deeds.{Deed, idle, after, either, assign, if_else, merged}
 use Rattle.sv_typed.specs.declared.tree.Typed.{Typed}
-use Rattle.sv_typed.specs.Typed.{Stands, IsSound, names_of, names_picked}
+use Rattle.sv_typed.specs.Typed.{Stands, IsSound, names_of, names_picked, picked_width}
 use Rattle.sv_const.specs.Judging.{IsTyped, IsCause}
 use Rattle.sv_const.proofs.Lists.{contains_both, both_clear, then_clear, in_left, in_right}
 use Rattle.sv_const.proofs.Judged.{cause_from}
@@ -156,7 +156,7 @@ targets_fit : (judge : Meaning → Faults) (xs : List TypedTarget) (ts : List Ta
 targets_fit judge [] [] h = tt
 targets_fit judge [] (t ∷ ts) h = absurd h
 targets_fit judge (x ∷ xs) [] h = absurd h
-targets_fit judge (x ∷ xs) (t ∷ ts) h = (record { some = h.0.some; most = h.0.most; picks = h.0.follows.sound }, targets_fit judge xs ts h.1)
+targets_fit judge (x ∷ xs) (t ∷ ts) h = (record { some = h.0.some; most = h.0.most; picks = h.0.follows.sound; ends = ap (picked_width x.picks) (sym h.0.whole) ∙ h.0.follows.width ∙ h.0.width }, targets_fit judge xs ts h.1)
 
 bits_same : (m : Meaning) (v : Typed) (read : Read) (w : ℕ) → Stands v m → assigned m read w ≡ assigned_bits v read w
 unfolding Stands

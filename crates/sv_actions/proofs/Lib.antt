@@ -3,3 +3,5 @@ pub mod Orders
 pub mod Acting
 pub mod Casing
 pub mod Producing
+pub mod Rooting
+pub mod Aiming

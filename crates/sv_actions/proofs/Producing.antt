@@ -287,7 +287,7 @@ turn_refused p d made e h =
 
 -- ---- targets have some bits
 
-wide_by : (picks : List Pick) (w : ℕ) → AllByRecursion PickIsSound picks → 1 ≤ w → 1 ≤ picked_width picks w
+pub wide_by : (picks : List Pick) (w : ℕ) → AllByRecursion PickIsSound picks → 1 ≤ w → 1 ≤ picked_width picks w
 unfolding picked_width PickIsSound
 wide_by [] w h k = k
 wide_by (p ∷ more) w h k = wide_by more p.width h.1 h.0.0.0

@@ -1,6 +1,6 @@
 -- What actions do to a store. Sections are those of IEEE 1800-2017.
-use Rattle.std.specs.Prelude.{ℕ, ◌≤◌, max, List, [], ◌∷◌, ◌++◌, take, drop}
-use Rattle.std.specs.List.{All}
+use Rattle.std.specs.Prelude.{◌≡◌, ℕ, ◌≤◌, max, List, [], ◌∷◌, ◌++◌, take, drop}
+use Rattle.std.specs.List.{All, Contains}
 use mathlib.Core.Former.{Count}
 use Rattle.fourvec.specs.declared.Bit.{Bit}
 use Rattle.fourvec.specs.declared.Bit.TheVariants.{Zero}
@@ -12,11 +12,12 @@ use Rattle.sv_meaning.specs.Meanings.{bits_from}
 use Rattle.sv_meaning.specs.Targets.{present, with_wire}
 use Rattle.sv_meaning.specs.Deeds.{merged, same_value}
 use Rattle.sv_typed.specs.declared.tree.Typed.{Typed}
-use Rattle.sv_typed.specs.Typed.{worth, own, literal_of, names_of, names_together, names_picked, IsSound, PickIsSound}
+use Rattle.sv_typed.specs.Typed.{worth, own, literal_of, names_of, names_together, names_picked, picked_width, IsSound, PickIsSound}
 use Rattle.sv_const.specs.Picks.{picked_put}
 use Rattle.sv_targets.specs.declared.targets.TypedTarget.{TypedTarget}
 use Rattle.sv_targets.specs.Slots.{slots_of}
 use Rattle.sv_targets.specs.Targets.{width_of_all}
+use Rattle.sv_actions.specs.Texts.{wire_signal}
 use Rattle.sv_actions.specs.declared.action.Case.{Case}
 use Rattle.sv_actions.specs.declared.action.Action.{Action, Assign, Choose', Match', Row_of-Action, end_of-Action, more_of-Action, Row_of-Arm, end_of-Arm, more_of-Arm}
 
@@ -118,13 +119,35 @@ unfoldable pub names_all : List Action → List NamedSignal
 names_all [] = []
 names_all (x ∷ more) = names x ++ names_all more
 
+-- ---- the signals that targets name in front of their selects
+
+-- a target is one of these signals, as wide as its wire
+abbrev pub IsAimed : List NamedSignal → TypedTarget → Type 0
+IsAimed named t = Contains named (wire_signal t.wire t.wire_width)
+
+-- so is each target of an action
+unfoldable mutual
+  pub Aims : List NamedSignal → Action → Type 0
+  Aims named (Assign to v) = All (IsAimed named) to
+  Aims named (Choose' c s a t b) = AimsRow named a × AimsRow named b
+  Aims named (Match' c s arms t other) = AimsArms named arms × AimsRow named other
+
+  pub AimsRow : {m : Count} → List NamedSignal → Row_of-Action m → Type 0
+  AimsRow named end_of-Action = Unit {0}
+  AimsRow named (more_of-Action x all) = Aims named x × AimsRow named all
+
+  pub AimsArms : {m : Count} → List NamedSignal → Row_of-Arm m → Type 0
+  AimsArms named end_of-Arm = Unit {0}
+  AimsArms named (more_of-Arm labels s body all) = AimsRow named body × AimsArms named all
+
 -- ---- sound actions
 
--- a target lies in its wire, of 1 to 128 bits
+-- a target lies in its wire, of 1 to 128 bits, and has the bits that its last select leaves
 pub record TargetFits (t : TypedTarget) : Type 0 where
   pub some : 1 ≤ t.wire_width
   pub most : t.wire_width ≤ 128
   pub picks : All PickIsSound t.picks
+  pub ends : picked_width t.picks t.wire_width ≡ t.width
 
 abbrev pub LabelFits : Case → Typed → Type 0
 LabelFits c m = IsSound m × (m.width ≤ c.width)

@@ -1,3 +1,4 @@
+pub mod Texts
 pub mod Doing
 pub mod Typing
 pub mod Listing

@@ -1,13 +1,13 @@
 -- Statements, arms and turns as code lists them, and what is found of them one by one.
 use Rattle.std.specs.Prelude.{◌≡◌, ℕ, ◌+◌, Bool, List, [], ◌∷◌, ◌++◌, map, Option, Some, None, Result, Ok, Err}
-use Rattle.std.specs.List.{All, AllZip}
+use Rattle.std.specs.List.{All, AllZip, Contains}
 use Rattle.fourvec.specs.declared.Bit.{Bit}
 use Rattle.sv_outside.specs.declared.refusal.Place.{Place}
 use Rattle.sv_outside.specs.declared.refusal.TextErr.{TextErr}
 use Rattle.sv_tree.specs.declared.stmts.Stmt.{Stmt, end_of-Stmt, more_of-Stmt}
 use Rattle.sv_tree.specs.declared.stmts.Arm.{Arm, Labels', Default'}
 use Rattle.sv_meaning.specs.Faults.{Faults}
-use Rattle.sv_meaning.specs.Layouts.{Name, Scope}
+use Rattle.sv_meaning.specs.Layouts.{Name, Scope, NamedSignal}
 use Rattle.sv_meaning.specs.Meanings.{Meaning}
 use Rattle.sv_meaning.specs.Values.{mean}
 use Rattle.sv_meaning.specs.Deeds.{Deed, CaseArm, deed, idle, after, one_turn, with_index, labels_of, longest, all_signed, all_faults, most_turns_together}
@@ -18,6 +18,7 @@ use Rattle.sv_actions.specs.declared.action.Arm as a
 use Rattle.sv_actions.specs.declared.statements.Acted.{Acted}
 use Rattle.sv_actions.specs.declared.labels.Labels.{Labels}
 use Rattle.sv_actions.specs.declared.arms.ActedArms.{ActedArms}
+use Rattle.sv_actions.specs.Doing.{Aims}
 use Rattle.sv_actions.specs.Typing.{Does}
 
 -- ---- marks
@@ -119,3 +120,18 @@ pub record AreArms (arms : List CaseArm) (before : ℕ) (x : ActedArms) : Type 0
 abbrev pub JudgesArms : List CaseArm → ℕ → Result ActedArms TextErr → Type 0
 JudgesArms arms made (Ok x) = AreArms arms made x
 JudgesArms arms made (Err e) = IsCause (arms_faults arms made) e
+
+-- ---- the signals that targets name
+
+-- all of these are among those
+abbrev pub Within : List NamedSignal → List NamedSignal → Type 0
+Within a b = (s : NamedSignal) → Contains a s → Contains b s
+
+abbrev pub ActedAims : List NamedSignal → Acted → Type 0
+ActedAims named x = All (Aims named) x.actions
+
+abbrev pub ArmAims : List NamedSignal → a.Arm → Type 0
+ArmAims named arm = All (Aims named) arm.body
+
+abbrev pub ArmsAim : List NamedSignal → ActedArms → Type 0
+ArmsAim named x = All (ArmAims named) x.arms

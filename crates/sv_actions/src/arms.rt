@@ -1,9 +1,10 @@
 // Arms of case statements.
-ghost use Rattle.std.specs.Prelude.{◌≡◌, ℕ, [], ◌∷◌, ◌++◌, List};
+ghost use Rattle.std.specs.Prelude.{◌≡◌, ℕ, [], ◌∷◌, ◌++◌, List, IfOk};
+ghost use Rattle.sv_meaning.specs.Layouts.{NamedSignal};
 ghost use Rattle.sv_meaning.specs.Meanings.{Meaning};
 ghost use Rattle.sv_meaning.specs.Deeds.{CaseArm, Deed};
 ghost use Rattle.sv_actions.specs.Typing.{JudgesDeed};
-ghost use Rattle.sv_actions.specs.Listing.{AreArms, JudgesArms, JudgesLabels};
+ghost use Rattle.sv_actions.specs.Listing.{AreArms, JudgesArms, JudgesLabels, ActedAims, ArmsAim};
 
 use crate::action::Arm;
 use crate::labels::{Labels, both};
@@ -24,7 +25,8 @@ pub struct ActedArms {
 
 /// No arms.
 pub(crate) fn no_arms(alloc: Global, made: u64) -> ActedArms
-    ensures { AreArms [] made result }
+    ensures is { AreArms [] made result }
+    ensures aim { (named : List NamedSignal) → ArmsAim named result }
 {
     ActedArms {
         arms: Items::new(alloc),
@@ -40,8 +42,9 @@ pub(crate) fn with_arm(
     labels: Result<Labels, TextErr>,
     body: Result<Acted, TextErr>,
 ) -> Result<ActedArms, TextErr>
-    ensures { (arms : List CaseArm) (ms : List Meaning) (d : Deed) (made : ℕ) → AreArms arms made all → JudgesLabels ms labels → JudgesDeed d all.made body →
+    ensures is { (arms : List CaseArm) (ms : List Meaning) (d : Deed) (made : ℕ) → AreArms arms made all → JudgesLabels ms labels → JudgesDeed d all.made body →
         JudgesArms (arms ++ record { labels = ms; body = d } ∷ []) made result }
+    ensures aim { (named : List NamedSignal) → ArmsAim named all → IfOk body (ActedAims named) → IfOk result (ArmsAim named) }
 {
     let labels = labels?;
     let body = body?;

@@ -1,14 +1,16 @@
 // What statements do, put together of what their parts do.
-ghost use Rattle.std.specs.Prelude.{◌≡◌, ℕ, false, [], ◌∷◌, List, ◌≤◌, IfOk, IfErr};
+ghost use Rattle.std.specs.Prelude.{◌≡◌, ℕ, false, [], ◌∷◌, List, ◌≤◌, All, IfOk, IfErr};
 ghost use Rattle.sv_outside.specs.declared.refusal.TextErr.TheVariants.{Memory};
 ghost use Rattle.sv_meaning.specs.Faults.{Faults};
+ghost use Rattle.sv_meaning.specs.Layouts.{NamedSignal};
 ghost use Rattle.sv_meaning.specs.Meanings.{Meaning, free_faults};
 ghost use Rattle.sv_meaning.specs.Targets.{Target};
 ghost use Rattle.sv_meaning.specs.Deeds.{CaseArm, Deed, idle, after, assign, if_else, case_of};
 ghost use Rattle.sv_const.specs.Judging.{Judges};
 ghost use Rattle.sv_targets.specs.Targets.{JudgesTargets, AreNarrow, width_of_all};
 ghost use Rattle.sv_actions.specs.Typing.{IsActed, JudgesDeed};
-ghost use Rattle.sv_actions.specs.Listing.{JudgesArms, made_behind, arms_behind};
+ghost use Rattle.sv_actions.specs.Doing.{IsAimed};
+ghost use Rattle.sv_actions.specs.Listing.{JudgesArms, made_behind, arms_behind, ActedAims, ArmsAim};
 
 use crate::action::{Action, Case};
 use crate::arms::ActedArms;
@@ -22,7 +24,8 @@ use sv_typed::Typed;
 
 /// Nothing is done.
 pub(crate) fn nothing(alloc: Global, made: u64) -> Acted
-    ensures { IsActed idle made result }
+    ensures is { IsActed idle made result }
+    ensures aims { (named : List NamedSignal) → ActedAims named result }
 {
     Acted {
         actions: Items::new(alloc),
@@ -43,7 +46,8 @@ fn only(alloc: Global, action: Action, made: u64) -> Result<Acted, TextErr>
 
 /// One after the other.
 pub(crate) fn followed(first: Acted, next: Result<Acted, TextErr>) -> Result<Acted, TextErr>
-    ensures { (a b : Deed) (made : ℕ) → IsActed a made first → JudgesDeed b first.made next → JudgesDeed (after a b) made result }
+    ensures is { (a b : Deed) (made : ℕ) → IsActed a made first → JudgesDeed b first.made next → JudgesDeed (after a b) made result }
+    ensures aims { (named : List NamedSignal) → ActedAims named first → IfOk next (ActedAims named) → IfOk result (ActedAims named) }
 {
     let next = next?;
     let mut actions = first.actions;
@@ -61,8 +65,9 @@ pub(crate) fn assigned(
     value: Result<Typed, TextErr>,
     made: u64,
 ) -> Result<Acted, TextErr>
-    ensures { (to : List Target) (why : Faults) (m : Meaning) → JudgesTargets free_faults why to targets → AreNarrow targets → IfOk targets (λ all. 1 ≤ width_of_all all) → Judges m false value →
+    ensures is { (to : List Target) (why : Faults) (m : Meaning) → JudgesTargets free_faults why to targets → AreNarrow targets → IfOk targets (λ all. 1 ≤ width_of_all all) → Judges m false value →
         JudgesDeed (assign to why m) made result }
+    ensures aims { (named : List NamedSignal) → IfOk targets (λ all. All (IsAimed named) all) → IfOk result (ActedAims named) }
 {
     let targets = targets?;
     let value = value?;
@@ -76,7 +81,8 @@ pub(crate) fn chosen(
     first: Result<Acted, TextErr>,
     other: Result<Acted, TextErr>,
 ) -> Result<Acted, TextErr>
-    ensures { (c : Meaning) (a b : Deed) (made : ℕ) → Judges c false condition → JudgesDeed a made first → JudgesDeed b (made_behind first) other → JudgesDeed (if_else c a b) made result }
+    ensures is { (c : Meaning) (a b : Deed) (made : ℕ) → Judges c false condition → JudgesDeed a made first → JudgesDeed b (made_behind first) other → JudgesDeed (if_else c a b) made result }
+    ensures aims { (named : List NamedSignal) → IfOk first (ActedAims named) → IfOk other (ActedAims named) → IfOk result (ActedAims named) }
 {
     let condition = condition?;
     let first = first?;
@@ -96,8 +102,9 @@ pub(crate) fn matched(
     arms: Result<ActedArms, TextErr>,
     other: Result<Acted, TextErr>,
 ) -> Result<Acted, TextErr>
-    ensures { (m : Meaning) (all : List CaseArm) (d : Deed) (made : ℕ) → Judges m false value → JudgesArms all made arms → JudgesDeed d (arms_behind arms) other →
+    ensures is { (m : Meaning) (all : List CaseArm) (d : Deed) (made : ℕ) → Judges m false value → JudgesArms all made arms → JudgesDeed d (arms_behind arms) other →
         JudgesDeed (case_of masked m (all, d)) made result }
+    ensures aims { (named : List NamedSignal) → IfOk arms (ArmsAim named) → IfOk other (ActedAims named) → IfOk result (ActedAims named) }
 {
     let value = value?;
     let arms = arms?;

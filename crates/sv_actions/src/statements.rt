@@ -1,10 +1,12 @@
 // Statements become actions.
-ghost use Rattle.std.specs.Prelude.{◌≡◌, ℕ, ◌++◌, List};
+ghost use Rattle.std.specs.Prelude.{◌≡◌, ℕ, ◌++◌, List, IfOk};
 ghost use Rattle.fourvec.specs.declared.Bit.{Bit};
+ghost use Rattle.sv_meaning.specs.Layouts.{NamedSignal};
 ghost use Rattle.sv_meaning.specs.Deeds.{CaseArm, deed, is_casez};
 ghost use Rattle.sv_const.specs.Names.{names_are, entries_of, frames_of, loops_of};
+ghost use Rattle.sv_actions.specs.Texts.{target_signals, other_signals, arm_signals, of_each};
 ghost use Rattle.sv_actions.specs.Typing.{JudgesDeed};
-ghost use Rattle.sv_actions.specs.Listing.{AreArms, JudgesArms, in_order, all_deeds, else_deed, turn_deed, arm_of, all_arms, rest_of};
+ghost use Rattle.sv_actions.specs.Listing.{AreArms, JudgesArms, in_order, all_deeds, else_deed, turn_deed, arm_of, all_arms, rest_of, Within, ActedAims, ArmsAim};
 
 use crate::action::Action;
 use crate::arms::{ActedArms, no_arms, with_arm};
@@ -46,6 +48,7 @@ fn typed_stmt(
     made: u64,
 ) -> Result<Acted, TextErr>
     ensures is { JudgesDeed (deed stmt.now (names_are names.old)) made result }
+    ensures aims { (named : List NamedSignal) → Within (target_signals (names_are names.old) stmt.now) named → IfOk result (ActedAims named) }
     ensures frames { frames_of names.new ≡ frames_of names.old }
     ensures loops { loops_of names.new ≡ loops_of names.old }
 {
@@ -96,6 +99,7 @@ fn typed_all(
     made: u64,
 ) -> Result<Acted, TextErr>
     ensures is { JudgesDeed (all_deeds (names_are names.old) all.now) made result }
+    ensures aims { (named : List NamedSignal) → Within (of_each (target_signals (names_are names.old)) all.now) named → IfOk result (ActedAims named) }
     ensures frames { frames_of names.new ≡ frames_of names.old }
     ensures loops { loops_of names.new ≡ loops_of names.old }
 {
@@ -119,6 +123,7 @@ fn typed_else(
     made: u64,
 ) -> Result<Acted, TextErr>
     ensures is { JudgesDeed (else_deed (names_are names.old) other.now) made result }
+    ensures aims { (named : List NamedSignal) → Within (other_signals (names_are names.old) other.now) named → IfOk result (ActedAims named) }
     ensures frames { frames_of names.new ≡ frames_of names.old }
     ensures loops { loops_of names.new ≡ loops_of names.old }
 {
@@ -137,6 +142,7 @@ fn typed_arms(
     made: u64,
 ) -> Result<ActedArms, TextErr>
     ensures is { JudgesArms (all_arms (names_are names.old) all.now) made result }
+    ensures aim { (named : List NamedSignal) → Within (of_each (arm_signals (names_are names.old)) all.now) named → IfOk result (ArmsAim named) }
     ensures frames { frames_of names.new ≡ frames_of names.old }
     ensures loops { loops_of names.new ≡ loops_of names.old }
 {
@@ -159,6 +165,7 @@ fn typed_arm(
     names: &mut Names<'_>,
 ) -> Result<ActedArms, TextErr>
     ensures is { (arms : List CaseArm) (made : ℕ) → AreArms arms made found → JudgesArms (arms ++ arm_of (names_are names.old) arm.now) made result }
+    ensures aim { (named : List NamedSignal) → ArmsAim named found → Within (arm_signals (names_are names.old) arm.now) named → IfOk result (ArmsAim named) }
     ensures frames { frames_of names.new ≡ frames_of names.old }
     ensures loops { loops_of names.new ≡ loops_of names.old }
 {
@@ -181,6 +188,7 @@ fn typed_rest(
     made: u64,
 ) -> Result<Acted, TextErr>
     ensures is { JudgesDeed (rest_of (names_are names.old) all.now) made result }
+    ensures aims { (named : List NamedSignal) → Within (of_each (arm_signals (names_are names.old)) all.now) named → IfOk result (ActedAims named) }
     ensures frames { frames_of names.new ≡ frames_of names.old }
     ensures loops { loops_of names.new ≡ loops_of names.old }
 {
@@ -205,6 +213,7 @@ fn typed_turns(
     made: u64,
 ) -> Result<Acted, TextErr>
     ensures is { JudgesDeed (in_order (turn_deed (names_are names.old) place variable.now.text body.now) values.now) made result }
+    ensures aims { (named : List NamedSignal) → Within (target_signals (names_are names.old) body.now) named → IfOk result (ActedAims named) }
     ensures frames { frames_of names.new ≡ frames_of names.old }
     ensures loops { loops_of names.new ≡ loops_of names.old }
 {
@@ -231,6 +240,7 @@ fn typed_turn(
     made: u64,
 ) -> Result<Acted, TextErr>
     ensures is { JudgesDeed (turn_deed (names_are names.old) place variable.now.text body.now bits) made result }
+    ensures aims { (named : List NamedSignal) → Within (target_signals (names_are names.old) body.now) named → IfOk result (ActedAims named) }
     ensures frames { frames_of names.new ≡ frames_of names.old }
     ensures loops { loops_of names.new ≡ loops_of names.old }
 {
@@ -250,6 +260,7 @@ pub fn typed_body(
     made: u64,
 ) -> Result<Acted, TextErr>
     ensures is { JudgesDeed (deed stmt.now (names_are names.old)) made result }
+    ensures aims { (named : List NamedSignal) → Within (target_signals (names_are names.old) stmt.now) named → IfOk result (ActedAims named) }
     ensures names { entries_of names.new ≡ entries_of names.old }
 {
     typed_stmt(alloc, stmt, names, made)

@@ -1,7 +1,7 @@
 -- Assignments, target by target.
 use Rattle.std.proofs.Common.{◌≡◌, ℕ, zero, suc, ◌+◌, ◌-◌, ◌<◌, ◌≤◌, min, Bool, List, [], ◌∷◌, ◌++◌, length, take, drop, get_or, refl, sym, ap, ◌∙◌, subst, arith, IsTrue}
 use Rattle.std.specs.List.{Contains}
-use Rattle.std.proofs.lemmas.List.Elements.{Contains-append_left, Contains-append_right}
+use Rattle.std.proofs.lemmas.List.Elements.{Contains-append_left, Contains-append_right, recursion_from_All}
 use Rattle.std.proofs.lemmas.List.{drop_more, drop_all, take-take, drop-take, take_all, at_drop_more}
 use Rattle.fourvec.specs.declared.Bit.{Bit}
 use Rattle.fourvec.specs.Bits.{slice_of}
@@ -16,18 +16,19 @@ use Rattle.driver_resolve.specs.Drivers.{bitwise}
 use Rattle.settling.specs.Settling.{Store}
 use Rattle.sv_meaning.specs.Layouts.{Read, NamedSignal}
 use Rattle.sv_typed.specs.declared.tree.Typed.{Typed}
-use Rattle.sv_typed.specs.Typed.{names_of, names_picked}
+use Rattle.sv_typed.specs.Typed.{names_of, names_picked, PickIsSound}
 use Rattle.sv_targets.specs.declared.targets.TypedTarget.{TypedTarget}
 use Rattle.sv_targets.specs.Targets.{width_of_all}
 use Rattle.sv_stmt.specs.Nodes.{bits_at_node, FromOne}
 use Rattle.sv_stmt.proofs.Sizing.{length-node}
 use Rattle.sv_stmt.proofs.Trees.{taken_more}
-use Rattle.sv_actions.specs.Doing.{assigned_bits, write_to, write_into, target_names}
-use Rattle.sv_blocks.specs.declared.scene.Scene.{Scene}
-use Rattle.sv_blocks.specs.Scenes.{store_of, reads_in, Allows, HoldsIn, AreNodes, IsScene, Yields, Ran}
+use Rattle.sv_actions.specs.Doing.{assigned_bits, write_to, write_into, target_names, TargetFits}
+use Rattle.sv_actions.proofs.Producing.{wide_by}
+use Rattle.sv_stores.specs.declared.scene.Scene.{Scene}
+use Rattle.sv_stores.specs.Scenes.{store_of, reads_in, Allows, HoldsIn, AreNodes, IsScene, Yields, Ran}
 use Rattle.sv_blocks.specs.Writing.{Wrote, WroteAll, assigns, assign_names}
-use Rattle.sv_blocks.proofs.Stores.{store_kept, holds_kept}
-use Rattle.sv_blocks.proofs.Yielding.{allows_left, allows_right}
+use Rattle.sv_stores.proofs.Stores.{store_kept, holds_kept}
+use Rattle.sv_stores.proofs.Yielding.{allows_left, allows_right}
 
 -- ---- widths
 
@@ -62,6 +63,9 @@ width_all all i l = ap width_of_all (take_all i all l)
 pub width_none : (all : List TypedTarget) (i : ℕ) → length all ≤ i → width_of_all (drop i all) ≡ 0
 unfolding width_of_all
 width_none all i l = ap width_of_all (drop_all i all l)
+
+pub some_bits : (t : TypedTarget) → TargetFits t → 1 ≤ t.width
+some_bits t h = subst (λ n. 1 ≤ n) h.ends (wide_by t.picks t.wire_width (recursion_from_All PickIsSound t.picks h.picks) h.some)
 
 -- ---- targets, one after another
 

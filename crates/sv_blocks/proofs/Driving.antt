@@ -23,10 +23,10 @@ use Rattle.driver_resolve.specs.declared.driver.Driver.{Driver}
 use Rattle.driver_resolve.specs.Drivers.{bitwise, Phase, bits_in, reading, driver_gives, drivers_give}
 use Rattle.sv_stmt.specs.Nodes.{bits_at_node, FromOne}
 use Rattle.sv_stmt.proofs.Sizing.{length-node}
-use Rattle.sv_blocks.specs.declared.scene.Scene.{Scene}
-use Rattle.sv_blocks.specs.Scenes.{place_in, width_in, base, store_of, HoldsIn, AreNodes, IsScene}
+use Rattle.sv_stores.specs.declared.scene.Scene.{Scene}
+use Rattle.sv_stores.specs.Scenes.{place_in, width_in, base, store_of, HoldsIn, AreNodes, IsScene}
 use Rattle.sv_blocks.specs.Driving.{run_seg, given, SceneFits, IsPlaced, Drives, DriveAll}
-use Rattle.sv_blocks.proofs.Stores.{store_at, store_kept, holds_kept, nodes_kept}
+use Rattle.sv_stores.proofs.Stores.{store_at, store_kept, holds_kept, nodes_kept}
 
 -- ---- runs of bits
 

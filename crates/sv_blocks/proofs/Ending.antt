@@ -19,14 +19,14 @@ use Rattle.sv_meaning.specs.Blocks.{trigger_bit}
 use Rattle.sv_stmt.specs.Nodes.{bits_at_node}
 use Rattle.sv_actions.specs.declared.action.Action.{Action}
 use Rattle.sv_actions.specs.Doing.{run_all, names_all}
-use Rattle.sv_blocks.specs.declared.scene.Scene.{Scene}
+use Rattle.sv_stores.specs.declared.scene.Scene.{Scene}
 use Rattle.sv_blocks.specs.declared.ends.Clock.{Clock}
-use Rattle.sv_blocks.specs.Scenes.{width_in, base, store_of, reads_in, Allows, HoldsIn, AreNodes, IsScene, Ran}
+use Rattle.sv_stores.specs.Scenes.{width_in, base, store_of, reads_in, Allows, HoldsIn, AreNodes, IsScene, Ran}
 use Rattle.sv_blocks.specs.Sides.{Merges}
-use Rattle.sv_blocks.specs.Starting.{start_test, Starts, Triggers}
+use Rattle.sv_stores.specs.Starting.{start_test, Starts, Triggers}
 use Rattle.sv_blocks.specs.Driving.{given, DriveAll}
 use Rattle.sv_blocks.specs.Ending.{clock_wire, end_store, EventHolds, Ends, Runs, Finishes}
-use Rattle.sv_blocks.proofs.Stores.{store_kept, holds_kept, nodes_kept}
+use Rattle.sv_stores.proofs.Stores.{store_kept, holds_kept, nodes_kept}
 
 pub ends_comb : (scene : Scene) (old : List Shape) (clock : Option Clock) (start nodes : List ℕ) → clock ≡ None → AreNodes scene old nodes → Ends scene old old clock start nodes nodes
 ends_comb scene old clock start nodes e are =

@@ -21,10 +21,10 @@ use Rattle.sv_meaning.specs.Deeds.{same_value}
 use Rattle.sv_stmt.specs.Nodes.{bits_at_node, IsConstant, FromTwo}
 use Rattle.sv_actions.specs.declared.action.Case.{Case}
 use Rattle.sv_actions.specs.Doing.{label_equals, label_matches}
-use Rattle.sv_blocks.specs.declared.scene.Scene.{Scene}
-use Rattle.sv_blocks.specs.Scenes.{store_of, reads_in, Allows, HoldsIn, AreNodes, IsScene, Yields}
+use Rattle.sv_stores.specs.declared.scene.Scene.{Scene}
+use Rattle.sv_stores.specs.Scenes.{store_of, reads_in, Allows, HoldsIn, AreNodes, IsScene, Yields}
 use Rattle.sv_blocks.specs.Masks.{equal_masked}
-use Rattle.sv_blocks.proofs.Yielding.{yields_two, allows_left, allows_right}
+use Rattle.sv_stores.proofs.Yielding.{yields_two, allows_left, allows_right}
 
 -- ---- equality
 

@@ -1,8 +1,4 @@
-pub mod Narrowing
-pub mod Stores
-pub mod Looking
 pub mod Laying
-pub mod Yielding
 pub mod Parting
 pub mod Writing
 pub mod Assigning
@@ -13,13 +9,7 @@ pub mod Masking
 pub mod Labeling
 pub mod Running
 pub mod Falling
-pub mod Rooting
 pub mod Wiring
 pub mod Marking
-pub mod Starting
 pub mod Driving
 pub mod Ending
-pub mod Contributing
-pub mod Naming
-pub mod Having
-pub mod Judging

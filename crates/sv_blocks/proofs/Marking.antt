@@ -19,12 +19,12 @@ use Rattle.sv_actions.specs.declared.action.Action.TheVariants as act
 use Rattle.sv_actions.specs.declared.action.Case.{Case}
 use Rattle.sv_actions.specs.declared.action.Arm.{Arm}
 use Rattle.sv_actions.specs.Doing.{writes, writes_all}
-use Rattle.sv_blocks.specs.declared.scene.Scene.{Scene}
+use Rattle.sv_stores.specs.declared.scene.Scene.{Scene}
 use Rattle.sv_blocks.specs.declared.bits.Marked.{Marked}
-use Rattle.sv_blocks.specs.Scenes.{place_in, mark_at, is_written, IsScene}
+use Rattle.sv_stores.specs.Scenes.{place_in, mark_at, is_written, IsScene}
 use Rattle.sv_blocks.specs.Running.{arms_bits}
 use Rattle.sv_blocks.specs.Declaring.{IsMarkOf, SameWires, IsSoFar, IsMarked}
-use Rattle.sv_blocks.proofs.Stores.{written_at, written_none}
+use Rattle.sv_stores.proofs.Stores.{written_at, written_none}
 use Rattle.sv_blocks.proofs.Acting.{writes_assign, writes_choose, writes_match}
 
 -- ---- bits, one after another

@@ -19,10 +19,10 @@ use Rattle.settling.specs.Settling.{Store}
 use Rattle.sv_meaning.specs.Deeds.{merged}
 use Rattle.sv_stmt.specs.Nodes.{bits_at_node, IsMade, FromThree}
 use Rattle.sv_stmt.proofs.Sizing.{length-node}
-use Rattle.sv_blocks.specs.declared.scene.Scene.{Scene}
-use Rattle.sv_blocks.specs.Scenes.{place_in, width_in, base, store_of, HoldsIn, AreNodes, IsScene, Shows}
+use Rattle.sv_stores.specs.declared.scene.Scene.{Scene}
+use Rattle.sv_stores.specs.Scenes.{place_in, width_in, base, store_of, HoldsIn, AreNodes, IsScene, Shows}
 use Rattle.sv_blocks.specs.Sides.{Merges}
-use Rattle.sv_blocks.proofs.Stores.{store_at, store_none, inside, shows_kept, nodes_kept, store_kept, holds_kept}
+use Rattle.sv_stores.proofs.Stores.{store_at, store_none, inside, shows_kept, nodes_kept, store_kept, holds_kept}
 
 -- ---- choices between bits
 

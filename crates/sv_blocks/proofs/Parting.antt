@@ -30,10 +30,10 @@ use Rattle.sv_stmt.specs.Nodes.{bits_at_node, IsMade, FromOne, FromTwo, FromThre
 use Rattle.sv_stmt.specs.Lowering.{each_signal, no_signal}
 use Rattle.sv_stmt.proofs.Nameless.{nameless}
 use Rattle.sv_stmt.proofs.Sizing.{length-node}
-use Rattle.sv_blocks.specs.declared.scene.Scene.{Scene}
+use Rattle.sv_stores.specs.declared.scene.Scene.{Scene}
 use Rattle.sv_blocks.specs.declared.parts.Spotted.{Spotted}
 use Rattle.sv_blocks.specs.declared.parts.Spotted.TheVariants.{At, Moving}
-use Rattle.sv_blocks.specs.Scenes.{store_of, reads_in, Allows, HoldsIn, Yields}
+use Rattle.sv_stores.specs.Scenes.{store_of, reads_in, Allows, HoldsIn, Yields}
 use Rattle.sv_blocks.specs.Parts.{spotted_place, spotted_test, SpotIsIn, SpotIsWide, Spots, ReadsPart, PutsPart, IsLay}
 
 -- ---- where parts begin

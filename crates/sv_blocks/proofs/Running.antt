@@ -24,14 +24,14 @@ use Rattle.sv_actions.specs.declared.action.Action.TheVariants as act
 use Rattle.sv_actions.specs.declared.action.Arm.{Arm}
 use Rattle.sv_actions.specs.declared.action.Case.{Case}
 use Rattle.sv_actions.specs.Doing.{run, run_all, names, names_all, label_matches}
-use Rattle.sv_blocks.specs.declared.scene.Scene.{Scene}
-use Rattle.sv_blocks.specs.declared.scene.State.{State}
-use Rattle.sv_blocks.specs.Scenes.{store_of, reads_in, Allows, HoldsIn, AreNodes, SeenBy, IsScene, IsState, Yields, Ran}
+use Rattle.sv_stores.specs.declared.scene.Scene.{Scene}
+use Rattle.sv_stores.specs.declared.scene.State.{State}
+use Rattle.sv_stores.specs.Scenes.{store_of, reads_in, Allows, HoldsIn, AreNodes, SeenBy, IsScene, IsState, Yields, Ran}
 use Rattle.sv_blocks.specs.Sides.{Merges}
 use Rattle.sv_blocks.specs.Writing.{assigns, assign_names}
 use Rattle.sv_blocks.specs.Running.{ArmFits, arm_run, arms_run, arm_names, arms_names, Steps, RanArm, RanArms}
-use Rattle.sv_blocks.proofs.Stores.{store_kept, holds_kept}
-use Rattle.sv_blocks.proofs.Yielding.{allows_left, allows_right}
+use Rattle.sv_stores.proofs.Stores.{store_kept, holds_kept}
+use Rattle.sv_stores.proofs.Yielding.{allows_left, allows_right}
 use Rattle.sv_blocks.proofs.Acting.{run_assign, run_choose, run_match, names_assign, names_choose, names_match, labels_and_bodies}
 
 -- ---- another state with the same nodes

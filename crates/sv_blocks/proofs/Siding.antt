@@ -21,8 +21,8 @@ use Rattle.svex_arena.proofs.Steps.{value-extends, width-extends, variables-exte
 use Rattle.driver_resolve.specs.Drivers.{bitwise}
 use Rattle.sv_stmt.specs.Nodes.{bits_at_node, IsMade, FromOne, FromTwo}
 use Rattle.sv_stmt.proofs.Sizing.{length-node}
-use Rattle.sv_blocks.specs.declared.scene.Scene.{Scene}
-use Rattle.sv_blocks.specs.Scenes.{mark_at, are_marked, is_whole, width_in, Shows}
+use Rattle.sv_stores.specs.declared.scene.Scene.{Scene}
+use Rattle.sv_stores.specs.Scenes.{mark_at, are_marked, is_whole, width_in, Shows}
 use Rattle.sv_blocks.specs.Sides.{IsSide, Mixes}
 
 -- ---- marks

@@ -1,7 +1,7 @@
 -- The wires that the statements of a block write, as names declare them.
 use Rattle.std.proofs.Common.{◌≡◌, ◌≢◌, ℕ, zero, suc, ◌+◌, ◌*◌, ◌<◌, ◌≤◌, Bool, true, false, cond, ◌&&◌, List, [], ◌∷◌, ◌++◌, length, map, set, replicate, get_or, Option, Some, None, refl, sym, ap, ◌∙◌, ◌⊎◌, inl, inr, subst, arith, IsTrue, nat_lt, length-append, length-set, get_or-set_same, get_or-set_other}
 use Rattle.std.specs.List.{All, Contains}
-use Rattle.std.proofs.lemmas.List.{get_or_push, get_or_past, length_push, length-replicate, get_or-replicate, get_or_append_left}
+use Rattle.std.proofs.lemmas.List.{replicate_more, get_or_push, get_or_past, length_push, length-replicate, get_or-replicate, get_or_append_left}
 use Rattle.std.proofs.lemmas.List.Elements.{All-push}
 use Rattle.std.proofs.lemmas.Bool.{cases_lt, cases_eq}
 use Rattle.svex_arena.specs.Substs.{entry_at, given_or}
@@ -9,11 +9,11 @@ use Rattle.sv_meaning.specs.Layouts.{What, signal_is, of_wires, width, NamedSign
 use Rattle.sv_const.specs.declared.layout.Layout.{Layout as Laid}
 use Rattle.sv_const.specs.Kinds.{layout_is, IsSound}
 use Rattle.sv_const.proofs.Sound.{sound_width}
-use Rattle.sv_blocks.specs.declared.scene.Scene.{Scene}
+use Rattle.sv_stores.specs.declared.scene.Scene.{Scene}
 use Rattle.sv_blocks.specs.declared.wires.Wire.{Wire}
 use Rattle.sv_blocks.specs.declared.wires.Places.{Places}
-use Rattle.sv_blocks.specs.Scenes.{place_in, width_in, mark_at, is_written, IsScene}
-use Rattle.sv_blocks.specs.Texts.{wire_signal, signal_of}
+use Rattle.sv_stores.specs.Scenes.{place_in, width_in, mark_at, is_written, IsScene}
+use Rattle.sv_actions.specs.Texts.{wire_signal, signal_of}
 use Rattle.sv_blocks.specs.Declaring.{wire_is, maybe_wire, wires_are, HasBits, IsAmong, ArePlaces, IsBegun}
 
 -- ---- what a name stands for
@@ -104,6 +104,17 @@ places_more named all new mid w same room declared p d f h = record {
         (subst (λ x. IsAmong named (record { number = w.number; width = x })) (sym last_width) declared))
 
 -- ---- a scene with nothing marked
+
+pub no_mark_yet : (marks : List Bool) → marks ≡ [] → marks ≡ replicate (0 * 128) false
+no_mark_yet marks e = e
+
+pub one_mark_more : (marks new : List Bool) (n k m : ℕ) → marks ≡ replicate (n * 128 + k) false → new ≡ marks ++ false ∷ [] → m ≡ k + 1 → new ≡ replicate (n * 128 + m) false
+one_mark_more marks new n k m e d f =
+    let g : n * 128 + k + 1 ≡ n * 128 + m = omega arith in
+    d ∙ ap (λ xs. xs ++ false ∷ []) e ∙ replicate_more (n * 128 + k) false ∙ ap (λ i. replicate i false) g
+
+pub one_wire_more : (marks : List Bool) (n k m : ℕ) → marks ≡ replicate (n * 128 + k) false → k ≡ 128 → m ≡ n + 1 → marks ≡ replicate (m * 128) false
+one_wire_more marks n k m e d f = let g : n * 128 + k ≡ m * 128 = omega arith in e ∙ ap (λ i. replicate i false) g
 
 no_mark : (n i k : ℕ) → mark_at (replicate n false) i k ≡ false
 no_mark n i k = elim (cases_lt (i * 128 + k) n) [

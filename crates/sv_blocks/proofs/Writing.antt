@@ -19,21 +19,21 @@ use Rattle.sv_meaning.specs.Layouts.{Read}
 use Rattle.sv_meaning.specs.Meanings.{bits_at, bits_from}
 use Rattle.sv_meaning.specs.Targets.{put_at, with_wire}
 use Rattle.sv_typed.specs.declared.tree.Pick.{Pick}
-use Rattle.sv_typed.specs.Typed.{pick_place, place_names, spot_place, names_picked, PickIsSound}
+use Rattle.sv_typed.specs.Typed.{pick_place, place_names, spot_place, names_picked, picked_width, PickIsSound}
 use Rattle.sv_const.specs.Picks.{picked_put}
 use Rattle.sv_targets.specs.declared.targets.TypedTarget.{TypedTarget}
 use Rattle.sv_targets.specs.Targets.{width_of_all}
 use Rattle.sv_stmt.specs.Nodes.{bits_at_node, FromOne}
 use Rattle.sv_stmt.proofs.Sizing.{length-node}
-use Rattle.sv_actions.specs.Doing.{write_to, write_into, target_names}
-use Rattle.sv_blocks.specs.declared.scene.Scene.{Scene}
+use Rattle.sv_actions.specs.Doing.{write_to, write_into, target_names, TargetFits}
+use Rattle.sv_stores.specs.declared.scene.Scene.{Scene}
 use Rattle.sv_blocks.specs.declared.parts.Spotted.{Spotted}
 use Rattle.sv_blocks.specs.declared.parts.Spotted.TheVariants.{At, Moving}
-use Rattle.sv_blocks.specs.Scenes.{place_in, width_in, base, store_of, reads_in, Allows, HoldsIn, AreNodes, IsScene}
-use Rattle.sv_blocks.specs.Parts.{spotted_place, spotted_test, SpotIsIn, Spots, ReadsPart, PutsPart, IsWritten}
+use Rattle.sv_stores.specs.Scenes.{place_in, width_in, base, store_of, reads_in, Allows, HoldsIn, AreNodes, IsScene}
+use Rattle.sv_blocks.specs.Parts.{spotted_place, spotted_test, SpotIsIn, SpotIsWide, Spots, ReadsPart, PutsPart, IsWritten}
 use Rattle.sv_blocks.specs.Writing.{Wrote, WroteAll}
-use Rattle.sv_blocks.proofs.Stores.{store_at, store_none, store_kept, store_kept_at, holds_kept}
-use Rattle.sv_blocks.proofs.Yielding.{allows_left, allows_right}
+use Rattle.sv_stores.proofs.Stores.{store_at, store_none, store_kept, store_kept_at, holds_kept}
+use Rattle.sv_stores.proofs.Yielding.{allows_left, allows_right}
 
 -- ---- where parts begin, as the arena grows
 
@@ -55,17 +55,18 @@ front_is : (picks : List Pick) (p : Pick) → 0 < length picks → p ≡ get_or 
 front_is [] p l e = absurd (omega arith)
 front_is (q ∷ more) p l e = ap (λ x. x ∷ more) (sym e)
 
-pub written_none : (scene : Scene) (old : List Shape) (nodes : List ℕ) (picks : List Pick) (of value : ℕ) → value < length old → picks ≡ [] → IsWritten scene old old nodes picks of value value
-unfolding picked_put
-written_none scene old nodes picks of value l e =
-    let P : List Pick → Type 0 = λ xs. IsWritten scene old old nodes xs of value value in
-    subst P (sym e) (record { within = l; value = λ bits. refl; mentions = λ p a h m v. v })
+pub written_none : (scene : Scene) (old : List Shape) (nodes : List ℕ) (picks : List Pick) (of value : ℕ) → value < length old → picks ≡ [] → width_at old value ≡ picked_width picks (width_at old of) → IsWritten scene old old nodes picks of value value
+unfolding picked_put picked_width
+written_none scene old nodes picks of value l e w =
+    let P : List Pick → Type 0 = λ xs. width_at old value ≡ picked_width xs (width_at old of) → IsWritten scene old old nodes xs of value value in
+    subst P (sym e) (λ d. record { within = l; width = d; value = λ bits. refl; mentions = λ p a h m v. v }) w
 
 last_written : (scene : Scene) (old mid new : List Shape) (nodes : List ℕ) (p : Pick) (s : Spotted) (of value n : ℕ) → of < length old → value < length old → Extends old mid
     → Spots scene old mid nodes p s → PutsPart mid new s of value n → IsWritten scene old new nodes (p ∷ []) of value n
 unfolding picked_put names_picked
 last_written scene old mid new nodes p s of value n l v e h k = record {
   within = k.within;
+  width = k.width ∙ width-extends old mid of e l;
   value = λ bits.
       k.value bits
       ∙ ap (λ z. put_at z (bits_at_node bits mid of) (bits_at_node bits mid value)) (h.place bits)
@@ -92,6 +93,7 @@ more_written scene old mid one two new nodes p more s of value part inner n sc a
     let all : Extends old two = extends_on old mid two e fg in
     record {
       within = k.within;
+      width = k.width ∙ width-extends old two of all l;
       value = λ bits.
           let read = reads_in scene bits (store_of scene old bits nodes) in
           let same = ap (λ t. reads_in scene bits t) (store_kept scene old one bits nodes sc are ef) in
@@ -117,6 +119,33 @@ pub written_more : (scene : Scene) (old mid one two new : List Shape) (nodes : L
 written_more scene old mid one two new nodes picks p s of value part inner n some is sc are l v e f g h r w k =
     let P : List Pick → Type 0 = λ xs. IsWritten scene old new nodes xs of value n in
     subst P (sym (front_is picks p some is)) (more_written scene old mid one two new nodes p (drop 1 picks) s of value part inner n sc are l v e f g h r w k)
+
+-- ---- how wide what is put is
+
+one_wide : (picks : List Pick) (p : Pick) (w : ℕ) → 0 < length picks → p ≡ get_or picks 0 p → length picks ≡ 1 → picked_width picks w ≡ p.width
+unfolding picked_width
+one_wide picks p w some is one =
+    let none : drop 1 picks ≡ [] = nil_from_length (drop 1 picks) (omega (arith, length-drop 1 picks)) in
+    ap (λ xs. picked_width xs w) (front_is picks p some is ∙ ap (λ xs. p ∷ xs) none)
+
+-- a value for the part that the last pick names
+pub last_wide : (old mid : List Shape) (picks : List Pick) (p : Pick) (s : Spotted) (of value : ℕ) → 0 < length picks → p ≡ get_or picks 0 p → length picks ≡ 1 → value < length old → width_at old value ≡ picked_width picks (width_at old of) → Extends old mid
+    → SpotIsWide s p.width → SpotIsWide s (width_at mid value)
+last_wide old mid picks p s of value some is one l w e h =
+    subst (SpotIsWide s) (sym (width-extends old mid value e l ∙ w ∙ one_wide picks p (width_at old of) some is one)) h
+
+-- a value for what the other picks leave of the part that the first names
+pub rest_wide : (old one : List Shape) (picks rest : List Pick) (p : Pick) (of value part : ℕ) → 0 < length picks → p ≡ get_or picks 0 p → rest ≡ drop 1 picks → value < length old → width_at old value ≡ picked_width picks (width_at old of) → Extends old one
+    → width_at one part ≡ p.width → width_at one value ≡ picked_width rest (width_at one part)
+unfolding picked_width
+rest_wide old one picks rest p of value part some is same l w e h =
+    width-extends old one value e l ∙ w ∙ ap (λ xs. picked_width xs (width_at old of)) (front_is picks p some is) ∙ ap (picked_width (drop 1 picks)) (sym h) ∙ ap (λ xs. picked_width xs (width_at one part)) (sym same)
+
+-- a value for a target
+pub target_wide : (scene : Scene) (shapes : List Shape) (nodes : List ℕ) (t : TypedTarget) (picks : List Pick) (at of part : ℕ) → AreNodes scene shapes nodes → TargetFits t → at < length nodes → picks ≡ t.picks → of ≡ get_or nodes at 0 → width_in scene at ≡ t.wire_width
+    → width_at shapes part ≡ t.width → width_at shapes part ≡ picked_width picks (width_at shapes of)
+target_wide scene shapes nodes t picks at of part are h l same is d w =
+    w ∙ sym h.ends ∙ ap (picked_width t.picks) (sym d ∙ sym (are.width at l) ∙ ap (width_at shapes) (sym is)) ∙ ap (λ xs. picked_width xs (width_at shapes of)) (sym same)
 
 -- ---- bits of a wire
 
@@ -203,12 +232,12 @@ set_holds p shapes nodes at node h g i l = by_place (cases_eq i at)
     by_place (inr ne) = ap (each_variable p shapes) (get_or-set_other nodes at i node 0 ne) ∙ g i inside_it
 
 -- a node is written into a target
-pub wrote : (scene : Scene) (old mid new : List Shape) (nodes after : List ℕ) (t : TypedTarget) (picks : List Pick) (at w of part node : ℕ) → IsScene scene → IsArena old → IsArena new → AreNodes scene old nodes → Extends old mid → Extends mid new
-    → place_in scene t.wire ≡ Some at → at < length nodes → picks ≡ t.picks → of ≡ get_or nodes at 0 → width_in scene at ≡ t.wire_width → w ≡ t.wire_width → w ≡ width_at mid node
+pub wrote : (scene : Scene) (old mid new : List Shape) (nodes after : List ℕ) (t : TypedTarget) (picks : List Pick) (at of part node : ℕ) → IsScene scene → IsArena old → IsArena new → AreNodes scene old nodes → Extends old mid → Extends mid new
+    → place_in scene t.wire ≡ Some at → at < length nodes → picks ≡ t.picks → of ≡ get_or nodes at 0 → width_in scene at ≡ t.wire_width
     → IsWritten scene old mid nodes picks of part node → after ≡ set nodes at node → Wrote scene old new nodes after t part
-wrote scene old mid new nodes after t picks at w of part node sc ar br are e f place l same is d wide size h set_is =
+wrote scene old mid new nodes after t picks at of part node sc ar br are e f place l same is d h set_is =
     let here : node < length new = let a = h.within in let b = f.longer in omega arith in
-    let sized : width_at new node ≡ t.wire_width = width-extends mid new node f h.within ∙ sym size ∙ wide in
+    let sized : width_at new node ≡ t.wire_width = width-extends mid new node f h.within ∙ h.width ∙ ap (width_at old) is ∙ are.width at l ∙ d in
     record {
       value = λ bits.
           let read = reads_in scene bits (store_of scene old bits nodes) in

@@ -6,12 +6,12 @@ use Rattle.lhs_alias.specs.Segs.{bit}
 use Rattle.svex_arena.specs.Substs.{entry_at}
 use Rattle.sv_meaning.specs.Layouts.{NamedSignal}
 use Rattle.sv_meaning.specs.Blocks.{has_bit, distinct}
-use Rattle.sv_blocks.specs.declared.scene.Scene.{Scene}
+use Rattle.sv_stores.specs.declared.scene.Scene.{Scene}
 use Rattle.sv_blocks.specs.declared.wires.Wire.{Wire}
 use Rattle.sv_blocks.specs.declared.wires.Places.{Places}
 use Rattle.sv_blocks.specs.declared.bits.Marked.{Marked}
-use Rattle.sv_blocks.specs.Texts.{wire_signal}
-use Rattle.sv_blocks.specs.Scenes.{place_in, width_in, mark_at, is_written, IsScene}
+use Rattle.sv_actions.specs.Texts.{wire_signal}
+use Rattle.sv_stores.specs.Scenes.{place_in, width_in, mark_at, is_written, IsScene}
 
 -- ---- wires
 

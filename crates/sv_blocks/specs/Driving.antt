@@ -13,8 +13,8 @@ use Rattle.svex_arena.specs.Shapes.{width_at}
 use Rattle.svex_arena.specs.Values.{each_variable}
 use Rattle.driver_resolve.specs.declared.driver.Driver.{Driver}
 use Rattle.driver_resolve.specs.Drivers.{Phase, bits_in, driver_gives, drivers_give}
-use Rattle.sv_blocks.specs.declared.scene.Scene.{Scene}
-use Rattle.sv_blocks.specs.Scenes.{width_in, store_of, HoldsIn}
+use Rattle.sv_stores.specs.declared.scene.Scene.{Scene}
+use Rattle.sv_stores.specs.Scenes.{width_in, store_of, HoldsIn}
 
 -- so many bits of a wire from one on
 abbrev pub run_seg : WireBit → ℕ → Seg

@@ -15,9 +15,9 @@ use Rattle.sv_meaning.specs.Deeds.{merged}
 use Rattle.sv_meaning.specs.Blocks.{trigger_bit}
 use Rattle.sv_actions.specs.declared.action.Action.{Action}
 use Rattle.sv_actions.specs.Doing.{run_all, names_all}
-use Rattle.sv_blocks.specs.declared.scene.Scene.{Scene}
+use Rattle.sv_stores.specs.declared.scene.Scene.{Scene}
 use Rattle.sv_blocks.specs.declared.ends.Clock.{Clock}
-use Rattle.sv_blocks.specs.Scenes.{width_in, base, store_of, reads_in, Allows, HoldsIn, AreNodes}
+use Rattle.sv_stores.specs.Scenes.{width_in, base, store_of, reads_in, Allows, HoldsIn, AreNodes}
 use Rattle.sv_blocks.specs.Driving.{given, SceneFits, IsPlaced}
 
 abbrev pub clock_wire : Option Clock → Option ℕ

@@ -1,12 +1,8 @@
-pub mod Scenes
 pub mod Parts
 pub mod Sides
 pub mod Writing
 pub mod Masks
 pub mod Running
-pub mod Texts
 pub mod Declaring
-pub mod Starting
 pub mod Driving
 pub mod Ending
-pub mod Blocks

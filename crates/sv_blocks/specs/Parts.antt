@@ -14,10 +14,10 @@ use Rattle.sv_typed.specs.declared.tree.Pick.{Pick}
 use Rattle.sv_typed.specs.Typed.{pick_place, place_names, spot_place, names_picked}
 use Rattle.sv_const.specs.Picks.{picked_put}
 use Rattle.sv_stmt.specs.Nodes.{bits_at_node}
-use Rattle.sv_blocks.specs.declared.scene.Scene.{Scene}
+use Rattle.sv_stores.specs.declared.scene.Scene.{Scene}
 use Rattle.sv_blocks.specs.declared.parts.Spotted.{Spotted}
 use Rattle.sv_blocks.specs.declared.parts.Spotted.TheVariants.{At, Moving}
-use Rattle.sv_blocks.specs.Scenes.{store_of, reads_in, Allows, HoldsIn}
+use Rattle.sv_stores.specs.Scenes.{store_of, reads_in, Allows, HoldsIn}
 
 -- ---- where parts begin
 
@@ -72,6 +72,7 @@ pub record IsLay (size : ℕ) (place : ℤ) (width below lo inside : ℕ) : Type
 -- a node with a value written into the part that picks name
 pub record IsWritten (scene : Scene) (old new : List Shape) (nodes : List ℕ) (picks : List Pick) (of put node : ℕ) : Type 0 where
   pub within : node < length new
+  pub width : width_at new node ≡ width_at old of
   pub value : (bits : VarName → ℕ → Bit)
       → bits_at_node bits new node ≡ picked_put (reads_in scene bits (store_of scene old bits nodes)) picks (bits_at_node bits old of) (bits_at_node bits old put)
   pub mentions : (p : VarName → ℕ → Bool) → Allows scene p (names_picked picks) → HoldsIn p old nodes

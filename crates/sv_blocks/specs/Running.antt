@@ -13,8 +13,8 @@ use Rattle.sv_typed.specs.Typed.{names_of, names_together}
 use Rattle.sv_actions.specs.declared.action.Case.{Case}
 use Rattle.sv_actions.specs.declared.action.Arm.{Arm}
 use Rattle.sv_actions.specs.Doing.{label_matches, run_all, writes_all, names_all, Fits, LabelFits}
-use Rattle.sv_blocks.specs.declared.scene.Scene.{Scene}
-use Rattle.sv_blocks.specs.Scenes.{store_of, reads_in, Allows, HoldsIn}
+use Rattle.sv_stores.specs.declared.scene.Scene.{Scene}
+use Rattle.sv_stores.specs.Scenes.{store_of, reads_in, Allows, HoldsIn}
 
 pub record ArmFits (c : Case) (arm : Arm) : Type 0 where
   pub labels : All (LabelFits c) arm.labels

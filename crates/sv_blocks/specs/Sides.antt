@@ -9,8 +9,8 @@ use Rattle.svex_arena.specs.Shapes.{width_at}
 use Rattle.svex_arena.specs.Values.{each_variable}
 use Rattle.sv_meaning.specs.Deeds.{merged}
 use Rattle.sv_stmt.specs.Nodes.{bits_at_node}
-use Rattle.sv_blocks.specs.declared.scene.Scene.{Scene}
-use Rattle.sv_blocks.specs.Scenes.{mark_at, store_of, HoldsIn, AreNodes}
+use Rattle.sv_stores.specs.declared.scene.Scene.{Scene}
+use Rattle.sv_stores.specs.Scenes.{mark_at, store_of, HoldsIn, AreNodes}
 
 -- a node has so many bits from a place on, of one of two nodes
 pub record IsSide (mark : Bool) (old new : List Shape) (stored now from count node : ℕ) : Type 0 where

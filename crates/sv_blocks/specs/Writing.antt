@@ -12,8 +12,8 @@ use Rattle.sv_targets.specs.declared.targets.TypedTarget.{TypedTarget}
 use Rattle.sv_targets.specs.Targets.{width_of_all}
 use Rattle.sv_stmt.specs.Nodes.{bits_at_node}
 use Rattle.sv_actions.specs.Doing.{assigned_bits, write_to, write_into, target_names}
-use Rattle.sv_blocks.specs.declared.scene.Scene.{Scene}
-use Rattle.sv_blocks.specs.Scenes.{store_of, reads_in, Allows, HoldsIn}
+use Rattle.sv_stores.specs.declared.scene.Scene.{Scene}
+use Rattle.sv_stores.specs.Scenes.{store_of, reads_in, Allows, HoldsIn}
 
 -- a node is written into a target
 pub record Wrote (scene : Scene) (old new : List Shape) (before after : List ℕ) (t : TypedTarget) (part : ℕ) : Type 0 where

@@ -1,25 +1,53 @@
 // Assignments in blocks (IEEE 1800-2017, 10.4).
-ghost use Rattle.std.specs.Prelude.{◌≡◌, ℕ, ◌<◌, ◌≤◌, All, length, IfOk, OnOk};
+ghost use Rattle.std.specs.Prelude.{◌≡◌, ℕ, ◌<◌, ◌≤◌, max, take, All, length, IfOk, OnOk};
 ghost use Rattle.fourvec.specs.declared.Bit.{Bit};
 ghost use Rattle.svex_arena.specs.declared.shape.VarName.{VarName};
 ghost use Rattle.svex_arena.specs.Shapes.{width_at};
 ghost use Rattle.svex_arena.specs.Arenas.{Extends};
 ghost use Rattle.sv_typed.specs.Typed.{IsSound, names_of};
 ghost use Rattle.sv_targets.specs.Targets.{width_of_all};
-ghost use Rattle.sv_actions.specs.Doing.{TargetFits};
-ghost use Rattle.sv_blocks.specs.Scenes.{IsScene, IsState, Ran};
+ghost use Rattle.sv_actions.specs.Doing.{assigned_bits, TargetFits};
+ghost use Rattle.sv_stores.specs.Scenes.{IsScene, IsState, Yields, Ran};
 ghost use Rattle.sv_blocks.specs.Writing.{Wrote, WroteAll, assigns, assign_names};
 
-use crate::look::assigned;
-use crate::narrow::place_in;
 use crate::states::put_node;
 use crate::writes::written;
-use crate::{Scene, State};
 use std::alloc::{AllocError, Global};
 use sv_stmt::sliced;
+use sv_stores::{Scene, State, lowered, place_in};
 use sv_targets::TypedTarget;
 use sv_typed::Typed;
 use svex_arena::{Arena, Node};
+
+// The node of the right side of an assignment to so many bits (IEEE 1800-2017, 10.7).
+fn assigned(
+    alloc: Global,
+    arena: &mut Arena,
+    scene: &Scene,
+    state: &State,
+    typed: &Typed,
+    width: u8,
+) -> Result<Node, AllocError>
+    requires scene { IsScene scene.now }
+    requires state { IsState scene.now arena.old state.now }
+    requires sound { IsSound typed.now }
+    requires some { 1 ≤ width }
+    requires most { width ≤ 128 }
+    ensures stays { Extends arena.old arena.new }
+    ensures ok { IfOk result (λ n. Yields scene.now arena.old arena.new state.now.nodes (λ read. assigned_bits typed.now read width) (names_of typed.now) width n) }
+{
+    let node = lowered(
+        alloc,
+        arena,
+        scene,
+        state,
+        typed,
+        width.max(typed.width),
+        typed.signed,
+    )?;
+    let node = sliced(alloc, arena, node, 0, width)?;
+    Ok(node)
+}
 
 // Writes a node into a target.
 fn write_target(
@@ -34,6 +62,7 @@ fn write_target(
     requires state { IsState scene.now arena.old state.old }
     requires target { TargetFits target.now }
     requires part { part < length arena.old }
+    requires wide { width_at arena.old part ≡ target.now.width }
     ensures stays { Extends arena.old arena.new }
     ensures state { OnOk result (IsState scene.now arena.new state.new) }
     ensures wrote { OnOk result (Wrote scene.now arena.old arena.new state.old.nodes state.new.nodes target.now part) }
@@ -55,9 +84,6 @@ fn write_target(
         old,
         part,
     )?;
-    if arena.width(node) != target.wire_width {
-        return Err(AllocError);
-    }
     put_node(alloc, arena, scene, state, at, node)?;
     let _ = arena.len();
     Ok(())
@@ -98,9 +124,6 @@ fn write_targets(
     let _ = arena.len();
     let mut left = arena.width(whole);
     'targets: for target in targets {
-        if target.width == 0 {
-            return Err(AllocError);
-        }
         left -= target.width;
         let part = sliced(alloc, arena, whole, left, target.width)?;
         write_target(alloc, arena, scene, state, target, part)?;

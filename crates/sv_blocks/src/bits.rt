@@ -5,16 +5,15 @@ ghost use Rattle.sv_actions.specs.Doing.{writes, writes_all, Fits, TargetFits};
 ghost use Rattle.sv_meaning.specs.Targets.{present};
 ghost use Rattle.sv_meaning.specs.Blocks.{has_bit, distinct};
 ghost use Rattle.sv_targets.specs.Slots.{slots_of};
-ghost use Rattle.sv_blocks.specs.Scenes.{is_written, IsScene};
+ghost use Rattle.sv_stores.specs.Scenes.{is_written, IsScene};
 ghost use Rattle.sv_blocks.specs.Running.{ArmFits, arms_bits};
 ghost use Rattle.sv_blocks.specs.Declaring.{IsMarkOf, IsSoFar, IsMarked};
 
-use crate::Scene;
-use crate::narrow::place_in;
 use items::Items;
 use lhs_alias::WireBit;
 use std::alloc::{AllocError, Global};
 use sv_actions::{Action, Arm, Case};
+use sv_stores::{Scene, place_in};
 use sv_targets::{TypedTarget, all_slots};
 
 // The bits that targets name, behind others.

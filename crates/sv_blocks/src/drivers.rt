@@ -3,16 +3,15 @@ ghost use Rattle.std.specs.Prelude.{◌≡◌, ◌+◌, ◌<◌, ◌≤◌, leng
 ghost use Rattle.lhs_alias.specs.declared.segs.WireBit.{WireBit};
 ghost use Rattle.lhs_alias.specs.Segs.{seg_bits};
 ghost use Rattle.svex_arena.specs.Arenas.{Extends};
-ghost use Rattle.sv_blocks.specs.Scenes.{IsScene, AreNodes};
+ghost use Rattle.sv_stores.specs.Scenes.{IsScene, AreNodes};
 ghost use Rattle.sv_blocks.specs.Driving.{Drives, DriveAll, run_seg};
 
-use crate::Scene;
-use crate::narrow::place_in;
 use driver_resolve::Driver;
 use items::Items;
 use lhs_alias::{Lhs, Seg, WireBit};
 use std::alloc::{AllocError, Global};
 use sv_stmt::sliced;
+use sv_stores::{Scene, place_in};
 use svex_arena::{Arena, Node};
 
 // Whether a bit lies so many places above another of the same wire.

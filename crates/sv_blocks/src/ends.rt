@@ -3,19 +3,18 @@ ghost use Rattle.std.specs.Prelude.{◌≡◌, All, IfOk, None};
 ghost use Rattle.svex_arena.specs.Arenas.{Extends};
 ghost use Rattle.lhs_alias.specs.declared.segs.WireBit.{WireBit};
 ghost use Rattle.sv_actions.specs.Doing.{Fits};
-ghost use Rattle.sv_blocks.specs.Scenes.{IsScene, AreNodes};
+ghost use Rattle.sv_stores.specs.Scenes.{IsScene, AreNodes};
 ghost use Rattle.sv_blocks.specs.Ending.{clock_wire, Ends, Runs, Finishes};
 
-use crate::Scene;
 use crate::drivers::drivers_of;
 use crate::run::run_actions;
-use crate::start::{start_nodes, trigger};
 use crate::states::{merged, state_of};
 use driver_resolve::Driver;
 use items::Items;
 use lhs_alias::WireBit;
 use std::alloc::{AllocError, Global};
 use sv_actions::Action;
+use sv_stores::{Scene, start_nodes, trigger};
 use sv_tree::Edge;
 use svex_arena::{Arena, Node};
 

@@ -8,15 +8,14 @@ ghost use Rattle.sv_meaning.specs.Deeds.{mask_bit, same_value};
 ghost use Rattle.sv_typed.specs.Typed.{names_of, names_together, literal_of};
 ghost use Rattle.sv_stmt.specs.Nodes.{FromTwo};
 ghost use Rattle.sv_actions.specs.Doing.{label_equals, label_matches, CaseFits, LabelFits};
-ghost use Rattle.sv_blocks.specs.Scenes.{IsScene, IsState, Yields};
+ghost use Rattle.sv_stores.specs.Scenes.{IsScene, IsState, Yields};
 ghost use Rattle.sv_blocks.specs.Masks.{equal_masked};
 
-use crate::look::lowered;
-use crate::{Scene, State};
 use fourvec::Four;
 use std::alloc::{AllocError, Global};
 use sv_actions::Case;
 use sv_stmt::{binary, constant};
+use sv_stores::{Scene, State, lowered};
 use sv_typed::{Typed, TypedForm};
 use svex_arena::{Arena, Bin, Node};
 

@@ -6,14 +6,13 @@ ghost use Rattle.svex_arena.specs.Arenas.{Extends};
 ghost use Rattle.sv_meaning.specs.Layouts.{Read};
 ghost use Rattle.sv_typed.specs.Typed.{own, spot_place, IsSound, PickIsSound};
 ghost use Rattle.sv_stmt.specs.Nodes.{FromTwo, FromThree};
-ghost use Rattle.sv_blocks.specs.Scenes.{IsScene, IsState};
+ghost use Rattle.sv_stores.specs.Scenes.{IsScene, IsState};
 ghost use Rattle.sv_blocks.specs.Parts.{SpotIsIn, SpotIsWide, Spots, ReadsPart, PutsPart, IsLay};
 
-use crate::look::lowered;
-use crate::{Scene, State};
 use fourvec::Spot;
 use std::alloc::{AllocError, Global};
 use sv_stmt::{Place, beside, is_nameless, make, part_at, place_at, place_of, sliced, windowed};
+use sv_stores::{Scene, State, lowered};
 use sv_typed::{Pick, PickPlace, Typed};
 use svex_arena::{Arena, Node, Shape};
 
@@ -210,13 +209,11 @@ fn moved(
     requires of { of < length arena.old }
     requires at { at < length arena.old }
     requires put { put < length arena.old }
+    requires wide { width_at arena.old put ≡ spot.now.width }
     ensures stays { Extends arena.old arena.new }
     ensures ok { IfOk result (λ n. FromThree arena.old arena.new (λ i v p. dyn_put_of v i spot.now p) at of put (width_at arena.old of) n) }
 {
     let _ = arena.len();
-    if arena.width(put) != spot.width {
-        return Err(AllocError);
-    }
     let shape = Shape::DynPut {
         of,
         at,
@@ -238,6 +235,7 @@ pub fn put_part(
     requires of { of < length arena.old }
     requires at { SpotIsIn at.now arena.old }
     requires part { part < length arena.old }
+    requires wide { SpotIsWide at.now (width_at arena.old part) }
     ensures stays { Extends arena.old arena.new }
     ensures ok { IfOk result (λ n. PutsPart arena.old arena.new at.now of part n) }
 {

@@ -3,17 +3,16 @@ ghost use Rattle.std.specs.Prelude.{◌≡◌, ◌<◌, All, length, OnOk};
 ghost use Rattle.svex_arena.specs.Shapes.{width_at};
 ghost use Rattle.svex_arena.specs.Arenas.{Extends};
 ghost use Rattle.sv_actions.specs.Doing.{run, run_all, names, names_all, Fits, CaseFits};
-ghost use Rattle.sv_blocks.specs.Scenes.{IsScene, IsState, Ran};
+ghost use Rattle.sv_stores.specs.Scenes.{IsScene, IsState, Ran};
 ghost use Rattle.sv_blocks.specs.Sides.{Merges};
 ghost use Rattle.sv_blocks.specs.Running.{RanArm, RanArms, ArmFits};
 
 use crate::assigns::assign;
 use crate::labels::label_matches;
-use crate::look::truth;
 use crate::states::{copied, merged, state_of};
-use crate::{Scene, State};
 use std::alloc::{AllocError, Global};
 use sv_actions::{Action, Arm, Case};
+use sv_stores::{Scene, State, truth};
 use svex_arena::{Arena, Node};
 
 // One of two states, by a truth.

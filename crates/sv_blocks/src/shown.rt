@@ -2,12 +2,12 @@
 ghost use Rattle.std.specs.Prelude.{◌≡◌, ℕ, ◌<◌, ◌≤◌, ◌+◌, length, IfOk};
 ghost use Rattle.svex_arena.specs.Shapes.{width_at};
 ghost use Rattle.svex_arena.specs.Arenas.{Extends};
-ghost use Rattle.sv_blocks.specs.Scenes.{mark_at, are_marked, width_in, IsScene, Shows};
+ghost use Rattle.sv_stores.specs.Scenes.{mark_at, are_marked, width_in, IsScene, Shows};
 ghost use Rattle.sv_blocks.specs.Sides.{Mixes, IsSide};
 
-use crate::Scene;
 use std::alloc::{AllocError, Global};
 use sv_stmt::{beside, make, sliced};
+use sv_stores::Scene;
 use svex_arena::{Arena, Node, Shape, VarName};
 
 /// Whether a bit of the wire at a place is marked.

@@ -4,14 +4,14 @@ ghost use Rattle.svex_arena.specs.Shapes.{width_at};
 ghost use Rattle.svex_arena.specs.Arenas.{Extends};
 ghost use Rattle.fourvec.specs.Bits.{pick_of};
 ghost use Rattle.sv_stmt.specs.Nodes.{FromThree};
-ghost use Rattle.sv_blocks.specs.Scenes.{width_in, IsScene, IsState, AreNodes, AreSeen, SeenBy};
+ghost use Rattle.sv_stores.specs.Scenes.{width_in, IsScene, IsState, AreNodes, AreSeen, SeenBy};
 ghost use Rattle.sv_blocks.specs.Sides.{Merges};
 
 use crate::shown::shown;
-use crate::{Scene, State};
 use items::Items;
 use std::alloc::{AllocError, Global};
 use sv_stmt::make;
+use sv_stores::{Scene, State};
 use svex_arena::{Arena, Node, Shape};
 
 // What names see of the nodes of a combinational block.

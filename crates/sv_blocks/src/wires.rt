@@ -1,15 +1,15 @@
 // The wires that the statements of a block write.
-ghost use Rattle.std.specs.Prelude.{◌≡◌, ℕ, ◌<◌, ◌++◌, All, List, length, slice_index_or, Some, None, IfOk, IfSome, OnOk};
+ghost use Rattle.std.specs.Prelude.{◌≡◌, ℕ, ◌<◌, ◌*◌, false, replicate, ◌++◌, All, List, length, slice_index_or, Some, None, IfOk, IfSome, OnOk};
 ghost use Rattle.sv_const.specs.Kinds.{what_is, WhatIsSound};
 ghost use Rattle.sv_const.specs.Names.{names_are};
 ghost use Rattle.sv_meaning.specs.Layouts.{NamedSignal, find};
-ghost use Rattle.sv_blocks.specs.Texts.{signal_of, root_signals, target_signals, other_signals, arm_signals, of_each};
+ghost use Rattle.sv_actions.specs.Texts.{signal_of, root_signals, target_signals, other_signals, arm_signals, of_each};
 ghost use Rattle.sv_blocks.specs.Declaring.{HasBits, IsAmong, ArePlaces, IsBegun, maybe_wire, wires_are};
 
-use crate::Scene;
 use items::{Boxed, Items};
 use std::alloc::{AllocError, Global};
 use sv_const::{Names, What};
+use sv_stores::Scene;
 use sv_tree::{Arm, Lvalue, Stmt};
 
 /// A wire that a name stands for, with its width.
@@ -195,6 +195,20 @@ fn add_wire(all: &mut Places, wire: Wire) -> Result<(), AllocError>
     Ok(())
 }
 
+// 128 marks for each of so many wires, none of them set.
+#[tactic(auto, using(crate::proofs::Wiring::no_mark_yet, crate::proofs::Wiring::one_mark_more, crate::proofs::Wiring::one_wire_more))]
+fn no_marks(alloc: Global, wires: usize) -> Result<Vec<bool>, AllocError>
+    ensures { IfOk result (λ marks. marks.items ≡ replicate (wires * 128) false) }
+{
+    let mut marks = Vec::new(alloc);
+    'wires: for _wire in 0..wires {
+        'bits: for _bit in 0u8..128 {
+            marks.push(false)?;
+        }
+    }
+    Ok(marks)
+}
+
 /// The scene with a place for each of these wires, and no bit marked.
 pub fn scene_of(alloc: Global, found: &[Wire], clock: Option<usize>) -> Result<Scene, AllocError>
     ensures { (named : List NamedSignal) → All (IsAmong named) found.now → IfOk result (λ scene. IsBegun named clock scene) }
@@ -212,8 +226,7 @@ pub fn scene_of(alloc: Global, found: &[Wire], clock: Option<usize>) -> Result<S
         wires,
         widths,
     } = all;
-    let count = wires.len().checked_mul(128).ok_or(AllocError)?;
-    let marks = vec![in alloc; false; count]?;
+    let marks = no_marks(alloc, wires.len())?;
     Ok(Scene {
         places: Items::from_vec(places),
         wires: Items::from_vec(wires),

@@ -1,13 +1,14 @@
 // Values written into chains of selects (IEEE 1800-2017, 10.4, 11.5.1).
 ghost use Rattle.std.specs.Prelude.{◌≡◌, ◌<◌, ◌≤◌, length, All, IfOk};
+ghost use Rattle.svex_arena.specs.Shapes.{width_at};
 ghost use Rattle.svex_arena.specs.Arenas.{Extends};
-ghost use Rattle.sv_typed.specs.Typed.{PickIsSound};
-ghost use Rattle.sv_blocks.specs.Scenes.{IsScene, IsState};
+ghost use Rattle.sv_typed.specs.Typed.{picked_width, PickIsSound};
+ghost use Rattle.sv_stores.specs.Scenes.{IsScene, IsState};
 ghost use Rattle.sv_blocks.specs.Parts.{IsWritten};
 
 use crate::parts::{put_part, read_part, spot_of};
-use crate::{Scene, State};
 use std::alloc::{AllocError, Global};
+use sv_stores::{Scene, State};
 use sv_typed::Pick;
 use svex_arena::{Arena, Node};
 
@@ -26,6 +27,7 @@ pub fn written(
     requires sound { All PickIsSound picks.now }
     requires of { of < length arena.old }
     requires value { value < length arena.old }
+    requires wide { width_at arena.old value ≡ picked_width picks.now (width_at arena.old of) }
     ensures stays { Extends arena.old arena.new }
     ensures ok { IfOk result (λ n. IsWritten scene.now arena.old arena.new state.now.nodes picks.now of value n) }
 {

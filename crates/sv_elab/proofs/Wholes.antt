@@ -28,7 +28,7 @@ use Rattle.sv_scope.specs.Walks.{work_is}
 use Rattle.sv_scope.specs.Scoped.{IsScoped, design_is, levels_of, wires_of, works_of, turns_of}
 use Rattle.scope_laws.specs.Wires.{IsWire}
 use Rattle.scope_laws.proofs.Seen.{seen_are_wires, ports_are_wires}
-use Rattle.sv_blocks.specs.Blocks.{AreWires}
+use Rattle.sv_driving.specs.Blocks.{AreWires}
 use Rattle.sv_elab.specs.declared.whole.Making.{Making}
 use Rattle.sv_elab.specs.Elaborated.{IsElaborated, sound_design}
 use Rattle.sv_elab.specs.Working.{TaskFits, AreSound, IsMade}

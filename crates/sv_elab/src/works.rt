@@ -11,7 +11,7 @@ ghost use Rattle.sv_meaning.specs.Params.{name_alone};
 ghost use Rattle.sv_meaning.specs.Designs as d;
 ghost use Rattle.sv_hierarchy.specs.Scopes.{work_of};
 ghost use Rattle.sv_scope.specs.Walks.{task_is, actual_is};
-ghost use Rattle.sv_blocks.specs.Blocks.{AreWires};
+ghost use Rattle.sv_driving.specs.Blocks.{AreWires};
 ghost use Rattle.sv_elab.specs.Working.{JudgesWork, PortFits, TaskFits};
 
 use crate::assigns::assigned;
@@ -20,8 +20,8 @@ use driver_resolve::Driver;
 use flat_net::Join;
 use items::Items;
 use std::alloc::{AllocError, Global};
-use sv_blocks::block_drivers;
 use sv_const::{Layout, Names};
+use sv_driving::block_drivers;
 use sv_outside::TextErr;
 use sv_scope::{Actual, Task};
 use sv_tree::{Expr, Way, Word};

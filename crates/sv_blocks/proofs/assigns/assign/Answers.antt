@@ -1,4 +1,4 @@
-use Rattle.sv_blocks.proofs.Stores.{state_kept}
+use Rattle.sv_stores.proofs.Stores.{state_kept}
 use Rattle.sv_blocks.proofs.Assigning.{assigned_all}
 use Rattle.sv_blocks.proofs.Running.{on_ok}
 use Rattle.sv_blocks.proofs.assigns.assign.Goals as goal

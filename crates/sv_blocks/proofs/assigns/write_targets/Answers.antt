@@ -1,7 +1,9 @@
 use Rattle.std.proofs.Common.{refl, ◌∙◌}
 use Rattle.svex_arena.proofs.Keeping.{extends_self, extends_on}
-use Rattle.sv_blocks.proofs.Stores.{state_kept}
-use Rattle.sv_blocks.proofs.Assigning.{wrote_none, wrote_more, wrote_end, left_on, part_room}
+use Rattle.sv_stmt.proofs.Lowered.{element}
+use Rattle.sv_actions.specs.Doing.{TargetFits}
+use Rattle.sv_stores.proofs.Stores.{state_kept}
+use Rattle.sv_blocks.proofs.Assigning.{wrote_none, wrote_more, wrote_end, left_on, part_room, some_bits}
 use Rattle.sv_blocks.proofs.assigns.write_targets.Goals as goal
 
 pub targets-init : goal.targets-init
@@ -15,11 +17,17 @@ targets-init c = record {
 pub overflow_sub-left : goal.overflow_sub-left
 overflow_sub-left c = (left_on _ _ _ _ c.targets-test.true c.target-item.is c.targets.invariant.left).0
 
+pub sliced-requires-clause-some : goal.sliced-requires-clause-some
+sliced-requires-clause-some c = some_bits _ (element TargetFits c.args.targets.now c.targets.target-index c.target-item.result c.requires.targets c.targets-test.true c.target-item.is)
+
 pub sliced-requires-clause-within : goal.sliced-requires-clause-within
 sliced-requires-clause-within c = part_room _ _ _ _ _ _ _ c.targets.invariant.stays c.requires.whole c.requires.wide c.targets-test.true c.target-item.is c.targets.invariant.left
 
 pub write_target-requires-clause-state : goal.write_target-requires-clause-state
 write_target-requires-clause-state c = state_kept _ _ _ _ c.in_ok-part.ensures.stays c.targets.invariant.state
+
+pub write_target-requires-clause-wide : goal.write_target-requires-clause-wide
+write_target-requires-clause-wide c = c.in_ok-part.ensures.ok.width
 
 pub targets-preserved : goal.targets-preserved
 targets-preserved c =

@@ -1,7 +1,7 @@
 use Rattle.std.proofs.Common.{◌≡◌, drop}
 use Rattle.svex_arena.specs.Arenas.{Extends}
 use Rattle.sv_targets.specs.Targets.{width_of_all}
-use Rattle.sv_blocks.specs.Scenes.{IsState}
+use Rattle.sv_stores.specs.Scenes.{IsState}
 use Rattle.sv_blocks.proofs.Assigning.{WroteSome}
 use Rattle.sv_blocks.proofs.assigns.write_targets.Given as goal
 

@@ -4,7 +4,7 @@ use Rattle.std.proofs.lemmas.List.{take_rest}
 use Rattle.lhs_alias.specs.declared.segs.WireBit.{WireBit}
 use Rattle.lhs_alias.specs.Segs.{seg_bits}
 use Rattle.sv_blocks.specs.Driving.{run_seg, DriveAll}
-use Rattle.sv_blocks.proofs.Stores.{nodes_kept}
+use Rattle.sv_stores.proofs.Stores.{nodes_kept}
 use Rattle.sv_blocks.proofs.Driving.{drive_none, drive_more}
 use Rattle.sv_blocks.proofs.drivers.drivers_of.Goals as goal
 

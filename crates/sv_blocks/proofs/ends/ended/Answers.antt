@@ -1,7 +1,7 @@
 use Rattle.std.proofs.Common.{◌≡◌, List, ℕ, refl, sym, subst}
 use Rattle.svex_arena.specs.Arenas.{Extends}
-use Rattle.sv_blocks.specs.Scenes.{AreNodes}
-use Rattle.sv_blocks.proofs.Stores.{nodes_kept}
+use Rattle.sv_stores.specs.Scenes.{AreNodes}
+use Rattle.sv_stores.proofs.Stores.{nodes_kept}
 use Rattle.sv_blocks.proofs.Ending.{ends_comb, ends_clocked}
 use Rattle.sv_blocks.proofs.ends.ended.Goals as goal
 

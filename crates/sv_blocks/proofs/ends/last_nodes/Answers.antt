@@ -1,8 +1,8 @@
 use Rattle.std.proofs.Common.{◌≡◌, List, ℕ, refl, sym, ◌∙◌, subst}
 use Rattle.svex_arena.specs.Arenas.{Extends}
 use Rattle.svex_arena.proofs.Keeping.{extends_on}
-use Rattle.sv_blocks.specs.Scenes.{AreNodes, Ran}
-use Rattle.sv_blocks.proofs.Stores.{nodes_kept}
+use Rattle.sv_stores.specs.Scenes.{AreNodes, Ran}
+use Rattle.sv_stores.proofs.Stores.{nodes_kept}
 use Rattle.sv_blocks.proofs.Ending.{ended_ok}
 use Rattle.sv_blocks.proofs.ends.last_nodes.Goals as goal
 

@@ -1,5 +1,5 @@
 use Rattle.std.proofs.Common.{refl}
-use Rattle.sv_blocks.proofs.Stores.{state_kept}
+use Rattle.sv_stores.proofs.Stores.{state_kept}
 use Rattle.sv_blocks.proofs.Labeling.{label_yields, same_width, mask_width}
 use Rattle.sv_blocks.proofs.labels.label_equals.Goals as goal
 

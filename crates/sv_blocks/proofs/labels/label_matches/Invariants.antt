@@ -2,7 +2,7 @@ use Rattle.std.proofs.Common.{◌≤◌, ◌++◌, length, drop}
 use Rattle.svex_arena.specs.Arenas.{Extends}
 use Rattle.sv_typed.specs.Typed.{names_of, names_together}
 use Rattle.sv_actions.specs.Doing.{label_matches}
-use Rattle.sv_blocks.specs.Scenes.{Yields}
+use Rattle.sv_stores.specs.Scenes.{Yields}
 use Rattle.sv_blocks.proofs.labels.label_matches.Given as goal
 
 abbrev pub invariant-labels : goal.invariant-labels

@@ -1,7 +1,7 @@
 use Rattle.std.proofs.Common.{rules}
 use Rattle.sv_typed.proofs.Below as below
 use Rattle.sv_blocks.proofs.Parting.{spots_fixed, spots_known, spots_moving}
-use Rattle.sv_blocks.proofs.Yielding.{typed_own}
+use Rattle.sv_stores.proofs.Yielding.{typed_own}
 use Rattle.sv_blocks.proofs.parts.spot_of.Goals as goal
 
 pub known_place-requires : goal.known_place-requires

@@ -4,7 +4,7 @@ use Rattle.svex_arena.proofs.Steps.{width-extends}
 use Rattle.sv_stmt.proofs.Lowered.{element}
 use Rattle.sv_actions.specs.Doing.{Fits, LabelFits}
 use Rattle.sv_blocks.specs.Running.{ArmFits}
-use Rattle.sv_blocks.proofs.Stores.{state_kept}
+use Rattle.sv_stores.proofs.Stores.{state_kept}
 use Rattle.sv_blocks.proofs.Acting.{fits_assign_by, fits_choose_by, fits_match_by}
 use Rattle.sv_blocks.proofs.Falling.{choose_left, choose_right, match_other, match_arms, action_less, arm_less, body_less}
 use Rattle.sv_blocks.proofs.Running.{on_ok, state_as, ran_assign, ran_choose, ran_match, ran_arm_by, some_none, some_more, some_end, arms_none, arms_more, arms_end}

@@ -1,7 +1,7 @@
 use Rattle.std.proofs.Common.{◌≤◌, suc, length, drop}
 use Rattle.sv_blocks.proofs.Falling.{size, all_size, arms_size}
 use Rattle.svex_arena.specs.Arenas.{Extends}
-use Rattle.sv_blocks.specs.Scenes.{IsState}
+use Rattle.sv_stores.specs.Scenes.{IsState}
 use Rattle.sv_blocks.specs.Running.{RanArms}
 use Rattle.sv_blocks.proofs.Running.{RanSome}
 use Rattle.sv_blocks.proofs.run.+run.Given as goal

@@ -1,5 +1,5 @@
 use Rattle.std.proofs.Common.{◌≡◌, ℕ, ◌<◌, ◌≤◌}
-use Rattle.sv_blocks.specs.Scenes.{mark_at}
+use Rattle.sv_stores.specs.Scenes.{mark_at}
 use Rattle.sv_blocks.proofs.shown.run_end.Given as goal
 
 abbrev pub invariant-bits : goal.invariant-bits

@@ -1,6 +1,6 @@
 use Rattle.std.proofs.Common.{sym, ap, ◌∙◌, get_or}
 use Rattle.svex_arena.proofs.Steps.{width-extends}
-use Rattle.sv_blocks.specs.Scenes.{are_marked}
+use Rattle.sv_stores.specs.Scenes.{are_marked}
 use Rattle.sv_blocks.proofs.Siding.{shows_whole, shows_mixed_by, variable_width}
 use Rattle.sv_blocks.proofs.shown.shown.Goals as goal
 

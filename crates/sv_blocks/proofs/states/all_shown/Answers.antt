@@ -1,7 +1,7 @@
 use Rattle.std.proofs.Common.{◌+◌, subst, sym}
 use Rattle.std.proofs.lemmas.List.{get_or_read}
 use Rattle.svex_arena.proofs.Keeping.{extends_on}
-use Rattle.sv_blocks.proofs.Stores.{node_width}
+use Rattle.sv_stores.proofs.Stores.{node_width}
 use Rattle.sv_blocks.proofs.Merging.{ShowsSome, shows_more}
 use Rattle.sv_blocks.proofs.states.all_shown.Goals as goal
 

@@ -2,7 +2,7 @@ use Rattle.std.proofs.Common.{◌<◌, ◌+◌, ◌≡◌, length, subst, sym, �
 use Rattle.std.proofs.lemmas.List.{get_or_read}
 use Rattle.svex_arena.proofs.Keeping.{extends_on}
 use Rattle.svex_arena.proofs.Steps.{width-extends}
-use Rattle.sv_blocks.proofs.Stores.{node_width}
+use Rattle.sv_stores.proofs.Stores.{node_width}
 use Rattle.sv_blocks.proofs.Merging.{Chooses, chooses_more, merges_all}
 use Rattle.sv_blocks.proofs.states.merged.Goals as goal
 

@@ -1,4 +1,4 @@
-use Rattle.sv_blocks.proofs.Stores.{put_comb}
+use Rattle.sv_stores.proofs.Stores.{put_comb}
 use Rattle.sv_blocks.proofs.states.put_node.Goals as goal
 
 pub returns-in_ok-seen-in-None-clause-state : goal.returns-in_ok-seen-in-None-clause-state

@@ -1,4 +1,4 @@
-use Rattle.sv_blocks.proofs.Stores.{state_made}
+use Rattle.sv_stores.proofs.Stores.{state_made}
 use Rattle.sv_blocks.proofs.states.state_of.Goals as goal
 
 pub returns-clause-state : goal.returns-clause-state

@@ -1,8 +1,8 @@
 use Rattle.std.proofs.Common.{◌≡◌, arith}
 use Rattle.sv_const.specs.Names.{names_are}
-use Rattle.sv_blocks.specs.Texts.{root_signals}
+use Rattle.sv_actions.specs.Texts.{root_signals}
 use Rattle.sv_blocks.specs.Declaring.{wires_are}
-use Rattle.sv_blocks.proofs.Rooting.{ok_tail, root_name, root_concat, each_begin, each_more, each_end}
+use Rattle.sv_actions.proofs.Rooting.{ok_tail, root_name, root_concat, each_begin, each_more, each_end}
 use Rattle.sv_blocks.proofs.wires.+lvalue.Goals as goal
 
 pub target_wires-returns-in-Name-clause-is : goal.target_wires-returns-in-Name-clause-is

@@ -1,8 +1,8 @@
 use Rattle.std.proofs.Common.{◌≡◌, arith}
 use Rattle.sv_const.specs.Names.{names_are}
-use Rattle.sv_blocks.specs.Texts.{target_signals, arm_signals}
+use Rattle.sv_actions.specs.Texts.{target_signals, arm_signals}
 use Rattle.sv_blocks.specs.Declaring.{wires_are}
-use Rattle.sv_blocks.proofs.Rooting.{ok_tail, of_empty, of_block, of_if, of_case, of_for, of_assign, of_other, of_no_other, of_labels, of_default, each_begin, each_more, each_end}
+use Rattle.sv_actions.proofs.Rooting.{ok_tail, of_empty, of_block, of_if, of_case, of_for, of_assign, of_other, of_no_other, of_labels, of_default, each_begin, each_more, each_end}
 use Rattle.sv_blocks.proofs.wires.+statement.Goals as goal
 
 pub stmt_wires-returns-in-Empty-clause-is : goal.stmt_wires-returns-in-Empty-clause-is

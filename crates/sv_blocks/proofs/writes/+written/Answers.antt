@@ -1,4 +1,4 @@
-use Rattle.std.proofs.Common.{◌≡◌, ◌-◌, ◌<◌, true, false, eqb, length, take, drop, subst, sym, arith, length-take, length-drop}
+use Rattle.std.proofs.Common.{◌≡◌, ◌-◌, ◌<◌, ◌∙◌, true, false, eqb, length, take, drop, subst, sym, arith, length-take, length-drop}
 use Rattle.std.proofs.lemmas.List.{nil_from_length, take_rest}
 use Rattle.std.proofs.lemmas.List.Elements.{All-take, All-drop}
 use Rattle.std.proofs.lemmas.Bool.Decides.{nat_tests}
@@ -6,16 +6,16 @@ use Rattle.svex_arena.proofs.Keeping.{extends_on}
 use Rattle.sv_typed.specs.Typed.{PickIsSound}
 use Rattle.sv_typed.proofs.Below as below
 use Rattle.sv_stmt.proofs.Lowered.{element}
-use Rattle.sv_blocks.specs.Parts.{IsWritten}
-use Rattle.sv_blocks.proofs.Stores.{state_kept}
-use Rattle.sv_blocks.proofs.Writing.{written_none, written_last, written_more, spot_later}
+use Rattle.sv_blocks.specs.Parts.{IsWritten, SpotIsWide}
+use Rattle.sv_stores.proofs.Stores.{state_kept}
+use Rattle.sv_blocks.proofs.Writing.{written_none, written_last, written_more, spot_later, last_wide, rest_wide}
 use Rattle.sv_blocks.proofs.writes.+written.Goals as goal
 
 pub returns-then-is_empty-clause-ok : goal.returns-then-is_empty-clause-ok
 returns-then-is_empty-clause-ok t c =
     let e : true ≡ eqb (length c.args.picks.now) 0 = c.if-is_empty.ensures in
     let z : length c.args.picks.now ≡ 0 = grind (arith, nat_tests, e) in
-    written_none _ _ _ _ _ _ c.requires.value (nil_from_length c.args.picks.now z)
+    written_none _ _ _ _ _ _ c.requires.value (nil_from_length c.args.picks.now z) c.requires.wide
 
 pub returns-then-picks-eq1-clause-ok : goal.returns-then-picks-eq1-clause-ok
 returns-then-picks-eq1-clause-ok t c =
@@ -46,7 +46,13 @@ written-requires t c =
           state_kept _ _ _ _ grown c.requires.state,
           (
             All-take PickIsSound (length c.args.picks.now - 1) (drop 1 c.args.picks.now) (All-drop PickIsSound 1 c.args.picks.now c.requires.sound),
-            (c.in_ok-part.ensures.ok.within, (let a = grown.longer in let b = c.requires.value in omega arith)),
+            (
+              c.in_ok-part.ensures.ok.within,
+              (
+                (let a = grown.longer in let b = c.requires.value in omega arith),
+                rest_wide _ _ _ _ _ _ _ _ some c.index-picks-0.is (take_rest c.args.picks.now 1) c.requires.value c.requires.wide grown c.in_ok-part.ensures.ok.width,
+              ),
+            ),
           ),
         ),
       ),
@@ -60,3 +66,11 @@ returns-clause-ok t c =
     c.in_ok-at.ensures.ok c.in_ok-part.ensures.ok
     (subst (λ xs. IsWritten c.args.scene.now c.read_part.new.arena c.written.new.arena c.args.state.now.nodes xs c.in_ok-part.part c.args.value c.in_ok-inner.inner) (take_rest c.args.picks.now 1) c.in_ok-inner.ensures.ok)
     c.in_ok-node-2.ensures.ok
+
+pub put_part-requires-then-picks-eq1-clause-wide : goal.put_part-requires-then-picks-eq1-clause-wide
+put_part-requires-then-picks-eq1-clause-wide t c =
+    let one : length c.args.picks.now ≡ 1 = c.if-picks-eq1.true in
+    last_wide _ _ _ _ _ _ _ (omega arith) c.index-picks-0.is one c.requires.value c.requires.wide c.in_ok-at.ensures.stays c.in_ok-at.ensures.ok.wide
+
+pub put_part-requires-clause-wide : goal.put_part-requires-clause-wide
+put_part-requires-clause-wide t c = subst (SpotIsWide c.in_ok-at.at) (sym (c.in_ok-inner.ensures.ok.width ∙ c.in_ok-part.ensures.ok.width)) c.in_ok-at.ensures.ok.wide

@@ -4,7 +4,7 @@ use Rattle.sv_const.specs.Names.{names_are}
 use Rattle.sv_hierarchy.specs.Scopes.{work_of}
 use Rattle.sv_scope.specs.declared.walker.Task.{Task}
 use Rattle.sv_scope.specs.Walks.{task_is}
-use Rattle.sv_blocks.specs.Blocks.{AreWires}
+use Rattle.sv_driving.specs.Blocks.{AreWires}
 use Rattle.sv_elab.specs.Working.{IsWorked, JudgesWork}
 use Rattle.sv_elab.proofs.Working.{assignment_worked, block_worked}
 use Rattle.sv_elab.proofs.works.work_parts.Goals as goal

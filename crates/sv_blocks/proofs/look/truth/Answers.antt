@@ -1,5 +1,0 @@
-use Rattle.sv_blocks.proofs.Yielding.{typed_own}
-use Rattle.sv_blocks.proofs.look.truth.Goals as goal
-
-pub lowered-requires-clause-most : goal.lowered-requires-clause-most
-lowered-requires-clause-most c = typed_own _ c.requires.sound

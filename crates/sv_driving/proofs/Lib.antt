@@ -1,0 +1,5 @@
+pub mod Having
+pub mod Contributing
+pub mod Naming
+pub mod Rooted
+pub mod Judging

@@ -1,0 +1,38 @@
+use Rattle.std.proofs.Common.{◌≡◌, List, [], ◌++◌, sym, ap, ◌∙◌, subst}
+use Rattle.std.proofs.lemmas.Result.{err_from_is_err_and}
+use Rattle.sv_const.specs.Kinds.{scope_is}
+use Rattle.sv_const.specs.Judging.{IsCause}
+use Rattle.sv_const.specs.Names.{names_are}
+use Rattle.sv_meaning.specs.Layouts.{Scope}
+use Rattle.sv_meaning.specs.Deeds.{deed}
+use Rattle.sv_meaning.specs.Blocks.{event_faults, marks, is_clocked, manner}
+use Rattle.sv_actions.specs.declared.action.Action.{Action}
+use Rattle.sv_actions.specs.Texts.{target_signals}
+use Rattle.sv_driving.specs.Blocks.{Contributes}
+use Rattle.sv_driving.proofs.Judging.{cause_mark, mark_cause, block_sound, block_mentions}
+use Rattle.sv_driving.proofs.block.block_drivers.Goals as goal
+
+pub returns-in_err-judge_marks-clause-cause : goal.returns-in_err-judge_marks-clause-cause
+returns-in_err-judge_marks-clause-cause c =
+    let at = names_are c.args.names.now in
+    let b = c.args.block.now in
+    let p = err_from_is_err_and c.from_residual-in_err-judge_marks.result c.from_residual-in_err-judge_marks.ensures.1 in
+    let e = c.in_err-judge_marks.field-0.0 in
+    let m : IsCause (marks (is_clocked b.kind) b.body) e = mark_cause c.is_some.result (is_clocked b.kind) b.body e (c.is_some.ensures ∙ c.in_ok-clock.ensures.clocked) c.in_err-judge_marks.ensures.cause in
+    rw (p.1, p.2) (cause_mark (event_faults at b.kind) (marks (is_clocked b.kind) b.body) ((deed b.body at).faults ++ (deed b.body at).overrun c.args.made) e m)
+
+pub returns-clause-sound : goal.returns-clause-sound
+returns-clause-sound c = λ widths w.
+    let b = c.args.block.now in
+    let same = ap scope_is c.in_ok-actions.ensures.names in
+    let g = subst (λ (s : Scope). Contributes s (target_signals s b.body) c.in_ok-clock.clock c.as_slice.result.now c.drivers_in.new.arena c.in_ok-all.all) same c.in_ok-all.ensures.ok in
+    let h = subst (λ (z : List Action). Contributes (names_are c.args.names.now) (target_signals (names_are c.args.names.now) b.body) c.in_ok-clock.clock z c.drivers_in.new.arena c.in_ok-all.all) c.as_slice.ensures g in
+    block_sound (names_are c.args.names.now) c.in_ok-clock.clock _ b c.drivers_in.new.arena c.in_ok-all.all c.in_ok-clock.ensures.clock.named_are c.in_ok-actions.ensures.is.does h widths w
+
+pub returns-clause-mentions : goal.returns-clause-mentions
+returns-clause-mentions c = λ wires p w r.
+    let b = c.args.block.now in
+    let same = ap scope_is c.in_ok-actions.ensures.names in
+    let g = subst (λ (s : Scope). Contributes s (target_signals s b.body) c.in_ok-clock.clock c.as_slice.result.now c.drivers_in.new.arena c.in_ok-all.all) same c.in_ok-all.ensures.ok in
+    let h = subst (λ (z : List Action). Contributes (names_are c.args.names.now) (target_signals (names_are c.args.names.now) b.body) c.in_ok-clock.clock z c.drivers_in.new.arena c.in_ok-all.all) c.as_slice.ensures g in
+    block_mentions (names_are c.args.names.now) c.in_ok-clock.clock _ b (manner (names_are c.args.names.now) b.kind) c.drivers_in.new.arena c.in_ok-all.all c.in_ok-clock.ensures.clock.manner_is c.in_ok-clock.ensures.clock.named_are c.in_ok-actions.ensures.is.does h wires p w r

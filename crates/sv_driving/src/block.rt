@@ -1,0 +1,138 @@
+// Blocks as drivers (IEEE 1800-2017, 9.2.2).
+ghost use Rattle.std.specs.Prelude.{◌≡◌, ℕ, Bool, ◌+◌, List, [], true, All, Some, is_some, IsTrue, IfOk, IfErr};
+ghost use Rattle.sv_outside.specs.declared.text.Signal.{Signal};
+ghost use Rattle.svex_arena.specs.declared.shape.VarName.{VarName};
+ghost use Rattle.svex_arena.specs.Values.{each_variable};
+ghost use Rattle.svex_arena.specs.Arenas.{Extends};
+ghost use Rattle.driver_resolve.specs.Drivers.{Phase, IsDriver, widths_of, drivers_give};
+ghost use Rattle.sv_const.specs.Kinds.{what_is, WhatIsSound};
+ghost use Rattle.sv_const.specs.Judging.{IsCause};
+ghost use Rattle.sv_const.specs.Names.{names_are, entries_of};
+ghost use Rattle.sv_meaning.specs.Deeds.{deed};
+ghost use Rattle.sv_meaning.specs.Layouts.{Scope, find};
+ghost use Rattle.sv_meaning.specs.Blocks.{is_clocked, clock_faults, event_faults, event_manner, block_faults, block_value, manner};
+ghost use Rattle.sv_meaning.specs.Designs.{block_gives, block_names};
+ghost use Rattle.sv_actions.specs.Doing.{Fits};
+ghost use Rattle.sv_actions.specs.Texts.{signal_of, target_signals, event_signals, signals_of};
+ghost use Rattle.sv_driving.specs.Blocks.{AreWires, Reads, JudgesClock, Contributes};
+
+use driver_resolve::Driver;
+use items::Items;
+use std::alloc::{AllocError, Global};
+use sv_actions::{Acted, Action, judge_marks, typed_body};
+use sv_blocks::{Clock, Marked, all_bits, mark_all, scene_drivers, scene_of, stmt_wires, wire_of};
+use sv_const::{Names, What, refusal};
+use sv_outside::TextErr;
+use sv_tree::{Block, BlockKind, Event, Stmt};
+use svex_arena::Arena;
+
+// The clock of an event by what its name stands for: a net or variable of one bit; or E12 or E14.
+fn clock_in(event: &Event, what: &What) -> Result<Option<Clock>, TextErr>
+    ensures clock { (at : Scope) → WhatIsSound what.now → find event.now.name.text at ≡ Some (what_is what.now) → JudgesClock (signal_of (find event.now.name.text at)) (clock_faults event.now.name (find event.now.name.text at)) (event_manner at event.now) result }
+    ensures some { IfOk result (λ o. is_some o ≡ true) }
+{
+    match what {
+        What::Wire { number, layout } => {
+            if layout.width == 1 {
+                Ok(Some(Clock {
+                    edge: event.edge,
+                    wire: *number,
+                }))
+            } else {
+                Err(TextErr::No(refusal(14, event.name.place)))
+            }
+        }
+        What::Number(_) => Err(TextErr::No(refusal(12, event.name.place))),
+        What::Kind(_) => Err(TextErr::No(refusal(12, event.name.place))),
+        What::Chosen { .. } => Err(TextErr::No(refusal(12, event.name.place))),
+        What::Sampled { .. } => Err(TextErr::No(refusal(12, event.name.place))),
+        What::Genvar => Err(TextErr::No(refusal(12, event.name.place))),
+    }
+}
+
+// The clock of an event.
+fn event_clock(event: &Event, names: &Names<'_>) -> Result<Option<Clock>, TextErr>
+    ensures clock { JudgesClock (signal_of (find event.now.name.text (names_are names.now))) (clock_faults event.now.name (find event.now.name.text (names_are names.now))) (event_manner (names_are names.now) event.now) result }
+    ensures some { IfOk result (λ o. is_some o ≡ true) }
+{
+    match names.find(event.name.text.bytes()) {
+        Some(what) => clock_in(event, what),
+        None => Err(TextErr::No(refusal(12, event.name.place))),
+    }
+}
+
+// The clock of a block, if it is clocked.
+fn clock_of(kind: &BlockKind, names: &Names<'_>) -> Result<Option<Clock>, TextErr>
+    ensures clock { JudgesClock (event_signals (names_are names.now) kind.now) (event_faults (names_are names.now) kind.now) (manner (names_are names.now) kind.now) result }
+    ensures clocked { IfOk result (λ o. is_some o ≡ is_clocked kind.now) }
+{
+    match kind {
+        BlockKind::Comb => Ok(None),
+        BlockKind::Star => Ok(None),
+        BlockKind::StarParen => Ok(None),
+        BlockKind::Ff(event) => event_clock(event, names),
+        BlockKind::Always(event) => event_clock(event, names),
+    }
+}
+
+// The drivers of a block whose statements do these actions.
+fn drivers_in(
+    alloc: Global,
+    arena: &mut Arena,
+    body: &Stmt,
+    names: &Names<'_>,
+    clock: Option<Clock>,
+    actions: &[Action],
+) -> Result<Items<Driver>, AllocError>
+    requires { All Fits actions.now }
+    ensures stays { Extends arena.old arena.new }
+    ensures ok { IfOk result (λ all. Contributes (names_are names.now) (target_signals (names_are names.now) body.now) clock actions.now arena.new all) }
+{
+    let mut wires = Vec::new(alloc);
+    stmt_wires(body, names, &mut wires)?;
+    let scene = scene_of(alloc, &wires, wire_of(clock))?;
+    let mut bits = Vec::new(alloc);
+    all_bits(alloc, actions, &mut bits)?;
+    let Marked { scene, bits } = mark_all(alloc, scene, &bits)?;
+    let all = scene_drivers(alloc, arena, &scene, clock, actions, bits.as_slice())?;
+    Ok(all)
+}
+
+/// What a block contributes to the bits that it writes, over the names of its place, where so many turns of loops were made before;
+/// with the turns that are made behind it. Or why it is refused: E2, E12, E14, E15, E16, E19, E20, E23, E24 or E25.
+///
+/// The drivers follow the order in which the text writes bits for the last time, one for each run of bits that follow one another in
+/// one wire. The names are afterwards as before.
+pub fn block_drivers(
+    alloc: Global,
+    arena: &mut Arena,
+    block: &Block,
+    names: &mut Names<'_>,
+    made: u64,
+) -> Result<(Items<Driver>, u64), TextErr>
+    ensures stays { Extends arena.old arena.new }
+    ensures names { entries_of names.new ≡ entries_of names.old }
+
+    // Nothing stands against the block, and so many turns are made behind it.
+    ensures clear { IfOk result (λ t. block_faults (names_are names.old) block.now made ≡ []) }
+    ensures turns { IfOk result (λ t. t.1 ≡ made + (deed block.now.body (names_are names.old)).turns) }
+
+    // The drivers give in every phase exactly what the block contributes there, in the same order.
+    ensures gives { IfOk result (λ t. (p : Phase) → drivers_give arena.new t.0 p
+        ≡ block_gives (deed block.now.body (names_are names.old)) (block_value (manner (names_are names.old) block.now.kind) (deed block.now.body (names_are names.old)) p.previous p.present)) }
+
+    // Each is sound, where each name of a signal stands for one of these wires.
+    ensures sound { IfOk result (λ t. (widths : List ℕ) → AreWires (names_are names.old) widths → All (IsDriver widths arena.new) t.0) }
+
+    // They mention no signals but those that the block names, and in the present only those that it names there.
+    ensures mentions { IfOk result (λ t. (wires : List Signal) (p : VarName → ℕ → Bool) → AreWires (names_are names.old) (widths_of wires)
+        → Reads (signals_of (names_are names.old) block.now) (block_names wires (manner (names_are names.old) block.now.kind) (deed block.now.body (names_are names.old))) p
+        → All (λ d. IsTrue (each_variable p arena.new d.value)) t.0) }
+    ensures cause { IfErr result (λ e. IsCause (block_faults (names_are names.old) block.now made) e) }
+{
+    let clock = clock_of(&block.kind, names)?;
+    judge_marks(clock.is_some(), &block.body)?;
+    let Acted { actions, made } = typed_body(alloc, &block.body, names, made)?;
+    let all = drivers_in(alloc, arena, &block.body, names, clock, actions.as_slice())?;
+    Ok((all, made))
+}

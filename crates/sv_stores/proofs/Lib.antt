@@ -1,0 +1,5 @@
+pub mod Narrowing
+pub mod Stores
+pub mod Looking
+pub mod Yielding
+pub mod Starting

@@ -1,0 +1,11 @@
+use Rattle.sv_stores.proofs.Looking.{clocked_yields, comb_yields}
+use Rattle.sv_stores.proofs.look.lowered.Goals as goal
+
+pub returns-in_ok-node-in-Some-clause-ok : goal.returns-in_ok-node-in-Some-clause-ok
+returns-in_ok-node-in-Some-clause-ok c =
+    clocked_yields _ _ _ _ _ c.args.typed.now _ _ _ c.in-Some.is c.in_ok-node-in-Some.ensures.within c.in_ok-node-in-Some.ensures.width c.in_ok-node-in-Some.ensures.value c.in_ok-node-in-Some.ensures.mentions
+
+pub returns-in_ok-node-in-None-clause-ok : goal.returns-in_ok-node-in-None-clause-ok
+returns-in_ok-node-in-None-clause-ok c =
+    comb_yields _ _ _ _ c.as_slice.result c.as_slice-in-None.result c.args.typed.now _ _ _ c.as_slice.ensures c.as_slice-in-None.ensures c.requires.scene c.in-None.is c.requires.state (c.is_narrow.ensures c.if-not-is_narrow.false)
+    c.in_ok-node-in-None.ensures.within c.in_ok-node-in-None.ensures.width c.in_ok-node-in-None.ensures.value c.in_ok-node-in-None.ensures.mentions

@@ -1,0 +1,12 @@
+//! Stores of blocks as nodes: what names read in a block, where a block begins, and what sets it off (IEEE 1800-2017, 9.2.2, 9.4.2).
+#![tactic(auto)]
+
+mod look;
+mod narrow;
+mod scene;
+mod start;
+
+pub use look::{lowered, truth};
+pub use narrow::place_in;
+pub use scene::{Scene, State};
+pub use start::{start_nodes, trigger};
