@@ -1,11 +1,10 @@
 -- The scopes that an instance stands in are complete where its ports are numbered: each step of a walk leaves the first scopes as they
 -- are, and what an instance is connected to is numbered below its ports.
-use Rattle.std.proofs.Common.{◌≡◌, ℕ, zero, suc, ◌+◌, ◌<◌, ◌≤◌, Bool, true, false, ◌&&◌, List, [], ◌∷◌, ◌++◌, length, Option, Some, None, Ok, Err, refl, sym, ap, ◌∙◌, subst, arith, length-append}
+use Rattle.std.proofs.Common.{◌≡◌, ℕ, zero, suc, ◌+◌, ◌<◌, ◌≤◌, Bool, true, false, ◌&&◌, List, [], ◌∷◌, ◌++◌, length, Option, Some, None, Ok, refl, ap, ◌∙◌, subst, arith, length-append}
 use mathlib.Core.Former.{Count}
 use Rattle.std.specs.List.{Contains}
 use Rattle.fourvec.specs.declared.Bit.{Bit}
 use Rattle.sv_outside.specs.declared.refusal.Place.{Place}
-use Rattle.sv_outside.specs.declared.text.Signal.{Signal}
 use Rattle.sv_tree.specs.declared.word.Word.{Word}
 use Rattle.sv_tree.specs.declared.exprs.Expr.{Expr}
 use Rattle.sv_tree.specs.declared.forms.TypeTree.{TypeTree}
@@ -29,16 +28,16 @@ use Rattle.sv_tree.specs.declared.design.SourcePart.TheVariants as source_part
 use Rattle.sv_tree.specs.declared.design.Item.{Item, Net, Variable, Typedef, Param, Genvar, Assign, Always, Inst, For', If', Generate', Row_of-Item, end_of-Item, more_of-Item, end_of-Gen, more_of-Gen, Held-Item-If-3, None', Some'}
 use Rattle.sv_tree.specs.declared.design.Gen.{Gen, Block', Single'}
 use Rattle.sv_meaning.specs.Faults.{Judged, provided, ◌>>=◌, fault_if, twice}
-use Rattle.sv_meaning.specs.Layouts.{Name, Layout, scalar, width, Scope, What, type_is, signal_is, genvar_is, of_wires, find, NamedSignal, Declared as DeclaredSignal}
+use Rattle.sv_meaning.specs.Layouts.{Name, Layout, scalar, Scope, What, type_is, signal_is, genvar_is, of_wires, find, NamedSignal, Declared as DeclaredSignal}
 use Rattle.sv_meaning.specs.Forms.{Entry, Declared, Formed, entry_of, form}
 use Rattle.sv_meaning.specs.Values.{mean}
 use Rattle.sv_meaning.specs.Deeds.{index_entry, turns, fixed_truth}
 use Rattle.sv_meaning.specs.Params.{Connection, connections, param_value}
-use Rattle.sv_hierarchy.specs.Scopes.{Level, Front, State, Walk, stay, then_walk, here, mine, Task, assigning, running, connecting, Standing, Child, seen_at, live_at, genvar_faults, open_params, port_texts, is_there, module_named, Given, walk_all, declare_at, declare, with_const, with_net, see_const, add_constant, add_constants, with_wire, add_wire, formed, with_form, with_form_or_bit, add_typedef, meant, given_to, seen, add_param, add_param_item, add_params, add_genvar, add_work, add_assignment, add_child, child_of, inner, outer, enclosed, block_name, block_place, block_walk, turn_name, count_turn, turn_walk, Body, turns_walk, loop_walk, Act, Branch, act_of, chosen_branch, conditional, numbered, body_of, act, acts, under, under_else, Header, header_of, header_params, OpenPort, is_input, or_way, add_port, port_form, header_ports, ports_of, Known, Library, begun, port_works, instance_walk, given_by, module_of, count_instance, below, child, file_state, no_level, library, top_module, deepest, from_top, scopes}
+use Rattle.sv_hierarchy.specs.Scopes.{Level, Front, State, Walk, stay, then_walk, here, mine, Task, assigning, running, connecting, Standing, Child, seen_at, live_at, genvar_faults, open_params, port_texts, is_there, module_named, Given, walk_all, declare_at, declare, with_const, with_net, see_const, add_constant, add_constants, with_wire, add_wire, formed, with_form, with_form_or_bit, add_typedef, meant, given_to, seen, add_param, add_param_item, add_params, add_genvar, add_work, add_assignment, add_child, child_of, inner, enclosed, block_name, block_place, block_walk, turn_name, count_turn, turn_walk, Body, turns_walk, loop_walk, Act, Branch, act_of, chosen_branch, conditional, numbered, body_of, act, acts, under, under_else, Header, header_of, header_params, OpenPort, is_input, or_way, add_port, port_form, header_ports, ports_of, Known, Library, begun, port_works, instance_walk, given_by, module_of, count_instance, below, child, file_state, no_level, library, top_module, deepest, scopes}
 use Rattle.scope_laws.proofs.Plain.{same_ok, bind_ok, provided_ok}
-use Rattle.scope_laws.proofs.Keeping.{Inv, header_keeps, library_keeps, instance_keeps, begun_good, formed_wires, Added, wire_added, file_good}
+use Rattle.scope_laws.proofs.Keeping.{Inv, header_keeps, library_keeps, instance_keeps, begun_good, formed_wires, wire_added, file_good}
 use Rattle.scope_laws.proofs.Seen.{live_good}
-use Rattle.scope_laws.proofs.Above.{AreNear, near_last, LevelsNear, levels_near_wider, levels_near_push, level_near, StartsWith, starts_long, starts_on, NearAt, live_kept, IsBelow, AreBelow, good_below, StandsAbove, TaskAbove, WorksAbove, works_on, above_both, above_none, above_one, PortsFrom, ports_from_lower, port_works_above, ChildrenNear, children_wider, children_last, no_children, Shape, shape_with}
+use Rattle.scope_laws.proofs.Above.{AreNear, near_last, LevelsNear, levels_near_wider, levels_near_push, level_near, starts_long, starts_on, NearAt, live_kept, IsBelow, AreBelow, good_below, StandsAbove, TaskAbove, WorksAbove, works_on, above_both, above_one, PortsFrom, ports_from_lower, port_works_above, ChildrenNear, children_wider, children_last, no_children, Shape, shape_with}
 
 abbrev Held : List Level → List Level → State → Type 0
 Held base old st = Shape old st.levels st.me st.children × WorksAbove base st.works
@@ -337,8 +336,7 @@ begun_held : (m : Known) (path : Name) (parent : ℕ) (params : List Given) (st 
 unfolding AreNear
 begun_held m path parent params st i =
     let x : Level = record { path = path; module_number = m.number; parent = parent; around = record { level = 0; nets = 0; consts = m.above } ∷ []; nets = []; consts = [] } in
-    let long = one_longer st.levels x in
-    (
+    let long = one_longer st.levels x in (
       record {
         starts = (x ∷ [], refl);
         behind = omega arith;

@@ -1,5 +1,5 @@
 -- Scopes in which each signal is a wire.
-use Rattle.std.proofs.Common.{◌≡◌, ℕ, zero, suc, ◌+◌, ◌<◌, List, [], ◌∷◌, ◌++◌, length, map, take, get_or, refl, sym, ap, ◌∙◌, subst, arith, length-append}
+use Rattle.std.proofs.Common.{◌≡◌, ℕ, zero, suc, ◌<◌, List, [], ◌∷◌, ◌++◌, length, take, get_or, refl, ap, ◌∙◌, arith, length-append}
 use Rattle.std.proofs.lemmas.List.{map-append, length-map, get_or_append_left, get_or_push}
 use Rattle.sv_outside.specs.declared.text.Signal.{Signal}
 use Rattle.sv_meaning.specs.Layouts.{Layout, width, What, number_is, type_is, signal_is, genvar_is, of_wires}

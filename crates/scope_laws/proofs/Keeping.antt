@@ -1,5 +1,5 @@
 -- Each step of a walk through the items of a design keeps it so that each signal of a scope is a wire.
-use Rattle.std.proofs.Common.{◌≡◌, ℕ, zero, suc, Bool, true, false, ◌&&◌, List, [], ◌∷◌, ◌++◌, length, Option, Some, None, Ok, Err, refl, sym, ap, ◌∙◌, subst}
+use Rattle.std.proofs.Common.{◌≡◌, ℕ, zero, suc, Bool, true, false, ◌&&◌, List, [], ◌∷◌, ◌++◌, length, Option, Some, None, Ok, refl, sym, ap, ◌∙◌, subst}
 use mathlib.Core.Former.{Count}
 use Rattle.fourvec.specs.declared.Bit.{Bit}
 use Rattle.sv_outside.specs.declared.refusal.Place.{Place}
@@ -11,7 +11,6 @@ use Rattle.sv_tree.specs.declared.design.ParamWord.{ParamWord}
 use Rattle.sv_tree.specs.declared.design.ParamWord.TheVariants as param_word
 use Rattle.sv_tree.specs.declared.design.ParamType.{ParamType}
 use Rattle.sv_tree.specs.declared.design.ParPort.{ParPort}
-use Rattle.sv_tree.specs.declared.design.ParamItem.{ParamItem}
 use Rattle.sv_tree.specs.declared.design.Param.{Param as ParamTree}
 use Rattle.sv_tree.specs.declared.design.Way.{Way}
 use Rattle.sv_tree.specs.declared.design.Way.TheVariants as way
@@ -33,8 +32,8 @@ use Rattle.sv_meaning.specs.Forms.{Entry, Declared, Formed, entry_of, form}
 use Rattle.sv_meaning.specs.Values.{mean}
 use Rattle.sv_meaning.specs.Deeds.{index_entry, turns, fixed_truth}
 use Rattle.sv_meaning.specs.Params.{Connection, connections, param_value}
-use Rattle.sv_hierarchy.specs.Scopes.{Level, Front, State, Walk, stay, then_walk, here, Task, assigning, running, connecting, Child, seen_at, genvar_faults, open_params, port_texts, is_there, module_named, Given, walk_all, declare_at, declare, with_const, with_net, see_const, add_constant, add_constants, with_wire, add_wire, path_of, formed, with_form, with_form_or_bit, add_typedef, meant, given_to, seen, mine, add_param, add_param_item, add_params, add_genvar, add_work, add_assignment, add_child, child_of, inner, outer, enclosed, block_name, block_place, block_walk, turn_name, count_turn, turn_walk, Body, turns_walk, loop_walk, next_construct, Act, Branch, act_of, chosen_branch, conditional, numbered, body_of, act, acts, under, under_else, Header, header_of, header_params, OpenPort, is_input, or_way, add_port, port_form, header_ports, ports_of, Known, Library, begun, port_works, instance_walk, given_by, module_of, count_instance, below, child, file_state, no_level, library, top_module, deepest, from_top, scopes}
-use Rattle.scope_laws.proofs.Good.{IsGood, AreGood, LevelIsGood, LevelsAreGood, none_good, one_good, both_good, levels_wider, last_good, levels_push, levels_with, IsPort, ArePorts, TaskIsGood, WorksAreGood, port_wider, works_wider, works_both, works_one, port_works_good}
+use Rattle.sv_hierarchy.specs.Scopes.{Front, State, Walk, stay, then_walk, here, Task, assigning, running, Child, seen_at, genvar_faults, open_params, port_texts, is_there, module_named, Given, walk_all, declare_at, declare, with_const, with_net, see_const, add_constant, add_constants, with_wire, add_wire, path_of, formed, with_form, with_form_or_bit, add_typedef, meant, given_to, seen, add_param, add_param_item, add_params, add_genvar, add_work, add_assignment, add_child, inner, enclosed, block_name, block_place, block_walk, turn_name, count_turn, turn_walk, Body, turns_walk, loop_walk, Act, Branch, act_of, chosen_branch, conditional, numbered, body_of, act, acts, under, under_else, Header, header_of, header_params, OpenPort, is_input, or_way, add_port, port_form, header_ports, ports_of, Known, Library, begun, port_works, instance_walk, given_by, module_of, count_instance, below, child, file_state, library, top_module, deepest, scopes}
+use Rattle.scope_laws.proofs.Good.{IsGood, AreGood, LevelsAreGood, none_good, one_good, both_good, levels_wider, last_good, levels_push, levels_with, IsPort, ArePorts, TaskIsGood, WorksAreGood, port_wider, works_wider, works_both, works_one, port_works_good}
 use Rattle.scope_laws.proofs.Plain.{same_ok, bind_ok, provided_ok, IsPlain, ArePlain, form_plain, param_plain}
 
 abbrev pub Inv : State → Type 0

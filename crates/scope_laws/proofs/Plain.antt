@@ -1,20 +1,19 @@
 -- The constants and types that declarations bring are no signals.
-use Rattle.std.proofs.Common.{◌≡◌, ℕ, Bool, List, [], ◌∷◌, ◌++◌, Option, Some, None, Ok, Err, refl, sym, ap, ◌∙◌, subst}
+use Rattle.std.proofs.Common.{◌≡◌, ℕ, Bool, List, [], ◌∷◌, ◌++◌, Option, Some, None, Ok, Err, refl, subst}
 use mathlib.Core.Former.{Count}
 use Rattle.std.specs.Prelude.{ℤ, ◌+ℤ◌, pos, ◌+◌}
 use Rattle.fourvec.specs.Bits.{signed_vector}
 use Rattle.sv_outside.specs.declared.text.Signal.{Signal}
-use Rattle.sv_tree.specs.declared.word.Word.{Word}
 use Rattle.sv_tree.specs.declared.forms.EnumLabel.{EnumLabel}
 use Rattle.sv_tree.specs.declared.forms.TypeTree.{TypeTree, Vector, Integer, Struct', Enum, Named, Row_of-Member, end_of-Member, more_of-Member}
 use Rattle.sv_tree.specs.declared.forms.Member.{Of', end_of-TypeTree, more_of-TypeTree}
 use Rattle.sv_tree.specs.declared.design.ParamType.{ParamType}
 use Rattle.sv_tree.specs.declared.design.ParamType.TheVariants as param_type
 use Rattle.sv_meaning.specs.Faults.{Faults, Judged, provided, ◌>>=◌}
-use Rattle.sv_meaning.specs.Layouts.{Name, Layout, width, Scope, What, number_is, type_is, signal_is, genvar_is, find}
+use Rattle.sv_meaning.specs.Layouts.{Name, Layout, width, Scope, What, number_is, find}
 use Rattle.sv_meaning.specs.Meanings.{Meaning}
-use Rattle.sv_meaning.specs.Forms.{Declared, Formed, entry_of, entries_of, has_sign, option_to_list, vector_layout, struct_layout, named_layout, label_number, label_entry, labels, texts_of, bits_of, member_faults, members_of, alone, form, forms}
-use Rattle.sv_meaning.specs.Params.{untyped, with_sign, typed, range_width, param_value}
+use Rattle.sv_meaning.specs.Forms.{Declared, Formed, entry_of, entries_of, has_sign, option_to_list, vector_layout, struct_layout, named_layout, label_number, label_entry, labels, texts_of, bits_of, member_faults, alone, form, forms}
+use Rattle.sv_meaning.specs.Params.{typed, range_width, param_value}
 use Rattle.scope_laws.proofs.Good.{IsGood}
 
 -- ---- what is judged

@@ -1,13 +1,13 @@
 -- What a place sees at the end.
-use Rattle.std.proofs.Common.{◌≡◌, ℕ, zero, suc, ◌<◌, List, [], ◌∷◌, ◌++◌, length, take, get_or, Option, Ok, refl, sym, ap, ◌∙◌, subst, arith}
+use Rattle.std.proofs.Common.{◌≡◌, ℕ, zero, suc, List, [], ◌∷◌, ◌++◌, take, Option, Ok, ◌∙◌, subst, arith}
 use Rattle.std.specs.List.{Contains}
 use Rattle.sv_tree.specs.declared.design.Source.{Source}
 use Rattle.sv_outside.specs.declared.text.Signal.{Signal}
-use Rattle.sv_meaning.specs.Layouts.{Name, Layout, width, What, signal_is, of_wires, NamedSignal, Declared}
+use Rattle.sv_meaning.specs.Layouts.{Name, Layout, width, signal_is, of_wires, NamedSignal, Declared}
 use Rattle.sv_meaning.specs.Forms.{Entry}
 use Rattle.sv_tree.specs.declared.exprs.Expr.{Expr}
 use Rattle.sv_tree.specs.declared.design.Way.{Way}
-use Rattle.sv_hierarchy.specs.Scopes.{Level, Front, State, Standing, connecting, no_level, level_at, fronts_at, live_along, live_at, scopes}
+use Rattle.sv_hierarchy.specs.Scopes.{Level, Front, State, Standing, connecting, level_at, fronts_at, live_along, live_at, scopes}
 use Rattle.scope_laws.specs.Wires.{IsWire}
 use Rattle.scope_laws.proofs.Good.{IsGood, AreGood, LevelIsGood, LevelsAreGood, none_good, both_good, front_good, TaskIsGood, WorksAreGood}
 use Rattle.scope_laws.proofs.Keeping.{scopes_good}
