@@ -27,7 +27,7 @@ use Rattle.sv_expr_reader.specs.declared.tails.BraceTail.{BraceTail}
 use Rattle.sv_expr_reader.specs.declared.tails.BraceTail.TheVariants as braces
 use Rattle.sv_expr_words.specs.Signs.{opener_test, select_test, range_test, unary_name, sign_name}
 use Rattle.sv_expr_reader.specs.Reading.{peak, height, made_literal, made_name, made_paren, made_brace, made_bracket, parens, cast, literal, member, bracket, select_for, select, selects, name_tail, named, parenthesized, after_comma, more, copies, brace_tail, braced, cast_sign, called, prefixed, prefix_for, prefix}
-use Rattle.sv_expr_reader.proofs.Climbing.{peak_append, peak_in}
+use Rattle.sv_expr_reader.proofs.Peaks.{nil_peak, one_peak, two_peak, three_peak, peak_append, peak_in}
 
 -- all that is read is so
 abbrev pub Always : {A : Type 0} → (A → Type 0) → Parser A → Type 0
@@ -92,22 +92,6 @@ too_deep_low P [] = tt
 too_deep_low P (a ∷ i) = tt
 
 -- ---- heights
-
-pub nil_peak : peak [] ≡ 0
-unfolding peak
-nil_peak = refl
-
-pub one_peak : peak one ≡ 0
-unfolding peak
-one_peak = omega arith
-
-pub two_peak : peak two ≡ 0
-unfolding peak
-two_peak = omega arith
-
-pub three_peak : peak three ≡ 0
-unfolding peak
-three_peak = omega arith
 
 module _ (d : ℕ) (expr : ℕ → Parser Expr) (bounded : (n : ℕ) (i : List Token) → n ≤ 13 → Meets (expr n i) (λ x j. height x < d)) where
   abbrev Low : Expr → Type 0

@@ -16,25 +16,13 @@ use Rattle.sv_tree.specs.Nesting.{Depths, one, two, three, in_expr, expr_depths,
 use Rattle.sv_tree.proofs.MadeExprs as made
 use Rattle.sv_expr_reader.specs.Reading.{peak, height}
 use Rattle.sv_expr_reader.specs.Heights.{height_all, height_select, height_chain, capped, capped_all, capped_select, capped_chain}
-use Rattle.sv_expr_reader.proofs.Climbing.{peak_append}
+use Rattle.sv_expr_reader.proofs.Peaks.{peak_append, one_peak, two_peak, three_peak}
 
 peak_up : (a : Depths) → 0 < length a → peak (in_expr a) ≡ peak a + 1
 unfolding peak in_expr
 peak_up [] some = absurd (omega arith)
 peak_up (x ∷ []) some = omega arith
 peak_up (x ∷ y ∷ a) some = omega (arith, peak_up (y ∷ a) (omega arith))
-
-one_peak : peak one ≡ 0
-unfolding peak
-one_peak = omega arith
-
-two_peak : peak two ≡ 0
-unfolding peak
-two_peak = omega arith
-
-three_peak : peak three ≡ 0
-unfolding peak
-three_peak = omega arith
 
 -- own tokens, then others
 behind_one : (a : Depths) → peak (in_expr (one ++ a)) ≡ peak a + 1

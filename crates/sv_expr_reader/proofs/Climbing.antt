@@ -24,10 +24,12 @@ use Rattle.sv_cursor.proofs.Tested.{mark_here}
 use Rattle.sv_expr_words.specs.declared.openers.Joiner.{Joiner}
 use Rattle.sv_expr_words.specs.declared.openers.Joiner.TheVariants as join_by
 use Rattle.sv_expr_words.specs.Signs.{joiner_test, joiner, joiner_of_mark, strength_of, select_test, select_of_mark, binary_name}
-use Rattle.sv_expr_reader.specs.Reading.{peak, height, later, prefix, operated, climb, level}
+use Rattle.sv_expr_reader.specs.Reading.{peak, height, first_at, too_high, prefix, operated, climb, level}
 use Rattle.sv_expr_reader.proofs.Tokens.{Bad, deeper, inner, part, Stops, Any, stops_at_mark, placed_mark, mark_reader, moved_mark, moved_part, moved_expr, in_append, bad_in}
 use Rattle.sv_expr_reader.proofs.Parts.{IsParts, part_reader, own}
 use Rattle.sv_expr_reader.proofs.Primaries.{prefix_reader, binds_small}
+use Rattle.sv_expr_reader.proofs.Heights.{short}
+use Rattle.sv_expr_reader.proofs.Peaks.{peak_append, peak_in, bad_inside, first_bad}
 
 abbrev pub strength : List Token → ℕ
 strength o = strength_of (told joiner_test o)
@@ -271,53 +273,11 @@ after_made made S nests moved depth i (Err Memory) h placed = absurd placed
 after_made made S nests moved depth i (Err (Syntax left)) h placed = placed
 after_made made S nests moved depth i (Err (TooDeep deep left)) h placed = omega (arith, placed.0)
 
-pub ok_if : (b : Bool) (p : Expr × List Token) (i : List Token) → (b ≡ true → length p.1 ≤ length i) → After (length i) (if b then Ok p else Err (Syntax (length i)))
-ok_if true p i h = h refl
-ok_if false p i h = omega arith
-
-pub after_later : (depth : ℕ) (from i : List Token) (r : Outcome Expr) → Placed depth from r → After (length i) (later r i)
-after_later depth from i (Ok p) h = ok_if (nat_le (length p.1) (length i)) p i (λ e. grind (arith, nat_tests, e))
-after_later depth from i (Err Memory) h = absurd h
-after_later depth from i (Err (Syntax left)) h = omega arith
-after_later depth from i (Err (TooDeep deep left)) h = omega arith
-
-pub beyond_if : (b : Bool) (p : Expr × List Token) (m : ℕ) (i j : List Token) → (b ≡ false → ⊥) → m + length p.1 ≤ length i → Beyond m i (if b then Ok p else Err (Syntax (length j)))
-beyond_if true p m i j no' h = h
-beyond_if false p m i j no' h = absurd (no' refl)
-
--- what stands beyond the m-th token is not changed by an earlier one
-pub later_beyond : (m : ℕ) (i j : List Token) (r : Outcome Expr) → length i < m + length j → Beyond m i r → Beyond m i (later r j)
-later_beyond m i j (Ok p) low h = beyond_if (nat_le (length p.1) (length j)) p m i j (λ e. let f : length j < length p.1 = grind (arith, nat_tests, e) in omega arith) h
-later_beyond m i j (Err Memory) low h = absurd h
-later_beyond m i j (Err (Syntax left)) low h = omega arith
-later_beyond m i j (Err (TooDeep deep left)) low h = omega arith
-
 -- ---- the highest token
-
-pub peak_append : (a b : Depths) → peak (a ++ b) ≡ max (peak a) (peak b)
-unfolding peak
-peak_append [] b = omega arith
-peak_append (x ∷ a) b = omega (arith, peak_append a b)
-
-pub peak_in : (a : Depths) → peak (in_expr a) ≤ peak a + 1
-unfolding peak in_expr
-peak_in [] = omega arith
-peak_in (x ∷ a) = omega (arith, peak_in a)
 
 pub own_peak : peak own ≡ 1
 unfolding peak
 own_peak = omega arith
-
--- ---- reading a part of a lower level over again
-
--- A tree that lies too deep for the parts is not read as a part: what holds of each refusal for depth in it, and of what stands
--- beyond the tokens that are shared, holds of the outcome.
-abbrev pub Again : ℕ → (ℕ → Parser Expr) → Type 1
-Again d expr = (x : Expr) (n : ℕ) (s o : List Token) (m : ℕ) (i : List Token) → Spells n x s o → Ends n o → take m s ≡ take m i
-    → length (expr_depths x) < m → d ≤ height x → (least : ℕ) → least ≤ n → n ≤ 13 → (P : Outcome Expr → Type 0)
-    → ((r : Outcome Expr) → Beyond m i r → P r)
-    → ((deep left : ℕ) → BadAt (Bad d) (expr_depths x) (length i - deep) → P (Err (TooDeep deep left)))
-    → P (expr least i)
 
 module _ (d : ℕ) (expr : ℕ → Parser Expr) (parts : IsParts d expr) where
   abbrev pub OpSpelled : BinaryOp → Place × Expr → Spelled
@@ -381,15 +341,14 @@ module _ (d : ℕ) (expr : ℕ → Parser Expr) (parts : IsParts d expr) where
   abbrev pub turn : ℕ → List Token → ℕ → Expr → Joiner → Parser Expr
   turn least from n left j =
       if nat_le (strength_of (Some j)) least then pure left
-      else (if nat_lt (height left) d then (operated d expr left j >>= climb d expr least from n) else (λ i. later (expr least from) i))
+      else (if nat_lt (height left) d then (operated d expr left j >>= climb d expr least from n) else (λ i. Err (too_high d left from i)))
 
   pub turn_after : (least : ℕ) (from : List Token) (n : ℕ) (left : Expr) (q : Option Joiner) (i : List Token) → least ≤ 13
       → ((left : Expr) (i : List Token) → After (length i) (climb d expr least from n left i)) → After (length i) (branch q (turn least from n left) (pure left) i)
   turn_after least from n left None i low more = omega arith
   turn_after least from n left (Some j) i low more =
-      if_after (length i) (nat_le (strength_of (Some j)) least) (nat_lt (height left) d) (pure left) (operated d expr left j >>= climb d expr least from n) (λ i. later (expr least from) i) i
-      (omega arith) (after_then (length i) (operated d expr left j i) (climb d expr least from n) (operated_after left j i) more)
-      (after_later d from i (expr least from) ((parts least low).placed from))
+      if_after (length i) (nat_le (strength_of (Some j)) least) (nat_lt (height left) d) (pure left) (operated d expr left j >>= climb d expr least from n) (λ i. Err (too_high d left from i)) i
+      (omega arith) (after_then (length i) (operated d expr left j i) (climb d expr least from n) (operated_after left j i) more) (omega arith)
 
   pub climb_after : (least : ℕ) (from : List Token) (n : ℕ) (left : Expr) (i : List Token) → least ≤ 13 → After (length i) (climb d expr least from n left i)
   unfolding climb
@@ -499,13 +458,13 @@ module _ (d : ℕ) (expr : ℕ → Parser Expr) (parts : IsParts d expr) where
     none_at_end k (a ∷ j) e le = omega arith
 
     pub climb_at : (k : Joiner) (f : ℕ) (z : Expr) (j : List Token) → length j ≤ f → told joiner_test j ≡ Some k → least < strength_of (Some k)
-        → ((g : ℕ) → length j ≤ suc g → height z < d → P ((operated d expr z k >>= climb d expr least i g) j)) → (d ≤ height z → P (later (expr least i) j))
+        → ((g : ℕ) → length j ≤ suc g → height z < d → P ((operated d expr z k >>= climb d expr least i g) j)) → (d ≤ height z → P (Err (too_high d z i j)))
         → P (climb d expr least i f z j)
     unfolding climb
     climb_at k zero z j fuel found above on over = absurd (none_at_end k j found fuel)
     climb_at k (suc f) z j fuel found above on over =
         by_found (told joiner_test j) k f z j found
-        (by_turn (nat_le (strength_of (Some k)) least) (nat_lt (height z) d) (pure z) (operated d expr z k >>= climb d expr least i f) (λ j. later (expr least i) j) j
+        (by_turn (nat_le (strength_of (Some k)) least) (nat_lt (height z) d) (pure z) (operated d expr z k >>= climb d expr least i f) (λ j. Err (too_high d z i j)) j
         (grind (arith, nat_tests, above)) (λ y. on f fuel (grind (arith, nat_tests, y))) (λ y. over (grind (arith, nat_tests, y))))
 
 pub bad_more : (d : ℕ) (ns : Depths) (k : ℕ) → BadAt (Bad d) ns k → BadAt (Bad d) (in_expr ns) k
@@ -526,8 +485,7 @@ question_tail expr = mark m.Question ⊗ expr 0 ⊗ mark m.Colon ⊗ expr 1
 
 module _ (d : ℕ) (expr : ℕ → Parser Expr) (parts : IsParts d expr)
     (bounded : (n : ℕ) (i : List Token) → n ≤ 13 → Meets (expr n i) (λ x j. height x < d))
-    (first_bounded : (i : List Token) → Meets (prefix d expr i) (λ x j. height x < suc d))
-    (again : Again d expr) where
+    (first_bounded : (i : List Token) → Meets (prefix d expr i) (λ x j. height x < suc d)) where
   -- What holds of going on behind a tree holds of reading its first part, if it holds of each refusal for depth in the tree and of
   -- each outcome beyond the tokens that are shared.
   abbrev pub Spine : Expr → Type 1
@@ -566,9 +524,11 @@ module _ (d : ℕ) (expr : ℕ → Parser Expr) (parts : IsParts d expr)
       climb_at d expr parts least m (omega arith) i P beyond k f x j fuel (sym (told_shared joiner_test (m - length (expr_depths x)) t j (omega arith) shared) ∙ here) (omega arith)
       (λ g fuel' lower. subst (λ q. P ((q >>= climb d expr least i g) j)) (sym shape)
       (goes_on d expr parts least m (omega arith) i P beyond C x made S nests Stop p moved r joined c deep go g t o j sc stops shared (lows j lower) fuel' at count under))
-      (λ over. again x l s t m i sx ends same under over least (omega arith) high (λ r. P (later r j))
-      (λ r b. beyond (later r j) (later_beyond m i j r (omega arith) b))
-      (λ a left bad. deep a (min left (length j)) (subst (λ ns. BadAt (Bad (suc d)) ns (length i - a)) (sym (joined c)) (bad_left (Bad (suc d)) (part x) (nests c) (length i - a) (bad_in d (expr_depths x) (length i - a) bad))))))
+      (λ over. let k = first_at d (expr_depths x) in
+      let bad : BadAt (Bad d) (expr_depths x) k = first_bad d (expr_depths x) over (omega (arith, short x)) in
+      let at : length i - (length i - k) ≡ k = omega (arith, count, bad_inside (Bad d) (expr_depths x) k bad) in
+      deep (length i - k) (length j) (subst (λ n. BadAt (Bad (suc d)) (expr_depths (made c)) n) (sym at)
+      (subst (λ ns. BadAt (Bad (suc d)) ns k) (sym (joined c)) (bad_left (Bad (suc d)) (part x) (nests c) k (bad_in d (expr_depths x) k bad))))))
 
   -- heights
   pub op_joined : (x : Expr) (op : BinaryOp) (c : Place × Expr) → expr_depths (e.Binary x op c.0 c.1) ≡ part x ++ op_nests d expr parts c
@@ -655,7 +615,7 @@ module _ (d : ℕ) (expr : ℕ → Parser Expr) (parts : IsParts d expr)
   stops_here n f x j from (Some k) weak = by_weak (nat_le (strength_of (Some k)) n) (grind (arith, nat_tests, weak))
     where
       by_weak : (b : Bool) → b ≡ true
-          → ◌≡◌ {A = Outcome Expr} ((if b then pure x else (if nat_lt (height x) d then (operated d expr x k >>= climb d expr n from f) else (λ i. later (expr n from) i))) j) (Ok (x, j))
+          → ◌≡◌ {A = Outcome Expr} ((if b then pure x else (if nat_lt (height x) d then (operated d expr x k >>= climb d expr n from f) else (λ i. Err (too_high d x from i)))) j) (Ok (x, j))
       by_weak true e = refl
       by_weak false e = absurd (cc)
 
@@ -682,8 +642,3 @@ module _ (d : ℕ) (expr : ℕ → Parser Expr) (parts : IsParts d expr)
       ap (take (m - length (expr_depths x))) ((moved_expr n).rest x s o h) ∙ (take_drop_same (length (expr_depths x)) m s i (omega arith) same ∙ ap (take (m - length (expr_depths x))) (sym at)) in
       let weak : strength j ≤ n = subst (λ q. strength_of q ≤ n) (told_shared joiner_test (m - length (expr_depths x)) o j (omega arith) shared) stops.2 in
       subst (SoundlyAgrees n x m i) (sym (climb_stops n f x i j weak)) (λ read shown. refl))
-
-  -- A tree that lies too deep is not read as a part of what lies one deeper.
-  pub level_again : Again (suc d) (level d expr)
-  level_again x n s o m i h ends same under deep least low small P beyond refused =
-      spine x n s o m i small h ends same P beyond refused least low (λ f j fuel at count under' tall. absurd (omega arith))

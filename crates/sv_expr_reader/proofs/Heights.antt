@@ -5,8 +5,7 @@ use Rattle.sv_tree.specs.declared.exprs.Select.{Select, Member, Index', Range'}
 use Rattle.sv_tree.specs.Nesting.{one, two, three, expr_depths, name_depths, exprs_depths, more_depths, select_depths, selects_depths}
 use Rattle.sv_tree.proofs.Framed.{length_in}
 use Rattle.sv_expr_reader.specs.Reading.{peak, height}
-use Rattle.sv_expr_reader.proofs.Climbing.{peak_append, peak_in}
-use Rattle.sv_expr_reader.proofs.Bounded.{nil_peak, one_peak, two_peak, three_peak}
+use Rattle.sv_expr_reader.proofs.Peaks.{nil_peak, one_peak, two_peak, three_peak, peak_append, peak_in}
 
 mutual
   unfolding expr_depths select_depths

@@ -15,7 +15,7 @@ use Rattle.sv_expr_reader.proofs.Tokens.{Bad, Stops, moved_expr}
 use Rattle.sv_expr_reader.proofs.Parts.{IsParts}
 use Rattle.sv_expr_reader.proofs.Bounded.{first_bounded}
 use Rattle.sv_expr_reader.proofs.Heights.{short}
-use Rattle.sv_expr_reader.proofs.Climbing.{Again, strength, level_again}
+use Rattle.sv_expr_reader.proofs.Climbing.{strength}
 use Rattle.sv_expr_reader.proofs.Level.{level_reader, level_done}
 
 -- what holds of the reader of expressions at a depth
@@ -23,7 +23,6 @@ pub record Reads (d : ℕ) : Type 1 where
   pub parts : IsParts d (expr d)
   pub bounded : (n : ℕ) (i : List Token) → n ≤ 13 → Meets (expr d n i) (λ x j. height x < d)
   pub weak : (n : ℕ) (i : List Token) → n ≤ 13 → Meets (expr d n i) (λ x j. strength j ≤ n)
-  pub again : Again d (expr d)
 
 first_bad : (ns : Depths) → 0 < length ns → BadAt (Bad 0) ns 0
 first_bad [] some = absurd (omega arith)
@@ -33,33 +32,20 @@ none_read : (P : Expr → List Token → Type 0) (i : List Token) → Meets (too
 none_read P [] = tt
 none_read P (a ∷ i) = tt
 
-again_at_end : (n : ℕ) (x : Expr) (s o : List Token) (m : ℕ) → Spells n x s o → ◌≡◌ {A = List Token} (take m s) (take m []) → length (expr_depths x) < m → ⊥
-again_at_end n x s o zero h same under = omega arith
-again_at_end n x [] o (suc m) h same under = omega (arith, (moved_expr n).count x [] o h, short x)
-again_at_end n x (a ∷ s) o (suc m) h same under = cc
-
-none_again : Again 0 (expr 0)
-unfolding expr
-none_again x n s o m [] h ends same under deep least low small P beyond refused = absurd (again_at_end n x s o m h same under)
-none_again x n s o m (a ∷ i) h ends same under deep least low small P beyond refused =
-    refused (length (a ∷ i)) (length (a ∷ i)) (let e : length (a ∷ i) - length (a ∷ i) ≡ 0 = omega arith in subst (BadAt (Bad 0) (expr_depths x)) (sym e) (first_bad (expr_depths x) (omega (arith, short x))))
-
 pub reads : (d : ℕ) → Reads d
 unfolding expr
 reads zero = record {
   parts = λ n low. deep_reader (Bad 0) (Spells n) expr_depths (moved_expr n) (λ x i o h. first_bad (expr_depths x) (omega (arith, short x))) (Spells n) (Stops n);
   bounded = λ n i low. none_read (λ x j. height x < 0) i;
   weak = λ n i low. none_read (λ x j. strength j ≤ n) i;
-  again = none_again;
 }
 reads (suc d) =
     let r = reads d in
     let first = first_bounded d (expr d) r.bounded in
     record {
-      parts = level_reader d (expr d) r.parts r.bounded first r.again r.weak;
-      bounded = λ n i low. meets_weaker (level d (expr d) n i) _ (λ x j. height x < suc d) (level_done d (expr d) r.parts r.bounded first r.again r.weak n i low) (λ x j h. h.2);
-      weak = λ n i low. meets_weaker (level d (expr d) n i) _ (λ x j. strength j ≤ n) (level_done d (expr d) r.parts r.bounded first r.again r.weak n i low) (λ x j h. h.1);
-      again = level_again d (expr d) r.parts r.bounded first r.again;
+      parts = level_reader d (expr d) r.parts r.bounded first r.weak;
+      bounded = λ n i low. meets_weaker (level d (expr d) n i) _ (λ x j. height x < suc d) (level_done d (expr d) r.parts r.bounded first r.weak n i low) (λ x j h. h.2);
+      weak = λ n i low. meets_weaker (level d (expr d) n i) _ (λ x j. strength j ≤ n) (level_done d (expr d) r.parts r.bounded first r.weak n i low) (λ x j h. h.1);
     }
 
 -- Expressions of a level and their reader, for the crates above.
@@ -74,7 +60,7 @@ bad_high d [] k h = absurd h
 bad_high d (n ∷ ns) zero h = omega arith
 bad_high d (n ∷ ns) (suc k) h = omega (arith, bad_high d ns k h)
 
-bad_over : (ns : Depths) (k : ℕ) → BadAt (Bad 201) ns k → IsOverAt ns k
+pub bad_over : (ns : Depths) (k : ℕ) → BadAt (Bad 201) ns k → IsOverAt ns k
 bad_over [] k h = absurd h
 bad_over (n ∷ ns) zero h = (n, refl, inl (omega arith))
 bad_over (n ∷ ns) (suc k) h = let g = bad_over ns k h in (g.0, g.1, g.2)

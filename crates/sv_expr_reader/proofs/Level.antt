@@ -18,12 +18,13 @@ use Rattle.sv_cursor.proofs.Readers.{Placed, Meets, then_meets, meets_weaker, pl
 use Rattle.sv_expr_words.specs.declared.openers.Joiner.{Joiner}
 use Rattle.sv_expr_words.specs.declared.openers.Joiner.TheVariants as join_by
 use Rattle.sv_expr_words.specs.Signs.{joiner_test, strength_of, binary_name}
-use Rattle.sv_expr_reader.specs.Reading.{height, later, prefix, operated, climb, level}
-use Rattle.sv_expr_reader.proofs.Tokens.{some_mark, moved_expr}
+use Rattle.sv_expr_reader.specs.Reading.{height, first_at, too_high, prefix, operated, climb, level}
+use Rattle.sv_expr_reader.proofs.Tokens.{Bad, some_mark, moved_expr}
 use Rattle.sv_expr_reader.proofs.Parts.{IsParts}
 use Rattle.sv_expr_reader.proofs.Primaries.{prefix_reader}
-use Rattle.sv_expr_reader.proofs.Climbing.{strength, levels, strength_small, OpSpelled, op_nests, op_reader, op_moved, op_lows, ChooseSpelled, choose_nests, question_reader, question_moved, question_tail, choose_lows, Again, turn, level_agrees}
+use Rattle.sv_expr_reader.proofs.Climbing.{strength, levels, strength_small, OpSpelled, op_nests, op_reader, op_moved, op_lows, ChooseSpelled, choose_nests, question_reader, question_moved, question_tail, choose_lows, turn, level_agrees}
 use Rattle.sv_expr_reader.proofs.Heights.{short}
+use Rattle.sv_expr_reader.proofs.Peaks.{bad_inside, first_bad}
 
 -- the level that a token wants of what stands before it
 abbrev pub need : Option Joiner → ℕ
@@ -67,20 +68,9 @@ by_if P true b r q u j f g h = f refl
 by_if P false true r q u j f g h = g refl refl
 by_if P false false r q u j f g h = h refl refl
 
-ok_or : (P : Expr → List Token → Type 0) (b : Bool) (p : Expr × List Token) (e : ParseErr) → P p.0 p.1 → Meets (if b then Ok p else Err e) P
-ok_or P true p e h = h
-ok_or P false p e h = tt
-
-meets_later : (P : Expr → List Token → Type 0) (r : Outcome Expr) (i : List Token) → Meets r P → Meets (later r i) P
-meets_later P (Ok p) i h = ok_or P (nat_le (length p.1) (length i)) p (Syntax (length i)) h
-meets_later P (Err Memory) i h = tt
-meets_later P (Err (Syntax left)) i h = tt
-meets_later P (Err (TooDeep deep left)) i h = tt
-
 module _ (d : ℕ) (expr : ℕ → Parser Expr) (parts : IsParts d expr)
     (bounded : (n : ℕ) (i : List Token) → n ≤ 13 → Meets (expr n i) (λ x j. height x < d))
     (first_bounded : (i : List Token) → Meets (prefix d expr i) (λ x j. height x < suc d))
-    (again : Again d expr)
     (weak : (n : ℕ) (i : List Token) → n ≤ 13 → Meets (expr n i) (λ x j. strength j ≤ n)) where
   -- what may stand before an operator
   abbrev Ready : ℕ → List Token → List Token → Expr → List Token → Type 0
@@ -95,7 +85,7 @@ module _ (d : ℕ) (expr : ℕ → Parser Expr) (parts : IsParts d expr)
       then_meets ((mark (binary_name op) ⊗ expr (right_level op)) i) _ (λ c j. OpSpelled d expr parts op c i j × (strength j ≤ right_level op) × ((height (e.Binary left op c.0 c.1) < suc d) × (0 < length (op_nests d expr parts c)))) _
       (all_three (λ c j. OpSpelled d expr parts op c i j) (λ c j. strength j ≤ right_level op) (λ c j. (height (e.Binary left op c.0 c.1) < suc d) × (0 < length (op_nests d expr parts c))) ((mark (binary_name op) ⊗ expr (right_level op)) i) ((op_reader d expr parts op).sound i)
       (then_meets (mark (binary_name op) i) _ (λ p k. Unit {0}) _ (always (mark (binary_name op) i)) (λ p k _. then_meets (expr (right_level op) k) _ (λ y j. strength j ≤ right_level op) _ (weak (right_level op) k (levels op).right_high) (λ y j w. w)))
-      (op_lows d expr parts bounded first_bounded again left op i low))
+      (op_lows d expr parts bounded first_bounded left op i low))
       (λ c j g. (
         binds op,
         made.to_binary (binds op) left op c.0 c.1 from j (omega arith, (i, made.looser left (left_level op) l from i fits h, g.0)),
@@ -117,7 +107,7 @@ module _ (d : ℕ) (expr : ℕ → Parser Expr) (parts : IsParts d expr)
       (then_meets (mark m.Colon k') _ (λ p k. Unit {0}) _ (always (mark m.Colon k')) (λ q k'' _. then_meets (expr 1 k'') _ (λ z j. strength j ≤ 1) _ (weak 1 k'' (omega arith)) (λ z j w. w)))
       (λ v j w. w)))
       (λ v j w. w)))
-      (choose_lows d expr parts bounded first_bounded again left i low))
+      (choose_lows d expr parts bounded first_bounded left i low))
       (λ c j g. (
         1,
         made.to_choose 1 left c.1.0 c.1.1.1 from j
@@ -133,24 +123,17 @@ module _ (d : ℕ) (expr : ℕ → Parser Expr) (parts : IsParts d expr)
   operated_ready least l from i left (join_by.Binary op) h above fits low = binary_ready least l from i left op h above fits low
   operated_ready least l from i left join_by.Choose h above fits low = choose_ready least l from i left h above fits low
 
-  reread : (least : ℕ) (from i : List Token) → least ≤ 13 → Meets (later (expr least from) i) (λ x j. Done least from x j)
-  reread least from i low =
-      meets_later (λ x j. Done least from x j) (expr least from) i
-      (meets_weaker (expr least from) (λ x j. Spells least x from j × (strength j ≤ least) × (height x < d)) (λ x j. Done least from x j)
-      (all_three (λ x j. Spells least x from j) (λ x j. strength j ≤ least) (λ x j. height x < d) (expr least from) ((parts least low).sound from) (weak least from low) (bounded least from low))
-      (λ x j h. (h.0, h.1, omega (arith, h.2))))
-
   mutual_turn : (least f l : ℕ) (from i : List Token) (left : Expr) (q : Option Joiner) → least ≤ 13 → told joiner_test i ≡ q → Spells l left from i → least ≤ l → need q ≤ l → height left < suc d
       → ((l : ℕ) (left : Expr) (j : List Token) → length j ≤ f → Spells l left from j → least ≤ l → need (told joiner_test j) ≤ l → height left < suc d → Meets (climb d expr least from f left j) (λ x j. Done least from x j))
       → length i ≤ suc f → Meets (branch q (turn d expr parts least from f left) (pure left) i) (λ x j. Done least from x j)
   mutual_turn least f l from i left None low e h le fits tall more fuel = (made.looser left least l from i le h, omega (arith, ap strength_of e), tall)
   mutual_turn least f l from i left (Some k) low e h le fits tall more fuel =
-      by_if (λ x j. Done least from x j) (nat_le (strength_of (Some k)) least) (nat_lt (height left) d) (pure left) (operated d expr left k >>= climb d expr least from f) (λ i. later (expr least from) i) i
+      by_if (λ x j. Done least from x j) (nat_le (strength_of (Some k)) least) (nat_lt (height left) d) (pure left) (operated d expr left k >>= climb d expr least from f) (λ i. Err (too_high d left from i)) i
       (λ y. (made.looser left least l from i le h, let w : strength_of (Some k) ≤ least = grind (arith, nat_tests, y) in omega (arith, ap strength_of e), tall))
       (λ z y. then_meets (operated d expr left k i) _ (λ x j. Ready least from i x j) _
       (operated_ready least l from i left k h (grind (arith, nat_tests, z)) fits (grind (arith, nat_tests, y)))
       (λ x j g. more g.0 x j (omega (arith, g.5)) g.1 g.2 g.3 g.4))
-      (λ z y. reread least from i low)
+      (λ z y. tt)
 
   climb_done : (least f : ℕ) (from : List Token) → least ≤ 13 → (l : ℕ) (left : Expr) (i : List Token) → length i ≤ f → Spells l left from i → least ≤ l → need (told joiner_test i) ≤ l → height left < suc d
       → Meets (climb d expr least from f left i) (λ x j. Done least from x j)
@@ -173,15 +156,11 @@ module _ (d : ℕ) (expr : ℕ → Parser Expr) (parts : IsParts d expr)
   joiner_here k [] h = absurd (cc)
   joiner_here k (a ∷ i) h = omega arith
 
-  placed_or : (b : Bool) (p : Expr × List Token) (from i : List Token) → length i ≤ length from → Placed (suc d) from (if b then Ok p else Err (Syntax (length i)))
-  placed_or true p from i le = tt
-  placed_or false p from i le = le
-
-  placed_reread : (from i : List Token) (r : Outcome Expr) → 0 < length i → suc d + length i ≤ length from → Placed d from r → Placed (suc d) from (later r i)
-  placed_reread from i (Ok p) some le h = placed_or (nat_le (length p.1) (length i)) p from i (omega arith)
-  placed_reread from i (Err Memory) some le h = absurd h
-  placed_reread from i (Err (Syntax left)) some le h = omega arith
-  placed_reread from i (Err (TooDeep deep left)) some le h = (omega (arith, h.0), omega (arith, h.1), h.2, omega (arith, h.3))
+  placed_high : (from i : List Token) (left : Expr) → 0 < length i → length from ≡ length (expr_depths left) + length i → d ≤ height left → Placed {A = Expr} (suc d) from (Err (too_high d left from i))
+  placed_high from i left some count tall =
+      let k = first_at d (expr_depths left) in
+      let low : k < length (expr_depths left) = bad_inside (Bad d) (expr_depths left) k (first_bad d (expr_depths left) tall (omega (arith, short left))) in
+      (omega (arith, count, short left), omega (arith, count, low), omega arith, some)
 
   placed_then : {A : Type 0} (from i : List Token) (before : ℕ) (r : Outcome A) (f : A → Parser Expr) (Q : A → List Token → Type 0) → length from ≡ before + length i
       → Meets r Q → Placed (suc d) i r → ((a : A) (j : List Token) → Q a j → Placed (suc d) from (f a j)) → Placed (suc d) from (and_then r f)
@@ -207,12 +186,11 @@ module _ (d : ℕ) (expr : ℕ → Parser Expr) (parts : IsParts d expr)
       → Placed (suc d) from (branch q (turn d expr parts least from f left) (pure left) i)
   placed_turn least f l from i left None low e h le fits more = tt
   placed_turn least f l from i left (Some k) low e h le fits more =
-      placed_if from (nat_le (strength_of (Some k)) least) (nat_lt (height left) d) (pure left) (operated d expr left k >>= climb d expr least from f) (λ i. later (expr least from) i) i
+      placed_if from (nat_le (strength_of (Some k)) least) (nat_lt (height left) d) (pure left) (operated d expr left k >>= climb d expr least from f) (λ i. Err (too_high d left from i)) i
       tt
       (λ z y. placed_then from i (length (expr_depths left)) (operated d expr left k i) (climb d expr least from f) (λ x j. Ready least from i x j) ((moved_expr l).count left from i h)
       (operated_ready least l from i left k h (grind (arith, nat_tests, z)) fits (grind (arith, nat_tests, y))) (operated_placed left k i) (λ x j g. more g.0 x j g.1 g.2 g.3))
-      (λ y. let tall : d ≤ height left = grind (arith, nat_tests, y) in
-      placed_reread from i (expr least from) (joiner_here k i e) (omega (arith, (moved_expr l).count left from i h, short left)) ((parts least low).placed from))
+      (λ y. placed_high from i left (joiner_here k i e) ((moved_expr l).count left from i h) (grind (arith, nat_tests, y)))
 
   climb_placed : (least f : ℕ) (from : List Token) → least ≤ 13 → (l : ℕ) (left : Expr) (i : List Token) → Spells l left from i → least ≤ l → need (told joiner_test i) ≤ l
       → Placed (suc d) from (climb d expr least from f left i)
@@ -232,6 +210,6 @@ module _ (d : ℕ) (expr : ℕ → Parser Expr) (parts : IsParts d expr)
   level_reader n low = record {
     sound = λ i. meets_weaker (level d expr n i) (λ x j. Done n i x j) (λ x j. Spells n x i j) (level_done n i low) (λ x j h. h.0);
     placed = λ i. level_placed n i low;
-    agrees = λ x s o m i h stops same. level_agrees d expr parts bounded first_bounded again n low x s o m i h stops same
+    agrees = λ x s o m i h stops same. level_agrees d expr parts bounded first_bounded n low x s o m i h stops same
         (meets_weaker (level d expr n i) (λ x j. Done n i x j) (λ x j. Spells n x i j) (level_done n i low) (λ x j h. h.0));
   }

@@ -5,8 +5,11 @@ pub mod Heights
 pub mod Laws
 pub mod Level
 pub mod Parts
+pub mod Peaks
 pub mod Primaries
+pub mod Raised
 pub mod SelectParts
+pub mod Sought
 pub mod Targets
 pub mod Tokens
 pub mod Turns

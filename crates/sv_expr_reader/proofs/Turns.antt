@@ -1,24 +1,30 @@
 -- The turns of the loop that climbs.
-use Rattle.std.proofs.Common.{◌≡◌, ◌≢◌, ℕ, zero, suc, ◌-◌, ◌<◌, ◌≤◌, Bool, true, false, if◌then◌else◌, nat_lt, nat_le, List, Option, Some, None, Ok, Err, refl, ap, ◌∙◌, arith}
+use Rattle.std.proofs.Common.{◌≡◌, ◌≢◌, ℕ, zero, suc, ◌-◌, ◌<◌, ◌≤◌, ◌^◌, min, length, Bool, true, false, if◌then◌else◌, nat_lt, nat_le, List, Option, Some, None, Ok, Err, refl, ap, ◌∙◌, arith}
 use Rattle.std.proofs.lemmas.Bool.Decides.{nat_tests}
 use Rattle.sv_outside.specs.declared.text.Token.{Token}
 use Rattle.sv_tree.specs.declared.exprs.Expr.{Expr}
 use Rattle.sv_cursor.specs.declared.error.ParseErr.{ParseErr}
-use Rattle.sv_cursor.specs.declared.error.ParseErr.TheVariants.{Memory}
+use Rattle.sv_cursor.specs.declared.error.ParseErr.TheVariants.{Memory, TooDeep}
 use Rattle.sv_cursor.specs.Parsers.{Outcome, Parser, and_then, pure, told, branch, ◌>>=◌, Reads}
-use Rattle.sv_expr_reader.specs.Reading.{height, later, operated, climb}
+use Rattle.sv_expr_reader.specs.Reading.{height, first_at, too_high, operated, climb}
+use Rattle.sv_tree.specs.Nesting.{expr_depths}
 use Rattle.sv_expr_reader.specs.Heights.{capped}
 use Rattle.sv_expr_reader.specs.Climbing.{goes_on}
 use Rattle.sv_expr_words.specs.declared.openers.Joiner.{Joiner}
 use Rattle.sv_expr_words.specs.Signs.{joiner_test, strength_of}
 
-pub fits : (x : Expr) (d : ℕ) → d ≤ 255 → nat_lt (capped x) d ≡ nat_lt (height x) d
+pub fits : (x : Expr) (high d : ℕ) → d ≤ 255 → high ≡ capped x → nat_lt high d ≡ nat_lt (height x) d
 unfolding capped
-fits x d le = grind (arith, nat_tests)
+fits x high d le is = grind (arith, nat_tests)
+
+pub refused_high : (d : ℕ) (x : Expr) (from i : List Token) (before all deep left : ℕ) → all < 2 ^ 64 → before ≡ min (first_at d (expr_depths x)) (2 ^ 64 - 1) → all ≡ length from
+    → deep ≡ all - before → left ≡ length i → TooDeep deep left ≡ too_high d x from i
+refused_high d x from i before all deep left small is whole there shown =
+    let e : deep ≡ length from - first_at d (expr_depths x) = omega (arith, is, whole, there) in ap (λ n. TooDeep n left) e ∙ ap (λ n. TooDeep (length from - first_at d (expr_depths x)) n) shown
 
 module _ (d : ℕ) (expr : ℕ → Parser Expr) (least : ℕ) (from : List Token) where
   abbrev turn : ℕ → Expr → Joiner → Parser Expr
-  turn n left j = if nat_lt (height left) d then (operated d expr left j >>= climb d expr least from n) else (λ i. later (expr least from) i)
+  turn n left j = if nat_lt (height left) d then (operated d expr left j >>= climb d expr least from n) else (λ i. Err (too_high d left from i))
 
   by_strength : (b : Bool) (n : ℕ) (left : Expr) (j : Joiner) (i : List Token)
       → (if b then pure left else turn n left j) i ≡ branch (if b then None else Some j) (turn n left) (pure left) i
@@ -50,14 +56,14 @@ module _ (d : ℕ) (expr : ℕ → Parser Expr) (least : ℕ) (from : List Token
       e ∙ (ap (λ k. climb d expr least from k left i) en ∙ (climb_step m left i ∙ ap (λ q. branch q (turn m left) (pure left) i) some))
 
   pub climb_again : (start : Outcome Expr) (n m : ℕ) (left : Expr) (i : List Token) (j : Joiner) → n ≡ suc m → goes_on least (told joiner_test i) ≡ Some j
-      → nat_lt (height left) d ≡ false → start ≡ climb d expr least from n left i → start ≡ later (expr least from) i
+      → nat_lt (height left) d ≡ false → start ≡ climb d expr least from n left i → start ≡ Err (too_high d left from i)
   climb_again start n m left i j en some high e =
-      turned start n m left i j en some e ∙ ap (λ b. (if b then (operated d expr left j >>= climb d expr least from m) else (λ i. later (expr least from) i)) i) high
+      turned start n m left i j en some e ∙ ap (λ b. (if b then (operated d expr left j >>= climb d expr least from m) else (λ i. Err (too_high d left from i))) i) high
 
   low_turn : (start : Outcome Expr) (n m : ℕ) (left : Expr) (i : List Token) (j : Joiner) → n ≡ suc m → goes_on least (told joiner_test i) ≡ Some j
       → nat_lt (height left) d ≡ true → start ≡ climb d expr least from n left i → start ≡ and_then (operated d expr left j i) (climb d expr least from m)
   low_turn start n m left i j en some low e =
-      turned start n m left i j en some e ∙ ap (λ b. (if b then (operated d expr left j >>= climb d expr least from m) else (λ i. later (expr least from) i)) i) low
+      turned start n m left i j en some e ∙ ap (λ b. (if b then (operated d expr left j >>= climb d expr least from m) else (λ i. Err (too_high d left from i))) i) low
 
   pub climb_fails : (start : Outcome Expr) (n m : ℕ) (left : Expr) (i new : List Token) (j : Joiner) (z : ParseErr) → n ≡ suc m
       → goes_on least (told joiner_test i) ≡ Some j → nat_lt (height left) d ≡ true → start ≡ climb d expr least from n left i

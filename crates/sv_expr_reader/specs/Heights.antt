@@ -1,6 +1,6 @@
 -- Heights that stop at 255.
 use Rattle.std.specs.Prelude.{ℕ, ◌+◌, max, min, List, [], ◌∷◌}
-use Rattle.sv_tree.specs.declared.exprs.Expr.{Expr}
+use Rattle.sv_tree.specs.declared.exprs.Expr.{Expr, Binary', Choose', end_of-Expr, more_of-Expr}
 use Rattle.sv_tree.specs.declared.exprs.Select.{Select}
 use Rattle.sv_tree.specs.Nesting.{select_depths}
 use Rattle.sv_expr_reader.specs.Reading.{peak, height}
@@ -19,6 +19,12 @@ height_chain (x ∷ all) = max (height_select x) (height_chain all)
 
 unfoldable pub capped : Expr → ℕ
 capped x = min (height x) 255
+
+-- the height of the parts behind the first operator
+abbrev pub last : Expr → ℕ
+last (Binary' s x op p r (more_of-Expr y end_of-Expr)) = capped y
+last (Choose' s x r (more_of-Expr y end_of-Expr) q (more_of-Expr z end_of-Expr)) = max (capped y) (capped z)
+last _ = 0
 
 unfoldable pub capped_all : List Expr → ℕ
 capped_all all = min (height_all all) 255

@@ -3,3 +3,4 @@ pub mod Climbing
 pub mod Heights
 pub mod Nests
 pub mod Reading
+pub mod Seeking

@@ -1,5 +1,5 @@
 -- Expressions on lists of tokens, by precedence climbing.
-use Rattle.std.specs.Prelude.{ℕ, zero, suc, if◌then◌else◌, nat_lt, nat_le, max, min, List, [], ◌∷◌, length, Option, Some, None, Ok, Err}
+use Rattle.std.specs.Prelude.{ℕ, zero, suc, ◌-◌, if◌then◌else◌, nat_lt, nat_le, max, List, [], ◌∷◌, length, Option, Some, None, Ok, Err}
 use Rattle.sv_outside.specs.declared.refusal.Place.{Place}
 use Rattle.sv_outside.specs.declared.text.Token.{Token}
 use Rattle.sv_tree.specs.declared.word.Word.{Word}
@@ -12,7 +12,8 @@ use Rattle.sv_tree.specs.declared.exprs.Select.{Select}
 use Rattle.sv_tree.specs.declared.exprs.Select.TheVariants as sel
 use Rattle.sv_tree.specs.GrammarExprs.{is_range, right_level}
 use Rattle.sv_tree.specs.Nesting.{Depths, expr_depths}
-use Rattle.sv_cursor.specs.declared.error.ParseErr.TheVariants.{Memory, Syntax, TooDeep}
+use Rattle.sv_cursor.specs.declared.error.ParseErr.{ParseErr}
+use Rattle.sv_cursor.specs.declared.error.ParseErr.TheVariants.{TooDeep}
 use Rattle.sv_cursor.specs.declared.sort.Mark.TheVariants as m
 use Rattle.sv_cursor.specs.Parsers.{Outcome, Parser, and_then, ◌>>=◌, ◌<$>◌, ◌⊗◌, pure, refuse, too_deep, token, by_told, maybe_read, many, chain, guarded}
 use Rattle.sv_cursor.specs.Tests.{mark_test, id_test, literal_test, system_test, mark, keyword}
@@ -36,6 +37,15 @@ peak (n ∷ all) = max n.exprs (peak all)
 abbrev pub height : Expr → ℕ
 height x = peak (expr_depths x)
 
+-- the number of the first token that so many expressions hold
+unfoldable pub first_at : ℕ → Depths → ℕ
+first_at d [] = 0
+first_at d (n ∷ all) = if nat_le d n.exprs then 0 else suc (first_at d all)
+
+-- The refusal of a tree that begins with the first list, where one operator more follows: so many expressions hold its token, and the operator shows it.
+abbrev pub too_high : ℕ → Expr → List Token → List Token → ParseErr
+too_high d x from i = TooDeep (length from - first_at d (expr_depths x)) (length i)
+
 -- ---- what parts make
 
 abbrev pub made_literal : Word × Option Expr → Expr
@@ -57,13 +67,6 @@ made_brace (p, (x, braces.Followed all)) = e.Concat p (x ∷ all)
 abbrev pub made_bracket : Place × (Expr × (Option (RangeMark × Expr) × Place)) → Select
 made_bracket (p, (x, (None, q))) = sel.Index p x
 made_bracket (p, (x, (Some r, q))) = sel.Range p x r.0 r.1
-
--- The outcome of another try, which the first token of i shows: it does not stand before that token.
-abbrev pub later : {A : Type 0} → Outcome A → List Token → Outcome A
-later (Ok p) i = if nat_le (length p.1) (length i) then Ok p else Err (Syntax (length i))
-later (Err Memory) i = Err Memory
-later (Err (Syntax left)) i = Err (Syntax (min left (length i)))
-later (Err (TooDeep deep left)) i = Err (TooDeep deep (min left (length i)))
 
 -- A function value reads the parts of an expression, which lie one deeper. So many parts may hold one of these.
 module _ (d : ℕ) (expr : ℕ → Parser Expr) where
@@ -165,14 +168,13 @@ module _ (d : ℕ) (expr : ℕ → Parser Expr) where
   operated left (join_by.Binary op) = (λ c. e.Binary left op c.0 c.1) <$> (mark (binary_name op) ⊗ expr (right_level op))
   operated left join_by.Choose = (λ c. e.Choose left c.1.0 c.1.1.1) <$> (mark m.Question ⊗ expr 0 ⊗ mark m.Colon ⊗ expr 1)
 
-  -- Operators that are looser than none of this level, behind what was read from the first list on. Where that lies too deep for
-  -- one more, reading it as a part shows the token.
+  -- Operators that are looser than none of this level, behind what was read from the first list on.
   unfoldable pub climb : ℕ → List Token → ℕ → Expr → Parser Expr
   climb least from zero left = pure left
   climb least from (suc n) left =
       by_told joiner_test
       (λ j. if nat_le (strength_of (Some j)) least then pure left
-      else (if nat_lt (height left) d then (operated left j >>= climb least from n) else (λ i. later (expr least from) i)))
+      else (if nat_lt (height left) d then (operated left j >>= climb least from n) else (λ i. Err (too_high d left from i))))
       (pure left)
 
   unfoldable pub level : ℕ → Parser Expr

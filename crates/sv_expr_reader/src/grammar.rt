@@ -1,7 +1,7 @@
 // The rules that hold expressions take the reader of those as a parameter, so that each is proved by itself.
 ghost use Rattle.std.specs.Prelude.{◌≡◌, ◌∷◌, ◌++◌, [], is_some, IfOk};
 ghost use Rattle.sv_cursor.specs.Parsers as parser;
-ghost use Rattle.sv_cursor.specs.Parsers.{Reads};
+ghost use Rattle.sv_cursor.specs.Parsers.{Reads, ◌⊗◌};
 ghost use Rattle.sv_cursor.specs.Tests as test;
 ghost use Rattle.sv_expr_reader.specs.Nests.{Nests};
 ghost use Rattle.sv_expr_reader.specs.Reading as spec;
@@ -36,6 +36,30 @@ fn with_first(alloc: Global, first: Expr, more: Items<Expr>) -> Result<Items<Exp
     all.push(first)?;
     all.append(more)?;
     Ok(all)
+}
+
+// What the first part in braces and its tail are together.
+fn brace_of(alloc: Global, place: Place, first: Expr, tail: BraceTail) -> Result<Expr, AllocError>
+    ensures { IfOk result (λ x. x ≡ spec.made_brace (place, (first, tail))) }
+{
+    match tail {
+        BraceTail::Copied(all) => {
+            let count = Boxed::new(alloc, first)?;
+            Ok(Expr::Repeat(place, count, all))
+        }
+        BraceTail::Followed(more) => {
+            let all = with_first(alloc, first, more)?;
+            Ok(Expr::Concat(place, all))
+        }
+    }
+}
+
+fn closing_braces(tokens: &mut Cursor<'_>) -> Result<(Place, Place), ParseErr>
+    ensures { Reads ((test.mark Mark.RightBrace ⊗ test.mark Mark.RightBrace) tokens.old) result tokens.new }
+{
+    let inner = tokens.mark(Mark::RightBrace)?;
+    let outer = tokens.mark(Mark::RightBrace)?;
+    Ok((inner, outer))
 }
 
 fn sees(tokens: &Cursor<'_>, mark: Mark) -> bool
@@ -191,6 +215,18 @@ impl<F: Fn(Global, &mut Cursor<'_>, u8, u8) -> Result<Expr, ParseErr>> Grammar<F
         }
     }
 
+    // The range of a select, where there is one, and the bracket behind it.
+    fn closed_range(
+        &self,
+        tokens: &mut Cursor<'_>,
+    ) -> Result<(Option<(RangeMark, Boxed<Expr>)>, Place), ParseErr>
+        requires { Nests self.now.depth (F.pre self.now.expr) (F.post self.now.expr) }
+        ensures { Reads ((spec.maybe_range self.now.depth (spec.expr self.now.depth) ⊗ test.mark Mark.RightBracket) tokens.old) result tokens.new }
+    {
+        let range = self.maybe_range(tokens)?;
+        both(range, tokens.mark(Mark::RightBracket))
+    }
+
     #[tactic(auto, unfolding(crate::specs::Reading::bracket))]
     fn bracket(&self, tokens: &mut Cursor<'_>) -> Result<Select, ParseErr>
         requires { Nests self.now.depth (F.pre self.now.expr) (F.post self.now.expr) }
@@ -198,8 +234,7 @@ impl<F: Fn(Global, &mut Cursor<'_>, u8, u8) -> Result<Expr, ParseErr>> Grammar<F
     {
         let place = tokens.mark(Mark::LeftBracket)?;
         let first = self.part(tokens, 0)?;
-        let range = self.maybe_range(tokens)?;
-        tokens.mark(Mark::RightBracket)?;
+        let (first, (range, _)) = both(first, self.closed_range(tokens))?;
         match range {
             Some((mark, last)) => Ok(Select::Range(place, first, mark, last)),
             None => Ok(Select::Index(place, first)),
@@ -303,17 +338,23 @@ impl<F: Fn(Global, &mut Cursor<'_>, u8, u8) -> Result<Expr, ParseErr>> Grammar<F
         Ok(found)
     }
 
+    fn some(&self, tokens: &mut Cursor<'_>) -> Result<(Expr, Items<Expr>), ParseErr>
+        requires { Nests self.now.depth (F.pre self.now.expr) (F.post self.now.expr) }
+        ensures { Reads ((spec.expr self.now.depth 0 ⊗ spec.more self.now.depth (spec.expr self.now.depth)) tokens.old) result tokens.new }
+    {
+        let first = self.expr(tokens, 0)?;
+        both(first, self.more(tokens))
+    }
+
     #[tactic(auto, unfolding(crate::specs::Reading::copies))]
     fn copies(&self, tokens: &mut Cursor<'_>) -> Result<Items<Expr>, ParseErr>
         requires { Nests self.now.depth (F.pre self.now.expr) (F.post self.now.expr) }
         ensures { Reads (spec.copies self.now.depth (spec.expr self.now.depth) tokens.old) result tokens.new }
     {
         tokens.mark(Mark::LeftBrace)?;
-        let first = self.expr(tokens, 0)?;
-        let (first, more) = both(first, self.more(tokens))?;
+        let parts = self.some(tokens)?;
+        let ((first, more), _) = both(parts, closing_braces(tokens))?;
         let all = with_first(self.alloc, first, more)?;
-        tokens.mark(Mark::RightBrace)?;
-        tokens.mark(Mark::RightBrace)?;
         Ok(all)
     }
 
@@ -352,16 +393,8 @@ impl<F: Fn(Global, &mut Cursor<'_>, u8, u8) -> Result<Expr, ParseErr>> Grammar<F
         let place = tokens.mark(Mark::LeftBrace)?;
         let first = self.expr(tokens, 0)?;
         let (first, tail) = both(first, self.brace_tail(tokens))?;
-        match tail {
-            BraceTail::Copied(all) => {
-                let count = Boxed::new(self.alloc, first)?;
-                Ok(Expr::Repeat(place, count, all))
-            }
-            BraceTail::Followed(more) => {
-                let all = with_first(self.alloc, first, more)?;
-                Ok(Expr::Concat(place, all))
-            }
-        }
+        let whole = brace_of(self.alloc, place, first, tail)?;
+        Ok(whole)
     }
 
     // ---- what has no operator between two of its parts

@@ -4,6 +4,7 @@
 mod grammar;
 mod nesting;
 mod operators;
+mod seeking;
 mod tails;
 
 pub use operators::{expr, selects};

@@ -1,14 +1,14 @@
 // How many expressions hold the token of an expression that most hold.
 ghost use Rattle.std.specs.Prelude.{◌≡◌};
-ghost use Rattle.sv_expr_reader.specs.Heights.{capped, capped_all, capped_chain, capped_select};
+ghost use Rattle.sv_expr_reader.specs.Climbing as climbing;
+ghost use Rattle.sv_expr_reader.specs.Heights.{capped, capped_all, capped_chain, capped_select, last};
 
 use sv_tree::{Expr, Select};
 
-/// The height, which stops at 255. What holds the left operand of a chain of operators looks at each of its tokens
-/// once more, and at most 201 times, since a higher one is no part.
+/// The height, which stops at 255.
 #[cycle(height)]
 #[tactic(auto, using(crate::proofs::Capped::capped_made))]
-pub fn height(x: &Expr) -> u8
+fn height(x: &Expr) -> u8
     ensures { result ≡ capped x.now }
 {
     match x {
@@ -77,4 +77,31 @@ fn selects_height(all: &[Select]) -> u8
         most = most.max(select_height(x));
     }
     most
+}
+
+// The height of the operands behind the first operator.
+fn last_height(x: &Expr) -> u8
+    ensures { result ≡ last x.now }
+{
+    match x {
+        Expr::Binary(_, _, _, right) => height(right.get()),
+        Expr::Choose(_, first, second) => {
+            let most = height(first.get());
+            most.max(height(second.get()))
+        }
+        _ => 0,
+    }
+}
+
+/// The height, which stops at 255, where that of the first operand may be known. So an operand is looked at once, however
+/// many operators follow.
+#[tactic(auto, using(crate::proofs::Raised::raised))]
+pub fn height_over(x: &Expr, first: Option<u8>) -> u8
+    requires { climbing.IsFirstHeight first x.now }
+    ensures { result ≡ capped x.now }
+{
+    match first {
+        Some(first) => first.max(last_height(x)).saturating_add(1),
+        None => height(x),
+    }
 }

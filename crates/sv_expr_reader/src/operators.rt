@@ -1,17 +1,22 @@
-// Operators between expressions, by precedence climbing.
-ghost use Rattle.std.specs.Prelude.{◌≡◌, nat_lt, Ok, Err};
-ghost use Rattle.sv_cursor.specs.Parsers.{Reads, told};
+//! Operators between expressions, by precedence climbing. A left operand may hold no more than the depth allows, so the loop of
+//! operators keeps the height of what it has read: that of the next tree is told from it and from the new operands.
+ghost use Rattle.std.specs.Prelude.{◌≡◌, nat_lt};
+ghost use Rattle.sv_cursor.specs.Parsers.{Reads, ◌⊗◌, told};
+ghost use Rattle.sv_cursor.specs.Tests as tests;
 ghost use Rattle.sv_expr_reader.specs.Climbing as climbing;
+ghost use Rattle.sv_expr_reader.specs.Heights.{capped};
 ghost use Rattle.sv_expr_reader.specs.Nests.{Nests};
 ghost use Rattle.sv_expr_reader.specs.Reading as spec;
 ghost use Rattle.sv_expr_words.specs.Signs as sign;
 
 use crate::grammar::Grammar;
-use crate::nesting::height;
-use items::{Boxed, Items};
+use crate::nesting::height_over;
+use crate::seeking::first_at;
+use items::{Boxed, Items, both};
 use std::alloc::Global;
 use sv_cursor::{Cursor, Mark, ParseErr};
 use sv_expr_words::{Joiner, binary_mark, joiner, right_level, strength};
+use sv_outside::Place;
 use sv_tree::{BinaryOp, Expr, Select};
 
 fn stronger(joiner: Joiner, least: u8) -> Option<Joiner>
@@ -34,23 +39,12 @@ fn goes_on(tokens: &Cursor<'_>, least: u8) -> Option<Joiner>
     }
 }
 
-// The refusal stands no later than the next token.
-fn earlier(error: ParseErr, tokens: &Cursor<'_>) -> ParseErr
-    ensures { spec.later {A = climbing.Tree} (Err error) tokens.now ≡ Err result }
-{
-    match error {
-        ParseErr::Memory => ParseErr::Memory,
-        ParseErr::Syntax(left) => ParseErr::Syntax(left.min(tokens.left())),
-        ParseErr::TooDeep(deep, left) => ParseErr::TooDeep(deep, left.min(tokens.left())),
-    }
-}
-
 impl<F: Fn(Global, &mut Cursor<'_>, u8, u8) -> Result<Expr, ParseErr>> Grammar<F> {
     #[tactic(auto, using(crate::proofs::Turns::fits))]
-    fn fits(&self, x: &Expr) -> bool
-        ensures { result ≡ nat_lt (spec.height x.now) self.now.depth }
+    fn fits(&self, high: u8) -> bool
+        ensures { (x : Expr) → high ≡ capped x → result ≡ nat_lt (spec.height x) self.now.depth }
     {
-        height(x) < self.depth
+        high < self.depth
     }
 
     fn joined(&self, tokens: &mut Cursor<'_>, left: Expr, op: BinaryOp) -> Result<Expr, ParseErr>
@@ -63,6 +57,16 @@ impl<F: Fn(Global, &mut Cursor<'_>, u8, u8) -> Result<Expr, ParseErr>> Grammar<F
         Ok(Expr::Binary(left, op, place, right))
     }
 
+    // The `:` of a choice, and the operand behind it.
+    fn otherwise(&self, tokens: &mut Cursor<'_>) -> Result<(Place, Boxed<Expr>), ParseErr>
+        requires { Nests self.now.depth (F.pre self.now.expr) (F.post self.now.expr) }
+        ensures { Reads ((tests.mark Mark.Colon ⊗ spec.expr self.now.depth 1) tokens.old) result tokens.new }
+    {
+        let colon = tokens.mark(Mark::Colon)?;
+        let second = self.part(tokens, 1)?;
+        Ok((colon, second))
+    }
+
     fn chosen(&self, tokens: &mut Cursor<'_>, test: Expr) -> Result<Expr, ParseErr>
         requires { Nests self.now.depth (F.pre self.now.expr) (F.post self.now.expr) }
         ensures { Reads (spec.operated self.now.depth (spec.expr self.now.depth) test Joiner.Choose tokens.old) result tokens.new }
@@ -70,8 +74,7 @@ impl<F: Fn(Global, &mut Cursor<'_>, u8, u8) -> Result<Expr, ParseErr>> Grammar<F
         let test = Boxed::new(self.alloc, test)?;
         tokens.mark(Mark::Question)?;
         let first = self.part(tokens, 0)?;
-        tokens.mark(Mark::Colon)?;
-        let second = self.part(tokens, 1)?;
+        let (first, (_, second)) = both(first, self.otherwise(tokens))?;
         Ok(Expr::Choose(test, first, second))
     }
 
@@ -90,50 +93,39 @@ impl<F: Fn(Global, &mut Cursor<'_>, u8, u8) -> Result<Expr, ParseErr>> Grammar<F
         }
     }
 
-    // What was read from there on lies too deep for one operator more: reading it again as a part shows the token.
-    fn again<'a>(
-        &self,
-        tokens: &mut Cursor<'a>,
-        from: &Cursor<'a>,
-        least: u8,
-    ) -> Result<Expr, ParseErr>
-        requires { Nests self.now.depth (F.pre self.now.expr) (F.post self.now.expr) }
-        ensures { Reads (spec.later (spec.expr self.now.depth least from.now) tokens.old) result tokens.new }
+    // What was read from there on lies too deep for one operator more.
+    #[tactic(auto, using(crate::proofs::Turns::refused_high))]
+    fn too_high(&self, tokens: &Cursor<'_>, from: &Cursor<'_>, left: &Expr) -> ParseErr
+        ensures { result ≡ spec.too_high self.now.depth left.now from.now tokens.now }
     {
-        let mut part = from.copy();
-        match self.expr(&mut part, least) {
-            Ok(x) => {
-                if part.left() <= tokens.left() {
-                    *tokens = part;
-                    Ok(x)
-                } else {
-                    drop(x);
-                    Err(tokens.refuse())
-                }
-            }
-            Err(error) => Err(earlier(error, tokens)),
-        }
+        let before = first_at(left, self.depth);
+        let all = from.left();
+        ParseErr::TooDeep(all.saturating_sub(before), tokens.left())
     }
 
-    fn climb<'a>(
+    fn climb(
         &self,
-        tokens: &mut Cursor<'a>,
+        tokens: &mut Cursor<'_>,
         least: u8,
-        from: &Cursor<'a>,
+        from: &Cursor<'_>,
         mut left: Expr,
     ) -> Result<Expr, ParseErr>
         requires { Nests self.now.depth (F.pre self.now.expr) (F.post self.now.expr) }
         ensures { Reads (spec.climb self.now.depth (spec.expr self.now.depth) least from.now (climbing.turns from.now) left tokens.old) result tokens.new }
     {
+        let mut first = None;
         for _turn in 0..from.left() {
             let Some(next) = goes_on(tokens, least) else {
                 return Ok(left);
             };
-            if !self.fits(&left) {
+            let high = height_over(&left, first);
+            if !self.fits(high) {
+                let refusal = self.too_high(tokens, from, &left);
                 drop(left);
-                return self.again(tokens, from, least);
+                return Err(refusal);
             }
             left = self.operated(tokens, left, next)?;
+            first = Some(high);
         }
         Ok(left)
     }
