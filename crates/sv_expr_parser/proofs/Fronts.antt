@@ -1,24 +1,27 @@
 -- The longest expression at the front of tokens.
-use Rattle.std.proofs.Common.{◌≡◌, ℕ, zero, suc, ◌+◌, ◌-◌, ◌<◌, ◌≤◌, List, [], ◌∷◌, ◌++◌, length, take, drop, Some, None, Ok, Err, ◌⊎◌, inl, inr, refl, sym, ◌∙◌, ap, subst, append-nil, length-append, length-drop, arith}
+use Rattle.std.proofs.Common.{◌≡◌, ℕ, zero, suc, ◌+◌, ◌-◌, ◌<◌, ◌≤◌, List, [], ◌∷◌, ◌++◌, length, take, drop, Option, Some, None, Ok, Err, ◌⊎◌, inl, inr, refl, sym, ◌∙◌, ap, subst, append-nil, length-append, length-drop, arith}
 use Rattle.std.proofs.lemmas.List.{take-append-drop}
 use Rattle.std.proofs.Math.Seq.{take-append_seam}
 use Rattle.sv_outside.specs.declared.text.Token.{Token}
 use Rattle.sv_tree.specs.declared.exprs.Expr.{Expr}
 use Rattle.sv_tree.specs.GrammarExprs.{Spells}
-use Rattle.sv_tree.specs.Nesting.{expr_depths, IsTooDeep}
+use Rattle.sv_tree.specs.Nesting.{expr_depths, IsOverAt, IsTooDeep}
 use Rattle.sv_tree.proofs.Framed.{frame}
 use Rattle.sv_cursor.specs.declared.error.ParseErr.{ParseErr}
 use Rattle.sv_cursor.specs.declared.error.ParseErr.TheVariants.{Memory, Syntax, TooDeep}
-use Rattle.sv_cursor.specs.Parsers.{Outcome, Reads}
+use Rattle.sv_cursor.specs.declared.sort.Mark.TheVariants as mark_name
+use Rattle.sv_cursor.specs.Parsers.{Outcome, Reads, told}
+use Rattle.sv_cursor.specs.Tests.{mark_test}
 use Rattle.sv_cursor.proofs.Readers.{Agrees, Placed}
 use Rattle.sv_expr_reader.specs.Reading.{expr}
 use Rattle.sv_expr_reader.specs.Answers.{IsSpelled, Decides}
-use Rattle.sv_expr_parser.specs.Parsed.{IsSpelledBy, NoneBeyond, IsFront, RefusesFront, IsLongest, Refuses}
+use Rattle.sv_expr_parser.specs.Parsed.{IsSpelledBy, NoneBeyond, NoneGoesOn, NoneEnds, IsFront, RefusesFront, IsLongest, Refuses}
 use Rattle.sv_expr_parser.specs.Ends.{CanEnd, all_after, nothing_open, ended}
-use Rattle.sv_expr_reader.proofs.Tokens.{Bad, moved_expr}
+use Rattle.sv_expr_words.specs.Signs.{select_test, joiner_test, strength_of}
+use Rattle.sv_expr_reader.proofs.Tokens.{Bad, Stops, moved_expr}
 use Rattle.sv_expr_parser.proofs.Endings.{can_end}
 use Rattle.sv_expr_reader.proofs.Heights.{short}
-use Rattle.sv_expr_reader.proofs.Laws.{expr_reader, decides, stops_at_end}
+use Rattle.sv_expr_reader.proofs.Laws.{expr_reader, decides, stops_at_end, bad_over}
 
 -- ---- a front of the tokens
 
@@ -69,11 +72,32 @@ left_less x i j e = (rest_of x i j (subst (Decides i) e (decides i)).0).0
 deep_inside : (i : List Token) (deep left : ℕ) → expr 201 0 i ≡ Err (TooDeep deep left) → deep ≤ length i
 deep_inside i deep left e = let p = subst (Placed 201 i) e ((expr_reader 201 0 (omega arith)).placed i) in omega (arith, p.0, p.1, p.2, p.3)
 
+-- an expression behind which none goes on is not passed
+stops_of : (o : List Token) → NoneGoesOn o → Stops 0 o
+stops_of o h = (h.0, h.1, omega (arith, ap strength_of h.2))
+
+no_end : (w : List Token) (deep left : ℕ) → expr 201 0 w ≡ Err (TooDeep deep left) → (y : Expr) (n : ℕ) → n ≤ length w → IsSpelledBy y w n → NoneGoesOn (drop n w) → IsOverAt (expr_depths y) (length w - deep)
+no_end w deep left e y n le h stops =
+    let a = subst (Agrees (Bad 201) expr_depths y (length w + 1) w) e ((expr_reader 201 0 (omega arith)).agrees y w (drop n w) (length w + 1) w (goes_on y w n h) (stops_of (drop n w) stops) refl) in
+    bad_over (expr_depths y) (length w - deep) (a (omega arith))
+
+-- the token behind the first n of the first m
+shorter_told : {A : Type 0} (test : Token → Option A) (n m : ℕ) (i : List Token) → n ≤ m → told test (drop n i) ≡ None → told test (drop n (take m i)) ≡ None
+shorter_told test zero zero i le h = refl
+shorter_told test zero (suc m) [] le h = refl
+shorter_told test zero (suc m) (a ∷ i) le h = h
+shorter_told test (suc n) zero i le h = absurd (omega arith)
+shorter_told test (suc n) (suc m) [] le h = refl
+shorter_told test (suc n) (suc m) (a ∷ i) le h = shorter_told test n m i (omega arith) h
+
+shorter_end : (n m : ℕ) (i : List Token) → n ≤ m → NoneGoesOn (drop n i) → NoneGoesOn (drop n (take m i))
+shorter_end n m i le h = (shorter_told (mark_test mark_name.Tick) n m i le h.0, shorter_told select_test n m i le h.1, shorter_told joiner_test n m i le h.2)
+
 refused : (i : List Token) (z : ParseErr) → expr 201 0 i ≡ Err z → Refuses i z
 refused i (Syntax left) e =
     let d = subst (Decides i) e (decides i) in
     (d.0, e, record { none = λ y n le h. let a = d.1 y (drop n i) (goes_on y i n h) in omega (arith, length-drop n i) })
-refused i (TooDeep deep left) e = (deep_inside i deep left e, subst (Decides i) e (decides i))
+refused i (TooDeep deep left) e = (deep_inside i deep left e, subst (Decides i) e (decides i), record { none = λ y n le h stops. no_end i deep left e y n le h stops })
 refused i Memory e = tt
 
 pub refuses : (i : List Token) (z : ParseErr) (new : List Token) → Reads {A = Expr} (expr 201 0 i) (Err z) new → Refuses i z
@@ -122,8 +146,15 @@ module _ (i : List Token) (m : ℕ) (le : m ≤ length i) where
   refuses_deep deep left e =
       let len = take_length m i le in
       let inside = deep_inside (take m i) deep left e in
-      let same : length (take m i) - deep ≡ length i - (deep + (length i - m)) = omega (arith, len, inside) in
-      (omega (arith, len, inside), subst (IsTooDeep IsSpelled expr_depths i) same (lower (length (take m i) - deep) (subst (Decides (take m i)) e (decides (take m i)))))
+      let same : length (take m i) - deep ≡ length i - (deep + (length i - m)) = omega (arith, len, inside) in (
+        omega (arith, len, inside),
+        subst (IsTooDeep IsSpelled expr_depths i) same (lower (length (take m i) - deep) (subst (Decides (take m i)) e (decides (take m i)))),
+        record {
+          none = λ y n small h stops.
+              subst (IsOverAt (expr_depths y)) same
+              (no_end (take m i) deep left e y n (omega (arith, len)) (subst (IsSpelled y) (sym (take_less n m i small)) h) (shorter_end n m i small stops));
+        },
+      )
 
   pub refuses_front : (z : ParseErr) (new : List Token) → Reads {A = Expr} (expr 201 0 (take m i)) (Err z) new → RefusesFront i m z
   refuses_front (Syntax left) new h = none_refused (take m i) left (h (λ e. cc))
@@ -132,6 +163,12 @@ module _ (i : List Token) (m : ℕ) (le : m ≤ length i) where
 
   pub longest_found : (x : Expr) → NoneBeyond i m → IsFront i m (Ok (Some x)) → IsLongest i (Ok (x, m))
   longest_found x h d = (le, d.0, d.1, h.none)
+
+  -- what a refusal of the first m says of all, where no expression takes more
+  pub front_refuses : (z : ParseErr) → NoneBeyond i m → IsFront i m (Err z) → IsLongest i (Err z)
+  front_refuses (Syntax left) h f = absurd f
+  front_refuses (TooDeep deep left) h f = (f.0, f.1, record { none = λ y n small g stops. f.2.none y n (h.none y n small g) g stops })
+  front_refuses Memory h f = tt
 
 -- ---- shorter fronts, one by one
 

@@ -1,17 +1,21 @@
 -- What holds of the tokens from one on, by numbers among all.
-use Rattle.std.proofs.Common.{◌≡◌, inl, inr, ℕ, ◌+◌, ◌-◌, ◌≤◌, List, length, take, drop, slice_get, Ok, Err, refl, sym, ap, subst, length-drop, arith}
+use Rattle.std.proofs.Common.{◌≡◌, inl, inr, ℕ, ◌+◌, ◌-◌, ◌≤◌, List, length, take, drop, slice_get, Ok, Err, refl, sym, ap, ◌∙◌, subst, length-drop, arith}
 use Rattle.std.proofs.lemmas.List.{take_all}
 use Rattle.sv_outside.specs.declared.refusal.Place.{Place}
 use Rattle.sv_outside.specs.declared.text.Token.{Token}
 use Rattle.sv_tree.specs.declared.exprs.Expr.{Expr}
 use Rattle.sv_cursor.specs.declared.error.ParseErr.TheVariants.{Syntax, TooDeep}
 use Rattle.sv_expr_reader.specs.Answers.{IsSpelled}
+use Rattle.sv_cursor.proofs.Readers.{drop_more}
 use Rattle.sv_cursor.specs.Refusals.{refused, syntax_number_of, place_at}
-use Rattle.sv_expr_parser.specs.Parsed.{IsLongest, IsParsed}
+use Rattle.sv_expr_parser.specs.Parsed.{NoneGoesOn, IsLongest, IsParsed}
 
 module _ (tokens : List Token) (end : Place) (at : ℕ) (le : at ≤ length tokens) where
   len : length (drop at tokens) ≡ length tokens - at
   len = length-drop at tokens
+
+  there : (n : ℕ) → at ≤ n → drop (n - at) (drop at tokens) ≡ drop n tokens
+  there n le = let e : at + (n - at) ≡ n = omega arith in drop_more at (n - at) tokens ∙ ap (λ k. drop k tokens) e
 
   pub from_there : take (length tokens - at) (drop at tokens) ≡ drop at tokens
   from_there = take_all (length tokens - at) (drop at tokens) (omega (arith, len))
@@ -39,6 +43,7 @@ module _ (tokens : List Token) (end : Place) (at : ℕ) (le : at ≤ length toke
       let e : length tokens - deep ≡ at + (length (drop at tokens) - deep) = omega (arith, len, h.0) in
       inr (record {
         number = length (drop at tokens) - deep;
+        none = λ y n g stops. h.2.none y (n - at) (omega (arith, len, g.1)) g.2 (subst NoneGoesOn (sym (there n g.0)) stops);
         deep = h.1;
         is = ap (λ n. refused 9 (place_at tokens end n)) e;
       })

@@ -66,7 +66,7 @@ fn shorter(tokens: &[Token], most: usize) -> usize
 }
 
 // The longest expression at the front that takes at most so many tokens.
-#[tactic(auto, using(crate::proofs::Fronts::longest_found, crate::proofs::Fronts::one_less))]
+#[tactic(auto, using(crate::proofs::Fronts::longest_found, crate::proofs::Fronts::one_less, crate::proofs::Fronts::front_refuses))]
 fn longest_within(
     alloc: Global,
     tokens: &[Token],
@@ -120,7 +120,7 @@ fn longest(alloc: Global, tokens: &[Token]) -> Result<(Expr, usize), ParseErr>
 /// Refused where no expression stands there: as E25 at a reserved word that is in no rule of the grammar, at
 /// `===`, `!==`, `==?` or `!=?`, and at a system name that the grammar does not have, and else as E8, at the token at
 /// which reading stops; as E9 at a token that over 200 expressions hold in each tree whose spelling begins as the
-/// tokens do. `Memory` says nothing of the tokens.
+/// tokens do, where no expression ends there that does not hold it so. `Memory` says nothing of the tokens.
 #[tactic(auto, using(crate::proofs::Shifted::shifted))]
 pub fn parse_expr(
     alloc: Global,
