@@ -2,10 +2,13 @@
 // proved by itself.
 ghost use Rattle.std.specs.Prelude.{◌≡◌, is_some};
 ghost use Rattle.sv_cursor.specs.Parsers as parser;
-ghost use Rattle.sv_cursor.specs.Parsers.{Reads, ◌⊗◌, ◌▷◌, told};
+ghost use Rattle.sv_cursor.specs.Parsers.{Reads, ◌<$>◌, ◌⊗◌, ◌▷◌, told};
 ghost use Rattle.sv_cursor.specs.Tests as test;
-ghost use Rattle.sv_word_parser.specs.Combined.{◌▸◌, listed, sort_test, word_test};
+ghost use Rattle.sv_word_parser.specs.Combined.{◌▸◌, ◌◂◌, listed, sort_test, word_test};
+ghost use Rattle.sv_instance_parser.specs.Instances as instances;
 ghost use Rattle.sv_item_parser.specs.Items as spec;
+ghost use Rattle.sv_type_parser.specs.Forms as forms;
+ghost use Rattle.sv_type_parser.specs.Params as params;
 ghost use Rattle.sv_type_parser.specs.Lists as list;
 ghost use Rattle.sv_type_parser.specs.Lists.{Nests};
 ghost use Rattle.sv_stmt_parser.specs.Loops as loops;
@@ -20,7 +23,8 @@ use sv_outside::Place;
 use sv_stmt_parser::{block_label, end_label, is_given, lvalue, step, stmt};
 use sv_tree::{AssignPair, Block, BlockKind, Event, Expr, Gen, Item, Step, Word};
 use sv_type_parser::{
-    MOST_NESTING, expression, form, given, more_names, names, typed_name, with_first,
+    MOST_NESTING, ended_names, expression, form, given, more_names, param, typed_name, typedef,
+    with_first,
 };
 use sv_word_parser::{AlwaysWord, ItemOpener, always_next, sees, take_edge, take_net};
 
@@ -144,7 +148,7 @@ fn kind(alloc: Global, tokens: &mut Cursor<'_>) -> Result<BlockKind, ParseErr>
 
 /// A block of a module (A.6.2, always_construct).
 #[tactic(auto, unfolding(crate::specs::Items::always))]
-pub fn always(alloc: Global, tokens: &mut Cursor<'_>) -> Result<Block, ParseErr>
+fn always(alloc: Global, tokens: &mut Cursor<'_>) -> Result<Block, ParseErr>
     ensures { Reads (spec.always tokens.old) result tokens.new }
 {
     let kind = kind(alloc, tokens)?;
@@ -154,15 +158,24 @@ pub fn always(alloc: Global, tokens: &mut Cursor<'_>) -> Result<Block, ParseErr>
 
 // ---- items that hold no items
 
+// The names behind the first, and the semicolon behind them.
+#[tactic(auto, unfolding(sv_instance_parser::specs::Instances::more_names, sv_type_parser::specs::Lists::more, sv_type_parser::specs::Lists::behind_comma))]
+fn ended_more_names(alloc: Global, tokens: &mut Cursor<'_>) -> Result<Items<Word>, ParseErr>
+    ensures { Reads ((instances.more_names ◂ test.mark Mark.Semicolon) tokens.old) result tokens.new }
+{
+    let more = more_names(alloc, tokens)?;
+    tokens.mark(Mark::Semicolon)?;
+    Ok(more)
+}
+
 /// One or more nets (A.2.1.3, net_declaration).
-#[tactic(auto, unfolding(crate::specs::Items::net, sv_instance_parser::specs::Instances::more_names, sv_type_parser::specs::Lists::more, sv_type_parser::specs::Lists::behind_comma))]
+#[tactic(auto, unfolding(crate::specs::Items::net))]
 pub fn net(alloc: Global, tokens: &mut Cursor<'_>) -> Result<Item, ParseErr>
     ensures { Reads (spec.net tokens.old) result tokens.new }
 {
     let word = take_net(tokens)?;
     let (form, name) = typed_name(alloc, tokens)?;
-    let ((form, name), more) = both((form, name), more_names(alloc, tokens))?;
-    let ((form, name, more), _) = both((form, name, more), tokens.mark(Mark::Semicolon))?;
+    let ((form, name), more) = both((form, name), ended_more_names(alloc, tokens))?;
     let (form, all) = both(form, with_first(alloc, name, more))?;
     Ok(Item::Net(word, form, all))
 }
@@ -173,8 +186,7 @@ pub fn variable(alloc: Global, tokens: &mut Cursor<'_>) -> Result<Item, ParseErr
     ensures { Reads (spec.variable tokens.old) result tokens.new }
 {
     let shape = form(alloc, tokens, MOST_NESTING + 1)?;
-    let (shape, all) = both(shape, names(alloc, tokens))?;
-    let ((shape, all), _) = both((shape, all), tokens.mark(Mark::Semicolon))?;
+    let (shape, all) = both(shape, ended_names(alloc, tokens))?;
     Ok(Item::Variable(shape, all))
 }
 
@@ -184,9 +196,32 @@ pub fn genvar(alloc: Global, tokens: &mut Cursor<'_>) -> Result<Item, ParseErr>
     ensures { Reads (spec.genvar tokens.old) result tokens.new }
 {
     tokens.keyword(Keyword::Genvar)?;
-    let all = names(alloc, tokens)?;
-    tokens.mark(Mark::Semicolon)?;
+    let all = ended_names(alloc, tokens)?;
     Ok(Item::Genvar(all))
+}
+
+/// A type that is given a name.
+pub fn typedef_item(alloc: Global, tokens: &mut Cursor<'_>) -> Result<Item, ParseErr>
+    ensures { Reads ((Item.Typedef <$> forms.typedef) tokens.old) result tokens.new }
+{
+    let inner = typedef(alloc, tokens)?;
+    Ok(Item::Typedef(inner))
+}
+
+/// Parameters.
+pub fn param_item(alloc: Global, tokens: &mut Cursor<'_>) -> Result<Item, ParseErr>
+    ensures { Reads ((Item.Param <$> params.param) tokens.old) result tokens.new }
+{
+    let inner = param(alloc, tokens)?;
+    Ok(Item::Param(inner))
+}
+
+/// A block as an item.
+pub fn always_item(alloc: Global, tokens: &mut Cursor<'_>) -> Result<Item, ParseErr>
+    ensures { Reads ((Item.Always <$> spec.always) tokens.old) result tokens.new }
+{
+    let inner = always(alloc, tokens)?;
+    Ok(Item::Always(inner))
 }
 
 #[tactic(auto, unfolding(crate::specs::Items::pair))]

@@ -8,14 +8,15 @@ ghost use Rattle.sv_item_parser.specs.Regions as region;
 ghost use Rattle.sv_word_parser.specs.Words as words;
 
 use crate::module_items::{
-    Generates, always, assigns, genvar, item_next, net, sees_item, variable,
+    Generates, always_item, assigns, genvar, item_next, net, param_item, sees_item, typedef_item,
+    variable,
 };
 use items::Items;
 use std::alloc::Global;
 use sv_cursor::{Cursor, Keyword, ParseErr};
 use sv_instance_parser::named_item;
 use sv_tree::Item;
-use sv_type_parser::{MOST_OPEN, param, typedef};
+use sv_type_parser::MOST_OPEN;
 use sv_word_parser::ItemOpener;
 
 fn is_region(opener: ItemOpener) -> bool
@@ -123,20 +124,11 @@ impl<F: Copy + Fn(Global, &mut Cursor<'_>, u8) -> Result<Item, ParseErr>> Region
         match opener {
             ItemOpener::Net => net(self.alloc, tokens),
             ItemOpener::Type => variable(self.alloc, tokens),
-            ItemOpener::Typedef => {
-                let inner = typedef(self.alloc, tokens)?;
-                Ok(Item::Typedef(inner))
-            }
-            ItemOpener::Param => {
-                let inner = param(self.alloc, tokens)?;
-                Ok(Item::Param(inner))
-            }
+            ItemOpener::Typedef => typedef_item(self.alloc, tokens),
+            ItemOpener::Param => param_item(self.alloc, tokens),
             ItemOpener::Genvar => genvar(self.alloc, tokens),
             ItemOpener::Assign => assigns(self.alloc, tokens),
-            ItemOpener::Always => {
-                let inner = always(self.alloc, tokens)?;
-                Ok(Item::Always(inner))
-            }
+            ItemOpener::Always => always_item(self.alloc, tokens),
             ItemOpener::Name => named_item(self.alloc, tokens),
             ItemOpener::For => self.counted(tokens),
             ItemOpener::If => self.conditional(tokens),

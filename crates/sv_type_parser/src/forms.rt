@@ -285,8 +285,8 @@ fn sees_type(tokens: &Cursor<'_>) -> bool
     type_next(tokens).is_some()
 }
 
-// Names, and the semicolon behind them.
-fn ended_names(alloc: Global, tokens: &mut Cursor<'_>) -> Result<Items<Word>, ParseErr>
+/// Names, and the semicolon behind them.
+pub fn ended_names(alloc: Global, tokens: &mut Cursor<'_>) -> Result<Items<Word>, ParseErr>
     ensures { Reads ((spec.names ◂ test.mark Mark.Semicolon) tokens.old) result tokens.new }
 {
     let all = names(alloc, tokens)?;
