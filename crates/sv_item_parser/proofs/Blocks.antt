@@ -225,9 +225,9 @@ block_begins (kind_of.Always e) i o h = (k.Always, (always_word.Always, refl), f
 block_begins kind_of.Star i o h = (k.Always, (always_word.Always, refl), first_of_key k.Always i h.0 h.1)
 block_begins kind_of.StarParen i o h = (k.Always, (always_word.Always, refl), first_of_key k.Always i h.0 h.1)
 
-module _ (g t d : ℕ) (le : d ≤ 201) where
+module _ (g t d : ℕ) (le : d ≤ 200) where
   abbrev body_rule : Rule (Over 201 g t) d Stmt
-  body_rule = less d le (rule_of (stmt_reads 201 g t (omega arith)) counted_done)
+  body_rule = less d le (rule_of (stmt_reads 200 g t (omega arith)) counted_done)
 
   pub block_reads : IsReader (Over 201 g t) d DoneBlock DoneBlock block_depths NoColon always
   unfolding always

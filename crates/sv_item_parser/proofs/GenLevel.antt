@@ -142,7 +142,7 @@ place_none q (a ∷ i) e h = cc
 name_no_genvar : (i : List Token) → IsFirst so.Id i → told (keyword_test k.Genvar) i ≡ None
 name_no_genvar i h = no_key k.Genvar so.Id i refl h
 
-module _ (h d : ℕ) (le : d ≤ 201) (f : Parser Item) (reads : IsReader (Over 201 h 201) d DoneItem DoneItem item_depths NoColon f) where
+module _ (h d : ℕ) (le : d ≤ 200) (f : Parser Item) (reads : IsReader (Over 201 h 201) d DoneItem DoneItem item_depths NoColon f) where
   abbrev B : Nesting → Type 0
   B = Over 201 h 201
 

@@ -138,7 +138,7 @@ unfolding same_mark mark_text
 names_no_paren [] i t o h e = no_mark m.LeftParen (so.Mark m.Semicolon) i refl (subst (IsFirst (so.Mark m.Semicolon)) (sym h) (first_of_mark m.Semicolon t o e))
 names_no_paren (w ∷ all) i t o h e = no_mark m.LeftParen (so.Mark m.Comma) i refl (first_of_mark m.Comma i h.0 h.1)
 
-module _ (s g t d : ℕ) (le : d ≤ 201) where
+module _ (s g t d : ℕ) (le : d ≤ 200) where
   abbrev mk : MarkName → Fixed (Over s g t)
   mk x = the_mark (Over s g t) x
 

@@ -217,7 +217,7 @@ pairs_end : (i o : List Token) → Semicolon i o → (told (mark_test m.Comma) i
 unfolding same_mark
 pairs_end i o h = (no_mark m.Comma (so.Mark m.Semicolon) i refl (first_of_mark m.Semicolon i o h), end_mark m.Semicolon refl i o h)
 
-module _ (h d : ℕ) (le : d ≤ 201) where
+module _ (h d : ℕ) (le : d ≤ 200) where
   abbrev B : Nesting → Type 0
   B = Over 201 h 201
 
@@ -394,7 +394,7 @@ unfolding regions item_level
 at_end loop cond zero = refl
 at_end loop cond (suc n) = refl
 
-module _ (h d : ℕ) (le : d ≤ 201) (loop cond : Parser Item) (loops : IsReader (Over 201 h 201) d Plain (Begun item_by.For) item_depths NoColon loop)
+module _ (h d : ℕ) (le : d ≤ 200) (loop cond : Parser Item) (loops : IsReader (Over 201 h 201) d Plain (Begun item_by.For) item_depths NoColon loop)
     (conds : IsReader (Over 201 h 201) d Plain (Begun item_by.If) item_depths NoColon cond) where
   pub stable : (n l : ℕ) (i : List Token) → length i ≤ n → length i ≤ l → ◌≡◌ {A = Outcome Item} (regions loop cond n i) (regions loop cond l i)
   unfolding regions item_level

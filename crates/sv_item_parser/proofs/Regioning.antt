@@ -43,7 +43,7 @@ item_shorter g le i = meets_weaker (item g i) (λ x j. DoneItem x i j) (λ x j. 
 item_shrinks : (g : ℕ) → g ≤ 200 → Shrinks (item g)
 item_shrinks g le i = meets_weaker (item g i) (λ x j. length j < length i) (λ x j. length j ≤ length i) (item_shorter g le i) (λ x j h. omega arith)
 
-module _ (h d : ℕ) (le : d ≤ 201) (loop cond : Parser Item) (loops : IsReader (Over 201 h 201) d Plain (Begun item_by.For) item_depths NoColon loop)
+module _ (h d : ℕ) (le : d ≤ 200) (loop cond : Parser Item) (loops : IsReader (Over 201 h 201) d Plain (Begun item_by.For) item_depths NoColon loop)
     (conds : IsReader (Over 201 h 201) d Plain (Begun item_by.If) item_depths NoColon cond) (shrinks : Shrinks (whole_item (regions loop cond))) where
   level_again : (i : List Token) → ◌≡◌ {A = Outcome Item} (whole_item (regions loop cond) i) (item_level loop cond (whole_item (regions loop cond)) i)
   unfolding regions item_level

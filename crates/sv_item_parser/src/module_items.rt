@@ -152,7 +152,7 @@ fn always(alloc: Global, tokens: &mut Cursor<'_>) -> Result<Block, ParseErr>
     ensures { Reads (spec.always tokens.old) result tokens.new }
 {
     let kind = kind(alloc, tokens)?;
-    let (kind, body) = both(kind, stmt(alloc, tokens, MOST_NESTING + 1))?;
+    let (kind, body) = both(kind, stmt(alloc, tokens, MOST_NESTING))?;
     Ok(Block { kind, body })
 }
 
@@ -185,7 +185,7 @@ pub fn net(alloc: Global, tokens: &mut Cursor<'_>) -> Result<Item, ParseErr>
 pub fn variable(alloc: Global, tokens: &mut Cursor<'_>) -> Result<Item, ParseErr>
     ensures { Reads (spec.variable tokens.old) result tokens.new }
 {
-    let shape = form(alloc, tokens, MOST_NESTING + 1)?;
+    let shape = form(alloc, tokens, MOST_NESTING)?;
     let (shape, all) = both(shape, ended_names(alloc, tokens))?;
     Ok(Item::Variable(shape, all))
 }

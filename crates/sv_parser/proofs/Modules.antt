@@ -93,7 +93,7 @@ ports_from (p ∷ all) i o h = (Some (p ∷ all), refl, (h.1.0, (h.0, h.1.1), h.
 ports_same : (all : List Port) → ports_depths all ≡ one ++ (commas_depths port_depths all ++ one)
 ports_same all = simp append_assoc
 
-module _ (s g d : ℕ) (le : d ≤ 201) where
+module _ (s g d : ℕ) (le : d ≤ 200) where
   abbrev B : Nesting → Type 0
   B = Over s g 201
 

@@ -146,7 +146,7 @@ colon_nests : (q : Option Place) → if_given (λ p. one) q ≡ if_true (is_give
 colon_nests None = refl
 colon_nests (Some p) = refl
 
-module _ (s g t d : ℕ) (le : d ≤ 201) (f : Parser Stmt) (reads : IsReader (Over s g t) d DoneStmt DoneStmt stmt_depths NoColon f) where
+module _ (s g t d : ℕ) (le : d ≤ 200) (f : Parser Stmt) (reads : IsReader (Over s g t) d DoneStmt DoneStmt stmt_depths NoColon f) where
   abbrev inner_rule : Rule (Over s g t) d Stmt
   inner_rule = rule_of reads counted_done
 
@@ -234,7 +234,7 @@ Behind (x ∷ a) None = nothing
 abbrev behind_nests : Option (Arm × List Arm) → Depths
 behind_nests = if_given (λ c. arm_depths c.0 ++ each_depths arm_depths c.1)
 
-module _ (s g t d : ℕ) (le : d ≤ 201) (f : Parser Stmt) (reads : IsReader (Over s g t) d DoneStmt DoneStmt stmt_depths NoColon f) where
+module _ (s g t d : ℕ) (le : d ≤ 200) (f : Parser Stmt) (reads : IsReader (Over s g t) d DoneStmt DoneStmt stmt_depths NoColon f) where
   abbrev pair_rule : Rule (Over s g t) d (Arm × List Arm)
   pair_rule = from_default_rule s g t d le f reads
 
@@ -351,7 +351,7 @@ arms_from : (all : List Arm) (i o : List Token) → DoneArms all i o → (c : Li
 arms_from [] i o h = absurd h.1
 arms_from (x ∷ all) i o h = let c = parted (x ∷ all) i o h.0 h.1 in (c.0, c.1, (c.2.0, c.2.1, behind_of x all c.0.0 c.0.1 c.2.0 o c.1 c.2.2))
 
-module _ (s g t d : ℕ) (le : d ≤ 201) (f : Parser Stmt) (reads : IsReader (Over s g t) d DoneStmt DoneStmt stmt_depths NoColon f) where
+module _ (s g t d : ℕ) (le : d ≤ 200) (f : Parser Stmt) (reads : IsReader (Over s g t) d DoneStmt DoneStmt stmt_depths NoColon f) where
   pub arms_reads : IsReader (Over s g t) d DoneArms DoneArms (each_depths arm_depths) ArmsEnd (arms f)
   unfolding arms
   arms_reads = tree_reads (arms_tuple s g t d le f reads) made_arms DoneArms (each_depths arm_depths) arms_nested arms_to arms_from

@@ -140,7 +140,7 @@ step_begin : (k : StepMark) → step_opener_by_mark (step_mark_name k) ≡ Some 
 step_begin step_mark.Inc = refl
 step_begin step_mark.Dec = refl
 
-module _ (s g t d : ℕ) (le : d ≤ 201) where
+module _ (s g t d : ℕ) (le : d ≤ 200) where
   abbrev TailWay : Type 1
   TailWay = Way (Over s g t) d StepTail TailSpelled tail_nests (Stops 0)
 

@@ -278,61 +278,62 @@ first_no_colon (x ∷ all) i t o h e = stmt_no_colon x i h.0 h.1.0
 end_no_stmt : (i o : List Token) → key (keyword_text k.End) i o → (told (sort_test stmt_by_sort) i ≡ None) × NoColon i
 end_no_stmt i o h = (told_sort stmt_by_sort i refl ∙ ap stmt_by_sort (first_of_key k.End i o h), key_no_colon k.End i o h)
 
-abbrev pub IsStmts : (s g t : ℕ) → Parser Stmt → Type 0
-IsStmts s g t f = IsReader (Over s g t) s DoneStmt DoneStmt stmt_depths NoColon f
+-- Statements are read of which at most s hold a token; a token that lies too deep is held by so many as the limit.
+abbrev pub IsStmts : (limit s g t : ℕ) → Parser Stmt → Type 0
+IsStmts limit s g t f = IsReader (Over limit g t) s DoneStmt DoneStmt stmt_depths NoColon f
 
 -- The statements in a statement are read by f.
-module _ (s g t : ℕ) (le : suc s ≤ 201) (f : Parser Stmt) (reads : IsStmts s g t f) where
-  abbrev mk : MarkName → Fixed (Over s g t)
-  mk x = the_mark (Over s g t) x
+module _ (limit s g t : ℕ) (le : suc s ≤ 200) (f : Parser Stmt) (reads : IsStmts limit s g t f) where
+  abbrev mk : MarkName → Fixed (Over limit g t)
+  mk x = the_mark (Over limit g t) x
 
-  abbrev ky : Keyword → Fixed (Over s g t)
-  ky x = the_key (Over s g t) x
+  abbrev ky : Keyword → Fixed (Over limit g t)
+  ky x = the_key (Over limit g t) x
 
-  abbrev inner_rule : Rule (Over s g t) s Stmt
+  abbrev inner_rule : Rule (Over limit g t) s Stmt
   inner_rule = rule_of reads counted_done
 
-  abbrev part_rule : Rule (Over s g t) s Expr
-  part_rule = expression_rule s g t s (omega arith)
+  abbrev part_rule : Rule (Over limit g t) s Expr
+  part_rule = expression_rule limit g t s (omega arith)
 
   -- ---- blocks
 
-  abbrev several_stmts : Rule (Over s g t) s (List Stmt)
+  abbrev several_stmts : Rule (Over limit g t) s (List Stmt)
   several_stmts = several (sort_test stmt_by_sort) inner_rule (λ x i o h. stmt_begins x i o h.0) (λ x i o h. stmt_grows x) stmt_told_no_colon
 
   abbrev StmtsStop : List Token → Type 0
   StmtsStop o = (told (sort_test stmt_by_sort) o ≡ None) × NoColon o
 
-  stmts_reads : IsReader (Over s g t) s (each DoneStmt) (each DoneStmt) (each_depths stmt_depths) StmtsStop (stmts f)
+  stmts_reads : IsReader (Over limit g t) s (each DoneStmt) (each DoneStmt) (each_depths stmt_depths) StmtsStop (stmts f)
   unfolding stmts
   stmts_reads = several_stmts.reads
 
-  abbrev stmts_rule : Rule (Over s g t) s (List Stmt)
+  abbrev stmts_rule : Rule (Over limit g t) s (List Stmt)
   stmts_rule = record { spelled = each DoneStmt; nests = each_depths stmt_depths; stops = StmtsStop; parser = stmts f; reads = stmts_reads; moved = several_stmts.moved }
 
-  abbrev end_rule : Option Word → Rule (Over s g t) s (Option Word)
-  end_rule b = record { spelled = label_of b; nests = if_given label_depths; stops = NoColon; parser = end_label b; reads = end_label_reads (Over s g t) s b; moved = end_label_moved b }
+  abbrev end_rule : Option Word → Rule (Over limit g t) s (Option Word)
+  end_rule b = record { spelled = label_of b; nests = if_given label_depths; stops = NoColon; parser = end_label b; reads = end_label_reads (Over limit g t) s b; moved = end_label_moved b }
 
-  abbrev rest_rule : Option Word → Rule (Over s g t) s (List Stmt × Option Word)
+  abbrev rest_rule : Option Word → Rule (Over limit g t) s (List Stmt × Option Word)
   rest_rule b = seq stmts_rule (before (ky k.End) (end_rule b)) (λ x y i o h stops. end_no_stmt i h.0 h.1)
 
-  abbrev block_rule : Rule (Over s g t) (suc s) (Place × (Option Word × (List Stmt × Option Word)))
+  abbrev block_rule : Rule (Over limit g t) (suc s) (Place × (Option Word × (List Stmt × Option Word)))
   block_rule =
       seq_up (placed (ky k.Begin))
-      (seq_by (block_label_rule (Over s g t) s) (λ b c. (rest_rule b).spelled c) (λ c. each_depths stmt_depths c.0 ++ (one ++ if_given label_depths c.1)) NoColon (block_rest f)
+      (seq_by (block_label_rule (Over limit g t) s) (λ b c. (rest_rule b).spelled c) (λ c. each_depths stmt_depths c.0 ++ (one ++ if_given label_depths c.1)) NoColon (block_rest f)
       (λ b. (rest_rule b).reads) (λ b. (rest_rule b).moved) (λ b c i o h stops. first_no_colon c.0 i h.0 h.2.0 h.1 h.2.1))
       (λ x y i o h stops. tt) (λ x i o h. omega arith)
 
   -- ---- branches
 
-  abbrev else_rule : Rule (Over s g t) s Stmt
+  abbrev else_rule : Rule (Over limit g t) s Stmt
   else_rule = before (ky k.Else) inner_rule
 
-  else_reads : IsReader (Over s g t) s (Shut (keyword_test k.Else) OtherSpelled) (Shut (keyword_test k.Else) OtherSpelled) other_nests NoColon (maybe_else f)
+  else_reads : IsReader (Over limit g t) s (Shut (keyword_test k.Else) OtherSpelled) (Shut (keyword_test k.Else) OtherSpelled) other_nests NoColon (maybe_else f)
   unfolding maybe_else
   else_reads = (shut (keyword_test k.Else) else_rule (λ x i o h. key_begins k.Else i h.0 h.1)).reads
 
-  abbrev maybe_else_rule : Rule (Over s g t) s (Option Stmt)
+  abbrev maybe_else_rule : Rule (Over limit g t) s (Option Stmt)
   maybe_else_rule = record {
     spelled = Shut (keyword_test k.Else) OtherSpelled;
     nests = other_nests;
@@ -342,21 +343,21 @@ module _ (s g t : ℕ) (le : suc s ≤ 201) (f : Parser Stmt) (reads : IsStmts s
     moved = (shut (keyword_test k.Else) else_rule (λ x i o h. key_begins k.Else i h.0 h.1)).moved;
   }
 
-  abbrev if_rule : Rule (Over s g t) (suc s) (Expr × (Stmt × Option Stmt))
+  abbrev if_rule : Rule (Over limit g t) (suc s) (Expr × (Stmt × Option Stmt))
   if_rule =
       opening (ky k.If)
       (before (mk m.LeftParen)
       (seq part_rule (before (mk m.RightParen) (seq inner_rule maybe_else_rule (λ x y i o h stops. other_no_colon y i o h stops))) (λ x y i o h stops. end_mark m.RightParen refl i h.0 h.1)))
 
-  abbrev choice_rule : Rule (Over s g t) (suc s) (CaseWord × (Expr × List Arm))
+  abbrev choice_rule : Rule (Over limit g t) (suc s) (CaseWord × (Expr × List Arm))
   choice_rule =
-      seq_up (case_rule (Over s g t) (suc s))
+      seq_up (case_rule (Over limit g t) (suc s))
       (before (mk m.LeftParen)
-      (seq part_rule (before (mk m.RightParen) (closing (arms_rule s g t s (omega arith) f reads) (ky k.Endcase) endcase_stops)) (λ x y i o h stops. end_mark m.RightParen refl i h.0 h.1)))
+      (seq part_rule (before (mk m.RightParen) (closing (arms_rule limit g t s (omega arith) f reads) (ky k.Endcase) endcase_stops)) (λ x y i o h stops. end_mark m.RightParen refl i h.0 h.1)))
       (λ x y i o h stops. tt) (λ x i o h. omega arith)
 
   abbrev BranchWay : Type 1
-  BranchWay = Way (Over s g t) (suc s) BranchTail BranchSpelled branch_nests NoColon
+  BranchWay = Way (Over limit g t) (suc s) BranchTail BranchSpelled branch_nests NoColon
 
   abbrev if_way : BranchWay
   if_way = record { A = Expr × (Stmt × Option Stmt); rule = if_rule; made = made_if; nested = λ c. refl; to = λ c i o h. h; ends = λ o h. h }
@@ -368,47 +369,47 @@ module _ (s g t : ℕ) (le : suc s ≤ 201) (f : Parser Stmt) (reads : IsStmts s
   branch_view (branch_tail.If c x y) i o h = let p = key_begins k.If i h.0 h.1 in inl (p.0, p.1, ((c, (x, y)), refl, h))
   branch_view (branch_tail.Case w x all) i o h = inr (case_no_if w i h.0 h.1, ((w, (x, all)), refl, h))
 
-  branched_reads : IsReader (Over s g t) (suc s) BranchSpelled BranchSpelled branch_nests NoColon (branched f)
+  branched_reads : IsReader (Over limit g t) (suc s) BranchSpelled BranchSpelled branch_nests NoColon (branched f)
   unfolding branched conditional choice
   branched_reads = fork_reads (keyword_test k.If) if_way case_way branch_view
 
-  abbrev branched_rule : Rule (Over s g t) (suc s) BranchTail
+  abbrev branched_rule : Rule (Over limit g t) (suc s) BranchTail
   branched_rule = record { spelled = BranchSpelled; nests = branch_nests; stops = NoColon; parser = branched f; reads = branched_reads; moved = fork_moved (keyword_test k.If) if_way case_way branch_view }
 
-  abbrev branch_rule : Rule (Over s g t) (suc s) (Option Uniq × BranchTail)
-  branch_rule = seq (optional (word_test uniq_by_word) (uniq_rule (Over s g t) (suc s)) uniq_begins) branched_rule (λ u x i o h stops. (branch_no_uniq x i o h, tt))
+  abbrev branch_rule : Rule (Over limit g t) (suc s) (Option Uniq × BranchTail)
+  branch_rule = seq (optional (word_test uniq_by_word) (uniq_rule (Over limit g t) (suc s)) uniq_begins) branched_rule (λ u x i o h stops. (branch_no_uniq x i o h, tt))
 
   -- ---- loops and assignments
 
-  abbrev loop_rule : Rule (Over s g t) (suc s) (Place × (WholeWord × (Word × Turns Stmt)))
+  abbrev loop_rule : Rule (Over limit g t) (suc s) (Place × (WholeWord × (Word × Turns Stmt)))
   loop_rule =
-      seq_up (placed (ky k.For)) (before (mk m.LeftParen) (seq (whole_rule (Over s g t) s) (variable_rule s g t s (omega arith) inner_rule) (λ x y i o h stops. tt))) (λ x y i o h stops. tt) (λ x i o h. omega arith)
+      seq_up (placed (ky k.For)) (before (mk m.LeftParen) (seq (whole_rule (Over limit g t) s) (variable_rule limit g t s (omega arith) inner_rule) (λ x y i o h stops. tt))) (λ x y i o h stops. tt) (λ x i o h. omega arith)
 
-  abbrev assign_rule : Rule (Over s g t) (suc s) (Lvalue × ((AssignMark × Place) × Expr))
+  abbrev assign_rule : Rule (Over limit g t) (suc s) (Lvalue × ((AssignMark × Place) × Expr))
   assign_rule =
-      seq (lvalue_rule s g t (suc s) le)
-      (seq (assign_mark_rule (Over s g t) (suc s)) (closing (expression_rule s g t (suc s) le) (mk m.Semicolon) (end_mark m.Semicolon refl)) (λ x y i o h stops. tt))
+      seq (lvalue_rule limit g t (suc s) le)
+      (seq (assign_mark_rule (Over limit g t) (suc s)) (closing (expression_rule limit g t (suc s) le) (mk m.Semicolon) (end_mark m.Semicolon refl)) (λ x y i o h stops. tt))
       (λ x y i o h stops. assign_no_select y.0 i h.0 h.1)
 
   -- ---- a statement
 
   abbrev StmtWay : Type 1
-  StmtWay = Way (Over (suc s) g t) (suc s) Stmt DoneStmt stmt_depths NoColon
+  StmtWay = Way (Over (suc limit) g t) (suc s) Stmt DoneStmt stmt_depths NoColon
 
   abbrev ways : StmtOpener → StmtWay
-  ways stmt_by.Empty = record { A = Place; rule = stated s g t (placed (mk m.Semicolon)); made = λ c. st.Empty; nested = λ c. sym made.nests_empty; to = empty_to; ends = λ o h. tt }
+  ways stmt_by.Empty = record { A = Place; rule = stated limit g t (placed (mk m.Semicolon)); made = λ c. st.Empty; nested = λ c. sym made.nests_empty; to = empty_to; ends = λ o h. tt }
   ways stmt_by.Block = record {
     A = Place × (Option Word × (List Stmt × Option Word));
-    rule = stated s g t block_rule;
+    rule = stated limit g t block_rule;
     made = made_block;
     nested = λ c. sym (made.nests_block c.0 c.1.0 c.1.1.0 c.1.1.1 ∙ ap in_stmt (simp append_assoc));
     to = block_to;
     ends = λ o h. h;
   }
-  ways stmt_by.Branch = record { A = Option Uniq × BranchTail; rule = stated s g t branch_rule; made = made_branch; nested = branch_nested; to = branch_to; ends = λ o h. h }
+  ways stmt_by.Branch = record { A = Option Uniq × BranchTail; rule = stated limit g t branch_rule; made = made_branch; nested = branch_nested; to = branch_to; ends = λ o h. h }
   ways stmt_by.For = record {
     A = Place × (WholeWord × (Word × Turns Stmt));
-    rule = stated s g t loop_rule;
+    rule = stated limit g t loop_rule;
     made = made_for;
     nested = λ c. sym (made.nests_for c.0 c.1.0 c.1.1.0 c.1.1.1.0 c.1.1.1.1.0 c.1.1.1.1.1.0 c.1.1.1.1.1.1 ∙ ap in_stmt (simp append_assoc));
     to = loop_to;
@@ -416,7 +417,7 @@ module _ (s g t : ℕ) (le : suc s ≤ 201) (f : Parser Stmt) (reads : IsStmts s
   }
   ways stmt_by.Target = record {
     A = Lvalue × ((AssignMark × Place) × Expr);
-    rule = stated s g t assign_rule;
+    rule = stated limit g t assign_rule;
     made = made_assign;
     nested = λ c. sym (made.nests_assign c.0 c.1.0.0 c.1.0.1 c.1.1 ∙ ap in_stmt (simp append_assoc));
     to = assign_to;
@@ -443,19 +444,29 @@ module _ (s g t : ℕ) (le : suc s ≤ 201) (f : Parser Stmt) (reads : IsStmts s
       (λ p form v start test next body i o h. (stmt_by.For, for_told p form v start test next body i o h.0, ((p, (form, (v, (start, (test, (next, body)))))), refl, loop_from p form v start test next body i o h)))
       (λ to mk p x i o h. (stmt_by.Target, assign_told to mk p x i o h.0, ((to, ((mk, p), x)), refl, assign_from to mk p x i o h)))
 
-  pub stmt_level_reads : IsReader (Over (suc s) g t) (suc s) DoneStmt DoneStmt stmt_depths NoColon (stmt_level f)
+  pub stmt_level_reads : IsReader (Over (suc limit) g t) (suc s) DoneStmt DoneStmt stmt_depths NoColon (stmt_level f)
   unfolding stmt_level
   stmt_level_reads = choose_reads (sort_test stmt_by_sort) ways (stmt_for f) same view
 
-none_stated : (g t : ℕ) (x : Stmt) (i o : List Token) → DoneStmt x i o → BadAt (Over 0 g t) (stmt_depths x) 0
-none_stated g t x i o h = first_over (stmt_depths x) (stmt_grows x)
-  where
-    first_over : (ns : Depths) → 0 < length ns → BadAt (Over 0 g t) ns 0
-    first_over [] some = absurd (omega arith)
-    first_over (n ∷ ns) some = inr (inl (omega arith))
+stated_over : (g t : ℕ) (x : Stmt) (m : Depths) → stmt_depths x ≡ in_stmt m → BadAt (Over 1 g t) (stmt_depths x) 0
+unfolding in_stmt
+stated_over g t x [] e = absurd (omega (arith, ap length e, stmt_grows x))
+stated_over g t x (n ∷ m) e = subst (λ l. BadAt (Over 1 g t) l 0) (sym e) (inr (inl (omega arith)))
 
--- Statements, in which fewer than so many statements hold a token.
-pub stmt_reads : (s g t : ℕ) → s ≤ 201 → IsStmts s g t (stmt s)
+-- each token of a statement is held by it
+none_stated : (g t : ℕ) (x : Stmt) (i o : List Token) → DoneStmt x i o → BadAt (Over 1 g t) (stmt_depths x) 0
+none_stated g t x i o h =
+    made.by_cases_stmt (λ x. BadAt (Over 1 g t) (stmt_depths x) 0)
+    (stated_over g t st.Empty _ made.nests_empty)
+    (λ p b all e. stated_over g t (st.Block p b all e) _ (made.nests_block p b all e))
+    (λ u c x y. stated_over g t (st.If u c x y) _ (made.nests_if u c x y))
+    (λ u w x all. stated_over g t (st.Case u w x all) _ (made.nests_case u w x all))
+    (λ p form v start test next body. stated_over g t (st.For p form v start test next body) _ (made.nests_for p form v start test next body))
+    (λ to m p x. stated_over g t (st.Assign to m p x) _ (made.nests_assign to m p x))
+    x
+
+-- Statements, of which at most so many hold a token.
+pub stmt_reads : (s g t : ℕ) → s ≤ 200 → IsStmts (suc s) s g t (stmt s)
 unfolding stmt
-stmt_reads zero g t le = deep_reader (Over 0 g t) DoneStmt stmt_depths (moved_counted counted_done) (none_stated g t) DoneStmt NoColon
-stmt_reads (suc s) g t le = stmt_level_reads s g t le (stmt s) (stmt_reads s g t (omega arith))
+stmt_reads zero g t le = deep_reader (Over 1 g t) DoneStmt stmt_depths (moved_counted counted_done) (none_stated g t) DoneStmt NoColon
+stmt_reads (suc s) g t le = stmt_level_reads (suc s) s g t le (stmt s) (stmt_reads s g t (omega arith))

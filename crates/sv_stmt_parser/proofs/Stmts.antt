@@ -153,7 +153,7 @@ stmt_grows = made.by_cases_stmt (λ x. 0 < length (stmt_depths x))
 
 -- ---- the turns of a loop, up to its body
 
-module _ (s g t d : ℕ) (le : d ≤ 201) {A : Type 0} (body : Rule (Over s g t) d A) where
+module _ (s g t d : ℕ) (le : d ≤ 200) {A : Type 0} (body : Rule (Over s g t) d A) where
   abbrev pub turns_rule : Word → Rule (Over s g t) d (Turns A)
   turns_rule v =
       before (the_mark (Over s g t) m.Assign)

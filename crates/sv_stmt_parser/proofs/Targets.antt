@@ -65,7 +65,7 @@ each_in (x ∷ all) = in_append (select_depths x) (each_depths select_depths all
 in_length : (d : Depths) → length (in_expr d) ≡ length d
 in_length d = length_in d
 
-module _ (s g t d : ℕ) (le : d ≤ 201) where
+module _ (s g t d : ℕ) (le : d ≤ 200) where
   pub chain_reads : IsReader (Over s g t) d SpellsChain SpellsChain (each_depths select_depths) NoSelect (selects 201 (expr 201))
   chain_reads =
       less_reader (Over s g t) 201 d (Chain is_range SpellsSelect) (Chain is_range SpellsSelect) SpellsChain SpellsChain (each_depths select_depths) (λ o. (told select_test o ≡ None) × Any o) NoSelect (selects 201 (expr 201))
@@ -73,7 +73,7 @@ module _ (s g t d : ℕ) (le : d ≤ 201) where
       (λ all. sym (ap length (sym (each_in all)) ∙ in_length (each_depths select_depths all)))
       (λ all k h. bad_out s g t (each_depths select_depths all) k (subst (λ l. BadAt (Bad 202) l k) (sym (each_in all)) h))
       201 (Chain is_range SpellsSelect) (Chain is_range SpellsSelect) (λ o. (told select_test o ≡ None) × Any o) (selects 201 (expr 201)) (selects_reader 201 (expr 201) (expr_reader 201)))
-      le of_chain chain_of (λ o h. (h, tt))
+      (omega arith) of_chain chain_of (λ o h. (h, tt))
 
   abbrev pub chain_rule : Rule (Over s g t) d (List Select)
   chain_rule = rule_of chain_reads counted_chain
@@ -174,7 +174,7 @@ lvalue_begins = made.by_cases_lvalue (λ x. (i o : List Token) → SpellsLvalue 
     (λ w all i o h. (target_by.Name, told_target so.Id i (first_of_name w i h.0 h.1)))
     (λ p all i o h. let g = made.of_targets p all i o h in (target_by.Brace, told_target (so.Mark m.LeftBrace) i (first_of_mark_at m.LeftBrace p i g.0 g.1)))
 
-module _ (s g t d : ℕ) (le : d ≤ 201) (n : ℕ) (f : Parser Lvalue) (reads : IsReader (Over s g t) d (Shallow n) (Shallow n) lvalue_depths NoSelect f) where
+module _ (s g t d : ℕ) (le : d ≤ 200) (n : ℕ) (f : Parser Lvalue) (reads : IsReader (Over s g t) d (Shallow n) (Shallow n) lvalue_depths NoSelect f) where
   abbrev inner_rule : Rule (Over s g t) d Lvalue
   inner_rule = rule_of reads (λ x. counted_when (counted_lvalue x))
 
@@ -223,7 +223,7 @@ module _ (s g t d : ℕ) (le : d ≤ 201) (n : ℕ) (f : Parser Lvalue) (reads :
   unfolding target_level
   target_level_reads = choose_reads (sort_test target_by_sort) ways (target_for f) same view
 
-module _ (s g t d : ℕ) (le : d ≤ 201) where
+module _ (s g t d : ℕ) (le : d ≤ 200) where
   from_reads : (n : ℕ) → IsReader (Over s g t) d (Shallow n) (Shallow n) lvalue_depths NoSelect (lvalue_from n)
   unfolding lvalue_from
   from_reads zero = refuse_reader (Over s g t) d (Shallow 0) (Shallow 0) lvalue_depths NoSelect (λ x i o h. none_within x h.0)
@@ -259,7 +259,7 @@ stable zero k (x ∷ i) a b = absurd (omega arith)
 stable (suc n) zero (x ∷ i) a b = absurd (omega arith)
 stable (suc n) (suc k) (x ∷ i) a b = by_target (lvalue_from n) (lvalue_from k) (told (sort_test target_by_sort) (x ∷ i)) (x ∷ i) (λ j short. stable n k j (omega arith) (omega arith)) (from_shrinks k)
 
-module _ (s g t d : ℕ) (le : d ≤ 201) where
+module _ (s g t d : ℕ) (le : d ≤ 200) where
   -- Targets.
   pub lvalue_reads : IsReader (Over s g t) d SpellsLvalue SpellsLvalue lvalue_depths NoSelect lvalue
   lvalue_reads = record {

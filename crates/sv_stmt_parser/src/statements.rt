@@ -557,7 +557,7 @@ impl<F: Fn(Global, &mut Cursor<'_>, u8) -> Result<Stmt, ParseErr>> Statements<F>
     }
 }
 
-/// A statement (A.6.4, statement_or_null), of which fewer than `depth` hold a token. The cursor stands behind it then.
+/// A statement (A.6.4, statement_or_null), of which at most `depth` hold a token. The cursor stands behind it then.
 pub fn stmt(alloc: Global, tokens: &mut Cursor<'_>, depth: u8) -> Result<Stmt, ParseErr>
     ensures { Reads (spec.stmt depth tokens.old) result tokens.new }
 {

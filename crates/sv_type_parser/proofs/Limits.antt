@@ -73,13 +73,13 @@ generated s g t r = deeper in_generate length_in_generate (generate_lifts s g t)
 
 -- ---- expressions
 
-pub expression_reads : (s g t d : ℕ) → d ≤ 201 → IsReader (Over s g t) d (Spells 0) (Spells 0) expr_depths (Stops 0) expression
+pub expression_reads : (s g t d : ℕ) → d ≤ 200 → IsReader (Over s g t) d (Spells 0) (Spells 0) expr_depths (Stops 0) expression
 expression_reads s g t d le =
     less_reader (Over s g t) 201 d (Spells 0) (Spells 0) (Spells 0) (Spells 0) expr_depths (Stops 0) (Stops 0) expression
     (nests_reader (Bad 201) (Over s g t) expr_depths expr_depths (λ x. refl) (λ x k h. bad_weaker (Bad 201) (Over s g t) (λ n e. inl e) (expr_depths x) k h) 201 (Spells 0) (Spells 0) (Stops 0) expression (expr_reader 201 0 (omega arith)))
-    le (λ a i o h. h) (λ a i o h. h) (λ o h. h)
+    (omega arith) (λ a i o h. h) (λ a i o h. h) (λ o h. h)
 
-abbrev pub expression_rule : (s g t d : ℕ) → d ≤ 201 → Rule (Over s g t) d Expr
+abbrev pub expression_rule : (s g t d : ℕ) → d ≤ 200 → Rule (Over s g t) d Expr
 expression_rule s g t d le = rule_of (expression_reads s g t d le) (counted_expr 0)
 
 pub stops_first : (x : Sort) (i : List Token) → IsFirst x i → is_mark m.Tick x ≡ false → select_opener x ≡ None → strength_of (joiner x) ≤ 0 → Stops 0 i

@@ -94,7 +94,7 @@ param_apart _ c h = refl
 param_type_begins : (x : ParamType) (i o : List Token) → SpellsParamType x i o → (c : ParamOpener) × (told (sort_test param_type_by_sort) i ≡ Some c)
 param_type_begins x i o h = let v = param_view x i o h in (v.0, v.1)
 
-module _ (s g t d : ℕ) (le : d ≤ 201) where
+module _ (s g t d : ℕ) (le : d ≤ 200) where
   abbrev ParamWay : Type 1
   ParamWay = Way (Over s g t) d ParamType SpellsParamType param_type_depths TypeStops
 
@@ -224,9 +224,9 @@ module _ (s g t d : ℕ) (le : d ≤ 201) where
 
 -- ---- names of types
 
-module _ (s g d : ℕ) (le : d ≤ 201) where
+module _ (s g d : ℕ) (le : d ≤ 200) where
   abbrev pub form_rule : Rule (Over s g 201) d TypeTree
-  form_rule = less d le (rule_of (form_reads s g 201 (omega arith)) counted_type)
+  form_rule = less d le (rule_of (form_reads s g 200 (omega arith)) counted_type)
 
   pub typedef_reads : IsReader (Over s g 201) d SpellsTypedef SpellsTypedef typedef_depths Any typedef
   unfolding typedef keyword_text mark_text

@@ -70,7 +70,7 @@ typed_ends x i h e = (no_behind x i h e, tt)
 name_no_word : (i : List Token) → IsFirst so.Id i → told (sort_test word_type_by_sort) i ≡ None
 name_no_word i h = told_sort word_type_by_sort i refl ∙ ap word_type_by_sort h
 
-module _ (s g d : ℕ) (le : d ≤ 201) where
+module _ (s g d : ℕ) (le : d ≤ 200) where
   abbrev behind_rule : Rule (Over s g 201) d (List Range × Word)
   behind_rule = seq (ranges_rule s g 201 d le) (name_rule (Over s g 201) d) (λ all w i o h stops. (type_stops_name i (first_of_name w i o h)).0)
 
@@ -181,7 +181,7 @@ kind_no_way : (w : Option NetWord) (x : TypedName) (i t o : List Token) → mayb
 kind_no_way None x i t o h e = subst (λ i. told (word_test way_by_word) i ≡ None) (sym h) (typed_no_way x t o e)
 kind_no_way (Some w) x i t o h e = net_no_way w i t h
 
-module _ (s g d : ℕ) (le : d ≤ 201) where
+module _ (s g d : ℕ) (le : d ≤ 200) where
   port_spelled : (c : Option WayWord × (Option NetWord × TypedName)) (i o : List Token) → (maybe way_key c.0 ⨟ (maybe net_key c.1.0 ⨟ TypedSpelled c.1.1)) i o → SpellsPort (made_port c) i o
   port_spelled c i o h = h
 

@@ -80,7 +80,7 @@ pub semicolon_no_comma : (i o : List Token) → mark_spelled (mark_text m.Semico
 unfolding same_mark
 semicolon_no_comma i o h = (no_mark m.Comma (so.Mark m.Semicolon) i refl (first_of_mark m.Semicolon i o h), tt)
 
-module _ (s g t d : ℕ) (le : d ≤ 201) where
+module _ (s g t d : ℕ) (le : d ≤ 200) where
   abbrev mk : MarkName → Fixed (Over s g t)
   mk name = the_mark (Over s g t) name
 
@@ -334,33 +334,34 @@ enum_to : (c : BitsWord × (Option Sign × (Option Range × List EnumLabel))) (i
 unfolding keyword_text mark_text
 enum_to c i o h = made.to_enum c.0 c.1.0 c.1.1.0 c.1.1.1 i o h
 
-abbrev pub IsTypes : (s g t : ℕ) → Parser TypeTree → Type 0
-IsTypes s g t f = IsReader (Over s g t) t SpellsType SpellsType type_depths TypeStops f
+-- Types are read of which at most t hold a token; a token that lies too deep is held by so many as the limit.
+abbrev pub IsTypes : (s g limit t : ℕ) → Parser TypeTree → Type 0
+IsTypes s g limit t f = IsReader (Over s g limit) t SpellsType SpellsType type_depths TypeStops f
 
 -- The types of members are read by f.
-module _ (s g t : ℕ) (le : suc t ≤ 201) (f : Parser TypeTree) (reads : IsTypes s g t f) where
-  abbrev inner_rule : Rule (Over s g t) t TypeTree
+module _ (s g limit t : ℕ) (le : suc t ≤ 200) (f : Parser TypeTree) (reads : IsTypes s g limit t f) where
+  abbrev inner_rule : Rule (Over s g limit) t TypeTree
   inner_rule = rule_of reads counted_type
 
-  member_reads : IsReader (Over s g t) t SpellsMember SpellsMember member_depths Any (member f)
+  member_reads : IsReader (Over s g limit) t SpellsMember SpellsMember member_depths Any (member f)
   unfolding member mark_text
   member_reads =
-      tree_reads (seq inner_rule (names_end s g t t (omega arith)) (λ x all i o h stops. type_stops_name i (names_first all i h.0 h.1))) made_member SpellsMember member_depths
+      tree_reads (seq inner_rule (names_end s g limit t (omega arith)) (λ x all i o h stops. type_stops_name i (names_first all i h.0 h.1))) made_member SpellsMember member_depths
       (λ c. sym (made.nests_of c.0 c.1 ∙ simp append_assoc)) (λ c i o h. made.to_of c.0 c.1 i o h)
       (made.by_cases_member (λ x. (i o : List Token) → SpellsMember x i o → (c : TypeTree × List Word) × (made_member c ≡ x) × (SpellsType c.0 ⨟ (commas name c.1 ⨟ mark_spelled (mark_text m.Semicolon))) i o)
       (λ x all i o h. ((x, all), refl, made.of_of x all i o h)))
 
-  abbrev member_rule : Rule (Over s g t) t Member
+  abbrev member_rule : Rule (Over s g limit) t Member
   member_rule = rule_of member_reads counted_member
 
   abbrev MembersStop : List Token → Type 0
   MembersStop o = (told (sort_test type_by_sort) o ≡ None) × Any o
 
-  members_reads : IsReader (Over s g t) t (some SpellsMember) (some SpellsMember) (each_depths member_depths) MembersStop (members f)
+  members_reads : IsReader (Over s g limit) t (some SpellsMember) (some SpellsMember) (each_depths member_depths) MembersStop (members f)
   unfolding members
   members_reads = (some_rule (sort_test type_by_sort) member_rule member_begins member_grows (λ c i h. tt)).reads
 
-  abbrev members_rule : Rule (Over s g t) t (List Member)
+  abbrev members_rule : Rule (Over s g limit) t (List Member)
   members_rule = record {
     spelled = some SpellsMember;
     nests = each_depths member_depths;
@@ -370,22 +371,22 @@ module _ (s g t : ℕ) (le : suc t ≤ 201) (f : Parser TypeTree) (reads : IsTyp
     moved = (some_rule (sort_test type_by_sort) member_rule member_begins member_grows (λ c i h. tt)).moved;
   }
 
-  abbrev struct_rule : Rule (Over s g t) (suc t) (Option Sign × (List Member × List Range))
+  abbrev struct_rule : Rule (Over s g limit) (suc t) (Option Sign × (List Member × List Range))
   struct_rule =
-      opening (the_key (Over s g t) k.Struct)
-      (before (the_key (Over s g t) k.Packed)
-      (seq (maybe_sign_rule s g t t (omega arith))
-      (before (the_mark (Over s g t) m.LeftBrace)
-      (seq members_rule (before (the_mark (Over s g t) m.RightBrace) (ranges_rule s g t t (omega arith))) (λ x y i o h stops. (told_type (so.Mark m.RightBrace) i (first_of_mark m.RightBrace i h.0 h.1), tt))))
-      (λ x y i o h stops. (brace_no_sign s g t t (omega arith) i h.0 h.1, tt))))
+      opening (the_key (Over s g limit) k.Struct)
+      (before (the_key (Over s g limit) k.Packed)
+      (seq (maybe_sign_rule s g limit t (omega arith))
+      (before (the_mark (Over s g limit) m.LeftBrace)
+      (seq members_rule (before (the_mark (Over s g limit) m.RightBrace) (ranges_rule s g limit t (omega arith))) (λ x y i o h stops. (told_type (so.Mark m.RightBrace) i (first_of_mark m.RightBrace i h.0 h.1), tt))))
+      (λ x y i o h stops. (brace_no_sign s g limit t (omega arith) i h.0 h.1, tt))))
 
   abbrev TypeWay : Type 1
-  TypeWay = Way (Over s g (suc t)) (suc t) TypeTree SpellsType type_depths TypeStops
+  TypeWay = Way (Over s g (suc limit)) (suc t) TypeTree SpellsType type_depths TypeStops
 
   abbrev ways : TypeOpener → TypeWay
   ways type_by.Word = record {
     A = BitsWord × (Option Sign × List Range);
-    rule = typed s g t (word_vector_rule s g t (suc t) le);
+    rule = typed s g limit (word_vector_rule s g limit (suc t) le);
     made = made_word_vector;
     nested = λ c. sym (made.nests_vector (Some c.0) c.1.0 c.1.1 ∙ ap in_type (simp append_assoc));
     to = λ c i o h. made.to_vector (Some c.0) c.1.0 c.1.1 i o h;
@@ -393,7 +394,7 @@ module _ (s g t : ℕ) (le : suc t ≤ 201) (f : Parser TypeTree) (reads : IsTyp
   }
   ways type_by.Sign = record {
     A = Sign × List Range;
-    rule = typed s g t (sign_vector_rule s g t (suc t) le);
+    rule = typed s g limit (sign_vector_rule s g limit (suc t) le);
     made = made_sign_vector;
     nested = λ c. sym (made.nests_vector None (Some c.0) c.1);
     to = λ c i o h. made.to_vector None (Some c.0) c.1 i o (i, refl, h);
@@ -401,7 +402,7 @@ module _ (s g t : ℕ) (le : suc t ≤ 201) (f : Parser TypeTree) (reads : IsTyp
   }
   ways type_by.Range = record {
     A = Range × List Range;
-    rule = typed s g t (range_vector_rule s g t (suc t) le);
+    rule = typed s g limit (range_vector_rule s g limit (suc t) le);
     made = made_range_vector;
     nested = λ c. sym (made.nests_vector None None (c.0 ∷ c.1));
     to = λ c i o h. made.to_vector None None (c.0 ∷ c.1) i o (i, refl, (i, refl, h));
@@ -409,7 +410,7 @@ module _ (s g t : ℕ) (le : suc t ≤ 201) (f : Parser TypeTree) (reads : IsTyp
   }
   ways type_by.Integer = record {
     A = Place;
-    rule = typed s g t (placed (the_key (Over s g t) k.Integer));
+    rule = typed s g limit (placed (the_key (Over s g limit) k.Integer));
     made = λ c. ty.Integer;
     nested = λ c. sym made.nests_integer;
     to = λ c i o h. integer_to c i o h;
@@ -417,7 +418,7 @@ module _ (s g t : ℕ) (le : suc t ≤ 201) (f : Parser TypeTree) (reads : IsTyp
   }
   ways type_by.Struct = record {
     A = Option Sign × (List Member × List Range);
-    rule = typed s g t struct_rule;
+    rule = typed s g limit struct_rule;
     made = made_struct;
     nested = λ c. sym (made.nests_struct c.0 c.1.0 c.1.1 ∙ ap in_type (simp append_assoc));
     to = λ c i o h. struct_to c i o h;
@@ -425,7 +426,7 @@ module _ (s g t : ℕ) (le : suc t ≤ 201) (f : Parser TypeTree) (reads : IsTyp
   }
   ways type_by.Enum = record {
     A = BitsWord × (Option Sign × (Option Range × List EnumLabel));
-    rule = typed s g t (enum_rule s g t (suc t) le);
+    rule = typed s g limit (enum_rule s g limit (suc t) le);
     made = made_enum;
     nested = λ c. sym (made.nests_enum c.0 c.1.0 c.1.1.0 c.1.1.1 ∙ ap in_type (simp append_assoc));
     to = λ c i o h. enum_to c i o h;
@@ -433,7 +434,7 @@ module _ (s g t : ℕ) (le : suc t ≤ 201) (f : Parser TypeTree) (reads : IsTyp
   }
   ways type_by.Name = record {
     A = Word × List Range;
-    rule = typed s g t (named_rule s g t (suc t) le);
+    rule = typed s g limit (named_rule s g limit (suc t) le);
     made = made_named;
     nested = λ c. sym (made.nests_named c.0 c.1);
     to = λ c i o h. h;
@@ -459,19 +460,28 @@ module _ (s g t : ℕ) (le : suc t ≤ 201) (f : Parser TypeTree) (reads : IsTyp
   read_by type_by.Enum x i o h = h
   read_by type_by.Name x i o h = h
 
-  pub type_level_reads : IsReader (Over s g (suc t)) (suc t) SpellsType SpellsType type_depths TypeStops (type_level f)
+  pub type_level_reads : IsReader (Over s g (suc limit)) (suc t) SpellsType SpellsType type_depths TypeStops (type_level f)
   unfolding type_level
   type_level_reads = choose_reads (sort_test type_by_sort) ways (type_for f) same (λ x i o h. let v = type_view x i o h in (v.0, v.1, read_by v.0 x i o v.2))
 
-none_typed : (s g : ℕ) (x : TypeTree) (i o : List Token) → SpellsType x i o → BadAt (Over s g 0) (type_depths x) 0
-none_typed s g x i o h = first_over (type_depths x) (type_grows x i o h)
-  where
-    first_over : (ns : Depths) → 0 < length ns → BadAt (Over s g 0) ns 0
-    first_over [] some = absurd (omega arith)
-    first_over (n ∷ ns) some = inr (inr (inr (omega arith)))
+typed_over : (s g : ℕ) (l m : Depths) → l ≡ in_type m → 0 < length l → BadAt (Over s g 1) l 0
+unfolding in_type
+typed_over s g l [] e some = absurd (omega (arith, ap length e))
+typed_over s g l (n ∷ m) e some = subst (λ l. BadAt (Over s g 1) l 0) (sym e) (inr (inr (inr (omega arith))))
 
--- Types, in which less than so many types hold a token.
-pub form_reads : (s g t : ℕ) → t ≤ 201 → IsTypes s g t (form t)
+-- each token of a type is held by it
+none_typed : (s g : ℕ) (x : TypeTree) (i o : List Token) → SpellsType x i o → BadAt (Over s g 1) (type_depths x) 0
+none_typed s g x i o h =
+    made.by_cases_type (λ x. 0 < length (type_depths x) → BadAt (Over s g 1) (type_depths x) 0)
+    (λ w sg ranges some. typed_over s g _ _ (made.nests_vector w sg ranges) some)
+    (λ some. typed_over s g _ _ made.nests_integer some)
+    (λ sg all ranges some. typed_over s g _ _ (made.nests_struct sg all ranges) some)
+    (λ w sg r all some. typed_over s g _ _ (made.nests_enum w sg r all) some)
+    (λ w ranges some. typed_over s g _ _ (made.nests_named w ranges) some)
+    x (type_grows x i o h)
+
+-- Types, of which at most so many hold a token.
+pub form_reads : (s g t : ℕ) → t ≤ 200 → IsTypes s g (suc t) t (form t)
 unfolding form
-form_reads s g zero le = deep_reader (Over s g 0) SpellsType type_depths (moved_counted counted_type) (none_typed s g) SpellsType TypeStops
-form_reads s g (suc t) le = type_level_reads s g t le (form t) (form_reads s g t (omega arith))
+form_reads s g zero le = deep_reader (Over s g 1) SpellsType type_depths (moved_counted counted_type) (none_typed s g) SpellsType TypeStops
+form_reads s g (suc t) le = type_level_reads s g (suc t) t le (form t) (form_reads s g t (omega arith))

@@ -397,7 +397,7 @@ impl<F: Fn(Global, &mut Cursor<'_>, u8) -> Result<TypeTree, ParseErr>> Types<F> 
     }
 }
 
-/// A type (A.2.2.1, data_type), of which fewer than `depth` hold a token. The cursor stands behind it then.
+/// A type (A.2.2.1, data_type), of which at most `depth` hold a token. The cursor stands behind it then.
 pub fn form(alloc: Global, tokens: &mut Cursor<'_>, depth: u8) -> Result<TypeTree, ParseErr>
     ensures { Reads (spec.form depth tokens.old) result tokens.new }
 {
@@ -427,7 +427,7 @@ pub fn typedef(alloc: Global, tokens: &mut Cursor<'_>) -> Result<Typedef, ParseE
     ensures { Reads (spec.typedef tokens.old) result tokens.new }
 {
     tokens.keyword(Keyword::Typedef)?;
-    let shape = form(alloc, tokens, MOST_NESTING + 1)?;
+    let shape = form(alloc, tokens, MOST_NESTING)?;
     let (shape, name) = both(shape, ended_name(alloc, tokens))?;
     Ok(Typedef { form: shape, name })
 }

@@ -248,7 +248,7 @@ fn untyped(alloc: Global, tokens: &mut Cursor<'_>) -> Result<(Option<TypeTree>, 
 fn typed(alloc: Global, tokens: &mut Cursor<'_>) -> Result<(Option<TypeTree>, Word), ParseErr>
     ensures { Reads (spec.typed tokens.old) result tokens.new }
 {
-    let shape = form(alloc, tokens, MOST_NESTING + 1)?;
+    let shape = form(alloc, tokens, MOST_NESTING)?;
     let (shape, name) = both(shape, tokens.id(alloc))?;
     Ok((Some(shape), name))
 }
