@@ -76,12 +76,6 @@ unfolding Aims shape-the_row-Action-0 hidden-the_row-Action-0 shape-the_row-Arm-
 aims_arms named [] h = tt
 aims_arms named (x ∷ all) h = (aims_row named x.body h.0, aims_arms named all h.1)
 
-pub aims_none : (named : Signals) (x : Acted) → x.actions ≡ [] → ActedAims named x
-aims_none named x e = subst (All (Aims named)) (sym e) (All-from_recursion (Aims named) [] tt)
-
-pub no_arms_aim : (named : Signals) (x : ActedArms) → x.arms ≡ [] → ArmsAim named x
-no_arms_aim named x e = subst (All (ArmAims named)) (sym e) (All-from_recursion (ArmAims named) [] tt)
-
 only_aims : (named : Signals) (x : Action) (r : Result Acted TextErr) → IfOk r (λ z. z.actions ≡ x ∷ []) → Aims named x → IfOk r (ActedAims named)
 only_aims named x (Ok z) e h = subst (All (Aims named)) (sym e) (All-from_recursion (Aims named) (x ∷ []) (h, tt))
 only_aims named x (Err why) e h = tt
@@ -106,10 +100,10 @@ arms_aim_of named r x e h = subst (λ (z : Result ActedArms TextErr). IfOk z (Ar
 
 -- ---- targets
 
-aim_of : Target → NamedSignal
+abbrev aim_of : Target → NamedSignal
 aim_of t = wire_signal t.wire (width t.layout)
 
-Rooted : Signals → List Target → Type 0
+abbrev Rooted : Signals → List Target → Type 0
 Rooted named ts = AllByRecursion (λ t. Contains named (aim_of t)) ts
 
 rooted_more : (named : Signals) (a b : List Target) → Rooted named a → Rooted named b → Rooted named (a ++ b)
@@ -117,7 +111,6 @@ rooted_more named [] b h k = k
 rooted_more named (t ∷ a) b h k = (h.0, rooted_more named a b h.1 k)
 
 rooted_one : (judge : Meaning → Faults) (named : Signals) (w : Word) (o : Option What) (all : List Step) → target_faults judge w o all ≡ [] → Within (signal_of o) named → Rooted named (target_of o all ∷ [])
-unfolding aim_of
 rooted_one judge named w (Some (signal_is of_wires n x)) all f h = (h (wire_signal n (width x)) (0, omega arith, refl), tt)
 rooted_one judge named w (Some (signal_is of_choice n x)) all f h = cc
 rooted_one judge named w (Some (signal_is of_samples n x)) all f h = cc
@@ -141,7 +134,6 @@ mutual
       (all_rooted judge at named all (right_clear (lvalue_faults judge at x) (all_lvalue_faults judge at all) f) (within_right (root_signals at x) (all_root_signals at all) named h))
 
 aimed : (judge : Meaning → Faults) (named : Signals) (xs : List TypedTarget) (ts : List Target) → AllZip (StandsFor judge) xs ts → Rooted named ts → AllByRecursion (IsAimed named) xs
-unfolding aim_of
 aimed judge named [] [] h r = tt
 aimed judge named [] (t ∷ ts) h r = absurd h
 aimed judge named (x ∷ xs) [] h r = absurd h

@@ -13,3 +13,4 @@ pub mod Wiring
 pub mod Marking
 pub mod Driving
 pub mod Ending
+pub mod Sitting

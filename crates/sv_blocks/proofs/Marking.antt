@@ -1,5 +1,5 @@
 -- The bits that actions write, and their marks.
-use Rattle.std.proofs.Common.{◌≡◌, ◌≢◌, ℕ, zero, suc, ◌+◌, ◌-◌, ◌*◌, ◌<◌, ◌≤◌, eqb, Bool, true, false, cond, ◌&&◌, ◌||◌, List, [], ◌∷◌, ◌++◌, length, take, drop, set, reverse, get_or, Option, Some, None, refl, sym, ap, ◌∙◌, ◌⊎◌, inl, inr, subst, arith, IsTrue, nat_lt, append_assoc, get_or-set_same, get_or-set_other}
+use Rattle.std.proofs.Common.{◌≡◌, ◌≢◌, ℕ, zero, suc, ◌+◌, ◌-◌, ◌*◌, ◌<◌, ◌≤◌, eqb, Bool, true, false, cond, ◌&&◌, ◌||◌, List, [], ◌∷◌, ◌++◌, length, take, drop, set, reverse, get_or, Option, Some, None, refl, sym, ap, ◌∙◌, ◌⊎◌, inl, inr, subst, arith, IsTrue, nat_lt, append_assoc, get_or-set_same, get_or-set_other, length-set}
 use Rattle.std.proofs.lemmas.List.{append-nil, take_all, drop_more, drop_all, reverse-append, reverse-reverse}
 use Rattle.std.proofs.lemmas.Bool.{cases_lt, cases_eq, cases_Bool}
 use Rattle.std.proofs.lemmas.Bool.Decides.{nat_tests}
@@ -21,9 +21,11 @@ use Rattle.sv_actions.specs.declared.action.Arm.{Arm}
 use Rattle.sv_actions.specs.Doing.{writes, writes_all}
 use Rattle.sv_stores.specs.declared.scene.Scene.{Scene}
 use Rattle.sv_blocks.specs.declared.bits.Marked.{Marked}
-use Rattle.sv_stores.specs.Scenes.{place_in, mark_at, is_written, IsScene}
+use Rattle.sv_stores.specs.Scenes.{place_in, width_in, mark_at, is_written, IsScene}
 use Rattle.sv_blocks.specs.Running.{arms_bits}
-use Rattle.sv_blocks.specs.Declaring.{IsMarkOf, SameWires, IsSoFar, IsMarked}
+use Rattle.sv_blocks.specs.Fitting.{HasPlace, BitSits}
+use Rattle.std.specs.Prelude.{is_some}
+use Rattle.sv_blocks.specs.Declaring.{HasMarks, IsMarkOf, SameWires, IsSoFar, IsMarked}
 use Rattle.sv_stores.proofs.Stores.{written_at, written_none}
 use Rattle.sv_blocks.proofs.Acting.{writes_assign, writes_choose, writes_match}
 
@@ -98,6 +100,39 @@ pub bits_match : (x : Action) (c : Case) (arms ta : List Arm) (other tb : List A
 bits_match x c arms ta other tb old mid new e da db h k =
     k ∙ ap (λ ys. ys ++ writes_all tb) h ∙ append_assoc old (arms_bits ta) (writes_all tb)
     ∙ ap (λ ys. old ++ (arms_bits ys ++ writes_all tb)) da ∙ ap (λ ys. old ++ (arms_bits arms ++ writes_all ys)) db ∙ ap (λ ys. old ++ ys) (sym (writes_match x c arms other e))
+
+-- ---- the same wires
+
+pub same_scene : (a b : Scene) → SameWires a b → IsScene a → IsScene b
+same_scene a b s h = record {
+  long = ap length s.widths ∙ h.long ∙ sym (ap length s.wires);
+  back = λ n i e. subst (λ xs. (i < length xs) × (get_or xs i 0 ≡ n)) (sym s.wires) (h.back n i (sym (ap (λ xs. entry_at xs n) s.places) ∙ e));
+  some = λ i l. subst (λ xs. 1 ≤ get_or xs i 0) (sym s.widths) (h.some i (subst (λ xs. i < length xs) s.widths l));
+  most = λ i l. subst (λ xs. get_or xs i 0 ≤ 128) (sym s.widths) (h.most i (subst (λ xs. i < length xs) s.widths l));
+}
+
+pub same_marks : (a b : Scene) → SameWires a b → HasMarks a → HasMarks b
+same_marks a b s h = s.long ∙ h ∙ ap (λ xs. length xs * 128) (sym s.wires)
+
+pub same_place : (a b : Scene) (n w : ℕ) → SameWires a b → HasPlace a n w → HasPlace b n w
+same_place a b n w s h = record {
+  there = ap (λ xs. is_some (entry_at xs n)) s.places ∙ h.there;
+  width = λ i e. ap (λ xs. get_or xs i 0) s.widths ∙ h.width i (sym (ap (λ xs. entry_at xs n) s.places) ∙ e);
+}
+
+pub same_bit_sits : (a b : Scene) (x : WireBit) → SameWires a b → BitSits a x → BitSits b x
+same_bit_sits a b x s h = record {
+  there = ap (λ xs. is_some (entry_at xs x.wire)) s.places ∙ h.there;
+  near = λ i e. subst (λ n. x.at < n) (sym (ap (λ xs. get_or xs i 0) s.widths)) (h.near i (sym (ap (λ xs. entry_at xs x.wire) s.places) ∙ e));
+}
+
+-- the mark of a bit stands among the marks
+pub mark_room : (scene : Scene) (b : WireBit) (at : ℕ) → IsScene scene → HasMarks scene → BitSits scene b → place_in scene b.wire ≡ Some at → (at * 128 + b.at < length scene.marks) × (b.at < 128)
+mark_room scene b at sc marks h e =
+    let l = (sc.back b.wire at e).0 in
+    let near = h.near at e in
+    let most = sc.most at (let g = sc.long in omega arith) in
+    (omega arith, omega arith)
 
 -- ---- one mark more
 
@@ -201,7 +236,7 @@ pub so_far_new : (start scene : Scene) (all bits more : List WireBit) (marks : L
     → marks ≡ set scene.marks m true → more ≡ bits ++ b ∷ [] → IsSoFar start (with_marks scene marks) (b ∷ all) more
 unfolding distinct
 so_far_new start scene all bits more marks b m sc s h l off e d = record {
-  same = record { places = s.same.places; wires = s.same.wires; widths = s.same.widths; clock = s.same.clock };
+  same = record { places = s.same.places; wires = s.same.wires; widths = s.same.widths; clock = s.same.clock; long = ap length e ∙ length-set scene.marks m true ∙ s.same.long };
   marked = λ n k. marked_new_at start scene all marks b m n k sc s.same s.marked h l e (place_in scene n) refl;
   bits_are =
       ap reverse d ∙ reverse-append bits (b ∷ []) ∙ ap (λ xs. b ∷ xs) s.bits_are
@@ -227,7 +262,7 @@ unfolding distinct has_bit
 so_far_none start all at clear e =
     let P : List WireBit → Type 0 = λ xs. IsSoFar start start xs [] in
     subst P (sym (drop_all at all (omega arith))) (record {
-      same = record { places = refl; wires = refl; widths = refl; clock = refl };
+      same = record { places = refl; wires = refl; widths = refl; clock = refl; long = refl };
       marked = clear;
       bits_are = refl;
     })

@@ -55,7 +55,7 @@ spots_known scene old nodes p x a spot at e d h = record {
   mentions = λ q b k. refl;
 }
 
-names_moving : (p : Pick) (x a : Typed) (spot : Spot) → p.place ≡ place.Moving a spot → x ≡ a → place_names p.place ≡ names_of x
+pub names_moving : (p : Pick) (x a : Typed) (spot : Spot) → p.place ≡ place.Moving a spot → x ≡ a → place_names p.place ≡ names_of x
 unfolding form_names shape-the_row-Typed-0 hidden-the_row-Typed-0 denote.Hole.Carrier.hidden
 names_moving p x a spot e d = ap place_names e ∙ ap names_of (sym d)
 

@@ -1,8 +1,10 @@
 -- The wires that the statements of a block write, as names declare them.
-use Rattle.std.proofs.Common.{◌≡◌, ◌≢◌, ℕ, zero, suc, ◌+◌, ◌*◌, ◌<◌, ◌≤◌, Bool, true, false, cond, ◌&&◌, List, [], ◌∷◌, ◌++◌, length, map, set, replicate, get_or, Option, Some, None, refl, sym, ap, ◌∙◌, ◌⊎◌, inl, inr, subst, arith, IsTrue, nat_lt, length-append, length-set, get_or-set_same, get_or-set_other}
+use Rattle.std.proofs.Common.{◌≡◌, ◌≢◌, ℕ, zero, suc, ◌+◌, ◌*◌, ◌<◌, ◌≤◌, Bool, true, false, cond, ◌&&◌, List, [], ◌∷◌, ◌++◌, length, map, set, take, replicate, get_or, Option, Some, None, refl, sym, ap, ◌∙◌, ◌⊎◌, inl, inr, subst, arith, IsTrue, nat_lt, length-append, length-set, get_or-set_same, get_or-set_other}
 use Rattle.std.specs.List.{All, Contains}
-use Rattle.std.proofs.lemmas.List.{replicate_more, get_or_push, get_or_past, length_push, length-replicate, get_or-replicate, get_or_append_left}
-use Rattle.std.proofs.lemmas.List.Elements.{All-push}
+use Rattle.std.proofs.lemmas.List.{replicate-append-replicate, take_all, get_or_push, get_or_past, length_push, length-replicate, get_or-replicate, get_or_append_left}
+use Rattle.std.specs.Prelude.{is_some}
+use Rattle.std.proofs.lemmas.List.Elements.{All-push, All-nil, All-weaker}
+use Rattle.sv_stmt.proofs.Trees.{taken_more}
 use Rattle.std.proofs.lemmas.Bool.{cases_lt, cases_eq}
 use Rattle.svex_arena.specs.Substs.{entry_at, given_or}
 use Rattle.sv_meaning.specs.Layouts.{What, signal_is, of_wires, width, NamedSignal}
@@ -14,7 +16,7 @@ use Rattle.sv_blocks.specs.declared.wires.Wire.{Wire}
 use Rattle.sv_blocks.specs.declared.wires.Places.{Places}
 use Rattle.sv_stores.specs.Scenes.{place_in, width_in, mark_at, is_written, IsScene}
 use Rattle.sv_actions.specs.Texts.{wire_signal, signal_of}
-use Rattle.sv_blocks.specs.Declaring.{wire_is, maybe_wire, wires_are, HasBits, IsAmong, ArePlaces, IsBegun}
+use Rattle.sv_blocks.specs.Declaring.{wire_is, maybe_wire, wires_are, HasBits, IsAmong, IsThere, ArePlaces, IsBegun}
 
 -- ---- what a name stands for
 
@@ -103,18 +105,32 @@ places_more named all new mid w same room declared p d f h = record {
         (subst (λ x. IsAmong named (record { number = x; width = get_or new.widths.items (length all.wires.items) 0 })) (sym last_wire)
         (subst (λ x. IsAmong named (record { number = w.number; width = x })) (sym last_width) declared))
 
+-- ---- each wire has a place
+
+pub there_none : (places : List (Option ℕ)) (found : List Wire) → All (IsThere places) (take 0 found)
+there_none places found = All-nil (IsThere places)
+
+pub there_more : (old new : List (Option ℕ)) (found : List Wire) (i : ℕ) (x : Wire) → i < length found → x ≡ get_or found i x → ((y : Wire) → IsThere old y → IsThere new y) → All (IsThere old) (take i found) → IsThere new x → All (IsThere new) (take (i + 1) found)
+there_more old new found i x l e kept h k = subst (All (IsThere new)) (sym (taken_more found i x l e)) (All-push (IsThere new) (take i found) x (All-weaker (IsThere old) (IsThere new) kept (take i found) h) k)
+
+pub there_all : (places all : List (Option ℕ)) (found : List Wire) (i : ℕ) → length found ≤ i → places ≡ all → All (IsThere all) (take i found) → All (IsThere places) found
+there_all places all found i l e h = subst (λ xs. All (IsThere xs) found) (sym e) (subst (All (IsThere all)) (take_all i found l) h)
+
+pub set_there : (mid : List (Option ℕ)) (n p : ℕ) → n < length mid → is_some (get_or (set mid n (Some p)) n None) ≡ true
+set_there mid n p l = ap is_some (get_or-set_same mid n (Some p) None l)
+
+pub set_kept : (mid : List (Option ℕ)) (n m p : ℕ) → n < length mid → is_some (get_or mid m None) ≡ true → is_some (get_or (set mid n (Some p)) m None) ≡ true
+set_kept mid n m p l h = elim (cases_eq m n) [
+  | inl e ↦ ap (λ k. is_some (get_or (set mid n (Some p)) k None)) e ∙ set_there mid n p l
+  | inr ne ↦ ap is_some (get_or-set_other mid n m (Some p) None ne) ∙ h
+]
+
 -- ---- a scene with nothing marked
 
-pub no_mark_yet : (marks : List Bool) → marks ≡ [] → marks ≡ replicate (0 * 128) false
-no_mark_yet marks e = e
-
-pub one_mark_more : (marks new : List Bool) (n k m : ℕ) → marks ≡ replicate (n * 128 + k) false → new ≡ marks ++ false ∷ [] → m ≡ k + 1 → new ≡ replicate (n * 128 + m) false
-one_mark_more marks new n k m e d f =
-    let g : n * 128 + k + 1 ≡ n * 128 + m = omega arith in
-    d ∙ ap (λ xs. xs ++ false ∷ []) e ∙ replicate_more (n * 128 + k) false ∙ ap (λ i. replicate i false) g
-
-pub one_wire_more : (marks : List Bool) (n k m : ℕ) → marks ≡ replicate (n * 128 + k) false → k ≡ 128 → m ≡ n + 1 → marks ≡ replicate (m * 128) false
-one_wire_more marks n k m e d f = let g : n * 128 + k ≡ m * 128 = omega arith in e ∙ ap (λ i. replicate i false) g
+pub one_wire_more : (marks more new : List Bool) (n : ℕ) → marks ≡ replicate (n * 128) false → more ≡ replicate 128 false → new ≡ marks ++ more → new ≡ replicate ((n + 1) * 128) false
+one_wire_more marks more new n e d h =
+    let g : n * 128 + 128 ≡ (n + 1) * 128 = omega arith in
+    h ∙ ap (λ xs. xs ++ more) e ∙ ap (λ xs. replicate (n * 128) false ++ xs) d ∙ replicate-append-replicate (n * 128) 128 false ∙ ap (λ k. replicate k false) g
 
 no_mark : (n i k : ℕ) → mark_at (replicate n false) i k ≡ false
 no_mark n i k = elim (cases_lt (i * 128 + k) n) [
@@ -130,9 +146,9 @@ given_never : (f : ℕ → Bool) (o : Option ℕ) → ((i : ℕ) → f i ≡ fal
 given_never f None h = refl
 given_never f (Some i) h = h i
 
-pub begun : (named : List NamedSignal) (clock : Option ℕ) (all : Places) (places : List (Option ℕ)) (wires widths : List ℕ) (marks : List Bool) (n : ℕ) → ArePlaces named all → places ≡ all.places.items → wires ≡ all.wires.items → widths ≡ all.widths.items → marks ≡ replicate n false
+pub begun : (named : List NamedSignal) (clock : Option ℕ) (all : Places) (places : List (Option ℕ)) (wires widths : List ℕ) (marks : List Bool) (n : ℕ) → ArePlaces named all → places ≡ all.places.items → wires ≡ all.wires.items → widths ≡ all.widths.items → marks ≡ replicate (n * 128) false → n ≡ length all.wires.items
     → IsBegun named clock (record { places = places; wires = wires; widths = widths; marks = marks; clock = clock })
-begun named clock all places wires widths marks n h p d f m = record {
+begun named clock all places wires widths marks n h p d f m c = record {
   sound = record {
     long = ap length f ∙ h.long ∙ sym (ap length d);
     back = λ k i g. subst (λ xs. (i < length xs) × (get_or xs i 0 ≡ k)) (sym d) (h.back k i (sym (ap (λ xs. entry_at xs k) p) ∙ g));
@@ -143,7 +159,8 @@ begun named clock all places wires widths marks n h p d f m = record {
       subst (λ xs. Contains named (wire_signal (get_or xs i 0) (get_or widths i 0))) (sym d)
       (subst (λ xs. Contains named (wire_signal (get_or all.wires.items i 0) (get_or xs i 0))) (sym f) (h.among i (subst (λ xs. i < length xs) d l)).there);
   clocked = refl;
-  clear = λ k j. given_never (λ i. mark_at marks i j) (entry_at places k) (λ i. ap (λ ms. mark_at ms i j) m ∙ no_mark n i j);
+  clear = λ k j. given_never (λ i. mark_at marks i j) (entry_at places k) (λ i. ap (λ ms. mark_at ms i j) m ∙ no_mark (n * 128) i j);
+  marks = ap length m ∙ length-replicate (n * 128) false ∙ ap (λ k. k * 128) (c ∙ ap length (sym d));
 }
 
 -- ---- room for places

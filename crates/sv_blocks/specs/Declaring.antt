@@ -1,5 +1,5 @@
 -- The wires that a block writes, as names declare them, and which of their bits it writes.
-use Rattle.std.specs.Prelude.{◌≡◌, ℕ, ◌+◌, ◌*◌, ◌<◌, ◌≤◌, ◌==◌, Bool, false, List, [], ◌∷◌, length, map, reverse, slice_index_or, Option, Some, None}
+use Rattle.std.specs.Prelude.{◌≡◌, ℕ, ◌+◌, ◌*◌, ◌<◌, ◌≤◌, ◌==◌, Bool, false, List, [], ◌∷◌, length, map, reverse, slice_index_or, Option, Some, None, is_some, true}
 use Rattle.std.specs.List.{Contains}
 use Rattle.lhs_alias.specs.declared.segs.WireBit.{WireBit}
 use Rattle.lhs_alias.specs.Segs.{bit}
@@ -46,12 +46,21 @@ pub record ArePlaces (named : List NamedSignal) (all : Places) : Type 0 where
 abbrev pub SceneAmong : List NamedSignal → Scene → Type 0
 SceneAmong named scene = (i : ℕ) → i < length scene.wires → Contains named (wire_signal (slice_index_or scene.wires i 0) (width_in scene i))
 
+-- 128 marks for each place
+abbrev pub HasMarks : Scene → Type 0
+HasMarks scene = length scene.marks ≡ length scene.wires * 128
+
 -- a scene with places for such wires, and no bit marked
 pub record IsBegun (named : List NamedSignal) (clock : Option ℕ) (scene : Scene) : Type 0 where
   pub sound : IsScene scene
   pub among : SceneAmong named scene
   pub clocked : scene.clock ≡ clock
   pub clear : (n k : ℕ) → is_written scene n k ≡ false
+  pub marks : HasMarks scene
+
+-- the wire has a place
+abbrev pub IsThere : List (Option ℕ) → Wire → Type 0
+IsThere places x = is_some (entry_at places x.number) ≡ true
 
 -- ---- bits
 
@@ -68,6 +77,7 @@ pub record SameWires (a b : Scene) : Type 0 where
   pub wires : b.wires ≡ a.wires
   pub widths : b.widths ≡ a.widths
   pub clock : b.clock ≡ a.clock
+  pub long : length b.marks ≡ length a.marks
 
 -- the bits of a list are marked, and each of them stands once in another, the last first
 pub record IsSoFar (start scene : Scene) (all : List WireBit) (bits : List WireBit) : Type 0 where

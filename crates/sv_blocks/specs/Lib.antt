@@ -3,6 +3,7 @@ pub mod Sides
 pub mod Writing
 pub mod Masks
 pub mod Running
+pub mod Fitting
 pub mod Declaring
 pub mod Driving
 pub mod Ending

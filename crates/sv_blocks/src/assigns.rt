@@ -7,14 +7,15 @@ ghost use Rattle.svex_arena.specs.Arenas.{Extends};
 ghost use Rattle.sv_typed.specs.Typed.{IsSound, names_of};
 ghost use Rattle.sv_targets.specs.Targets.{width_of_all};
 ghost use Rattle.sv_actions.specs.Doing.{assigned_bits, TargetFits};
-ghost use Rattle.sv_stores.specs.Scenes.{IsScene, IsState, Yields, Ran};
+ghost use Rattle.sv_stores.specs.Scenes.{Narrow, IsScene, IsState, Yields, Ran};
+ghost use Rattle.sv_blocks.specs.Fitting.{TargetSits};
 ghost use Rattle.sv_blocks.specs.Writing.{Wrote, WroteAll, assigns, assign_names};
 
 use crate::states::put_node;
 use crate::writes::written;
 use std::alloc::{AllocError, Global};
 use sv_stmt::sliced;
-use sv_stores::{Scene, State, lowered, place_in};
+use sv_stores::{Scene, State, lowered, place_of};
 use sv_targets::TypedTarget;
 use sv_typed::Typed;
 use svex_arena::{Arena, Node};
@@ -31,6 +32,7 @@ fn assigned(
     requires scene { IsScene scene.now }
     requires state { IsState scene.now arena.old state.now }
     requires sound { IsSound typed.now }
+    requires narrow { Narrow scene.now (names_of typed.now) }
     requires some { 1 ≤ width }
     requires most { width ≤ 128 }
     ensures stays { Extends arena.old arena.new }
@@ -61,6 +63,7 @@ fn write_target(
     requires scene { IsScene scene.now }
     requires state { IsState scene.now arena.old state.old }
     requires target { TargetFits target.now }
+    requires sits { TargetSits scene.now target.now }
     requires part { part < length arena.old }
     requires wide { width_at arena.old part ≡ target.now.width }
     ensures stays { Extends arena.old arena.new }
@@ -68,12 +71,7 @@ fn write_target(
     ensures wrote { OnOk result (Wrote scene.now arena.old arena.new state.old.nodes state.new.nodes target.now part) }
 {
     let _ = arena.len();
-    let Some(at) = place_in(scene, target.wire) else {
-        return Err(AllocError);
-    };
-    if scene.widths.as_slice()[at] != target.wire_width {
-        return Err(AllocError);
-    }
+    let at = place_of(scene, target.wire);
     let old = state.nodes.as_slice()[at];
     let node = written(
         alloc,
@@ -115,6 +113,7 @@ fn write_targets(
     requires scene { IsScene scene.now }
     requires state { IsState scene.now arena.old state.old }
     requires targets { All TargetFits targets.now }
+    requires sits { All (TargetSits scene.now) targets.now }
     requires whole { whole < length arena.old }
     requires wide { width_at arena.old whole ≡ width_of_all targets.now }
     ensures stays { Extends arena.old arena.new }
@@ -144,6 +143,8 @@ pub fn assign(
     requires state { IsState scene.now arena.old state.old }
     requires value { IsSound value.now }
     requires targets { All TargetFits targets.now }
+    requires narrow { Narrow scene.now (names_of value.now) }
+    requires sits { All (TargetSits scene.now) targets.now }
     requires some { 1 ≤ width_of_all targets.now }
     requires most { width_of_all targets.now ≤ 128 }
     ensures stays { Extends arena.old arena.new }

@@ -1,19 +1,20 @@
 // The bits that actions write, in the order of the text.
-ghost use Rattle.std.specs.Prelude.{◌≡◌, ℕ, false, List, ◌∷◌, ◌++◌, All, IfOk, IfSome, OnOk};
+ghost use Rattle.std.specs.Prelude.{◌≡◌, ℕ, ◌<◌, length, false, List, ◌∷◌, ◌++◌, All, IfOk, OnOk};
 ghost use Rattle.lhs_alias.specs.Segs.{bit};
 ghost use Rattle.sv_actions.specs.Doing.{writes, writes_all, Fits, TargetFits};
 ghost use Rattle.sv_meaning.specs.Targets.{present};
 ghost use Rattle.sv_meaning.specs.Blocks.{has_bit, distinct};
 ghost use Rattle.sv_targets.specs.Slots.{slots_of};
 ghost use Rattle.sv_stores.specs.Scenes.{is_written, IsScene};
+ghost use Rattle.sv_blocks.specs.Fitting.{BitSits};
 ghost use Rattle.sv_blocks.specs.Running.{ArmFits, arms_bits};
-ghost use Rattle.sv_blocks.specs.Declaring.{IsMarkOf, IsSoFar, IsMarked};
+ghost use Rattle.sv_blocks.specs.Declaring.{HasMarks, IsMarkOf, IsSoFar, IsMarked};
 
 use items::Items;
 use lhs_alias::WireBit;
 use std::alloc::{AllocError, Global};
 use sv_actions::{Action, Arm, Case};
-use sv_stores::{Scene, place_in};
+use sv_stores::{Scene, place_of};
 use sv_targets::{TypedTarget, all_slots};
 
 // The bits that targets name, behind others.
@@ -93,26 +94,26 @@ pub struct Marked {
 }
 
 // The place of the mark of a bit.
-fn mark_place(scene: &Scene, bit: &WireBit) -> Option<usize>
-    ensures { IfSome result (λ i. IsMarkOf scene.now bit.now i) }
+fn mark_place(scene: &Scene, bit: &WireBit) -> usize
+    requires scene { IsScene scene.now }
+    requires marks { HasMarks scene.now }
+    requires bit { BitSits scene.now bit.now }
+    ensures is { IsMarkOf scene.now bit.now result }
+    ensures within { result < length scene.now.marks }
 {
-    let at = place_in(scene, bit.wire)?;
-    if bit.at >= 128 {
-        return None;
-    }
-    at.checked_mul(128)?.checked_add(bit.at as usize)
+    let _ = scene.marks.len();
+    let at = place_of(scene, bit.wire);
+    at * 128 + bit.at as usize
 }
 
 // Marks a bit, and puts it behind others where it was not marked before.
 fn mark_bit(scene: &mut Scene, bit: &WireBit, bits: &mut Vec<WireBit>) -> Result<(), AllocError>
+    requires scene { IsScene scene.old }
+    requires marks { HasMarks scene.old }
+    requires bit { BitSits scene.old bit.now }
     ensures { (all : List WireBit) → (start : Scene) → IsScene start → IsSoFar start scene.old all bits.old.items → OnOk result (IsSoFar start scene.new (bit.now ∷ all) bits.new.items) }
 {
-    let Some(place) = mark_place(scene, bit) else {
-        return Err(AllocError);
-    };
-    if place >= scene.marks.len() {
-        return Err(AllocError);
-    }
+    let place = mark_place(scene, bit);
     if !scene.marks.as_slice()[place] {
         bits.push(*bit)?;
         scene.marks.set(place, true);
@@ -123,6 +124,8 @@ fn mark_bit(scene: &mut Scene, bit: &WireBit, bits: &mut Vec<WireBit>) -> Result
 /// Marks the bits that a block writes.
 pub fn mark_all(alloc: Global, scene: Scene, bits: &[WireBit]) -> Result<Marked, AllocError>
     requires sound { IsScene scene }
+    requires marks { HasMarks scene }
+    requires bits { All (BitSits scene) bits.now }
     requires clear { (n k : ℕ) → is_written scene n k ≡ false }
     ensures { IfOk result (λ all. IsMarked scene bits.now all) }
 {

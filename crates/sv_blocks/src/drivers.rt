@@ -1,9 +1,10 @@
 // Drivers of the bits that a block writes.
-ghost use Rattle.std.specs.Prelude.{◌≡◌, ◌+◌, ◌<◌, ◌≤◌, length, take, slice_index_or, IsTrue, IfOk};
+ghost use Rattle.std.specs.Prelude.{◌≡◌, All, ◌+◌, ◌<◌, ◌≤◌, length, take, slice_index_or, IsTrue, IfOk};
 ghost use Rattle.lhs_alias.specs.declared.segs.WireBit.{WireBit};
 ghost use Rattle.lhs_alias.specs.Segs.{seg_bits};
 ghost use Rattle.svex_arena.specs.Arenas.{Extends};
 ghost use Rattle.sv_stores.specs.Scenes.{IsScene, AreNodes};
+ghost use Rattle.sv_blocks.specs.Fitting.{BitSits, RunSits};
 ghost use Rattle.sv_blocks.specs.Driving.{Drives, DriveAll, run_seg};
 
 use driver_resolve::Driver;
@@ -11,7 +12,7 @@ use items::Items;
 use lhs_alias::{Lhs, Seg, WireBit};
 use std::alloc::{AllocError, Global};
 use sv_stmt::sliced;
-use sv_stores::{Scene, place_in};
+use sv_stores::{Scene, place_of};
 use svex_arena::{Arena, Node};
 
 // Whether a bit lies so many places above another of the same wire.
@@ -53,19 +54,14 @@ fn driver_of(
 ) -> Result<Driver, AllocError>
     requires scene { IsScene scene.now }
     requires nodes { AreNodes scene.now arena.old nodes.now }
+    requires run { RunSits scene.now first count }
     requires some { 1 ≤ count }
     requires most { count ≤ 128 }
     ensures stays { Extends arena.old arena.new }
     ensures ok { IfOk result (λ d. Drives scene.now arena.old arena.new nodes.now (seg_bits (run_seg first count)) d) }
 {
     let _ = arena.len();
-    let Some(place) = place_in(scene, first.wire) else {
-        return Err(AllocError);
-    };
-    let width = scene.widths.as_slice()[place];
-    if first.at > width || count > width - first.at {
-        return Err(AllocError);
-    }
+    let place = place_of(scene, first.wire);
     let value = sliced(alloc, arena, nodes[place], first.at, count)?;
     let mut segs = Vec::new(alloc);
     segs.push(Seg {
@@ -90,6 +86,7 @@ pub fn drivers_of(
 ) -> Result<Items<Driver>, AllocError>
     requires scene { IsScene scene.now }
     requires nodes { AreNodes scene.now arena.old nodes.now }
+    requires bits { All (BitSits scene.now) bits.now }
     ensures stays { Extends arena.old arena.new }
     ensures ok { IfOk result (λ all. DriveAll scene.now arena.old arena.new nodes.now bits.now all) }
 {

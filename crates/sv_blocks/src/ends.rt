@@ -4,6 +4,7 @@ ghost use Rattle.svex_arena.specs.Arenas.{Extends};
 ghost use Rattle.lhs_alias.specs.declared.segs.WireBit.{WireBit};
 ghost use Rattle.sv_actions.specs.Doing.{Fits};
 ghost use Rattle.sv_stores.specs.Scenes.{IsScene, AreNodes};
+ghost use Rattle.sv_blocks.specs.Fitting.{Sits, BitSits};
 ghost use Rattle.sv_blocks.specs.Ending.{clock_wire, Ends, Runs, Finishes};
 
 use crate::drivers::drivers_of;
@@ -71,6 +72,7 @@ fn last_nodes(
     requires scene { IsScene scene.now }
     requires clock { scene.now.clock ≡ clock_wire clock }
     requires fits { All Fits actions.now }
+    requires sits { All (Sits scene.now) actions.now }
     ensures stays { Extends arena.old arena.new }
     ensures ok { IfOk result (λ ends. Runs scene.now arena.new clock actions.now ends) }
 {
@@ -93,6 +95,8 @@ pub fn scene_drivers(
     requires scene { IsScene scene.now }
     requires clock { scene.now.clock ≡ clock_wire clock }
     requires fits { All Fits actions.now }
+    requires sits { All (Sits scene.now) actions.now }
+    requires bits { All (BitSits scene.now) bits.now }
     ensures stays { Extends arena.old arena.new }
     ensures ok { IfOk result (λ all. Finishes scene.now arena.new clock actions.now bits.now all) }
 {

@@ -8,7 +8,8 @@ ghost use Rattle.sv_meaning.specs.Deeds.{mask_bit, same_value};
 ghost use Rattle.sv_typed.specs.Typed.{names_of, names_together, literal_of};
 ghost use Rattle.sv_stmt.specs.Nodes.{FromTwo};
 ghost use Rattle.sv_actions.specs.Doing.{label_equals, label_matches, CaseFits, LabelFits};
-ghost use Rattle.sv_stores.specs.Scenes.{IsScene, IsState, Yields};
+ghost use Rattle.sv_stores.specs.Scenes.{Narrow, IsScene, IsState, Yields};
+ghost use Rattle.sv_blocks.specs.Fitting.{LabelSits};
 ghost use Rattle.sv_blocks.specs.Masks.{equal_masked};
 
 use fourvec::Four;
@@ -102,6 +103,8 @@ fn label_equals(
     requires state { IsState scene.now arena.old state.now }
     requires case { CaseFits case.now }
     requires label { LabelFits case.now label.now }
+    requires narrow { Narrow scene.now (names_of case.now.value) }
+    requires sits { LabelSits scene.now label.now }
     ensures stays { Extends arena.old arena.new }
     ensures ok { IfOk result (λ n. Yields scene.now arena.old arena.new state.now.nodes (λ read. label_equals case.now read label.now) (names_of case.now.value ++ names_of label.now) 1 n) }
 {
@@ -133,6 +136,8 @@ pub fn label_matches(
     requires state { IsState scene.now arena.old state.now }
     requires case { CaseFits case.now }
     requires labels { All (LabelFits case.now) labels.now }
+    requires narrow { Narrow scene.now (names_of case.now.value) }
+    requires sits { All (LabelSits scene.now) labels.now }
     ensures stays { Extends arena.old arena.new }
     ensures ok { IfOk result (λ n. Yields scene.now arena.old arena.new state.now.nodes (λ read. label_matches case.now read labels.now) (names_of case.now.value ++ names_together labels.now) 1 n) }
 {

@@ -7,6 +7,7 @@ ghost use Rattle.sv_meaning.specs.Layouts.{Read};
 ghost use Rattle.sv_typed.specs.Typed.{own, spot_place, IsSound, PickIsSound};
 ghost use Rattle.sv_stmt.specs.Nodes.{FromTwo, FromThree};
 ghost use Rattle.sv_stores.specs.Scenes.{IsScene, IsState};
+ghost use Rattle.sv_blocks.specs.Fitting.{PickSits};
 ghost use Rattle.sv_blocks.specs.Parts.{SpotIsIn, SpotIsWide, Spots, ReadsPart, PutsPart, IsLay};
 
 use fourvec::Spot;
@@ -51,6 +52,7 @@ pub fn spot_of(
     requires scene { IsScene scene.now }
     requires state { IsState scene.now arena.old state.now }
     requires sound { PickIsSound pick.now }
+    requires narrow { PickSits scene.now pick.now }
     ensures stays { Extends arena.old arena.new }
     ensures ok { IfOk result (λ s. Spots scene.now arena.old arena.new state.now.nodes pick.now s) }
 {

@@ -2,8 +2,10 @@
 ghost use Rattle.std.specs.Prelude.{◌≡◌, ◌<◌, All, length, OnOk};
 ghost use Rattle.svex_arena.specs.Shapes.{width_at};
 ghost use Rattle.svex_arena.specs.Arenas.{Extends};
+ghost use Rattle.sv_typed.specs.Typed.{names_of};
 ghost use Rattle.sv_actions.specs.Doing.{run, run_all, names, names_all, Fits, CaseFits};
-ghost use Rattle.sv_stores.specs.Scenes.{IsScene, IsState, Ran};
+ghost use Rattle.sv_stores.specs.Scenes.{Narrow, IsScene, IsState, Ran};
+ghost use Rattle.sv_blocks.specs.Fitting.{Sits, ArmSits};
 ghost use Rattle.sv_blocks.specs.Sides.{Merges};
 ghost use Rattle.sv_blocks.specs.Running.{RanArm, RanArms, ArmFits};
 
@@ -57,6 +59,7 @@ fn run_action(
     requires scene { IsScene scene.now }
     requires state { IsState scene.now arena.old state.old }
     requires fits { Fits action.now }
+    requires sits { Sits scene.now action.now }
     ensures stays { Extends arena.old arena.new }
     ensures state { OnOk result (IsState scene.now arena.new state.new) }
     ensures ran { OnOk result (Ran scene.now arena.old arena.new state.old.nodes state.new.nodes (run action.now) (names action.now)) }
@@ -93,6 +96,7 @@ pub fn run_actions(
     requires scene { IsScene scene.now }
     requires state { IsState scene.now arena.old state.old }
     requires fits { All Fits actions.now }
+    requires sits { All (Sits scene.now) actions.now }
     ensures stays { Extends arena.old arena.new }
     ensures state { OnOk result (IsState scene.now arena.new state.new) }
     ensures ran { OnOk result (Ran scene.now arena.old arena.new state.old.nodes state.new.nodes (run_all actions.now) (names_all actions.now)) }
@@ -120,6 +124,8 @@ fn run_arms(
     requires state { IsState scene.now arena.old state.old }
     requires case { CaseFits case.now }
     requires arms { All (ArmFits case.now) arms.now }
+    requires narrow { Narrow scene.now (names_of case.now.value) }
+    requires sits { All (ArmSits scene.now) arms.now }
     ensures stays { Extends arena.old arena.new }
     ensures state { OnOk result (IsState scene.now arena.new state.new) }
     ensures ran { OnOk result (RanArms scene.now arena.old arena.new case.now arms.now start.now.nodes state.old.nodes state.new.nodes) }
@@ -148,6 +154,8 @@ fn run_arm(
     requires state { IsState scene.now arena.old state.old }
     requires case { CaseFits case.now }
     requires arm { ArmFits case.now arm.now }
+    requires narrow { Narrow scene.now (names_of case.now.value) }
+    requires sits { ArmSits scene.now arm.now }
     ensures stays { Extends arena.old arena.new }
     ensures state { OnOk result (IsState scene.now arena.new state.new) }
     ensures ran { OnOk result (RanArm scene.now arena.old arena.new case.now arm.now start.now.nodes state.old.nodes state.new.nodes) }

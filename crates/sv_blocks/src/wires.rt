@@ -4,7 +4,7 @@ ghost use Rattle.sv_const.specs.Kinds.{what_is, WhatIsSound};
 ghost use Rattle.sv_const.specs.Names.{names_are};
 ghost use Rattle.sv_meaning.specs.Layouts.{NamedSignal, find};
 ghost use Rattle.sv_actions.specs.Texts.{signal_of, root_signals, target_signals, other_signals, arm_signals, of_each};
-ghost use Rattle.sv_blocks.specs.Declaring.{HasBits, IsAmong, ArePlaces, IsBegun, maybe_wire, wires_are};
+ghost use Rattle.sv_blocks.specs.Declaring.{HasBits, IsAmong, IsThere, ArePlaces, IsBegun, maybe_wire, wires_are};
 
 use items::{Boxed, Items};
 use std::alloc::{AllocError, Global};
@@ -182,7 +182,9 @@ struct Places {
 
 // Gives a wire a place, if it has none.
 fn add_wire(all: &mut Places, wire: Wire) -> Result<(), AllocError>
-    ensures { (named : List NamedSignal) → IsAmong named wire → ArePlaces named all.old → OnOk result (ArePlaces named all.new) }
+    ensures are { (named : List NamedSignal) → IsAmong named wire → ArePlaces named all.old → OnOk result (ArePlaces named all.new) }
+    ensures there { OnOk result (IsThere all.new.places.items wire) }
+    ensures kept { (x : Wire) → IsThere all.old.places.items x → OnOk result (IsThere all.new.places.items x) }
 {
     widen(&mut all.places, wire.number)?;
     if all.places[wire.number].is_some() {
@@ -196,22 +198,21 @@ fn add_wire(all: &mut Places, wire: Wire) -> Result<(), AllocError>
 }
 
 // 128 marks for each of so many wires, none of them set.
-#[tactic(auto, using(crate::proofs::Wiring::no_mark_yet, crate::proofs::Wiring::one_mark_more, crate::proofs::Wiring::one_wire_more))]
-fn no_marks(alloc: Global, wires: usize) -> Result<Vec<bool>, AllocError>
-    ensures { IfOk result (λ marks. marks.items ≡ replicate (wires * 128) false) }
+fn no_marks(alloc: Global, wires: usize) -> Result<Items<bool>, AllocError>
+    ensures { IfOk result (λ marks. marks ≡ replicate (wires * 128) false) }
 {
-    let mut marks = Vec::new(alloc);
+    let mut marks = Items::new(alloc);
     'wires: for _wire in 0..wires {
-        'bits: for _bit in 0u8..128 {
-            marks.push(false)?;
-        }
+        let more = vec![in alloc; false; 128]?;
+        marks.append(Items::from_vec(more))?;
     }
     Ok(marks)
 }
 
 /// The scene with a place for each of these wires, and no bit marked.
 pub fn scene_of(alloc: Global, found: &[Wire], clock: Option<usize>) -> Result<Scene, AllocError>
-    ensures { (named : List NamedSignal) → All (IsAmong named) found.now → IfOk result (λ scene. IsBegun named clock scene) }
+    ensures begun { (named : List NamedSignal) → All (IsAmong named) found.now → IfOk result (λ scene. IsBegun named clock scene) }
+    ensures there { IfOk result (λ scene. All (IsThere scene.places) found.now) }
 {
     let mut all = Places {
         places: Vec::new(alloc),
@@ -231,7 +232,7 @@ pub fn scene_of(alloc: Global, found: &[Wire], clock: Option<usize>) -> Result<S
         places: Items::from_vec(places),
         wires: Items::from_vec(wires),
         widths: Items::from_vec(widths),
-        marks: Items::from_vec(marks),
+        marks,
         clock,
     })
 }

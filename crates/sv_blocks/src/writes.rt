@@ -4,6 +4,7 @@ ghost use Rattle.svex_arena.specs.Shapes.{width_at};
 ghost use Rattle.svex_arena.specs.Arenas.{Extends};
 ghost use Rattle.sv_typed.specs.Typed.{picked_width, PickIsSound};
 ghost use Rattle.sv_stores.specs.Scenes.{IsScene, IsState};
+ghost use Rattle.sv_blocks.specs.Fitting.{PickSits};
 ghost use Rattle.sv_blocks.specs.Parts.{IsWritten};
 
 use crate::parts::{put_part, read_part, spot_of};
@@ -25,6 +26,7 @@ pub fn written(
     requires scene { IsScene scene.now }
     requires state { IsState scene.now arena.old state.now }
     requires sound { All PickIsSound picks.now }
+    requires narrow { All (PickSits scene.now) picks.now }
     requires of { of < length arena.old }
     requires value { value < length arena.old }
     requires wide { width_at arena.old value ≡ picked_width picks.now (width_at arena.old of) }

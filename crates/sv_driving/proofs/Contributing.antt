@@ -36,17 +36,8 @@ use Rattle.sv_blocks.specs.Declaring.{SceneAmong, SameWires, IsBegun, IsMarked}
 use Rattle.sv_blocks.specs.Driving.{given, SceneFits, IsPlaced}
 use Rattle.sv_blocks.specs.Ending.{clock_wire, end_store, EventHolds, Finishes}
 use Rattle.sv_driving.specs.Blocks.{AreDeclared, AreWires, Reads, clock_signals, block_end, now_names, named_in, Contributes}
+use Rattle.sv_blocks.proofs.Marking.{same_scene}
 use Rattle.sv_stores.proofs.Stores.{written_at, written_none, reads_comb}
-
--- ---- the same wires
-
-pub same_scene : (a b : Scene) → SameWires a b → IsScene a → IsScene b
-same_scene a b s h = record {
-  long = ap length s.widths ∙ h.long ∙ sym (ap length s.wires);
-  back = λ n i e. subst (λ xs. (i < length xs) × (get_or xs i 0 ≡ n)) (sym s.wires) (h.back n i (sym (ap (λ xs. entry_at xs n) s.places) ∙ e));
-  some = λ i l. subst (λ xs. 1 ≤ get_or xs i 0) (sym s.widths) (h.some i (subst (λ xs. i < length xs) s.widths l));
-  most = λ i l. subst (λ xs. get_or xs i 0 ≤ 128) (sym s.widths) (h.most i (subst (λ xs. i < length xs) s.widths l));
-}
 
 -- ---- what names read in a phase
 

@@ -2,4 +2,5 @@ pub mod Having
 pub mod Contributing
 pub mod Naming
 pub mod Rooted
+pub mod Placing
 pub mod Judging

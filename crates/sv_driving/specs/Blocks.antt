@@ -1,5 +1,5 @@
 -- Blocks as drivers: what they contribute, and which names are wires.
-use Rattle.std.specs.Prelude.{◌≡◌, ℕ, Bool, List, [], ◌∷◌, ◌++◌, filter, Option, Some, None, Result, Ok, Err, IsTrue}
+use Rattle.std.specs.Prelude.{◌≡◌, ℕ, Bool, List, [], ◌∷◌, ◌++◌, filter, Option, Some, None, Result, Ok, Err, IsTrue, is_some, true}
 use Rattle.std.specs.List.{All, Contains}
 use Rattle.sv_outside.specs.declared.text.Signal.{Signal}
 use Rattle.sv_outside.specs.declared.refusal.TextErr.{TextErr}
@@ -18,6 +18,8 @@ use Rattle.sv_meaning.specs.Blocks.{Manner, comb, clocked, distinct, all_unknown
 use Rattle.sv_meaning.specs.Designs.{wires_named, is_read_now}
 use Rattle.sv_actions.specs.declared.action.Action.{Action}
 use Rattle.sv_actions.specs.Doing.{run_all, writes_all, names_all}
+use Rattle.sv_stores.specs.declared.scene.Scene.{Scene}
+use Rattle.sv_stores.specs.Scenes.{place_in}
 use Rattle.sv_blocks.specs.declared.ends.Clock.{Clock}
 use Rattle.sv_actions.specs.Texts.{wire_signal}
 use Rattle.sv_blocks.specs.Driving.{given}
@@ -31,6 +33,14 @@ AreDeclared at names = (s : NamedSignal) → Contains names s → Declared at s
 pub record AreWires (at : Scope) (widths : List ℕ) : Type 0 where
   pub owner : (s : NamedSignal) → Declared at s → s.owner ≡ of_wires
   pub wire : (s : NamedSignal) → Declared at s → IsTrue (is_wire widths s.number s.width)
+
+-- all names of one wire are of one width
+abbrev pub OneWidth : Scope → Type 0
+OneWidth at = (s t : NamedSignal) → Declared at s → Declared at t → s.number ≡ t.number → s.width ≡ t.width
+
+-- each of these signals has a place
+abbrev pub AreThere : List NamedSignal → Scene → Type 0
+AreThere named scene = (s : NamedSignal) → Contains named s → is_some (place_in scene s.number) ≡ true
 
 -- A test holds of the previous value of each of these signals, and of the present value of those with these numbers.
 pub record Reads (named : List NamedSignal) (now : List ℕ) (p : VarName → ℕ → Bool) : Type 0 where

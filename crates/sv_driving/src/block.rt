@@ -1,5 +1,5 @@
 // Blocks as drivers (IEEE 1800-2017, 9.2.2).
-ghost use Rattle.std.specs.Prelude.{◌≡◌, ℕ, Bool, ◌+◌, List, [], true, All, Some, is_some, IsTrue, IfOk, IfErr};
+ghost use Rattle.std.specs.Prelude.{◌≡◌, ℕ, Bool, false, ◌+◌, List, [], true, All, Some, is_some, IsTrue, IfOk, IfErr};
 ghost use Rattle.sv_outside.specs.declared.text.Signal.{Signal};
 ghost use Rattle.svex_arena.specs.declared.shape.VarName.{VarName};
 ghost use Rattle.svex_arena.specs.Values.{each_variable};
@@ -12,9 +12,13 @@ ghost use Rattle.sv_meaning.specs.Deeds.{deed};
 ghost use Rattle.sv_meaning.specs.Layouts.{Scope, find};
 ghost use Rattle.sv_meaning.specs.Blocks.{is_clocked, clock_faults, event_faults, event_manner, block_faults, block_value, manner};
 ghost use Rattle.sv_meaning.specs.Designs.{block_gives, block_names};
-ghost use Rattle.sv_actions.specs.Doing.{Fits};
+ghost use Rattle.sv_actions.specs.Doing.{Fits, Aims, names_all, writes_all};
 ghost use Rattle.sv_actions.specs.Texts.{signal_of, target_signals, event_signals, signals_of};
-ghost use Rattle.sv_driving.specs.Blocks.{AreWires, Reads, JudgesClock, Contributes};
+ghost use Rattle.sv_stores.specs.Scenes.{is_written, IsScene};
+ghost use Rattle.sv_blocks.specs.Fitting.{Sits};
+ghost use Rattle.sv_blocks.specs.Declaring.{HasMarks, IsBegun, IsMarked};
+ghost use Rattle.sv_blocks.specs.Ending.{clock_wire};
+ghost use Rattle.sv_driving.specs.Blocks.{AreThere, AreDeclared, AreWires, OneWidth, Reads, JudgesClock, Contributes};
 
 use driver_resolve::Driver;
 use items::Items;
@@ -23,6 +27,7 @@ use sv_actions::{Acted, Action, judge_marks, typed_body};
 use sv_blocks::{Clock, Marked, all_bits, mark_all, scene_drivers, scene_of, stmt_wires, wire_of};
 use sv_const::{Names, What, refusal};
 use sv_outside::TextErr;
+use sv_stores::Scene;
 use sv_tree::{Block, BlockKind, Event, Stmt};
 use svex_arena::Arena;
 
@@ -75,6 +80,35 @@ fn clock_of(kind: &BlockKind, names: &Names<'_>) -> Result<Option<Clock>, TextEr
     }
 }
 
+// The scene of a block: a place for each wire that its targets name, and no bit marked.
+fn scene_in(
+    alloc: Global,
+    body: &Stmt,
+    names: &Names<'_>,
+    clock: Option<Clock>,
+) -> Result<Scene, AllocError>
+    ensures begun { IfOk result (λ scene. IsBegun (target_signals (names_are names.now) body.now) (clock_wire clock) scene) }
+    ensures there { IfOk result (λ scene. AreThere (target_signals (names_are names.now) body.now) scene) }
+{
+    let mut wires = Vec::new(alloc);
+    stmt_wires(body, names, &mut wires)?;
+    scene_of(alloc, &wires, wire_of(clock))
+}
+
+// The scene with the bits marked that actions write.
+fn marked_in(alloc: Global, scene: Scene, actions: &[Action]) -> Result<Marked, AllocError>
+    requires fits { All Fits actions.now }
+    requires sits { All (Sits scene) actions.now }
+    requires sound { IsScene scene }
+    requires marks { HasMarks scene }
+    requires clear { (n k : ℕ) → is_written scene n k ≡ false }
+    ensures { IfOk result (λ all. IsMarked scene (writes_all actions.now) all) }
+{
+    let mut bits = Vec::new(alloc);
+    all_bits(alloc, actions, &mut bits)?;
+    mark_all(alloc, scene, &bits)
+}
+
 // The drivers of a block whose statements do these actions.
 fn drivers_in(
     alloc: Global,
@@ -84,16 +118,15 @@ fn drivers_in(
     clock: Option<Clock>,
     actions: &[Action],
 ) -> Result<Items<Driver>, AllocError>
-    requires { All Fits actions.now }
+    requires fits { All Fits actions.now }
+    requires aims { All (Aims (target_signals (names_are names.now) body.now)) actions.now }
+    requires names { AreDeclared (names_are names.now) (names_all actions.now) }
+    requires widths { OneWidth (names_are names.now) }
     ensures stays { Extends arena.old arena.new }
     ensures ok { IfOk result (λ all. Contributes (names_are names.now) (target_signals (names_are names.now) body.now) clock actions.now arena.new all) }
 {
-    let mut wires = Vec::new(alloc);
-    stmt_wires(body, names, &mut wires)?;
-    let scene = scene_of(alloc, &wires, wire_of(clock))?;
-    let mut bits = Vec::new(alloc);
-    all_bits(alloc, actions, &mut bits)?;
-    let Marked { scene, bits } = mark_all(alloc, scene, &bits)?;
+    let scene = scene_in(alloc, body, names, clock)?;
+    let Marked { scene, bits } = marked_in(alloc, scene, actions)?;
     let all = scene_drivers(alloc, arena, &scene, clock, actions, bits.as_slice())?;
     Ok(all)
 }
@@ -110,6 +143,7 @@ pub fn block_drivers(
     names: &mut Names<'_>,
     made: u64,
 ) -> Result<(Items<Driver>, u64), TextErr>
+    requires { OneWidth (names_are names.old) }
     ensures stays { Extends arena.old arena.new }
     ensures names { entries_of names.new ≡ entries_of names.old }
 

@@ -77,6 +77,10 @@ abbrev pub is_narrow : Scene → Origin → ℕ → ℕ → Bool
 is_narrow scene of_wires n w = given_or (λ i. nat_le w (width_in scene i)) true (place_in scene n)
 is_narrow scene o n w = true
 
+-- so is each of these signals
+abbrev pub Narrow : Scene → List NamedSignal → Type 0
+Narrow scene names = (s : NamedSignal) → Contains names s → IsTrue (is_narrow scene s.owner s.number s.width)
+
 -- ---- tests of variables
 
 abbrev pub wire_test : Option ℕ → Scene → (VarName → ℕ → Bool) → ℕ → ℕ → Bool

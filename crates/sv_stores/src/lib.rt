@@ -2,11 +2,11 @@
 #![tactic(auto)]
 
 mod look;
-mod narrow;
+mod places;
 mod scene;
 mod start;
 
 pub use look::{lowered, truth};
-pub use narrow::place_in;
+pub use places::{place_in, place_of};
 pub use scene::{Scene, State};
 pub use start::{start_nodes, trigger};

@@ -3,9 +3,8 @@ ghost use Rattle.std.specs.Prelude.{◌≡◌, ◌≤◌, IfOk};
 ghost use Rattle.svex_arena.specs.Arenas.{Extends};
 ghost use Rattle.sv_typed.specs.Typed.{worth, names_of, own, IsSound};
 ghost use Rattle.fourvec.specs.Bits.{truth_of};
-ghost use Rattle.sv_stores.specs.Scenes.{IsScene, IsState, Yields};
+ghost use Rattle.sv_stores.specs.Scenes.{Narrow, IsScene, IsState, Yields};
 
-use crate::narrow::is_narrow;
 use crate::{Scene, State};
 use std::alloc::{AllocError, Global};
 use sv_stmt::{Look, lower, unary};
@@ -25,6 +24,7 @@ pub fn lowered(
     requires scene { IsScene scene.now }
     requires state { IsState scene.now arena.old state.now }
     requires sound { IsSound typed.now }
+    requires narrow { Narrow scene.now (names_of typed.now) }
     requires fits { typed.now.width ≤ width }
     requires most { width ≤ 128 }
     ensures stays { Extends arena.old arena.new }
@@ -36,9 +36,6 @@ pub fn lowered(
             Ok(node)
         }
         None => {
-            if !is_narrow(scene, typed) {
-                return Err(AllocError);
-            }
             let look = Look::Placed(scene.places.as_slice(), state.seen.as_slice());
             let node = lower(alloc, arena, typed, &look, width, signed)?;
             Ok(node)
@@ -57,6 +54,7 @@ pub fn truth(
     requires scene { IsScene scene.now }
     requires state { IsState scene.now arena.old state.now }
     requires sound { IsSound typed.now }
+    requires narrow { Narrow scene.now (names_of typed.now) }
     ensures stays { Extends arena.old arena.new }
     ensures ok { IfOk result (λ n. Yields scene.now arena.old arena.new state.now.nodes (λ read. truth_of (own typed.now read)) (names_of typed.now) 1 n) }
 {

@@ -3,6 +3,7 @@ use Rattle.svex_arena.proofs.Keeping.{extends_self, extends_on}
 use Rattle.sv_stmt.proofs.Lowered.{element}
 use Rattle.sv_actions.specs.Doing.{TargetFits}
 use Rattle.sv_stores.proofs.Stores.{state_kept}
+use Rattle.sv_blocks.specs.Fitting.{TargetSits}
 use Rattle.sv_blocks.proofs.Assigning.{wrote_none, wrote_more, wrote_end, left_on, part_room, some_bits}
 use Rattle.sv_blocks.proofs.assigns.write_targets.Goals as goal
 
@@ -43,3 +44,6 @@ targets-preserved c =
 
 pub returns-clause-wrote : goal.returns-clause-wrote
 returns-clause-wrote c = wrote_end _ _ _ _ _ _ _ _ _ c.targets-test.false c.targets.invariant.made
+
+pub write_target-requires-clause-sits : goal.write_target-requires-clause-sits
+write_target-requires-clause-sits c = element (TargetSits c.args.scene.now) c.args.targets.now c.targets.target-index c.target-item.result c.requires.sits c.targets-test.true c.target-item.is

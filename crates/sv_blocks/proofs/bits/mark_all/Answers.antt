@@ -3,7 +3,7 @@ use Rattle.std.proofs.lemmas.List.{get_or_default}
 use Rattle.lhs_alias.specs.declared.segs.WireBit.{WireBit}
 use Rattle.std.specs.Prelude.{List}
 use Rattle.sv_blocks.specs.Declaring.{IsSoFar}
-use Rattle.sv_blocks.proofs.Marking.{so_far_none, so_far_step, so_far_at}
+use Rattle.sv_blocks.proofs.Marking.{so_far_none, so_far_step, so_far_at, same_scene, same_marks, same_bit_sits}
 use Rattle.sv_blocks.proofs.bits.mark_all.Goals as goal
 
 pub bits-init : goal.bits-init
@@ -18,3 +18,15 @@ bits-preserved c =
       within = let b = i.within in omega arith;
       made = so_far_step c.args.scene _ c.args.bits.now _ _ _ l (get_or_default c.args.bits.now (c.bits.at - 1) _ _ l) (c.in_ok-mark_bit.ensures (drop (c.bits.at - 1 + 1) c.args.bits.now) c.args.scene c.requires.sound (so_far_at c.args.scene _ c.args.bits.now _ _ _ next i.made));
     }
+
+pub mark_bit-requires-clause-scene : goal.mark_bit-requires-clause-scene
+mark_bit-requires-clause-scene c = same_scene c.args.scene _ c.bits.invariant.made.same c.requires.sound
+
+pub mark_bit-requires-clause-marks : goal.mark_bit-requires-clause-marks
+mark_bit-requires-clause-marks c = same_marks c.args.scene _ c.bits.invariant.made.same c.requires.marks
+
+pub mark_bit-requires-clause-bit : goal.mark_bit-requires-clause-bit
+mark_bit-requires-clause-bit c =
+    let i = c.bits.invariant in
+    let l : c.bits.at - 1 < length c.args.bits.now = let a = c.bits-test.true in let b = i.within in omega arith in
+    same_bit_sits c.args.scene _ _ i.made.same (c.requires.bits (c.bits.at - 1) _ l)

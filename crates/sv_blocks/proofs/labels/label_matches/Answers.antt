@@ -1,5 +1,7 @@
 use Rattle.std.proofs.Common.{◌≡◌, ◌+◌, ◌-◌, ◌<◌, length, refl, arith}
 use Rattle.svex_arena.proofs.Keeping.{extends_on}
+use Rattle.sv_stmt.proofs.Lowered.{element}
+use Rattle.sv_blocks.specs.Fitting.{LabelSits}
 use Rattle.sv_stores.proofs.Stores.{state_kept}
 use Rattle.sv_blocks.proofs.Labeling.{labels_none, labels_more, ones_fit}
 use Rattle.sv_blocks.proofs.labels.label_matches.Goals as goal
@@ -29,3 +31,8 @@ labels-preserved c =
           labels_more c.args.scene.now _ _ _ _ _ c.args.case.now c.args.labels.now (c.labels.at - 1) c.labels.at c.index-labels-at.result _ _ _ _ c.requires.scene c.requires.state.nodes i.stays c.in_ok-here.ensures.stays l next c.index-labels-at.is c.in_ok-here.ensures.ok.width
           i.made c.in_ok-here.ensures.ok c.in_ok-node-2.ensures.ok;
     }
+
+pub label_equals-requires-clause-sits : goal.label_equals-requires-clause-sits
+label_equals-requires-clause-sits c =
+    let l : c.labels.at - 1 < length c.args.labels.now = let a = c.labels-test.true in let b = c.labels.invariant.within in omega arith in
+    element (LabelSits c.args.scene.now) c.args.labels.now (c.labels.at - 1) c.index-labels-at.result c.requires.sits l c.index-labels-at.is

@@ -1,6 +1,7 @@
-use Rattle.std.proofs.Common.{rules}
+use Rattle.std.proofs.Common.{rules, subst}
 use Rattle.sv_typed.proofs.Below as below
-use Rattle.sv_blocks.proofs.Parting.{spots_fixed, spots_known, spots_moving}
+use Rattle.sv_blocks.proofs.Parting.{names_moving, spots_fixed, spots_known, spots_moving}
+use Rattle.sv_stores.specs.Scenes.{Narrow}
 use Rattle.sv_stores.proofs.Yielding.{typed_own}
 use Rattle.sv_blocks.proofs.parts.spot_of.Goals as goal
 
@@ -21,3 +22,6 @@ returns-in-Fixed-clause-ok c = spots_fixed _ _ _ _ _ _ c.in-Fixed.is (search rul
 
 pub returns-in_ok-at-in-Moving-clause-ok : goal.returns-in_ok-at-in-Moving-clause-ok
 returns-in_ok-at-in-Moving-clause-ok c = spots_moving _ _ _ _ _ _ _ _ _ c.in-Moving.is c.get-index.ensures (below.spot_width _ _ _ c.in-Moving.is c.requires.sound) c.in_ok-at-in-Moving.ensures.ok
+
+pub lowered-requires-clause-narrow : goal.lowered-requires-clause-narrow
+lowered-requires-clause-narrow c = subst (Narrow c.args.scene.now) (names_moving c.args.pick.now _ _ _ c.in-Moving.is c.get-index.ensures) c.requires.narrow

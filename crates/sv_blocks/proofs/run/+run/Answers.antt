@@ -4,10 +4,12 @@ use Rattle.svex_arena.proofs.Steps.{width-extends}
 use Rattle.sv_stmt.proofs.Lowered.{element}
 use Rattle.sv_actions.specs.Doing.{Fits, LabelFits}
 use Rattle.sv_blocks.specs.Running.{ArmFits}
+use Rattle.sv_blocks.specs.Fitting.{LabelSits, Sits, ArmSits}
 use Rattle.sv_stores.proofs.Stores.{state_kept}
 use Rattle.sv_blocks.proofs.Acting.{fits_assign_by, fits_choose_by, fits_match_by}
 use Rattle.sv_blocks.proofs.Falling.{choose_left, choose_right, match_other, match_arms, action_less, arm_less, body_less}
 use Rattle.sv_blocks.proofs.Running.{on_ok, state_as, ran_assign, ran_choose, ran_match, ran_arm_by, some_none, some_more, some_end, arms_none, arms_more, arms_end}
+use Rattle.sv_blocks.proofs.Sitting.{sits_assign_by, sits_choose_by, sits_match_by}
 use Rattle.sv_blocks.proofs.run.+run.Goals as goal
 
 -- ---- an assignment
@@ -24,6 +26,12 @@ run_action-assign-requires-clause-some t c = (fits_assign_by _ _ _ _ c.in-Assign
 pub run_action-assign-requires-clause-most : goal.run_action-assign-requires-clause-most
 run_action-assign-requires-clause-most t c = (fits_assign_by _ _ _ _ c.in-Assign.is c.as_slice.ensures c.requires.fits).most
 
+pub run_action-assign-requires-clause-narrow : goal.run_action-assign-requires-clause-narrow
+run_action-assign-requires-clause-narrow t c = (sits_assign_by _ _ _ _ _ c.in-Assign.is c.as_slice.ensures c.requires.sits).value
+
+pub run_action-assign-requires-clause-sits : goal.run_action-assign-requires-clause-sits
+run_action-assign-requires-clause-sits t c = (sits_assign_by _ _ _ _ _ c.in-Assign.is c.as_slice.ensures c.requires.sits).targets
+
 pub run_action-returns-in-Assign-clause-ran : goal.run_action-returns-in-Assign-clause-ran
 run_action-returns-in-Assign-clause-ran t c = on_ok _ _ _ (λ k. ran_assign _ _ _ _ _ c.args.action.now _ _ _ c.in-Assign.is c.as_slice.ensures k) c.assign.ensures.ran
 
@@ -32,6 +40,9 @@ run_action-returns-in-Assign-clause-ran t c = on_ok _ _ _ (λ k. ran_assign _ _ 
 pub run_action-truth-requires-clause-sound : goal.run_action-truth-requires-clause-sound
 run_action-truth-requires-clause-sound t c = (fits_choose_by _ _ _ _ _ _ c.in-Choose.is refl refl c.requires.fits).condition
 
+pub run_action-truth-requires-clause-narrow : goal.run_action-truth-requires-clause-narrow
+run_action-truth-requires-clause-narrow t c = (sits_choose_by _ _ _ _ _ _ _ c.in-Choose.is refl refl c.requires.sits).condition
+
 pub run_action-run_actions-requires : goal.run_action-run_actions-requires
 run_action-run_actions-requires t c = (
   choose_left _ _ _ _ _ t c.in-Choose.is c.as_slice-in-Choose.ensures c.decreases,
@@ -39,7 +50,7 @@ run_action-run_actions-requires t c = (
     c.requires.scene,
     (
       state_as _ _ _ _ c.in_ok-taken-in-Choose.ensures.nodes c.in_ok-taken-in-Choose.ensures.seen (state_kept _ _ _ _ c.in_ok-truth-in-Choose.ensures.stays c.requires.state),
-      (fits_choose_by _ _ _ _ _ _ c.in-Choose.is c.as_slice-in-Choose.ensures refl c.requires.fits).taken,
+      ((fits_choose_by _ _ _ _ _ _ c.in-Choose.is c.as_slice-in-Choose.ensures refl c.requires.fits).taken, (sits_choose_by _ _ _ _ _ _ _ c.in-Choose.is c.as_slice-in-Choose.ensures refl c.requires.sits).taken),
     ),
   ),
 )
@@ -51,7 +62,7 @@ run_action-run_actions-requires-in-Choose t c = (
     c.requires.scene,
     (
       state_kept _ _ _ _ (extends_on _ _ _ c.in_ok-truth-in-Choose.ensures.stays c.in_ok-run_actions-in-Choose.ensures.stays) c.requires.state,
-      (fits_choose_by _ _ _ _ _ _ c.in-Choose.is refl c.as_slice-in-Choose-2.ensures c.requires.fits).other,
+      ((fits_choose_by _ _ _ _ _ _ c.in-Choose.is refl c.as_slice-in-Choose-2.ensures c.requires.fits).other, (sits_choose_by _ _ _ _ _ _ _ c.in-Choose.is refl c.as_slice-in-Choose-2.ensures c.requires.sits).other),
     ),
   ),
 )
@@ -76,7 +87,10 @@ run_action-returns-in_ok-run_actions-in-Choose-2-clause-ran t c =
 pub run_action-run_actions-requires-in-Match : goal.run_action-run_actions-requires-in-Match
 run_action-run_actions-requires-in-Match t c = (
   match_other _ _ _ _ _ t c.in-Match.is c.as_slice-in-Match.ensures c.decreases,
-  (c.requires.scene, (c.requires.state, (fits_match_by _ _ _ _ _ _ c.in-Match.is refl c.as_slice-in-Match.ensures c.requires.fits).other)),
+  (
+    c.requires.scene,
+    (c.requires.state, ((fits_match_by _ _ _ _ _ _ c.in-Match.is refl c.as_slice-in-Match.ensures c.requires.fits).other, (sits_match_by _ _ _ _ _ _ _ c.in-Match.is refl c.as_slice-in-Match.ensures c.requires.sits).other)),
+  ),
 )
 
 pub run_action-run_arms-requires : goal.run_action-run_arms-requires
@@ -88,7 +102,13 @@ run_action-run_arms-requires t c = (
       state_as _ _ _ _ c.in_ok-start-in-Match.ensures.nodes c.in_ok-start-in-Match.ensures.seen (state_kept _ _ _ _ c.in_ok-run_actions-in-Match.ensures.stays c.requires.state),
       (
         c.in_ok-run_actions-in-Match.ensures.state,
-        ((fits_match_by _ _ _ _ _ _ c.in-Match.is refl refl c.requires.fits).case, (fits_match_by _ _ _ _ _ _ c.in-Match.is c.as_slice-in-Match-2.ensures refl c.requires.fits).each),
+        (
+          (fits_match_by _ _ _ _ _ _ c.in-Match.is refl refl c.requires.fits).case,
+          (
+            (fits_match_by _ _ _ _ _ _ c.in-Match.is c.as_slice-in-Match-2.ensures refl c.requires.fits).each,
+            ((sits_match_by _ _ _ _ _ _ _ c.in-Match.is refl refl c.requires.sits).value, (sits_match_by _ _ _ _ _ _ _ c.in-Match.is c.as_slice-in-Match-2.ensures refl c.requires.sits).each),
+          ),
+        ),
       ),
     ),
   ),
@@ -108,7 +128,7 @@ run_actions-actions-init t c = record { stays = extends_self _; state = c.requir
 
 pub run_actions-run_action-requires : goal.run_actions-run_action-requires
 run_actions-run_action-requires t c =
-    (action_less _ _ _ t c.actions-test.true c.action-item.is c.decreases, (c.requires.scene, (c.actions.invariant.state, element Fits _ _ _ c.requires.fits c.actions-test.true c.action-item.is)))
+    (action_less _ _ _ t c.actions-test.true c.action-item.is c.decreases, (c.requires.scene, (c.actions.invariant.state, (element Fits _ _ _ c.requires.fits c.actions-test.true c.action-item.is, element (Sits c.args.scene.now) _ _ _ c.requires.sits c.actions-test.true c.action-item.is))))
 
 pub run_actions-actions-preserved : goal.run_actions-actions-preserved
 run_actions-actions-preserved t c =
@@ -136,7 +156,7 @@ run_arms-run_arm-requires t c =
     let i = c.arms.invariant in
     let l : c.arms.at - 1 < length c.args.arms.now = let a = c.arms-test.true in let b = i.within in omega arith in (
       arm_less _ _ _ t l c.index-arms-at.is c.decreases,
-      (c.requires.scene, (state_kept _ _ _ _ i.stays c.requires.start, (i.state, (c.requires.case, element (ArmFits c.args.case.now) _ _ _ c.requires.arms l c.index-arms-at.is)))),
+      (c.requires.scene, (state_kept _ _ _ _ i.stays c.requires.start, (i.state, (c.requires.case, (element (ArmFits c.args.case.now) _ _ _ c.requires.arms l c.index-arms-at.is, (c.requires.narrow, element (ArmSits c.args.scene.now) _ _ _ c.requires.sits l c.index-arms-at.is)))))),
     )
 
 pub run_arms-arms-preserved : goal.run_arms-arms-preserved
@@ -166,6 +186,9 @@ run_arms-returns-clause-ran t c =
 pub run_arm-label_matches-requires-clause-labels : goal.run_arm-label_matches-requires-clause-labels
 run_arm-label_matches-requires-clause-labels t c = subst (All (LabelFits c.args.case.now)) (sym c.as_slice.ensures) c.requires.arm.labels
 
+pub run_arm-label_matches-requires-clause-sits : goal.run_arm-label_matches-requires-clause-sits
+run_arm-label_matches-requires-clause-sits t c = subst (All (LabelSits c.args.scene.now)) (sym c.as_slice.ensures) c.requires.sits.labels
+
 pub run_arm-run_actions-requires : goal.run_arm-run_actions-requires
 run_arm-run_actions-requires t c = (
   body_less c.args.arm.now _ t c.as_slice-2.ensures c.decreases,
@@ -173,7 +196,7 @@ run_arm-run_actions-requires t c = (
     c.requires.scene,
     (
       state_as _ _ _ _ c.in_ok-taken.ensures.nodes c.in_ok-taken.ensures.seen (state_kept _ _ _ _ c.in_ok-truth.ensures.stays c.requires.start),
-      subst (All Fits) (sym c.as_slice-2.ensures) c.requires.arm.body,
+      (subst (All Fits) (sym c.as_slice-2.ensures) c.requires.arm.body, subst (All (Sits c.args.scene.now)) (sym c.as_slice-2.ensures) c.requires.sits.body),
     ),
   ),
 )

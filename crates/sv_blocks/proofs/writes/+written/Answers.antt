@@ -6,6 +6,7 @@ use Rattle.svex_arena.proofs.Keeping.{extends_on}
 use Rattle.sv_typed.specs.Typed.{PickIsSound}
 use Rattle.sv_typed.proofs.Below as below
 use Rattle.sv_stmt.proofs.Lowered.{element}
+use Rattle.sv_blocks.specs.Fitting.{PickSits}
 use Rattle.sv_blocks.specs.Parts.{IsWritten, SpotIsWide}
 use Rattle.sv_stores.proofs.Stores.{state_kept}
 use Rattle.sv_blocks.proofs.Writing.{written_none, written_last, written_more, spot_later, last_wide, rest_wide}
@@ -47,10 +48,13 @@ written-requires t c =
           (
             All-take PickIsSound (length c.args.picks.now - 1) (drop 1 c.args.picks.now) (All-drop PickIsSound 1 c.args.picks.now c.requires.sound),
             (
-              c.in_ok-part.ensures.ok.within,
+              All-take (PickSits c.args.scene.now) (length c.args.picks.now - 1) (drop 1 c.args.picks.now) (All-drop (PickSits c.args.scene.now) 1 c.args.picks.now c.requires.narrow),
               (
-                (let a = grown.longer in let b = c.requires.value in omega arith),
-                rest_wide _ _ _ _ _ _ _ _ some c.index-picks-0.is (take_rest c.args.picks.now 1) c.requires.value c.requires.wide grown c.in_ok-part.ensures.ok.width,
+                c.in_ok-part.ensures.ok.within,
+                (
+                  (let a = grown.longer in let b = c.requires.value in omega arith),
+                  rest_wide _ _ _ _ _ _ _ _ some c.index-picks-0.is (take_rest c.args.picks.now 1) c.requires.value c.requires.wide grown c.in_ok-part.ensures.ok.width,
+                ),
               ),
             ),
           ),
@@ -67,10 +71,16 @@ returns-clause-ok t c =
     (subst (λ xs. IsWritten c.args.scene.now c.read_part.new.arena c.written.new.arena c.args.state.now.nodes xs c.in_ok-part.part c.args.value c.in_ok-inner.inner) (take_rest c.args.picks.now 1) c.in_ok-inner.ensures.ok)
     c.in_ok-node-2.ensures.ok
 
-pub put_part-requires-then-picks-eq1-clause-wide : goal.put_part-requires-then-picks-eq1-clause-wide
-put_part-requires-then-picks-eq1-clause-wide t c =
+pub put_part-requires-clause-wide : goal.put_part-requires-clause-wide
+put_part-requires-clause-wide t c =
     let one : length c.args.picks.now ≡ 1 = c.if-picks-eq1.true in
     last_wide _ _ _ _ _ _ _ (omega arith) c.index-picks-0.is one c.requires.value c.requires.wide c.in_ok-at.ensures.stays c.in_ok-at.ensures.ok.wide
 
-pub put_part-requires-clause-wide : goal.put_part-requires-clause-wide
-put_part-requires-clause-wide t c = subst (SpotIsWide c.in_ok-at.at) (sym (c.in_ok-inner.ensures.ok.width ∙ c.in_ok-part.ensures.ok.width)) c.in_ok-at.ensures.ok.wide
+pub put_part-requires-2-clause-wide : goal.put_part-requires-2-clause-wide
+put_part-requires-2-clause-wide t c = subst (SpotIsWide c.in_ok-at.at) (sym (c.in_ok-inner.ensures.ok.width ∙ c.in_ok-part.ensures.ok.width)) c.in_ok-at.ensures.ok.wide
+
+pub spot_of-requires-clause-narrow : goal.spot_of-requires-clause-narrow
+spot_of-requires-clause-narrow t c =
+    let e : false ≡ eqb (length c.args.picks.now) 0 = c.if-is_empty.ensures in
+    let some : 0 < length c.args.picks.now = grind (arith, nat_tests, e) in
+    element (PickSits c.args.scene.now) c.args.picks.now 0 c.index-picks-0.result c.requires.narrow some c.index-picks-0.is

@@ -1,4 +1,4 @@
-use Rattle.std.proofs.Common.{◌≡◌, List, [], ◌++◌, sym, ap, ◌∙◌, subst}
+use Rattle.std.proofs.Common.{◌≡◌, List, [], ◌++◌, All, sym, ap, ◌∙◌, subst}
 use Rattle.std.proofs.lemmas.Result.{err_from_is_err_and}
 use Rattle.sv_const.specs.Kinds.{scope_is}
 use Rattle.sv_const.specs.Judging.{IsCause}
@@ -7,9 +7,11 @@ use Rattle.sv_meaning.specs.Layouts.{Scope}
 use Rattle.sv_meaning.specs.Deeds.{deed}
 use Rattle.sv_meaning.specs.Blocks.{event_faults, marks, is_clocked, manner}
 use Rattle.sv_actions.specs.declared.action.Action.{Action}
+use Rattle.sv_actions.specs.Doing.{Aims, names_all}
 use Rattle.sv_actions.specs.Texts.{target_signals}
-use Rattle.sv_driving.specs.Blocks.{Contributes}
+use Rattle.sv_driving.specs.Blocks.{AreDeclared, OneWidth, Contributes}
 use Rattle.sv_driving.proofs.Judging.{cause_mark, mark_cause, block_sound, block_mentions}
+use Rattle.sv_driving.proofs.Naming.{deed_declared}
 use Rattle.sv_driving.proofs.block.block_drivers.Goals as goal
 
 pub returns-in_err-judge_marks-clause-cause : goal.returns-in_err-judge_marks-clause-cause
@@ -36,3 +38,21 @@ returns-clause-mentions c = λ wires p w r.
     let g = subst (λ (s : Scope). Contributes s (target_signals s b.body) c.in_ok-clock.clock c.as_slice.result.now c.drivers_in.new.arena c.in_ok-all.all) same c.in_ok-all.ensures.ok in
     let h = subst (λ (z : List Action). Contributes (names_are c.args.names.now) (target_signals (names_are c.args.names.now) b.body) c.in_ok-clock.clock z c.drivers_in.new.arena c.in_ok-all.all) c.as_slice.ensures g in
     block_mentions (names_are c.args.names.now) c.in_ok-clock.clock _ b (manner (names_are c.args.names.now) b.kind) c.drivers_in.new.arena c.in_ok-all.all c.in_ok-clock.ensures.clock.manner_is c.in_ok-clock.ensures.clock.named_are c.in_ok-actions.ensures.is.does h wires p w r
+
+pub drivers_in-requires-clause-aims : goal.drivers_in-requires-clause-aims
+drivers_in-requires-clause-aims c =
+    let b = c.args.block.now in
+    let same = ap scope_is c.in_ok-actions.ensures.names in
+    let h = subst (λ (s : Scope). All (Aims (target_signals s b.body)) c.in_ok-actions.field-0.actions) (sym same) (c.in_ok-actions.ensures.aims (target_signals (names_are c.args.names.now) b.body) (λ s i. i)) in
+    subst (λ (z : List Action). All (Aims (target_signals (names_are c.typed_body.new.names) b.body)) z) (sym c.as_slice.ensures) h
+
+pub drivers_in-requires-clause-names : goal.drivers_in-requires-clause-names
+drivers_in-requires-clause-names c =
+    let at = names_are c.args.names.now in
+    let b = c.args.block.now in
+    let same = ap scope_is c.in_ok-actions.ensures.names in
+    subst (λ (z : List Action). AreDeclared (names_are c.typed_body.new.names) (names_all z)) (sym c.as_slice.ensures)
+    (subst (λ (s : Scope). AreDeclared s (names_all c.in_ok-actions.field-0.actions)) (sym same) (λ s i. deed_declared at b.body s (c.in_ok-actions.ensures.is.does.names s i)))
+
+pub drivers_in-requires-clause-widths : goal.drivers_in-requires-clause-widths
+drivers_in-requires-clause-widths c = subst OneWidth (sym (ap scope_is c.in_ok-actions.ensures.names)) c.requires

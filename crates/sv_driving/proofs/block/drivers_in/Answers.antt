@@ -1,44 +1,54 @@
-use Rattle.std.proofs.Common.{◌≡◌, List, [], ◌++◌, All, sym, ap, ◌∙◌, subst}
+use Rattle.std.proofs.Common.{◌≡◌, List, All, sym, ap, ◌∙◌, subst}
 use Rattle.lhs_alias.specs.declared.segs.WireBit.{WireBit}
 use Rattle.sv_const.specs.Names.{names_are}
+use Rattle.sv_meaning.specs.Blocks.{distinct}
 use Rattle.sv_actions.specs.Doing.{writes_all}
-use Rattle.sv_blocks.specs.declared.wires.Wire.{Wire}
 use Rattle.sv_actions.specs.Texts.{target_signals}
-use Rattle.sv_blocks.specs.Declaring.{IsAmong, IsBegun, wires_are}
-use Rattle.sv_blocks.specs.Ending.{Finishes}
-use Rattle.sv_blocks.proofs.Wiring.{among_all}
+use Rattle.sv_blocks.specs.Fitting.{BitSits}
+use Rattle.sv_blocks.specs.Ending.{clock_wire, Finishes}
+use Rattle.sv_blocks.proofs.Marking.{same_scene}
+use Rattle.sv_blocks.proofs.Sitting.{bits_sit_all, distinct_sit_all}
 use Rattle.sv_driving.proofs.Having.{have_bits}
-use Rattle.sv_driving.proofs.Contributing.{same_scene, contributes}
+use Rattle.sv_driving.proofs.Contributing.{contributes}
+use Rattle.sv_driving.proofs.Placing.{scene_sits, same_wires}
 use Rattle.sv_driving.proofs.block.drivers_in.Goals as goal
 
-pub mark_all-requires-clause-sound : goal.mark_all-requires-clause-sound
-mark_all-requires-clause-sound c =
-    let targets = target_signals (names_are c.args.names.now) c.args.body.now in
-    (c.in_ok-scene.ensures targets (subst (λ (z : List Wire). All (IsAmong targets) z) (sym c.deref.ensures.value) (among_all targets c.stmt_wires.new.wires.items (c.in_ok-stmt_wires.ensures.is ∙ ap (λ (z : List Wire). wires_are z ++ targets) c.new-wires.ensures.items) c.in_ok-stmt_wires.ensures.bits))).sound
+pub marked_in-requires-clause-sits : goal.marked_in-requires-clause-sits
+marked_in-requires-clause-sits c =
+    let s = c.in_ok-scene.scene in
+    scene_sits (names_are c.args.names.now) c.args.body.now c.args.actions.now (clock_wire c.args.clock) s s (same_wires s) c.in_ok-scene.ensures.begun c.in_ok-scene.ensures.there c.requires.aims c.requires.names c.requires.widths
 
-pub mark_all-requires-clause-clear : goal.mark_all-requires-clause-clear
-mark_all-requires-clause-clear c =
-    let targets = target_signals (names_are c.args.names.now) c.args.body.now in
-    (c.in_ok-scene.ensures targets (subst (λ (z : List Wire). All (IsAmong targets) z) (sym c.deref.ensures.value) (among_all targets c.stmt_wires.new.wires.items (c.in_ok-stmt_wires.ensures.is ∙ ap (λ (z : List Wire). wires_are z ++ targets) c.new-wires.ensures.items) c.in_ok-stmt_wires.ensures.bits))).clear
+pub marked_in-requires-clause-sound : goal.marked_in-requires-clause-sound
+marked_in-requires-clause-sound c = c.in_ok-scene.ensures.begun.sound
+
+pub marked_in-requires-clause-marks : goal.marked_in-requires-clause-marks
+marked_in-requires-clause-marks c = c.in_ok-scene.ensures.begun.marks
+
+pub marked_in-requires-clause-clear : goal.marked_in-requires-clause-clear
+marked_in-requires-clause-clear c = c.in_ok-scene.ensures.begun.clear
 
 pub scene_drivers-requires-clause-scene : goal.scene_drivers-requires-clause-scene
-scene_drivers-requires-clause-scene c =
-    let targets = target_signals (names_are c.args.names.now) c.args.body.now in
-    let b = c.in_ok-scene.ensures targets (subst (λ (z : List Wire). All (IsAmong targets) z) (sym c.deref.ensures.value) (among_all targets c.stmt_wires.new.wires.items (c.in_ok-stmt_wires.ensures.is ∙ ap (λ (z : List Wire). wires_are z ++ targets) c.new-wires.ensures.items) c.in_ok-stmt_wires.ensures.bits)) in
-    same_scene c.in_ok-scene.scene c.in_ok-scene-2.field-0.scene c.in_ok-scene-2.ensures.same b.sound
+scene_drivers-requires-clause-scene c = same_scene c.in_ok-scene.scene c.in_ok-scene-2.field-0.scene c.in_ok-scene-2.ensures.same c.in_ok-scene.ensures.begun.sound
 
 pub scene_drivers-requires-clause-clock : goal.scene_drivers-requires-clause-clock
-scene_drivers-requires-clause-clock c =
-    let targets = target_signals (names_are c.args.names.now) c.args.body.now in
-    let b = c.in_ok-scene.ensures targets (subst (λ (z : List Wire). All (IsAmong targets) z) (sym c.deref.ensures.value) (among_all targets c.stmt_wires.new.wires.items (c.in_ok-stmt_wires.ensures.is ∙ ap (λ (z : List Wire). wires_are z ++ targets) c.new-wires.ensures.items) c.in_ok-stmt_wires.ensures.bits)) in
-    c.in_ok-scene-2.ensures.same.clock ∙ b.clocked ∙ c.wire_of.ensures
+scene_drivers-requires-clause-clock c = c.in_ok-scene-2.ensures.same.clock ∙ c.in_ok-scene.ensures.begun.clocked
+
+pub scene_drivers-requires-clause-sits : goal.scene_drivers-requires-clause-sits
+scene_drivers-requires-clause-sits c =
+    scene_sits (names_are c.args.names.now) c.args.body.now c.args.actions.now (clock_wire c.args.clock) c.in_ok-scene.scene c.in_ok-scene-2.field-0.scene c.in_ok-scene-2.ensures.same c.in_ok-scene.ensures.begun c.in_ok-scene.ensures.there
+    c.requires.aims c.requires.names c.requires.widths
+
+pub scene_drivers-requires-clause-bits : goal.scene_drivers-requires-clause-bits
+scene_drivers-requires-clause-bits c =
+    let marked = c.in_ok-scene-2.field-0 in
+    let sits =
+    scene_sits (names_are c.args.names.now) c.args.body.now c.args.actions.now (clock_wire c.args.clock) c.in_ok-scene.scene marked.scene c.in_ok-scene-2.ensures.same c.in_ok-scene.ensures.begun c.in_ok-scene.ensures.there c.requires.aims c.requires.names c.requires.widths in
+    subst (All (BitSits marked.scene)) (sym (c.as_slice.ensures ∙ c.in_ok-scene-2.ensures.bits_are)) (distinct_sit_all marked.scene (writes_all c.args.actions.now) (bits_sit_all marked.scene c.args.actions.now sits))
 
 pub returns-clause-ok : goal.returns-clause-ok
 returns-clause-ok c =
     let at = names_are c.args.names.now in
-    let targets = target_signals at c.args.body.now in
-    let b = c.in_ok-scene.ensures targets (subst (λ (z : List Wire). All (IsAmong targets) z) (sym c.deref.ensures.value) (among_all targets c.stmt_wires.new.wires.items (c.in_ok-stmt_wires.ensures.is ∙ ap (λ (z : List Wire). wires_are z ++ targets) c.new-wires.ensures.items) c.in_ok-stmt_wires.ensures.bits)) in
     let marked = c.in_ok-scene-2.field-0 in
-    contributes at targets c.args.clock c.args.actions.now c.in_ok-scene.scene marked c.deref-2.result.now c.scene_drivers.new.arena c.in_ok-all.all (subst (λ o. IsBegun targets o c.in_ok-scene.scene) c.wire_of.ensures b)
-    (c.deref-2.ensures.value ∙ c.in_ok-all_bits.ensures ∙ ap (λ (z : List WireBit). z ++ writes_all c.args.actions.now) c.new-bits.ensures.items) c.in_ok-scene-2.ensures (have_bits c.args.actions.now c.requires)
+    contributes at (target_signals at c.args.body.now) c.args.clock c.args.actions.now c.in_ok-scene.scene marked (writes_all c.args.actions.now) c.scene_drivers.new.arena c.in_ok-all.all c.in_ok-scene.ensures.begun
+    (λ i. writes_all c.args.actions.now) c.in_ok-scene-2.ensures (have_bits c.args.actions.now c.requires.fits)
     (subst (λ (z : List WireBit). Finishes marked.scene c.scene_drivers.new.arena c.args.clock c.args.actions.now z c.in_ok-all.all) c.as_slice.ensures c.in_ok-all.ensures.ok)

@@ -1,3 +1,5 @@
+use Rattle.sv_stmt.proofs.Naming.{each_holds}
+use Rattle.sv_stores.specs.Scenes.{is_narrow}
 use Rattle.sv_stores.proofs.Looking.{clocked_yields, comb_yields}
 use Rattle.sv_stores.proofs.look.lowered.Goals as goal
 
@@ -7,5 +9,5 @@ returns-in_ok-node-in-Some-clause-ok c =
 
 pub returns-in_ok-node-in-None-clause-ok : goal.returns-in_ok-node-in-None-clause-ok
 returns-in_ok-node-in-None-clause-ok c =
-    comb_yields _ _ _ _ c.as_slice.result c.as_slice-in-None.result c.args.typed.now _ _ _ c.as_slice.ensures c.as_slice-in-None.ensures c.requires.scene c.in-None.is c.requires.state (c.is_narrow.ensures c.if-not-is_narrow.false)
+    comb_yields _ _ _ _ c.as_slice.result c.as_slice-in-None.result c.args.typed.now _ _ _ c.as_slice.ensures c.as_slice-in-None.ensures c.requires.scene c.in-None.is c.requires.state (each_holds (is_narrow c.args.scene.now) c.args.typed.now c.requires.narrow)
     c.in_ok-node-in-None.ensures.within c.in_ok-node-in-None.ensures.width c.in_ok-node-in-None.ensures.value c.in_ok-node-in-None.ensures.mentions
