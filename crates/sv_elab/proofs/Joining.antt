@@ -78,6 +78,9 @@ fixed_there f ts x w count b h e g c is =
       | inr t ↦ t ∙ sym k
     ]
 
+pub counted : (count all w n : ℕ) → eqb count all ≡ true → all ≡ w → count ≡ n → n ≡ w
+counted count all w n e a c = let m : count ≡ all = grind (arith, nat_tests, e) in sym c ∙ m ∙ a
+
 -- ---- joins
 
 some_segs : (xs : List Seg) → 1 ≤ length (lhs_bits xs) → 1 ≤ length xs

@@ -7,3 +7,4 @@ pub mod Joining
 pub mod Working
 pub mod Making
 pub mod Wholes
+pub mod Reaching

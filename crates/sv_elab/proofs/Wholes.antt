@@ -28,10 +28,11 @@ use Rattle.sv_scope.specs.Walks.{work_is}
 use Rattle.sv_scope.specs.Scoped.{IsScoped, design_is, levels_of, wires_of, works_of, turns_of}
 use Rattle.scope_laws.specs.Wires.{IsWire}
 use Rattle.scope_laws.proofs.Seen.{seen_are_wires, ports_are_wires}
-use Rattle.sv_driving.specs.Blocks.{AreWires}
+use Rattle.scope_laws.proofs.Closing.{ports_stand_above}
+use Rattle.sv_blocks.specs.Blocks.{AreWires}
 use Rattle.sv_elab.specs.declared.whole.Making.{Making}
 use Rattle.sv_elab.specs.Elaborated.{IsElaborated, sound_design}
-use Rattle.sv_elab.specs.Working.{TaskFits, AreSound, IsMade}
+use Rattle.sv_elab.specs.Working.{TaskFits, TaskStandsAbove, AreSound, IsMade}
 use Rattle.sv_elab.proofs.Wires.{stimuli_are}
 use Rattle.sv_stmt.proofs.Trees.{taken_more}
 use Rattle.sv_elab.proofs.Lists.{map_twice, split_map}
@@ -55,6 +56,14 @@ task_fits source top st e x i = go x.at x.task i
     go at (h.running b) k = tt
     go at (h.connecting way n y actual) k = let g = ports_are_wires source top st e at way n y actual k in ((let a = g.there in omega (arith, length-map st.wires (λ (z : Signal). z.width))), g.width)
 
+task_above : (source : Source) (top : Option Name) (st : State) → scopes source top ≡ Ok st → (x : Standing) → Contains st.works x → TaskStandsAbove (live_at st.levels x.at) x.task
+task_above source top st e x i = go x.at x.task i
+  where
+    go : (at : h.Front) (t : h.Task) → Contains st.works (record { at = at; task = t }) → TaskStandsAbove (live_at st.levels at) t
+    go at (h.assigning to y) k = tt
+    go at (h.running b) k = tt
+    go at (h.connecting way n y actual) k = ports_stand_above source top st e at way n y actual k
+
 pub sound_scopes : (source : Source) (top : Option Name) (st : State) (s : DesignScopes) → scopes source top ≡ Ok st → IsScoped st s → AreSound s
 sound_scopes source top st s e k = record {
   names = λ at.
@@ -65,6 +74,8 @@ sound_scopes source top st s e k = record {
       }));
   ports = λ x i.
       subst (λ wires. TaskFits (widths_of wires) x.task) k.wires (task_fits source top st e x (subst (λ works. Contains works x) (sym k.works) i));
+  above = λ x i.
+      subst (λ levels. TaskStandsAbove (live_at levels x.at) x.task) k.levels (task_above source top st e x (subst (λ works. Contains works x) (sym k.works) i));
 }
 
 -- ---- the flat design

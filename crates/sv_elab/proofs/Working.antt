@@ -38,8 +38,8 @@ use Rattle.sv_meaning.specs.Designs.{Work, is_joined, are_present, as_targets, a
 use Rattle.sv_const.specs.Judging.{IsCause}
 use Rattle.sv_targets.specs.declared.parts.Target as lowered
 use Rattle.sv_targets.specs.Slots.{IsLowered}
-use Rattle.sv_actions.specs.Texts.{signals_of}
-use Rattle.sv_driving.specs.Blocks.{AreWires, Reads}
+use Rattle.sv_blocks.specs.Texts.{signals_of}
+use Rattle.sv_blocks.specs.Blocks.{AreWires, Reads}
 use Rattle.sv_elab.specs.declared.works.Parts.{Parts}
 use Rattle.sv_elab.specs.Elaborated.{names_only}
 use Rattle.sv_elab.specs.Working.{JudgesSupply, JoinsTo, IsWorked, JudgesWork}
@@ -155,11 +155,11 @@ joined_by at x actual t w b h e is =
 pub inout_cause : (at : Scope) (actual : Expr) (e : TextErr) → e ≡ No (record { number = 19; place = (mean at actual).start; count = 0 }) → IsCause (port_faults way.Inout at actual) e
 inout_cause at actual e h =
     subst (IsCause (port_faults way.Inout at actual)) (sym h)
-    (Contains-append_right (actual_faults at actual) (fault bad_target (mean at actual).start) (record { number = 19; place = (mean at actual).start; count = 0 }) (0, omega arith, refl))
+    (Contains-append_right ((mean at actual).faults false) (fault bad_target (mean at actual).start) (record { number = 19; place = (mean at actual).start; count = 0 }) (0, omega arith, refl))
 
-pub inout_target : (at : Scope) (actual : Expr) (e : TextErr) → IsCause (actual_faults at actual) e → IsCause (port_faults way.Inout at actual) e
-inout_target at actual (No r) h = Contains-append_left (actual_faults at actual) (fault bad_target (mean at actual).start) r h
-inout_target at actual Memory h = tt
+pub inout_free : (at : Scope) (actual : Expr) (e : TextErr) → IsCause ((mean at actual).faults false) e → IsCause (port_faults way.Inout at actual) e
+inout_free at actual (No r) h = Contains-append_left ((mean at actual).faults false) (fault bad_target (mean at actual).start) r h
+inout_free at actual Memory h = tt
 
 -- ---- ports that are joined
 

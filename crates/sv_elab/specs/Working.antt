@@ -31,7 +31,7 @@ use Rattle.sv_stmt.specs.Nodes.{bits_at_node}
 use Rattle.sv_targets.specs.declared.parts.Part.{Part}
 use Rattle.sv_targets.specs.Slots.{Slots}
 use Rattle.sv_blocks.specs.Driving.{IsPlaced}
-use Rattle.sv_driving.specs.Blocks.{AreWires}
+use Rattle.sv_blocks.specs.Blocks.{AreWires}
 use Rattle.sv_elab.specs.declared.works.Parts.{Parts}
 use Rattle.sv_elab.specs.declared.whole.Making.{Making}
 use Rattle.sv_elab.specs.Elaborated.{names_only, Stem, AllStem}
@@ -122,12 +122,27 @@ TaskFits widths (h.assigning to x) = Unit {0}
 TaskFits widths (h.running b) = Unit {0}
 TaskFits widths (h.connecting way n x actual) = PortFits widths n x
 
+-- each signal that a scope declares has a number below that
+abbrev pub AreBelow : ℕ → m.Scope → Type 0
+AreBelow n at = (s : m.NamedSignal) → m.Declared at s → s.number < n
+
+-- the wire of a connected port stands above all that its place sees
+abbrev pub TaskStandsAbove : m.Scope → h.Task → Type 0
+TaskStandsAbove at (h.assigning to x) = Unit {0}
+TaskStandsAbove at (h.running b) = Unit {0}
+TaskStandsAbove at (h.connecting way n x actual) = AreBelow n at
+
+-- 1 to 128 bits each
+abbrev pub AreSizes : List ℕ → Type 0
+AreSizes widths = All (λ width. (1 ≤ width) × (width ≤ 128)) widths
+
 -- ---- all tasks
 
--- Each name stands for a wire of its width, and so does each connected port.
+-- Each name stands for a wire of its width, and so does each connected port, above all that its place sees.
 pub record AreSound (s : DesignScopes) : Type 0 where
   pub names : (at : h.Front) → AreWires (h.live_at (levels_of s) at) (widths_of (wires_of s))
   pub ports : (x : h.Standing) → Contains (works_of s) x → TaskFits (widths_of (wires_of s)) x.task
+  pub above : (x : h.Standing) → Contains (works_of s) x → TaskStandsAbove (h.live_at (levels_of s) x.at) x.task
 
 -- the turns of all loops in works
 unfoldable pub turns_in : List Work → ℕ

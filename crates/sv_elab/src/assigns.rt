@@ -1,5 +1,5 @@
 // Continuous assignments (IEEE 1800-2017, 10.3).
-ghost use Rattle.std.specs.Prelude.{◌++◌, List, false};
+ghost use Rattle.std.specs.Prelude.{◌++◌, ◌≤◌, List, false};
 ghost use Rattle.svex_arena.specs.Arenas.{Extends};
 ghost use Rattle.sv_const.specs.Names.{names_are};
 ghost use Rattle.sv_meaning.specs.Faults.{Faults};
@@ -8,7 +8,7 @@ ghost use Rattle.sv_meaning.specs.Values.{mean};
 ghost use Rattle.sv_meaning.specs.Targets as t;
 ghost use Rattle.sv_meaning.specs.Designs.{assigned_to, wires_named};
 ghost use Rattle.sv_targets.specs.Slots.{IsLowered};
-ghost use Rattle.sv_driving.specs.Blocks.{AreWires};
+ghost use Rattle.sv_blocks.specs.Blocks.{AreWires};
 ghost use Rattle.sv_elab.specs.Working.{JudgesSupply};
 
 use crate::parts::part_drivers;
@@ -31,15 +31,14 @@ fn valued(
     value: &Expr,
     names: &Names<'_>,
 ) -> Result<Items<Driver>, TextErr>
-    requires { AreWires (names_are names.now) widths.now }
+    requires names { AreWires (names_are names.now) widths.now }
+    requires some { 1 ≤ target.now.width }
+    requires most { target.now.width ≤ 128 }
     ensures stays { Extends arena.old arena.new }
     ensures is { (f : Faults) (ts : List t.Target) → IsLowered f ts target.now
         → JudgesSupply widths.now (wires_named (mean (names_are names.now) value.now).names) arena.new (assigned_to ts (mean (names_are names.now) value.now)) ((mean (names_are names.now) value.now).faults false) result }
 {
     let _ = arena.len();
-    if target.width == 0 || target.width > 128 {
-        return Err(TextErr::Memory);
-    }
     let node = lower_expr(alloc, arena, value, names, target.width as u8)?;
     let all = part_drivers(alloc, arena, widths, target.parts.as_slice(), node)?;
     Ok(all)

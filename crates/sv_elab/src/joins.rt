@@ -1,6 +1,8 @@
 // Ports that are joined to their actuals (IEEE 1800-2017, 23.3.3).
-ghost use Rattle.std.specs.Prelude.{◌≡◌, ◌==◌, ◌&&◌, ◌≤◌, ◌∷◌, [], List, All, length, IfOk, IfSome};
-ghost use Rattle.lhs_alias.specs.Segs.{lhs_bits, AreSegs};
+ghost use Rattle.std.specs.Prelude.{◌≡◌, ◌==◌, ◌&&◌, ◌≤◌, ◌<◌, ◌∷◌, [], ℕ, List, All, length, true, IsTrue, IfOk, IfSome};
+ghost use Rattle.lhs_alias.specs.Segs.{lhs_bits};
+ghost use Rattle.lhs_alias.specs.Lies.{LieIn};
+ghost use Rattle.driver_resolve.specs.Drivers.{is_wire};
 ghost use Rattle.sv_meaning.specs.Faults.{Faults};
 ghost use Rattle.sv_meaning.specs.Targets as t;
 ghost use Rattle.sv_meaning.specs.Designs.{are_present};
@@ -27,7 +29,8 @@ fn bits_in(parts: &[Part]) -> Option<usize>
 
 /// Whether a port of so many bits is joined to an actual that is such a target: as wide, with all selects constant and in range.
 pub(crate) fn is_joined(target: &Target, width: u8) -> Result<bool, AllocError>
-    ensures { (f : Faults) (ts : List t.Target) → IsLowered f ts target.now
+    ensures long { IfOk result (λ b. b ≡ true → length (parts_bits target.now.parts) ≡ width) }
+    ensures is { (f : Faults) (ts : List t.Target) → IsLowered f ts target.now
         → IfOk result (λ b. b ≡ (t.widths ts == width && (t.are_fixed ts && are_present (t.slots ts)))) }
 {
     if target.width != width as usize || !target.fixed {
@@ -41,7 +44,8 @@ pub(crate) fn is_joined(target: &Target, width: u8) -> Result<bool, AllocError>
 
 // The bits of parts as one target.
 fn together(alloc: Global, parts: &[Part]) -> Result<Lhs, AllocError>
-    ensures { IfOk result (λ to. lhs_bits to ≡ parts_bits parts.now) }
+    ensures bits { IfOk result (λ to. lhs_bits to ≡ parts_bits parts.now) }
+    ensures lies { IfOk result (λ to. (widths : List ℕ) → All (λ p. LieIn widths p.to) parts.now → LieIn widths to) }
 {
     let mut all = Lhs::new(alloc);
     'parts: for part in parts {
@@ -59,24 +63,18 @@ pub(crate) fn whole_wire(alloc: Global, wire: usize, width: u8) -> Result<Lhs, A
     Ok(Lhs::from_vec(segs))
 }
 
-/// The join of a port and the bits of its actual.
+/// The join of a port and the bits of its actual, which are as many, in these wires, and of wires below the port's.
 pub(crate) fn join_of(
     alloc: Global,
-    widths: &[u8],
     wire: usize,
     width: u8,
     parts: &[Part],
 ) -> Result<Join, AllocError>
-    requires { 1 ≤ width }
-    ensures { IfOk result (λ x. JoinsTo widths.now wire width parts.now x) }
+    requires { length (parts_bits parts.now) ≡ width }
+    ensures { (widths : List ℕ) → IsTrue (is_wire widths wire width) → 1 ≤ width → width ≤ 128 → All (λ p. LieIn widths p.to) parts.now → All (λ b. b.wire < wire) (parts_bits parts.now)
+        → IfOk result (λ x. JoinsTo widths wire width parts.now x) }
 {
     let child = whole_wire(alloc, wire, width)?;
     let parent = together(alloc, parts)?;
-    if !child.lies_in(widths) || !parent.lies_in(widths) {
-        return Err(AllocError);
-    }
-    if !child.falls_to(&parent) {
-        return Err(AllocError);
-    }
     Ok(Join { child, parent })
 }

@@ -10,13 +10,14 @@ ghost use Rattle.sv_meaning.specs.Meanings.{named};
 ghost use Rattle.sv_meaning.specs.Values.{mean};
 ghost use Rattle.sv_meaning.specs.Targets as t;
 ghost use Rattle.sv_meaning.specs.Designs as d;
-ghost use Rattle.sv_meaning.specs.Designs.{port_gives, assigned_to, no_word, wires_named, as_targets, actual_faults};
+ghost use Rattle.sv_meaning.specs.Designs.{port_gives, port_faults, assigned_to, no_word, wires_named, as_targets, actual_faults};
 ghost use Rattle.sv_tree.specs.declared.design.Way.TheVariants as ways;
 ghost use Rattle.sv_outside.specs.declared.text.Signal.{Signal};
 ghost use Rattle.driver_resolve.specs.Drivers.{widths_of};
 ghost use Rattle.sv_targets.specs.Slots.{IsLowered};
-ghost use Rattle.sv_driving.specs.Blocks.{AreWires};
-ghost use Rattle.sv_elab.specs.Working.{JudgesSupply, Supplies, JudgesWork};
+ghost use Rattle.sv_blocks.specs.Blocks.{AreWires};
+ghost use Rattle.sv_const.specs.Judging.{IsCause};
+ghost use Rattle.sv_elab.specs.Working.{AreBelow, JudgesSupply, Supplies, JudgesWork};
 
 use crate::joins::{is_joined, join_of, whole_wire};
 use crate::parts::part_drivers;
@@ -24,7 +25,7 @@ use crate::works::{Parts, given};
 use driver_resolve::Driver;
 use items::Items;
 use std::alloc::{AllocError, Global};
-use sv_const::{Names, refusal, start};
+use sv_const::{Names, refusal, start, typed};
 use sv_outside::TextErr;
 use sv_stmt::{Look, lower_assigned, lower_expr};
 use sv_targets::{Target, target_of_actual};
@@ -51,6 +52,7 @@ fn input(
     names: &Names<'_>,
 ) -> Result<Items<Driver>, TextErr>
     requires names { AreWires (names_are names.now) widths.now }
+    requires wire { IsTrue (is_wire widths.now port.wire port.width) }
     requires some { 1 ≤ port.width }
     requires most { port.width ≤ 128 }
     ensures stays { Extends arena.old arena.new }
@@ -59,9 +61,6 @@ fn input(
 {
     let _ = arena.len();
     let target = whole_wire(alloc, port.wire, port.width)?;
-    if !target.lies_in(widths) {
-        return Err(TextErr::Memory);
-    }
     let value = lower_expr(alloc, arena, actual, names, port.width)?;
     let mut all = Items::new(alloc);
     all.push(Driver { target, value })?;
@@ -79,14 +78,13 @@ fn output(
     requires wire { IsTrue (is_wire widths.now port.wire port.width) }
     requires some { 1 ≤ port.width }
     requires most { port.width ≤ 128 }
+    requires some_there { 1 ≤ target.now.width }
+    requires most_there { target.now.width ≤ 128 }
     ensures stays { Extends arena.old arena.new }
     ensures is { (f : Faults) (ts : List t.Target) (x : Meant) → IsLowered f ts target.now → m.width x ≡ port.width → m.is_signed x ≡ port.signed
         → IfOk result (λ all. Supplies widths.now (port.wire ∷ []) arena.new (assigned_to ts (named no_word (Some (signal_is of_wires port.wire x)) [])) all) }
 {
     let _ = arena.len();
-    if target.width == 0 || target.width > 128 {
-        return Err(AllocError);
-    }
     let root = Root::Signal {
         origin: Origin::Wires,
         number: port.wire,
@@ -96,6 +94,17 @@ fn output(
     let node = lower_assigned(alloc, arena, &typed, &Look::Present, target.width as u8)?;
     let all = part_drivers(alloc, arena, widths, target.parts.as_slice(), node)?;
     Ok(all)
+}
+
+// Why a port that is never assigned is refused where it is not joined: what stands against its actual, or else E19.
+#[tactic(auto, using(crate::proofs::Working::inout_free, crate::proofs::Working::inout_cause))]
+fn not_joined(alloc: Global, actual: &Expr, names: &Names<'_>) -> TextErr
+    ensures { IsCause (port_faults ways.Inout (names_are names.now) actual.now) result }
+{
+    if let Err(why) = typed(alloc, actual, names, false) {
+        return why;
+    }
+    TextErr::No(refusal(19, start(actual)))
 }
 
 // A port whose actual is a target, which it is joined to or else assigned.
@@ -110,22 +119,17 @@ fn to_target(
     made: u64,
 ) -> Result<Parts, TextErr>
     requires names { AreWires (names_are names.now) widths.now }
+    requires below { AreBelow port.wire (names_are names.now) }
     requires wire { IsTrue (is_wire widths.now port.wire port.width) }
     requires some { 1 ≤ port.width }
     requires most { port.width ≤ 128 }
+    requires target { IsLowered (actual_faults (names_are names.now) actual.now) (as_targets (names_are names.now) actual.now) target.now }
     ensures stays { Extends arena.old arena.new }
     ensures is { (wires : List Signal) (x : Meant) → widths_of wires ≡ widths.now → m.width x ≡ port.width → m.is_signed x ≡ port.signed
-        → IsLowered (actual_faults (names_are names.now) actual.now) (as_targets (names_are names.now) actual.now) target.now
         → JudgesWork wires (d.port (names_are names.now) port.way port.wire x actual.now) made arena.new result }
 {
     if is_joined(target, port.width)? {
-        let join = join_of(
-            alloc,
-            widths,
-            port.wire,
-            port.width,
-            target.parts.as_slice(),
-        )?;
+        let join = join_of(alloc, port.wire, port.width, target.parts.as_slice())?;
         return Ok(Parts {
             drivers: Items::new(alloc),
             join: Some(join),
@@ -138,7 +142,7 @@ fn to_target(
             let all = output(alloc, arena, widths, port, target)?;
             given(Ok(all), made)
         }
-        Way::Inout => Err(TextErr::No(refusal(19, start(actual)))),
+        Way::Inout => Err(not_joined(alloc, actual, names)),
     }
 }
 
@@ -153,6 +157,7 @@ pub(crate) fn connected(
     made: u64,
 ) -> Result<Parts, TextErr>
     requires names { AreWires (names_are names.now) widths.now }
+    requires below { AreBelow port.wire (names_are names.now) }
     requires wire { IsTrue (is_wire widths.now port.wire port.width) }
     requires some { 1 ≤ port.width }
     requires most { port.width ≤ 128 }
@@ -167,7 +172,7 @@ pub(crate) fn connected(
         Err(TextErr::No(why)) => match port.way {
             Way::Input => given(input(alloc, arena, widths, port, actual, names), made),
             Way::Output => Err(TextErr::No(why)),
-            Way::Inout => Err(TextErr::No(why)),
+            Way::Inout => Err(not_joined(alloc, actual, names)),
         },
     }
 }

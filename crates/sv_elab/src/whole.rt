@@ -1,5 +1,5 @@
 // The flat design of a source.
-ghost use Rattle.std.specs.Prelude.{◌≡◌, ◌≤◌, ℕ, ◌++◌, ◌∷◌, [], List, All, IfOk, IfErr, OnOk};
+ghost use Rattle.std.specs.Prelude.{◌≡◌, ℕ, ◌++◌, ◌∷◌, [], List, All, IfOk, IfErr, OnOk};
 ghost use Rattle.std.specs.Option.{option_copied};
 ghost use Rattle.driver_resolve.specs.Drivers.{widths_of};
 ghost use Rattle.sv_outside.specs.declared.text.Signal.{Signal};
@@ -9,11 +9,11 @@ ghost use Rattle.sv_const.specs.Judging.{IsCause};
 ghost use Rattle.sv_loops.specs.Answers.{Answers};
 ghost use Rattle.sv_meaning.specs.Designs as d;
 ghost use Rattle.sv_meaning.specs.Designs.{design_faults, work_faults};
-ghost use Rattle.sv_hierarchy.specs.Scopes.{work_at};
+ghost use Rattle.sv_hierarchy.specs.Scopes.{live_at, work_at};
 ghost use Rattle.sv_scope.specs.Scoped.{design_is, levels_of, wires_of, works_of};
 ghost use Rattle.sv_scope.specs.Walks.{work_is};
 ghost use Rattle.sv_elab.specs.Elaborated.{IsElaborated, sound_design};
-ghost use Rattle.sv_elab.specs.Working.{AreSound, IsMade, TaskFits, join_list};
+ghost use Rattle.sv_elab.specs.Working.{AreSizes, AreSound, IsMade, TaskFits, TaskStandsAbove, join_list};
 
 use crate::signals::{copied, widths};
 use crate::works::{Parts, work_parts};
@@ -66,6 +66,8 @@ fn add_work(
     requires scopes { AreSound scopes.now }
     requires widths { widths.now ≡ widths_of (wires_of scopes.now) }
     requires task { TaskFits widths.now (work_is work.now).task }
+    requires above { TaskStandsAbove (live_at (levels_of scopes.now) (work_is work.now).at) (work_is work.now).task }
+    requires sizes { AreSizes widths.now }
     requires joins { j.widths_of making.old.joins ≡ widths_of (wires_of scopes.now) }
     ensures ok { (works : List d.Work) (before : ℕ) → IsMade (wires_of scopes.now) works before making.old
         → OnOk result (IsMade (wires_of scopes.now) (works ++ work_at (levels_of scopes.now) (work_is work.now) ∷ []) before making.new) }
@@ -93,7 +95,7 @@ fn add_work(
 
 // Nothing is made.
 fn begun(alloc: Global, widths: &[u8], turns: u64) -> Result<Making, AllocError>
-    requires { All (λ width. (1 ≤ width) × (width ≤ 128)) widths.now }
+    requires { AreSizes widths.now }
     ensures { (wires : List Signal) → widths_of wires ≡ widths.now → IfOk result (λ making. IsMade wires [] turns making) }
 {
     Ok(Making {

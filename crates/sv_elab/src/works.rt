@@ -11,8 +11,8 @@ ghost use Rattle.sv_meaning.specs.Params.{name_alone};
 ghost use Rattle.sv_meaning.specs.Designs as d;
 ghost use Rattle.sv_hierarchy.specs.Scopes.{work_of};
 ghost use Rattle.sv_scope.specs.Walks.{task_is, actual_is};
-ghost use Rattle.sv_driving.specs.Blocks.{AreWires};
-ghost use Rattle.sv_elab.specs.Working.{JudgesWork, PortFits, TaskFits};
+ghost use Rattle.sv_blocks.specs.Blocks.{AreWires};
+ghost use Rattle.sv_elab.specs.Working.{AreBelow, AreSizes, JudgesWork, PortFits, TaskFits, TaskStandsAbove};
 
 use crate::assigns::assigned;
 use crate::ports::{Port, connected};
@@ -20,8 +20,8 @@ use driver_resolve::Driver;
 use flat_net::Join;
 use items::Items;
 use std::alloc::{AllocError, Global};
+use sv_blocks::block_drivers;
 use sv_const::{Layout, Names};
-use sv_driving::block_drivers;
 use sv_outside::TextErr;
 use sv_scope::{Actual, Task};
 use sv_tree::{Expr, Way, Word};
@@ -71,15 +71,14 @@ fn port_parts(
 ) -> Result<Parts, TextErr>
     requires names { AreWires (names_are names.now) widths.now }
     requires port { PortFits widths.now wire (layout_is layout.now) }
+    requires below { AreBelow wire (names_are names.now) }
+    requires sizes { AreSizes widths.now }
     ensures stays { Extends arena.old arena.new }
     ensures is { (wires : List Signal) → widths_of wires ≡ widths.now
         → JudgesWork wires (d.port (names_are names.now) way wire (layout_is layout.now) (actual_is actual.entry)) made arena.new result }
 {
     let _ = arena.len();
     let width = widths[wire];
-    if width == 0 || width > 128 {
-        return Err(TextErr::Memory);
-    }
     let port = Port {
         way,
         wire,
@@ -106,6 +105,8 @@ pub(crate) fn work_parts(
 ) -> Result<Parts, TextErr>
     requires names { AreWires (names_are names.old) widths.now }
     requires task { TaskFits widths.now (task_is task.now) }
+    requires below { TaskStandsAbove (names_are names.old) (task_is task.now) }
+    requires sizes { AreSizes widths.now }
     ensures stays { Extends arena.old arena.new }
     ensures is { (wires : List Signal) → widths_of wires ≡ widths.now
         → JudgesWork wires (work_of (names_are names.old) (task_is task.now)) made arena.new result }

@@ -1,7 +1,16 @@
+use Rattle.std.proofs.Common.{sym, subst}
+use Rattle.lhs_alias.specs.Segs.{lhs_bits}
+use Rattle.lhs_alias.specs.Pairs.{FallTo}
+use Rattle.sv_elab.specs.Working.{parts_bits}
 use Rattle.sv_elab.proofs.Joining.{joins_to}
+use Rattle.sv_elab.proofs.Reaching.{whole_lies, wire_falls}
 use Rattle.sv_elab.proofs.joins.join_of.Goals as goal
 
 pub returns : goal.returns
-returns c =
-    joins_to c.args.widths.now c.args.wire c.args.width c.args.parts.now c.in_ok-child.child c.in_ok-parent.parent c.requires c.in_ok-child.ensures c.in_ok-parent.ensures (c.lies_in.ensures.lies.0 c.if-not-lies_in.false)
-    (c.lies_in-else-not-lies_in.ensures.lies.0 c.if-not-lies_in-2.false) (c.falls_to.ensures.0 c.if-not-falls_to.false)
+returns c = λ widths there some most lie below.
+    let n = c.args.wire in
+    let w = c.args.width in
+    let child = c.in_ok-child.child in
+    let bits = c.in_ok-parent.ensures.bits in
+    joins_to widths n w c.args.parts.now child c.in_ok-parent.parent some c.in_ok-child.ensures bits (whole_lies widths n w child there some most c.in_ok-child.ensures) (c.in_ok-parent.ensures.lies widths lie)
+    (subst (FallTo (lhs_bits child)) (sym bits) (wire_falls n w child (parts_bits c.args.parts.now) c.in_ok-child.ensures c.requires below))

@@ -8,9 +8,9 @@ use Rattle.sv_hierarchy.specs.Scopes.{work_of, work_at}
 use Rattle.sv_scope.specs.Scoped.{levels_of, wires_of}
 use Rattle.sv_scope.specs.Levels.{front_is}
 use Rattle.sv_scope.specs.Walks.{task_is, work_is}
-use Rattle.sv_driving.specs.Blocks.{AreWires}
+use Rattle.sv_blocks.specs.Blocks.{AreWires}
 use Rattle.sv_elab.specs.declared.whole.Making.{Making}
-use Rattle.sv_elab.specs.Working.{join_list, IsWorked}
+use Rattle.sv_elab.specs.Working.{join_list, IsWorked, TaskStandsAbove}
 use Rattle.sv_elab.proofs.Making.{made_more}
 use Rattle.sv_elab.proofs.whole.add_work.Goals as goal
 
@@ -18,6 +18,9 @@ pub work_parts-requires-clause-names : goal.work_parts-requires-clause-names
 work_parts-requires-clause-names c =
     subst (AreWires (names_are c.in_ok-names.names)) (sym c.requires.widths)
     (subst (λ (z : Scope). AreWires z (widths_of (wires_of c.args.scopes.now))) (sym c.in_ok-names.ensures.names) (c.requires.scopes.names (front_is c.args.work.now.at)))
+
+pub work_parts-requires-clause-below : goal.work_parts-requires-clause-below
+work_parts-requires-clause-below c = subst (λ (z : Scope). TaskStandsAbove z (task_is c.args.work.now.task)) (sym c.in_ok-names.ensures.names) c.requires.above
 
 pub add_join-requires : goal.add_join-requires
 add_join-requires c =

@@ -5,7 +5,7 @@ use Rattle.driver_resolve.specs.Drivers.{widths_of}
 use Rattle.sv_hierarchy.specs.Scopes as h
 use Rattle.sv_scope.specs.Scoped.{design_is, turns_of}
 use Rattle.sv_scope.specs.Walks.{task_is, work_is}
-use Rattle.sv_elab.specs.Working.{TaskFits}
+use Rattle.sv_elab.specs.Working.{AreSizes, TaskFits}
 use Rattle.sv_elab.proofs.Lists.{contains_map}
 use Rattle.sv_elab.proofs.Wholes.{work_here, fit_signals, walk_more, walk_end, walk_cause, elaborated}
 use Rattle.sv_elab.proofs.whole.flattened.Goals as goal
@@ -20,6 +20,16 @@ add_work-requires-clause-task c =
     let x = c.work-item.result in
     subst (λ (z : List ℕ). TaskFits z (task_is x.task)) (sym (c.deref-in-works.ensures.value ∙ c.in_ok-widths.ensures ∙ ap widths_of c.wires-2.ensures))
     (c.requires.ports (work_is x) (subst (λ (z : List h.Standing). Contains z (work_is x)) c.works-work-items.ensures (contains_map work_is c.works-work-items.result.now c.works.work-index x c.works-test.true c.work-item.is)))
+
+pub add_work-requires-clause-above : goal.add_work-requires-clause-above
+add_work-requires-clause-above c =
+    let x = c.work-item.result in
+    c.requires.above (work_is x) (subst (λ (z : List h.Standing). Contains z (work_is x)) c.works-work-items.ensures (contains_map work_is c.works-work-items.result.now c.works.work-index x c.works-test.true c.work-item.is))
+
+pub add_work-requires-clause-sizes : goal.add_work-requires-clause-sizes
+add_work-requires-clause-sizes c =
+    subst AreSizes (sym (c.deref-in-works.ensures.value ∙ c.in_ok-widths.ensures ∙ ap widths_of (c.wires-2.ensures ∙ sym c.wires.ensures ∙ sym c.in_ok-wires.ensures.is)))
+    (fit_signals c.in_ok-wires.wires c.in_ok-wires.ensures.sound)
 
 pub returns-in_err-add_work-clause-err : goal.returns-in_err-add_work-clause-err
 returns-in_err-add_work-clause-err c =

@@ -4,8 +4,8 @@ use Rattle.sv_const.specs.Names.{names_are}
 use Rattle.sv_hierarchy.specs.Scopes.{work_of}
 use Rattle.sv_scope.specs.declared.walker.Task.{Task}
 use Rattle.sv_scope.specs.Walks.{task_is}
-use Rattle.sv_driving.specs.Blocks.{AreWires}
-use Rattle.sv_elab.specs.Working.{IsWorked, JudgesWork}
+use Rattle.sv_blocks.specs.Blocks.{AreWires}
+use Rattle.sv_elab.specs.Working.{IsWorked, JudgesWork, TaskStandsAbove}
 use Rattle.sv_elab.proofs.Working.{assignment_worked, block_worked}
 use Rattle.sv_elab.proofs.works.work_parts.Goals as goal
 
@@ -22,3 +22,8 @@ returns-in_ok-drivers-in-Running-clause-is c = λ wires s.
     subst (λ (z : Task). IsWorked wires (work_of at (task_is z)) c.args.made c.block_drivers.new.arena (record { drivers = c.in_ok-drivers-in-Running.drivers; join = None; made = c.in_ok-drivers-in-Running.made })) (sym c.in-Running.is)
     (block_worked at c.in-Running.block.now wires c.args.made c.in_ok-drivers-in-Running.made c.block_drivers.new.arena c.in_ok-drivers-in-Running.drivers are c.in_ok-drivers-in-Running.ensures.clear c.in_ok-drivers-in-Running.ensures.turns c.in_ok-drivers-in-Running.ensures.gives
     (c.in_ok-drivers-in-Running.ensures.sound (widths_of wires) are) (λ p r. c.in_ok-drivers-in-Running.ensures.mentions wires p are r))
+
+pub port_parts-requires-clause-below : goal.port_parts-requires-clause-below
+port_parts-requires-clause-below c =
+    let at = names_are c.args.names.now in
+    subst (λ (z : Task). TaskStandsAbove at (task_is z)) c.in-Connecting.is c.requires.below
