@@ -4,7 +4,8 @@ use Rattle.sv_const.specs.Names.{names_are}
 use Rattle.sv_hierarchy.specs.Scopes.{work_of}
 use Rattle.sv_scope.specs.declared.walker.Task.{Task}
 use Rattle.sv_scope.specs.Walks.{task_is}
-use Rattle.sv_blocks.specs.Blocks.{AreWires}
+use Rattle.sv_driving.specs.Blocks.{AreWires}
+use Rattle.sv_driving.proofs.Placing.{one_width}
 use Rattle.sv_elab.specs.Working.{IsWorked, JudgesWork, TaskStandsAbove}
 use Rattle.sv_elab.proofs.Working.{assignment_worked, block_worked}
 use Rattle.sv_elab.proofs.works.work_parts.Goals as goal
@@ -27,3 +28,6 @@ pub port_parts-requires-clause-below : goal.port_parts-requires-clause-below
 port_parts-requires-clause-below c =
     let at = names_are c.args.names.now in
     subst (λ (z : Task). TaskStandsAbove at (task_is z)) c.in-Connecting.is c.requires.below
+
+pub block_drivers-requires : goal.block_drivers-requires
+block_drivers-requires c = one_width (names_are c.args.names.now) c.args.widths.now c.requires.names
