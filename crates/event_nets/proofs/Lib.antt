@@ -5,4 +5,6 @@ pub mod Laying
 pub mod NetPlaces
 pub mod FlatNets
 pub mod Making
+pub mod Gathering
+pub mod Needed
 mod Rows

@@ -1,4 +1,5 @@
 pub mod Gifts
 pub mod Nets
 pub mod Runs
+pub mod Needs
 pub mod Tables

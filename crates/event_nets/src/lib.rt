@@ -5,6 +5,7 @@
 pub mod gift;
 pub mod lay;
 pub mod make;
+mod needs;
 pub mod nets;
 pub mod tables;
 pub mod values;

@@ -1,5 +1,8 @@
 //! What is kept of a flat design.
 
+ghost use Rattle.std.specs.Prelude.{◌≡◌, ◌<◌, [], length, slice_index_or};
+ghost use Rattle.event_nets.specs.Needs.{gift_rows, node_rows};
+
 use crate::gift::Gift;
 
 /// What a flat design says of its bits, which stand in one row, wire by wire.
@@ -14,6 +17,10 @@ pub struct Tables {
     pub nets: Vec<usize>,
     /// What is given to classes: the drivers in order, and then the inputs of the top.
     pub gifts: Vec<Gift>,
+    /// What is given to each net, by the place of its lowest bit.
+    pub given: Vec<Vec<Gift>>,
+    /// The nodes that this takes, the lowest number first.
+    pub needs: Vec<Vec<usize>>,
 }
 
 impl Drop for Tables {
@@ -24,6 +31,26 @@ impl Drop for Tables {
             lows: _,
             nets: _,
             gifts: _,
+            given: _,
+            needs: _,
         } = self;
+    }
+}
+
+impl Tables {
+    /// What is given to the net whose lowest bit has this place.
+    pub fn given_to(&self, low: usize) -> &[Gift]
+        requires { low < length self.now.given.items }
+        ensures { result.now ≡ slice_index_or (gift_rows self.now.given.items) low [] }
+    {
+        self.given[low].as_slice()
+    }
+
+    /// The nodes that this takes.
+    pub fn needs_of(&self, low: usize) -> &[usize]
+        requires { low < length self.now.needs.items }
+        ensures { result.now ≡ slice_index_or (node_rows self.now.needs.items) low [] }
+    {
+        self.needs[low].as_slice()
     }
 }

@@ -2,7 +2,9 @@ pub mod Telling
 pub mod Evaluating
 pub mod Passing
 pub mod Flats
+pub mod Needing
 pub mod Fitting
+pub mod OneNet
 pub mod Settled
 pub mod Sweeping
 pub mod Stepping

@@ -1,5 +1,5 @@
 //! One pass over the present values: all nodes are evaluated, each class of joined bits is told what is given to it, and the wires
-//! take what their classes are told.
+//! take what their classes are told. A pass over one net evaluates what the net needs, and tells its own classes alone.
 
 ghost use Rattle.std.specs.Prelude.{◌≡◌, ◌≢◌, ◌↔◌, ℕ, ◌+◌, ◌<◌, ◌≤◌, false, true, [], ◌∷◌, length, slice_index_or, All, IsTrue, if◌then◌else◌};
 ghost use Rattle.fourvec.specs.declared.Bit.TheVariants.{Unknown};
@@ -7,7 +7,8 @@ ghost use Rattle.svex_arena.specs.Arenas.{IsArena};
 ghost use Rattle.svex_arena.specs.Values.{value_at, read};
 ghost use Rattle.event_nets.specs.Gifts.{IsGift, source_in, gift_bit, told_bit, IsTold};
 ghost use Rattle.event_sim.specs.Rows.{takes, taken, passed_bit, passed_row, Passed};
-ghost use Rattle.event_sim.specs.Passes.{HasValues};
+ghost use Rattle.event_sim.specs.Passes.{HasValues, HasValuesOf};
+ghost use Rattle.event_nets.specs.Needs.{IsInOrder};
 
 use event_nets::gift::{Gift, Source, told_more};
 use event_nets::tables::Tables;
@@ -49,6 +50,29 @@ impl Work {
         tell_all(&tables.gifts, &self.values, &env.stim, &mut self.told);
     }
 
+    /// Evaluates the nodes that a net takes.
+    pub fn evaluate_net(&mut self, nodes: &[usize], arena: &Arena, env: &Env)
+        requires len { length self.old.values.items ≡ length arena.now }
+        requires order { IsInOrder arena.now nodes.now }
+        ensures values { HasValuesOf (read env.now) arena.now self.new.values.items nodes.now }
+        ensures len { length self.new.values.items ≡ length arena.now }
+        ensures arena { IsArena arena.now }
+        ensures told { self.new.told.items ≡ self.old.told.items }
+    {
+        let _ = arena.len();
+        evaluate_some(nodes, arena, env, &mut self.values);
+    }
+
+    /// Tells the classes of a net what is given to them.
+    pub fn tell_net(&mut self, gifts: &[Gift], env: &Env)
+        requires { All (IsGift self.old.values.items env.now.stim (length self.old.told.items)) gifts.now }
+        ensures told { IsTold self.old.values.items env.now.stim gifts.now self.new.told.items }
+        ensures len { length self.new.told.items ≡ length self.old.told.items }
+        ensures values { self.new.values.items ≡ self.old.values.items }
+    {
+        tell_all(gifts, &self.values, &env.stim, &mut self.told);
+    }
+
     /// Gives each wire what its classes are told, where their net is taken, and says whether that changed anything.
     pub fn take(&self, tables: &Tables, net: Option<usize>, env: &mut Env) -> bool
         requires starts { length tables.now.starts.items ≡ length env.old.present }
@@ -80,6 +104,20 @@ fn evaluate_all(arena: &Arena, env: &Env, values: &mut [Four])
     ensures { HasValues (read env.now) arena.now values.new (length arena.now) }
 {
     'nodes: for node in 0..arena.len() {
+        let shape = arena.shape(Node::new(node));
+        values[node] = shape_value(&shape, env, values);
+    }
+}
+
+// Evaluates these nodes, each behind its children.
+fn evaluate_some(nodes: &[usize], arena: &Arena, env: &Env, values: &mut [Four])
+    requires len { length values.old ≡ length arena.now }
+    requires arena { IsArena arena.now }
+    requires order { IsInOrder arena.now nodes.now }
+    ensures { HasValuesOf (read env.now) arena.now values.new nodes.now }
+{
+    'steps: for at in 0..nodes.len() {
+        let node = nodes[at];
         let shape = arena.shape(Node::new(node));
         values[node] = shape_value(&shape, env, values);
     }

@@ -1,6 +1,6 @@
 //! A simulation.
 
-ghost use Rattle.std.specs.Prelude.{◌≡◌, ◌≢◌, ℕ, ◌<◌, ◌≤◌, true, false, List, [], ◌∷◌, length, map, slice_index_or, None, IfOk};
+ghost use Rattle.std.specs.Prelude.{◌≡◌, ◌≢◌, ℕ, ◌<◌, ◌≤◌, true, false, List, [], ◌∷◌, length, map, slice_index_or, None, Some, IfOk};
 ghost use Rattle.fourvec.specs.declared.Bit.TheVariants.{Unknown};
 ghost use Rattle.svex_arena.specs.Arenas.{IsArena};
 ghost use Rattle.settling.specs.Events.{event};
@@ -11,6 +11,7 @@ ghost use Rattle.event_sim.specs.Sims.{now_values, prev_values, stim_values, now
 ghost use Rattle.event_nets.specs.Nets.{nets_of, net_bits};
 ghost use Rattle.event_sim.specs.Steps.{IsAfter};
 ghost use Rattle.flat_net.specs.declared.flat.Flat.{Flat};
+ghost use Rattle.lhs_alias.specs.Joined.{all_bits};
 ghost use Rattle.lhs_alias.specs.Segs.{bit};
 
 use crate::pass::Work;
@@ -102,6 +103,25 @@ impl Sim {
         self.work.take(&self.tables, net, &mut self.env)
     }
 
+    // The same of the net whose lowest bit has this place, over what it needs alone.
+    fn pass_net(&mut self, flat: &Flat, low: usize)
+        requires flat { IsFlat flat.now }
+        requires fits { Fits flat.now self.old }
+        requires low { low < length (all_bits (widths_of flat.now.wires)) }
+        ensures fits { Fits flat.now self.new }
+        ensures previous { prev_values self.new ≡ prev_values self.old }
+        ensures stim { stim_values self.new ≡ stim_values self.old }
+        ensures now { (n k : ℕ) → now_of self.new n k
+            ≡ event (links_of flat.now.joins) (given_in flat.now (stim_of self.old) (prev_of self.old))
+            (picked (links_of flat.now.joins) (widths_of flat.now.wires) self.old.tables.lows.items (Some low)) (now_of self.old) n k }
+    {
+        let nodes = self.tables.needs_of(low);
+        self.work.evaluate_net(nodes, &flat.arena, &self.env);
+        let gifts = self.tables.given_to(low);
+        self.work.tell_net(gifts, &self.env);
+        let _ = self.work.take(&self.tables, Some(low), &mut self.env);
+    }
+
     /// One event: gives a net, and the bits that are joined to it, the resolution of what is given to them.
     pub fn step(&mut self, flat: &Flat, net: usize)
         requires flat { IsFlat flat.now }
@@ -116,7 +136,7 @@ impl Sim {
         ensures after { (steps : List ℕ) → IsAfter flat.now self.old steps → IsAfter flat.now self.new (net ∷ steps) }
     {
         let low = low_of(&self.tables.nets, net);
-        let _ = self.pass(flat, Some(low));
+        self.pass_net(flat, low);
     }
 
     /// Settles a phase: starts, and sweeps over all nets until a sweep changes nothing.

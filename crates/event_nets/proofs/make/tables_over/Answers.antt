@@ -1,12 +1,19 @@
-use Rattle.std.proofs.Common.{ℕ, ◌≤◌, List, length, map, sym, ap, ◌∙◌, subst}
-use Rattle.std.specs.Prelude.{All, filter}
+use Rattle.std.proofs.Common.{◌≡◌, ℕ, ◌<◌, ◌≤◌, List, [], length, get_or, map, sym, ap, ◌∙◌, subst, arith, Vec, Global}
+use Rattle.std.specs.Prelude.{All, Option, None, IfSome, filter}
 use Rattle.std.specs.List.{range_with_len}
-use Rattle.lhs_alias.specs.Joined.{all_bits}
+use Rattle.std.proofs.lemmas.List.{length-map}
+use Rattle.std.proofs.lemmas.List.Elements.{All-filter}
+use Rattle.lhs_alias.specs.Joined.{all_bits, place_of}
+use Rattle.driver_resolve.specs.Drivers.{widths_of}
 use Rattle.flat_net.specs.Flats.{links_of}
-use Rattle.event_nets.specs.Runs.{begins}
-use Rattle.event_nets.specs.Tables.{home_of}
+use Rattle.event_nets.specs.declared.gift.Gift.{Gift}
+use Rattle.event_nets.specs.Needs.{IsNeeded, IsRoot, gift_rows, node_rows, given_to}
+use Rattle.event_nets.specs.Nets.{low_of}
+use Rattle.event_nets.specs.Runs.{begins, is_at}
+use Rattle.event_nets.specs.Tables.{home_of, gifts_of}
 use Rattle.event_nets.proofs.FlatNets.{nets-are}
-use Rattle.event_nets.proofs.Making.{wires-narrow}
+use Rattle.event_nets.proofs.Making.{wires-narrow, all-below}
+use Rattle.event_nets.proofs.Needed.{lows-inside, roots-below}
 use Rattle.event_nets.proofs.make.tables_over.Goals as goal
 
 pub all_homes-requires-clause-widths : goal.all_homes-requires-clause-widths
@@ -22,10 +29,39 @@ lows_of-requires-clause-homes c =
 pub lows_of-requires-clause-gifts : goal.lows_of-requires-clause-gifts
 lows_of-requires-clause-gifts c = c.deref-4.ensures.value ∙ c.in_ok-gifts.ensures
 
+pub given_by_net-requires-clause-gifts : goal.given_by_net-requires-clause-gifts
+given_by_net-requires-clause-gifts c =
+    let flat = c.args.flat.now in
+    let bits = all_bits (widths_of flat.wires) in
+    let long : length bits ≡ length c.deref-6.result.now = sym (ap (λ l. length l) (c.deref-6.ensures.value ∙ c.in_ok-lows.ensures) ∙ length-map bits (low_of (place_of (widths_of flat.wires)) flat)) in
+    subst (λ l. All (λ (g : Gift). g.to < length c.deref-6.result.now) l) (sym (c.deref-7.ensures.value ∙ c.in_ok-gifts.ensures))
+    (subst (λ n. All (λ (g : Gift). g.to < n) (gifts_of flat)) long (all-below flat c.requires.flat))
+
+pub given_by_net-requires-clause-lows : goal.given_by_net-requires-clause-lows
+given_by_net-requires-clause-lows c = λ k.
+    let flat = c.args.flat.now in
+    let bits = all_bits (widths_of flat.wires) in
+    let is = c.deref-6.ensures.value ∙ c.in_ok-lows.ensures in
+    let long : length bits ≡ length c.deref-6.result.now = sym (ap (λ l. length l) is ∙ length-map bits (low_of (place_of (widths_of flat.wires)) flat)) in
+    subst (λ (n : ℕ). IfSome (get_or c.deref-6.result.now k None) (λ low. low < n)) long
+    (subst (λ (l : List (Option ℕ)). IfSome (get_or l k None) (λ low. low < length bits)) (sym is) (lows-inside flat k))
+
+pub all_needed-requires : goal.all_needed-requires
+all_needed-requires c = λ k lt.
+    let flat = c.args.flat.now in
+    let roots = subst (λ (l : List Gift). All (IsRoot (length flat.arena)) l) (sym (c.deref-7.ensures.value ∙ c.in_ok-gifts.ensures)) (roots-below flat c.requires.flat) in
+    let low : k < length c.deref-6.result.now = omega (arith, lt, ap (λ l. length l) c.deref-8.ensures.value, c.in_ok-given.ensures.len) in
+    let row : get_or (gift_rows c.deref-8.result.now) k [] ≡ given_to c.deref-6.result.now c.deref-7.result.now k =
+    ap (λ l. get_or (gift_rows l) k []) c.deref-8.ensures.value ∙ c.in_ok-given.ensures.given k low in
+    subst (λ (l : List Gift). All (IsRoot (length flat.arena)) l) (sym row) (All-filter (λ g. is_at (get_or c.deref-6.result.now g.to None) k) (IsRoot (length flat.arena)) c.deref-7.result.now roots)
+
 pub returns : goal.returns
 returns c =
     let flat = c.args.flat.now in
     let links = links_of flat.joins in
+    let bits = all_bits (widths_of flat.wires) in
+    let long : length c.deref-6.result.now ≡ length bits = ap (λ l. length l) (c.deref-6.ensures.value ∙ c.in_ok-lows.ensures) ∙ length-map bits (low_of (place_of (widths_of flat.wires)) flat) in
+    let given_each : length c.in_ok-given.given.items ≡ length bits = c.in_ok-given.ensures.len ∙ long in
     record {
       starts = c.requires.starts;
       homes = c.in_ok-homes.ensures links c.requires.stands ∙ ap (λ ws. map (home_of links ws) (all_bits ws)) c.requires.widths;
@@ -34,4 +70,11 @@ returns c =
       nets = c.in_ok-nets.ensures
           ∙ ap (λ l. filter (begins l) (range_with_len 0 (length l))) c.deref-5.ensures.value
           ∙ nets-are flat c.in_ok-lows.lows.items c.in_ok-lows.ensures;
+      given_each = given_each;
+      needs_each = c.in_ok-needs.ensures.len ∙ ap (λ l. length l) c.deref-8.ensures.value ∙ given_each;
+      given = λ low lt. c.in_ok-given.ensures.given low (omega (arith, lt, long))
+          ∙ ap (λ l. given_to l c.deref-7.result.now low) c.deref-6.ensures.value
+          ∙ ap (λ l. given_to c.in_ok-lows.lows.items l low) c.deref-7.ensures.value;
+      needs = λ low lt. subst (λ (l : List (Vec Gift Global)). IsNeeded flat.arena (get_or (gift_rows l) low []) (get_or (node_rows c.in_ok-needs.needs.items) low [])) c.deref-8.ensures.value
+          (c.in_ok-needs.ensures.needs low (omega (arith, lt, ap (λ l. length l) c.deref-8.ensures.value, given_each)));
     }
