@@ -13,8 +13,8 @@ use Rattle.lhs_alias.specs.Lies.{IsBitOf}
 use Rattle.lhs_alias.proofs.Lying.{lhs_bits-lie}
 use Rattle.settling.specs.Settling.{value_at as value_in_store, Link, Contribution, first_bit, is_one_class, given_to}
 use Rattle.settling.proofs.Classes.{joined-exactly, same-name}
-use Rattle.svex_arena.specs.declared.shape.Shape.{Shape}
-use Rattle.svex_arena.specs.Values.{Vector, value_at}
+use Rattle.svex_shape.specs.declared.shape.Shape.{Shape}
+use Rattle.svex_shape.specs.Values.{Vector, value_at}
 use Rattle.driver_resolve.specs.declared.driver.Driver.{Driver}
 use Rattle.driver_resolve.specs.Drivers.{Phase, widths_of, reading, driver_gives, drivers_give, wire_bits, stimuli_from, IsDriver}
 use Rattle.event_nets.specs.declared.gift.Gift.{Gift}

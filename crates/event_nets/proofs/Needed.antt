@@ -10,7 +10,7 @@ use Rattle.lhs_alias.specs.Segs.{bit, lhs_bits}
 use Rattle.lhs_alias.specs.Lies.{IsBitOf}
 use Rattle.lhs_alias.specs.Joined.{all_bits, place_of}
 use Rattle.lhs_alias.proofs.Row.{all_bits-lie, place-below}
-use Rattle.svex_arena.specs.declared.shape.Shape.{Shape}
+use Rattle.svex_shape.specs.declared.shape.Shape.{Shape}
 use Rattle.driver_resolve.specs.declared.driver.Driver.{Driver}
 use Rattle.driver_resolve.specs.Drivers.{wire_bits, widths_of, IsDriver}
 use Rattle.flat_net.specs.declared.flat.Flat.{Flat}

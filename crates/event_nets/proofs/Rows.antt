@@ -6,10 +6,10 @@ use Rattle.lhs_alias.specs.declared.segs.Seg.{Seg}
 use Rattle.lhs_alias.specs.Segs.{bit, seg_bits}
 use Rattle.lhs_alias.specs.Joined.{all_bits, bits_from}
 use Rattle.settling.specs.Settling.{first_bit}
-use Rattle.svex_arena.specs.declared.shape.VarName.TheVariants.{Now, Prev}
-use Rattle.svex_arena.specs.declared.shape.Un.TheVariants.{Not}
-use Rattle.svex_arena.specs.declared.shape.Bin.TheVariants.{And}
-use Rattle.svex_arena.specs.declared.shape.Shape.TheVariants.{Const, Var, Unary, Binary, Pick}
+use Rattle.svex_shape.specs.declared.shape.VarName.TheVariants.{Now, Prev}
+use Rattle.svex_shape.specs.declared.shape.Un.TheVariants.{Not}
+use Rattle.svex_shape.specs.declared.shape.Bin.TheVariants.{And}
+use Rattle.svex_shape.specs.declared.shape.Shape.TheVariants.{Const, Var, Unary, Binary, Pick}
 use Rattle.driver_resolve.specs.declared.driver.Driver.{Driver}
 use Rattle.flat_net.specs.declared.flat.Flat.{Flat}
 use Rattle.flat_net.specs.declared.flat.Join.{Join}

@@ -7,7 +7,7 @@ use Rattle.sv_outside.specs.declared.text.Signal.{Signal}
 use Rattle.lhs_alias.specs.declared.segs.WireBit.{WireBit}
 use Rattle.lhs_alias.specs.Segs.{lhs_bits}
 use Rattle.lhs_alias.specs.Lies.{LieIn}
-use Rattle.svex_arena.specs.Values.{Vector}
+use Rattle.svex_shape.specs.Values.{Vector}
 use Rattle.driver_resolve.specs.declared.driver.Driver.{Driver}
 use Rattle.driver_resolve.specs.Drivers.{wire_bits}
 use Rattle.event_nets.specs.declared.gift.Gift.{Gift}

@@ -4,9 +4,9 @@ use Rattle.std.specs.List.{Contains, count_by}
 use Rattle.std.specs.List.Sorted.{IsNonDecreasing}
 use Rattle.std.specs.declared.vec.Vec.{Vec}
 use Rattle.std.specs.declared.alloc.Global.{Global}
-use Rattle.svex_arena.specs.declared.shape.Shape.{Shape}
-use Rattle.svex_arena.specs.declared.shape.Shape.TheVariants.{Const, Var, Unary, Binary, Cond, Pick, Slice, Zext, Sext, DynSlice, DynPut}
-use Rattle.svex_arena.specs.Shapes.{OnChildren, shape_at}
+use Rattle.svex_shape.specs.declared.shape.Shape.{Shape}
+use Rattle.svex_shape.specs.declared.shape.Shape.TheVariants.{Const, Var, Unary, Binary, Cond, Pick, Slice, Zext, Sext, DynSlice, DynPut}
+use Rattle.svex_shape.specs.Shapes.{OnChildren, shape_at}
 use Rattle.event_nets.specs.declared.gift.Gift.{Gift}
 use Rattle.event_nets.specs.declared.gift.Source.{Source}
 use Rattle.event_nets.specs.declared.gift.Source.TheVariants.{Value, Stimulus}

@@ -4,7 +4,7 @@ use Rattle.fourvec.specs.declared.Bit.TheVariants.{Unknown}
 use Rattle.lhs_alias.specs.declared.segs.WireBit.{WireBit}
 use Rattle.lhs_alias.specs.Joined.{all_bits, starts_of, place_of}
 use Rattle.settling.specs.Settling.{Store, Link, first_bit}
-use Rattle.svex_arena.specs.Values.{Vector}
+use Rattle.svex_shape.specs.Values.{Vector}
 use Rattle.driver_resolve.specs.Drivers.{widths_of}
 use Rattle.flat_net.specs.declared.flat.Flat.{Flat}
 use Rattle.flat_net.specs.Flats.{links_of}

@@ -6,7 +6,7 @@
 
 ghost use Rattle.std.specs.Prelude.{◌≡◌, ℕ, ◌+◌, ◌<◌, ◌≤◌, false, true, None, Some, [], ◌∷◌, ◌++◌, length, All, IfOk, OnOk, IfSome, slice_index, slice_index_or, if◌then◌else◌};
 ghost use Rattle.std.specs.List.{Contains};
-ghost use Rattle.svex_arena.specs.Shapes.{ChildrenBelow, OnChildren, shape_at};
+ghost use Rattle.svex_shape.specs.Shapes.{ChildrenBelow, OnChildren, shape_at};
 ghost use Rattle.svex_arena.specs.Arenas.{IsArena};
 ghost use Rattle.event_nets.specs.Runs.{is_at};
 ghost use Rattle.event_nets.specs.Needs.{Gathers, node_of, IsListed, IsClosed, IsRoot, HasRoots, IsNeeded, children_of, gift_rows, node_rows, given_to};

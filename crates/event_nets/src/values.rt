@@ -10,7 +10,7 @@ use items::Items;
 use svex_arena::Env;
 
 /// X at every bit.
-#[tactic(auto, using(svex_arena::proofs::Readings::x_widened))]
+#[tactic(auto, using(svex_shape::proofs::Readings::x_widened))]
 pub fn unknown(width: u8) -> Four
     requires some { 0 < width }
     requires most { width ≤ 128 }

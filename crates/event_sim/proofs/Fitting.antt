@@ -8,7 +8,7 @@ use Rattle.lhs_alias.specs.Joined.{all_bits, starts_of, place_of}
 use Rattle.lhs_alias.proofs.Row.{length-all_bits, length-starts_of}
 use Rattle.settling.specs.Events.{event}
 use Rattle.svex_arena.specs.Arenas.{IsArena}
-use Rattle.svex_arena.specs.Values.{Vector, read}
+use Rattle.svex_shape.specs.Values.{Vector, read}
 use Rattle.driver_resolve.specs.Drivers.{widths_of}
 use Rattle.flat_net.specs.declared.flat.Flat.{Flat}
 use Rattle.flat_net.specs.Flats.{IsFlat, links_of, given, given_in}

@@ -19,12 +19,12 @@ use Rattle.lhs_alias.proofs.Lying.{lhs_bits-lie}
 use Rattle.lhs_alias.proofs.Row.{place-below}
 use Rattle.settling.specs.Settling.{Link, first_bit, given_to}
 use Rattle.settling.specs.Events.{resolved}
-use Rattle.svex_arena.specs.declared.shape.VarName.TheVariants.{Now, Prev, Stim, Chosen, Sampled}
-use Rattle.svex_arena.specs.declared.shape.Shape.{Shape}
+use Rattle.svex_shape.specs.declared.shape.VarName.TheVariants.{Now, Prev, Stim, Chosen, Sampled}
+use Rattle.svex_shape.specs.declared.shape.Shape.{Shape}
 use Rattle.svex_arena.specs.Arenas.{IsArena}
-use Rattle.svex_arena.specs.Values.{Vector, Rows, fitted, read, AgreesWhere}
+use Rattle.svex_shape.specs.Values.{Vector, Rows, fitted, read, AgreesWhere}
 use Rattle.svex_arena.proofs.Lifted.{values_alike}
-use Rattle.svex_arena.proofs.Readings.{read_has_widths}
+use Rattle.svex_shape.proofs.Readings.{read_has_widths}
 use Rattle.svex_arena.proofs.Widths.{length-value_at}
 use Rattle.driver_resolve.specs.declared.driver.Driver.{Driver}
 use Rattle.driver_resolve.specs.Drivers.{Phase, reading, drivers_give, stimuli_from, wire_bits, widths_of, is_wire, is_of_wires, IsDriver}

@@ -10,9 +10,9 @@ use Rattle.std.proofs.lemmas.List.Elements.{All-head, All-tail, All-nil, All-con
 use Rattle.std.proofs.lemmas.List.FromFn.{get_or-map-range_with_len, length-map-range_with_len}
 use Rattle.fourvec.specs.declared.Bit.{Bit}
 use Rattle.fourvec.specs.declared.Bit.TheVariants.{Unknown}
-use Rattle.svex_arena.specs.declared.shape.Shape.{Shape}
-use Rattle.svex_arena.specs.Shapes.{OnChildren, ChildrenBelow, FitsWidths, shape_at, width_at}
-use Rattle.svex_arena.specs.Values.{Vector, Reading, HasWidths, value_of, value_at}
+use Rattle.svex_shape.specs.declared.shape.Shape.{Shape}
+use Rattle.svex_shape.specs.Shapes.{OnChildren, ChildrenBelow, FitsWidths, shape_at, width_at}
+use Rattle.svex_shape.specs.Values.{Vector, Reading, HasWidths, value_of, value_at}
 use Rattle.svex_arena.specs.Arenas.{IsArena}
 use Rattle.svex_arena.specs.Evaluated.{value_in, width_in}
 use Rattle.svex_arena.proofs.Numbering.{map_children, join_children}

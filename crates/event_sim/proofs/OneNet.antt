@@ -6,7 +6,7 @@ use Rattle.fourvec.specs.declared.Bit.{Bit}
 use Rattle.lhs_alias.specs.Joined.{all_bits}
 use Rattle.settling.specs.Events.{event}
 use Rattle.svex_arena.specs.Arenas.{IsArena}
-use Rattle.svex_arena.specs.Values.{Vector, read}
+use Rattle.svex_shape.specs.Values.{Vector, read}
 use Rattle.driver_resolve.specs.Drivers.{widths_of}
 use Rattle.flat_net.specs.declared.flat.Flat.{Flat}
 use Rattle.flat_net.specs.Flats.{IsFlat, links_of, given_in}

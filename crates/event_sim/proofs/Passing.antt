@@ -13,7 +13,7 @@ use Rattle.lhs_alias.specs.Joined.{all_bits, starts_of, place_of}
 use Rattle.settling.specs.Settling.{Link, given_to}
 use Rattle.settling.specs.Least.{Giving}
 use Rattle.settling.specs.Events.{resolved, event}
-use Rattle.svex_arena.specs.Values.{Vector}
+use Rattle.svex_shape.specs.Values.{Vector}
 use Rattle.event_nets.specs.Gifts.{told_bit}
 use Rattle.event_sim.specs.Rows.{takes, passed_bit, Passed}
 use Rattle.event_nets.specs.Tables.{store_of, IsValuation, home_of}

@@ -17,7 +17,7 @@ use Rattle.settling.specs.Settling.{first_bit, same_bit, is_one_class}
 use Rattle.settling.specs.Least.{Giving}
 use Rattle.settling.specs.Events.{event, step}
 use Rattle.settling.proofs.Classes.{joined-first, joined-exactly, same-name}
-use Rattle.svex_arena.specs.Values.{Vector}
+use Rattle.svex_shape.specs.Values.{Vector}
 use Rattle.driver_resolve.specs.declared.driver.Driver.{Driver}
 use Rattle.driver_resolve.specs.Drivers.{wire_bits, widths_of, IsDriver}
 use Rattle.flat_net.specs.declared.flat.Flat.{Flat}

@@ -9,7 +9,7 @@ use Rattle.fourvec.specs.declared.Bit.TheVariants.{Floating}
 use Rattle.fourvec.specs.Bits.{res_bit, over, same_bit}
 use Rattle.fourvec.proofs.Tables.{same_bit-true, every_bit, at_bit}
 use Rattle.settling.specs.Events.{resolved}
-use Rattle.svex_arena.specs.Values.{Vector}
+use Rattle.svex_shape.specs.Values.{Vector}
 use Rattle.event_nets.specs.declared.gift.Gift.{Gift}
 use Rattle.event_nets.specs.Gifts.{told_with, told_of, told_bit, gift_bit, given_at, IsTold}
 

@@ -1,8 +1,8 @@
 -- The values of nodes that are computed so far in a pass.
 use Rattle.std.specs.Prelude.{◌≡◌, ℕ, ◌<◌, List}
 use Rattle.std.specs.List.{Contains}
-use Rattle.svex_arena.specs.declared.shape.Shape.{Shape}
-use Rattle.svex_arena.specs.Values.{Vector, Reading, value_at}
+use Rattle.svex_shape.specs.declared.shape.Shape.{Shape}
+use Rattle.svex_shape.specs.Values.{Vector, Reading, value_at}
 use Rattle.svex_arena.specs.Evaluated.{value_in}
 
 -- the list has the values of the first n nodes

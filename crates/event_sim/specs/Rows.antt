@@ -3,7 +3,7 @@ use Rattle.std.specs.Prelude.{◌≡◌, ◌==◌, ℕ, ◌+◌, ◌<◌, Bool, 
 use Rattle.std.specs.List.{range_with_len}
 use Rattle.fourvec.specs.declared.Bit.{Bit}
 use Rattle.fourvec.specs.declared.Bit.TheVariants.{Unknown}
-use Rattle.svex_arena.specs.Values.{Vector}
+use Rattle.svex_shape.specs.Values.{Vector}
 use Rattle.event_nets.specs.Gifts.{told_bit}
 
 -- the net is taken; with none named, all are

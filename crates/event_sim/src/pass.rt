@@ -4,7 +4,7 @@
 ghost use Rattle.std.specs.Prelude.{◌≡◌, ◌≢◌, ◌↔◌, ℕ, ◌+◌, ◌<◌, ◌≤◌, false, true, [], ◌∷◌, length, slice_index_or, All, IsTrue, if◌then◌else◌};
 ghost use Rattle.fourvec.specs.declared.Bit.TheVariants.{Unknown};
 ghost use Rattle.svex_arena.specs.Arenas.{IsArena};
-ghost use Rattle.svex_arena.specs.Values.{value_at, read};
+ghost use Rattle.svex_shape.specs.Values.{value_at, read};
 ghost use Rattle.event_nets.specs.Gifts.{IsGift, source_in, gift_bit, told_bit, IsTold};
 ghost use Rattle.event_sim.specs.Rows.{takes, taken, passed_bit, passed_row, Passed};
 ghost use Rattle.event_sim.specs.Passes.{HasValues, HasValuesOf};

@@ -4,14 +4,14 @@ use Rattle.fourvec.specs.declared.Bit.{Bit}
 use Rattle.fourvec.specs.declared.Bit.TheVariants.{Zero, One, Unknown, Floating}
 use Rattle.fourvec.specs.Bits.{each, unfloat_bit, not_bit, and_bit, or_bit, xor_bit, res_bit, eq_of, some_clash, is_known}
 use Rattle.fourvec.proofs.Tables.{left_of, right_of}
-use Rattle.svex_arena.specs.declared.shape.Un.{Un}
-use Rattle.svex_arena.specs.declared.shape.Un.TheVariants.{Unfloat, Not}
-use Rattle.svex_arena.specs.declared.shape.Bin.{Bin}
-use Rattle.svex_arena.specs.declared.shape.Bin.TheVariants.{And, Or, Xor, Eq, Res}
-use Rattle.svex_arena.specs.declared.shape.Shape.{Shape}
-use Rattle.svex_arena.specs.declared.shape.Shape.TheVariants.{Const, Unary, Binary}
-use Rattle.svex_arena.specs.Shapes.{FitsPair, width_of, width_at, unary_width, binary_width}
-use Rattle.svex_arena.specs.Values.{Vector, Reading, HasWidths, value_of, value_at, unary_value, binary_value, each_variable_of}
+use Rattle.svex_shape.specs.declared.shape.Un.{Un}
+use Rattle.svex_shape.specs.declared.shape.Un.TheVariants.{Unfloat, Not}
+use Rattle.svex_shape.specs.declared.shape.Bin.{Bin}
+use Rattle.svex_shape.specs.declared.shape.Bin.TheVariants.{And, Or, Xor, Eq, Res}
+use Rattle.svex_shape.specs.declared.shape.Shape.{Shape}
+use Rattle.svex_shape.specs.declared.shape.Shape.TheVariants.{Const, Unary, Binary}
+use Rattle.svex_shape.specs.Shapes.{FitsPair, width_of, width_at, unary_width, binary_width}
+use Rattle.svex_shape.specs.Values.{Vector, Reading, HasWidths, value_of, value_at, unary_value, binary_value, each_variable_of}
 use Rattle.svex_arena.specs.Arenas.{IsArena}
 use Rattle.svex_arena.proofs.Widths.{length-value_at, length-binary}
 use Rattle.svex_rewrite.specs.Meaning.{IsOver, Becomes, IsAllAt, HasShape}

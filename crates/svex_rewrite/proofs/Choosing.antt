@@ -5,10 +5,10 @@ use Rattle.fourvec.specs.declared.Bit.TheVariants.{Zero, One, Unknown, Floating}
 use Rattle.fourvec.specs.Bits.{each_pair, merge_bit, keep_bit, choose, first, cond_of, pick_of}
 use Rattle.fourvec.proofs.Tables.{left_of, right_of}
 use Rattle.fourvec.proofs.Widths.{length-cond_of, length-pick_of}
-use Rattle.svex_arena.specs.declared.shape.Shape.{Shape}
-use Rattle.svex_arena.specs.declared.shape.Shape.TheVariants.{Const, Cond, Pick}
-use Rattle.svex_arena.specs.Shapes.{width_of, width_at}
-use Rattle.svex_arena.specs.Values.{Vector, Reading, value_of, value_at, each_variable_of}
+use Rattle.svex_shape.specs.declared.shape.Shape.{Shape}
+use Rattle.svex_shape.specs.declared.shape.Shape.TheVariants.{Const, Cond, Pick}
+use Rattle.svex_shape.specs.Shapes.{width_of, width_at}
+use Rattle.svex_shape.specs.Values.{Vector, Reading, value_of, value_at, each_variable_of}
 use Rattle.svex_arena.specs.Arenas.{IsArena}
 use Rattle.svex_rewrite.specs.Meaning.{IsOver, Becomes, IsAllAt, HasShape}
 use Rattle.svex_rewrite.proofs.Vectors.{same_on_bit, each_self, pair_alike}

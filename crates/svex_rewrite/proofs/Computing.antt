@@ -10,10 +10,10 @@ use Rattle.fourvec.specs.Bits.{number, is_known, is_negative, low_plane, slice_o
 use Rattle.fourvec.specs.Spots.{index_of, place_of, window, dyn_slice_of, dyn_put_of}
 use Rattle.fourvec.proofs.Widths.{length-dyn_slice_of, length-dyn_put_of}
 use Rattle.fourvec.proofs.Tables.{left_of}
-use Rattle.svex_arena.specs.declared.shape.Shape.{Shape}
-use Rattle.svex_arena.specs.declared.shape.Shape.TheVariants.{Const, Slice, DynSlice, DynPut}
-use Rattle.svex_arena.specs.Shapes.{width_of, width_at}
-use Rattle.svex_arena.specs.Values.{Vector, value_of, value_at, each_variable_of}
+use Rattle.svex_shape.specs.declared.shape.Shape.{Shape}
+use Rattle.svex_shape.specs.declared.shape.Shape.TheVariants.{Const, Slice, DynSlice, DynPut}
+use Rattle.svex_shape.specs.Shapes.{width_of, width_at}
+use Rattle.svex_shape.specs.Values.{Vector, value_of, value_at, each_variable_of}
 use Rattle.svex_arena.proofs.Widths.{length-value_at}
 use Rattle.svex_rewrite.specs.Meaning.{IsOver, Becomes, HasShape, place_from}
 use Rattle.svex_rewrite.proofs.Becoming.{becomes_as, becomes_const, const_value, const_width}

@@ -7,12 +7,12 @@ use Rattle.fourvec.specs.declared.Bit.TheVariants.{Zero}
 use Rattle.fourvec.specs.Bits.{top, slice_of, zext_of, sext_of}
 use Rattle.fourvec.proofs.Tables.{left_of, right_of}
 use Rattle.fourvec.proofs.Widths.{length-slice_of, length-zext_of, length-sext_of}
-use Rattle.svex_arena.specs.declared.shape.VarName.{VarName}
-use Rattle.svex_arena.specs.declared.shape.Bin.TheVariants.{Concat}
-use Rattle.svex_arena.specs.declared.shape.Shape.{Shape}
-use Rattle.svex_arena.specs.declared.shape.Shape.TheVariants.{Const, Binary, Slice, Zext, Sext}
-use Rattle.svex_arena.specs.Shapes.{ChildrenBelow, FitsWidths, width_of, width_at}
-use Rattle.svex_arena.specs.Values.{Vector, Reading, HasWidths, value_of, value_at, each_variable_of, each_variable}
+use Rattle.svex_shape.specs.declared.shape.VarName.{VarName}
+use Rattle.svex_shape.specs.declared.shape.Bin.TheVariants.{Concat}
+use Rattle.svex_shape.specs.declared.shape.Shape.{Shape}
+use Rattle.svex_shape.specs.declared.shape.Shape.TheVariants.{Const, Binary, Slice, Zext, Sext}
+use Rattle.svex_shape.specs.Shapes.{ChildrenBelow, FitsWidths, width_of, width_at}
+use Rattle.svex_shape.specs.Values.{Vector, Reading, HasWidths, value_of, value_at, each_variable_of, each_variable}
 use Rattle.svex_arena.specs.Arenas.{IsArena}
 use Rattle.svex_arena.proofs.Steps.{value_follows, width_follows, variables_follow}
 use Rattle.svex_arena.proofs.Widths.{length-value_at}

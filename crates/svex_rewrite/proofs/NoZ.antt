@@ -4,14 +4,14 @@ use Rattle.fourvec.specs.declared.Bit.{Bit}
 use Rattle.fourvec.specs.declared.Bit.TheVariants.{Zero, One, Unknown, Floating}
 use Rattle.fourvec.specs.Bits.{each, each_pair, over, is_odd, unfloat_bit, unfloat_of, not_bit, and_bit, or_bit, xor_bit, merge_bit, keep_bit, truth_bit, truth_of, some_one, all_zero, some_clash, both_known, all_x, vector, signed_vector, is_known, choose, first, cond_of, pick_of, neg_of, eq_of, lt_of, slt_of, add_of, sub_of, mul_of, div_of, rem_of, sdiv_of, srem_of}
 use Rattle.fourvec.proofs.Tables.{same_on_bits}
-use Rattle.svex_arena.specs.declared.shape.Un.{Un}
-use Rattle.svex_arena.specs.declared.shape.Un.TheVariants.{Unfloat, Not, Neg, RedAnd, RedOr, RedXor, Truth}
-use Rattle.svex_arena.specs.declared.shape.Bin.{Bin}
-use Rattle.svex_arena.specs.declared.shape.Bin.TheVariants.{And, Or, Xor, Eq, Lt, Slt, Add, Sub, Mul, Div, Rem, Sdiv, Srem, Res, Shl, Shr, Sar, Concat}
-use Rattle.svex_arena.specs.declared.shape.Shape.{Shape}
-use Rattle.svex_arena.specs.declared.shape.Shape.TheVariants.{Const, Unary, Binary, Cond, Pick}
-use Rattle.svex_arena.specs.Shapes.{ChildrenBelow, shape_at, width_of}
-use Rattle.svex_arena.specs.Values.{Vector, value_of, value_at, unary_value, binary_value, each_variable_of}
+use Rattle.svex_shape.specs.declared.shape.Un.{Un}
+use Rattle.svex_shape.specs.declared.shape.Un.TheVariants.{Unfloat, Not, Neg, RedAnd, RedOr, RedXor, Truth}
+use Rattle.svex_shape.specs.declared.shape.Bin.{Bin}
+use Rattle.svex_shape.specs.declared.shape.Bin.TheVariants.{And, Or, Xor, Eq, Lt, Slt, Add, Sub, Mul, Div, Rem, Sdiv, Srem, Res, Shl, Shr, Sar, Concat}
+use Rattle.svex_shape.specs.declared.shape.Shape.{Shape}
+use Rattle.svex_shape.specs.declared.shape.Shape.TheVariants.{Const, Unary, Binary, Cond, Pick}
+use Rattle.svex_shape.specs.Shapes.{ChildrenBelow, shape_at, width_of}
+use Rattle.svex_shape.specs.Values.{Vector, value_of, value_at, unary_value, binary_value, each_variable_of}
 use Rattle.svex_arena.specs.Arenas.{IsArena}
 use Rattle.svex_arena.proofs.Steps.{value_follows}
 use Rattle.svex_rewrite.specs.Meaning.{Becomes, GivesNoZ, HasNoZ, passes_z, HasShape}

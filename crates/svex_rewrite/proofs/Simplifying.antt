@@ -4,9 +4,9 @@ use Rattle.std.specs.Prelude.{slice_index}
 use Rattle.std.proofs.lemmas.Bool.{cases_eq}
 use Rattle.std.proofs.lemmas.List.{length-append, get_or_append_left}
 use Rattle.std.proofs.Math.Seq.{get_or-append_seam}
-use Rattle.svex_arena.specs.declared.shape.Shape.{Shape}
-use Rattle.svex_arena.specs.Shapes.{OnChildren, ChildrenBelow, FitsWidths, shape_at, width_at, width_of}
-use Rattle.svex_arena.specs.Values.{value_of, value_at, each_variable_of, each_variable}
+use Rattle.svex_shape.specs.declared.shape.Shape.{Shape}
+use Rattle.svex_shape.specs.Shapes.{OnChildren, ChildrenBelow, FitsWidths, shape_at, width_at, width_of}
+use Rattle.svex_shape.specs.Values.{value_of, value_at, each_variable_of, each_variable}
 use Rattle.svex_arena.specs.Arenas.{IsArena, Extends}
 use Rattle.svex_arena.specs.Marks.{IsMarked, IsClosed}
 use Rattle.svex_arena.specs.Substs.{renamed}

@@ -2,12 +2,12 @@
 use Rattle.std.proofs.Common.{◌≡◌, ℕ, ◌<◌, true, List, [], ◌∷◌, length, refl, sym, ap, ◌∙◌, arith}
 use Rattle.fourvec.specs.declared.Bit.TheVariants.{Zero, One, Unknown, Floating}
 use Rattle.fourvec.specs.Bits.{each, over, unfloat_bit, unfloat_of, not_bit, not_of, truth_of, some_one, all_zero}
-use Rattle.svex_arena.specs.declared.shape.Un.{Un}
-use Rattle.svex_arena.specs.declared.shape.Un.TheVariants.{Unfloat, Not, Neg, RedAnd, RedOr, RedXor, Truth}
-use Rattle.svex_arena.specs.declared.shape.Shape.{Shape}
-use Rattle.svex_arena.specs.declared.shape.Shape.TheVariants.{Const, Unary}
-use Rattle.svex_arena.specs.Shapes.{width_of, width_at, unary_width}
-use Rattle.svex_arena.specs.Values.{Vector, value_of, value_at, unary_value, each_variable_of, each_variable}
+use Rattle.svex_shape.specs.declared.shape.Un.{Un}
+use Rattle.svex_shape.specs.declared.shape.Un.TheVariants.{Unfloat, Not, Neg, RedAnd, RedOr, RedXor, Truth}
+use Rattle.svex_shape.specs.declared.shape.Shape.{Shape}
+use Rattle.svex_shape.specs.declared.shape.Shape.TheVariants.{Const, Unary}
+use Rattle.svex_shape.specs.Shapes.{width_of, width_at, unary_width}
+use Rattle.svex_shape.specs.Values.{Vector, value_of, value_at, unary_value, each_variable_of, each_variable}
 use Rattle.svex_arena.specs.Arenas.{IsArena}
 use Rattle.svex_arena.proofs.Steps.{value_follows, width_follows, variables_follow}
 use Rattle.svex_arena.proofs.Widths.{length-value_at, length-unary}

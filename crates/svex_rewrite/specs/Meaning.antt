@@ -3,15 +3,15 @@ use Rattle.std.specs.Prelude.{◌≡◌, ℕ, ◌<◌, ◌≤◌, Bool, true, fa
 use Rattle.fourvec.specs.declared.Bit.{Bit}
 use Rattle.fourvec.specs.declared.Spot.{Spot}
 use Rattle.fourvec.specs.Bits.{unfloat_of}
-use Rattle.svex_arena.specs.declared.shape.VarName.{VarName}
-use Rattle.svex_arena.specs.declared.shape.Un.{Un}
-use Rattle.svex_arena.specs.declared.shape.Un.TheVariants.{Not, Neg}
-use Rattle.svex_arena.specs.declared.shape.Bin.{Bin}
-use Rattle.svex_arena.specs.declared.shape.Bin.TheVariants.{Res, Shl, Shr, Sar, Concat}
-use Rattle.svex_arena.specs.declared.shape.Shape.{Shape}
-use Rattle.svex_arena.specs.declared.shape.Shape.TheVariants.{Const}
-use Rattle.svex_arena.specs.Shapes.{ChildrenBelow, FitsWidths, shape_at, width_of, width_at}
-use Rattle.svex_arena.specs.Values.{Vector, Reading, HasWidths, value_of, value_at, each_variable_of, each_variable}
+use Rattle.svex_shape.specs.declared.shape.VarName.{VarName}
+use Rattle.svex_shape.specs.declared.shape.Un.{Un}
+use Rattle.svex_shape.specs.declared.shape.Un.TheVariants.{Not, Neg}
+use Rattle.svex_shape.specs.declared.shape.Bin.{Bin}
+use Rattle.svex_shape.specs.declared.shape.Bin.TheVariants.{Res, Shl, Shr, Sar, Concat}
+use Rattle.svex_shape.specs.declared.shape.Shape.{Shape}
+use Rattle.svex_shape.specs.declared.shape.Shape.TheVariants.{Const}
+use Rattle.svex_shape.specs.Shapes.{ChildrenBelow, FitsWidths, shape_at, width_of, width_at}
+use Rattle.svex_shape.specs.Values.{Vector, Reading, HasWidths, value_of, value_at, each_variable_of, each_variable}
 use Rattle.svex_arena.specs.Arenas.{IsArena}
 use Rattle.svex_arena.specs.Marks.{IsMarked, IsClosed}
 

@@ -1,9 +1,9 @@
 //! The laws of operators on pairs of bits.
 
 ghost use Rattle.std.specs.Prelude.{◌≡◌, ◌<◌, ◌≤◌, length};
-ghost use Rattle.svex_arena.specs.declared.shape.Shape.{Shape};
-ghost use Rattle.svex_arena.specs.declared.shape.Bin.{Bin};
-ghost use Rattle.svex_arena.specs.declared.shape.Un.{Un};
+ghost use Rattle.svex_shape.specs.declared.shape.Shape.{Shape};
+ghost use Rattle.svex_shape.specs.declared.shape.Bin.{Bin};
+ghost use Rattle.svex_shape.specs.declared.shape.Un.{Un};
 ghost use Rattle.svex_rewrite.specs.Meaning.{Becomes, IsOver};
 
 use crate::nodes::{all_at, shape_of};

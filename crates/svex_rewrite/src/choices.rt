@@ -1,7 +1,7 @@
 //! The laws of choices between two nodes.
 
 ghost use Rattle.std.specs.Prelude.{◌≡◌, ◌<◌, ◌≤◌, length};
-ghost use Rattle.svex_arena.specs.declared.shape.Shape.{Shape};
+ghost use Rattle.svex_shape.specs.declared.shape.Shape.{Shape};
 ghost use Rattle.svex_rewrite.specs.Meaning.{Becomes, IsOver};
 
 use crate::nodes::{all_at, constant, shape_of};

@@ -3,7 +3,7 @@
 ghost use Rattle.std.specs.Prelude.{◌≡◌, ◌<◌, ◌≤◌, ◌+◌, pos, length, IfSome, IsTrue};
 ghost use Rattle.fourvec.specs.Bits.{is_known, is_negative};
 ghost use Rattle.fourvec.specs.Spots.{index_of, place_of};
-ghost use Rattle.svex_arena.specs.declared.shape.Shape.{Shape};
+ghost use Rattle.svex_shape.specs.declared.shape.Shape.{Shape};
 ghost use Rattle.svex_rewrite.specs.Meaning.{Becomes, HasShape, IsOver, place_from};
 
 use crate::nodes::constant;

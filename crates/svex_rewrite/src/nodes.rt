@@ -2,8 +2,8 @@
 
 ghost use Rattle.std.specs.Prelude.{◌≡◌, ◌↔◌, ℕ, ◌∷◌, [], ◌<◌, ◌≤◌, length, replicate, IfSome, IsTrue};
 ghost use Rattle.fourvec.specs.declared.Bit.{Bit};
-ghost use Rattle.svex_arena.specs.Shapes.{ChildrenBelow, shape_at};
-ghost use Rattle.svex_arena.specs.declared.shape.Shape.{Shape};
+ghost use Rattle.svex_shape.specs.Shapes.{ChildrenBelow, shape_at};
+ghost use Rattle.svex_shape.specs.declared.shape.Shape.{Shape};
 ghost use Rattle.svex_rewrite.specs.Meaning.{HasShape, IsAllAt, constant_of};
 
 use fourvec::{Bit, Four};

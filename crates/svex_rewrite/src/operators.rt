@@ -1,10 +1,10 @@
 //! The laws of operators on one and on two vectors.
 
 ghost use Rattle.std.specs.Prelude.{◌≡◌, ◌<◌, ◌≤◌, length, IsTrue};
-ghost use Rattle.svex_arena.specs.declared.shape.Shape.{Shape};
-ghost use Rattle.svex_arena.specs.declared.shape.Bin.{Bin};
-ghost use Rattle.svex_arena.specs.declared.shape.Un.{Un};
-ghost use Rattle.svex_arena.specs.Shapes.{FitsPair};
+ghost use Rattle.svex_shape.specs.declared.shape.Shape.{Shape};
+ghost use Rattle.svex_shape.specs.declared.shape.Bin.{Bin};
+ghost use Rattle.svex_shape.specs.declared.shape.Un.{Un};
+ghost use Rattle.svex_shape.specs.Shapes.{FitsPair};
 ghost use Rattle.svex_rewrite.specs.Meaning.{Becomes, HasShape, IsOver, leaves_one_bit};
 
 use crate::bitwise::{rewrite_and, rewrite_eq, rewrite_or, rewrite_res, rewrite_xor};

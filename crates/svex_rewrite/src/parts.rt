@@ -1,8 +1,8 @@
 //! The laws of parts, concatenations and extensions.
 
 ghost use Rattle.std.specs.Prelude.{◌≡◌, ◌<◌, ◌≤◌, ◌+◌, length, IfSome};
-ghost use Rattle.svex_arena.specs.declared.shape.Shape.{Shape};
-ghost use Rattle.svex_arena.specs.declared.shape.Bin.{Bin};
+ghost use Rattle.svex_shape.specs.declared.shape.Shape.{Shape};
+ghost use Rattle.svex_shape.specs.declared.shape.Bin.{Bin};
 ghost use Rattle.svex_rewrite.specs.Meaning.{Becomes, HasShape, IsOver};
 
 use crate::nodes::{filled, shape_of};

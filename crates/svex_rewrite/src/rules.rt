@@ -1,7 +1,7 @@
 //! The laws by which a shape becomes another. Each keeps the value for every four-valued operand.
 
 ghost use Rattle.std.specs.Prelude.{◌≡◌, ℕ, ◌<◌, ◌≤◌, length, IfOk};
-ghost use Rattle.svex_arena.specs.declared.shape.Shape.{Shape};
+ghost use Rattle.svex_shape.specs.declared.shape.Shape.{Shape};
 ghost use Rattle.svex_arena.specs.Arenas.{IsArena, Extends};
 ghost use Rattle.svex_rewrite.specs.Meaning.{Becomes, IsOver, Makes};
 

@@ -2,9 +2,9 @@
 
 ghost use Rattle.std.specs.Prelude.{◌≡◌, ◌↔◌, ◌<◌, ◌≤◌, length, IsTrue};
 ghost use Rattle.fourvec.specs.Bits.{unfloat_of};
-ghost use Rattle.svex_arena.specs.Shapes.{shape_at};
-ghost use Rattle.svex_arena.specs.declared.shape.Shape.{Shape};
-ghost use Rattle.svex_arena.specs.declared.shape.Un.{Un};
+ghost use Rattle.svex_shape.specs.Shapes.{shape_at};
+ghost use Rattle.svex_shape.specs.declared.shape.Shape.{Shape};
+ghost use Rattle.svex_shape.specs.declared.shape.Un.{Un};
 ghost use Rattle.svex_rewrite.specs.Meaning.{Becomes, GivesNoZ, HasNoZ, passes_z};
 
 use crate::nodes::{same_vector, shape_of};

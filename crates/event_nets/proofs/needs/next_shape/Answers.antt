@@ -1,5 +1,5 @@
 use Rattle.std.proofs.Common.{ℕ, sym, subst, ◌<◌, ◌≤◌, length, get_or, ap, ◌∙◌, arith}
-use Rattle.svex_arena.specs.Shapes.{shape_at}
+use Rattle.svex_shape.specs.Shapes.{shape_at}
 use Rattle.event_nets.proofs.Gathering.{children_wide}
 use Rattle.event_nets.proofs.needs.next_shape.Goals as goal
 

@@ -2,8 +2,8 @@ use Rattle.std.proofs.lemmas.Result.{IfOk-from_err}
 use Rattle.std.proofs.Common.{◌≡◌, ℕ, ◌<◌, ◌≤◌, List, length, get_or, sym, ap, ◌∙◌, subst, arith}
 use Rattle.std.specs.Prelude.{All}
 use Rattle.std.specs.List.{Contains}
-use Rattle.svex_arena.specs.declared.shape.Shape.{Shape}
-use Rattle.svex_arena.specs.Shapes.{OnChildren, ChildrenBelow, shape_at}
+use Rattle.svex_shape.specs.declared.shape.Shape.{Shape}
+use Rattle.svex_shape.specs.Shapes.{OnChildren, ChildrenBelow, shape_at}
 use Rattle.event_nets.specs.Needs.{IsClosed}
 use Rattle.event_nets.proofs.Gathering.{gathers_none, gathers_then, closed_none, closed_more}
 use Rattle.event_nets.proofs.needs.put_reached.Goals as goal

@@ -1,8 +1,8 @@
 use Rattle.std.proofs.Common.{◌<◌, length, sym, ap, ◌∙◌, subst, arith, length-set}
-use Rattle.svex_arena.specs.Shapes.{FitsWidths, shape_at}
-use Rattle.svex_arena.specs.Values.{read, value_of}
+use Rattle.svex_shape.specs.Shapes.{FitsWidths, shape_at}
+use Rattle.svex_shape.specs.Values.{read, value_of}
 use Rattle.svex_arena.specs.Evaluated.{value_in, width_in}
-use Rattle.svex_arena.proofs.Readings.{read_has_widths}
+use Rattle.svex_shape.proofs.Readings.{read_has_widths}
 use Rattle.event_sim.proofs.Evaluating.{node-fits, node-is, values-more}
 use Rattle.event_sim.proofs.pass.evaluate_all.Goals as goal
 

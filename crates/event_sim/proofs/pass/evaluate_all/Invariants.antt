@@ -1,5 +1,5 @@
 use Rattle.std.proofs.Common.{◌≡◌, length}
-use Rattle.svex_arena.specs.Values.{read}
+use Rattle.svex_shape.specs.Values.{read}
 use Rattle.event_sim.specs.Passes.{HasValues}
 use Rattle.event_sim.proofs.pass.evaluate_all.Given as goal
 

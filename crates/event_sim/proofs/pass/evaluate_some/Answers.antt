@@ -1,10 +1,10 @@
 use Rattle.std.proofs.Common.{◌≡◌, ℕ, ◌<◌, List, length, get_or, sym, ap, ◌∙◌, subst, arith, length-set}
 use Rattle.std.proofs.lemmas.List.{take_all}
-use Rattle.svex_arena.specs.declared.shape.Shape.{Shape}
-use Rattle.svex_arena.specs.Shapes.{ChildrenBelow, FitsWidths, shape_at}
-use Rattle.svex_arena.specs.Values.{read, value_of}
+use Rattle.svex_shape.specs.declared.shape.Shape.{Shape}
+use Rattle.svex_shape.specs.Shapes.{ChildrenBelow, FitsWidths, shape_at}
+use Rattle.svex_shape.specs.Values.{read, value_of}
 use Rattle.svex_arena.specs.Evaluated.{value_in, width_in}
-use Rattle.svex_arena.proofs.Readings.{read_has_widths}
+use Rattle.svex_shape.proofs.Readings.{read_has_widths}
 use Rattle.event_sim.specs.Passes.{HasValuesOf}
 use Rattle.event_sim.proofs.Needing.{some-none, some-children-below, some-fits, some-is, some-more}
 use Rattle.event_sim.proofs.pass.evaluate_some.Goals as goal

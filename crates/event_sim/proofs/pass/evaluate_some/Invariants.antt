@@ -1,5 +1,5 @@
 use Rattle.std.proofs.Common.{◌≡◌, length, take}
-use Rattle.svex_arena.specs.Values.{read}
+use Rattle.svex_shape.specs.Values.{read}
 use Rattle.event_sim.specs.Passes.{HasValuesOf}
 use Rattle.event_sim.proofs.pass.evaluate_some.Given as goal
 

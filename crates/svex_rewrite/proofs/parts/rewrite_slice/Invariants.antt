@@ -1,4 +1,4 @@
-use Rattle.svex_arena.specs.declared.shape.Shape.TheVariants.{Slice}
+use Rattle.svex_shape.specs.declared.shape.Shape.TheVariants.{Slice}
 use Rattle.svex_rewrite.specs.Meaning.{Becomes, IsOver}
 use Rattle.svex_rewrite.proofs.parts.rewrite_slice.Given as goal
 

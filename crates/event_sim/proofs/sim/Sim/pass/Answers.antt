@@ -1,5 +1,5 @@
 use Rattle.std.proofs.Common.{List, length, sym, ap, ◌∙◌, subst}
-use Rattle.svex_arena.specs.Values.{Vector}
+use Rattle.svex_shape.specs.Values.{Vector}
 use Rattle.driver_resolve.specs.Drivers.{widths_of}
 use Rattle.event_nets.specs.Tables.{IsValuation}
 use Rattle.event_sim.proofs.Fitting.{gifts-fit, rows-fit, starts-fit, homes-fit, lows-fit, pass-now}

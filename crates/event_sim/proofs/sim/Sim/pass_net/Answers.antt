@@ -1,5 +1,5 @@
 use Rattle.std.proofs.Common.{ℕ, ◌<◌, List, [], length, get_or, sym, ap, ◌∙◌, subst, arith}
-use Rattle.svex_arena.specs.Values.{Vector, read}
+use Rattle.svex_shape.specs.Values.{Vector, read}
 use Rattle.driver_resolve.specs.Drivers.{widths_of}
 use Rattle.event_nets.specs.declared.gift.Gift.{Gift}
 use Rattle.event_nets.specs.Gifts.{IsTold, IsGift}
