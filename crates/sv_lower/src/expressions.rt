@@ -1,4 +1,5 @@
-// Typed expressions as nodes (IEEE 1800-2017, 11.6.2, 11.8.2).
+//! Typed expressions as nodes (IEEE 1800-2017, 11.6.2, 11.8.2): each form by itself, in the context of its size and sign. Nothing is
+//! refused here but for want of memory, since typing resolved names, sizes and constants before.
 ghost use Rattle.std.specs.Prelude.{◌≡◌, ℕ, ◌<◌, ◌≤◌, max, Bool, ◌&&◌, length, take, IfOk, IsTrue};
 ghost use Rattle.std.specs.List.{All};
 ghost use Rattle.fourvec.specs.declared.Bit.{Bit};

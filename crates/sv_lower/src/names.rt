@@ -1,4 +1,4 @@
-// Nodes of constants and signals.
+//! Nodes of constants and signals. What a wire reads depends on where its name stands, so each lookup goes through `Look`.
 ghost use Rattle.std.specs.Prelude.{◌≡◌, ◌<◌, ◌≤◌, length, IfOk};
 ghost use Rattle.svex_arena.specs.Arenas.{Extends};
 ghost use Rattle.sv_typed.specs.declared.tree.Root.{Root};

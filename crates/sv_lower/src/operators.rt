@@ -1,4 +1,5 @@
-// Operators on nodes (IEEE 1800-2017, table 11-21).
+//! Operators on nodes (IEEE 1800-2017, table 11-21). The graph has few operators; the others are one or two of them with a
+//! negation, or with the operands turned round.
 ghost use Rattle.std.specs.Prelude.{◌≡◌, ◌<◌, ◌≤◌, length, IfOk};
 ghost use Rattle.fourvec.specs.Bits.{truth_of, cond_of, not_of, or_of};
 ghost use Rattle.svex_arena.specs.Shapes.{FitsPair, unary_width, binary_width, width_at};

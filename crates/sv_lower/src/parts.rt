@@ -1,4 +1,5 @@
-// Parts of nodes, and nodes side by side (IEEE 1800-2017, 11.4.12, 11.5.1).
+//! Parts of nodes, and nodes side by side (IEEE 1800-2017, 11.4.12, 11.5.1). Bits that a node does not have are X: they are made
+//! only where a part reaches past its ends.
 ghost use Rattle.std.specs.Prelude.{◌≡◌, ◌<◌, ◌≤◌, ◌+◌, ◌*◌, ◌++◌, length, IfOk};
 ghost use Rattle.fourvec.specs.Bits.{all_x, slice_of};
 ghost use Rattle.fourvec.specs.Spots.{window, reached};

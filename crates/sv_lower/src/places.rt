@@ -1,4 +1,5 @@
-// Parts at places that indices give (IEEE 1800-2017, 11.5.1).
+//! Parts at places that indices give (IEEE 1800-2017, 11.5.1). A place is kept as a distance from 0 and a side, since an index of
+//! 128 bits reaches further than any signed word.
 ghost use Rattle.std.specs.Prelude.{◌≡◌, ◌-◌, ◌^◌, ◌<◌, ◌≤◌, length, IfOk, IfSome, IsTrue, unsigned_abs};
 ghost use Rattle.fourvec.specs.Bits.{number, signed, is_known, is_negative};
 ghost use Rattle.fourvec.specs.Spots.{place_of, reached, dyn_slice_of};

@@ -1,4 +1,5 @@
-// Where a chain of selects stands in a layout.
+//! Where a chain of selects stands in a layout: at a whole layout, or at so many elements of one. A select of a range keeps only how
+//! many elements it takes, numbered down to 0, so no layout is copied or made on the way.
 ghost use Rattle.std.specs.Prelude.{◌≡◌, ◌≤◌, ◌*◌, MatchOption, IsTrue, true, option_map, IfSome, All};
 ghost use Rattle.sv_names.specs.Kinds.{layout_is, IsSound, FieldIsSound, members_of};
 ghost use Rattle.sv_names.specs.Cursors.{each_is, EachIsSound, cursor_is, CursorIsSound, row_is, IsNoRow, part_is, member_of, RowIsSound};

@@ -1,4 +1,5 @@
-// Layouts of bits, and what names stand for.
+//! Layouts of bits, and what names stand for. A layout keeps its width beside its form, since nearly every use asks for it, and
+//! each type is dropped by a call of its own, since layouts are held across exits.
 use fourvec::Four;
 use items::{Boxed, Items};
 use sv_outside::Name;

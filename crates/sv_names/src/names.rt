@@ -1,4 +1,5 @@
-// What names stand for at a place of a text.
+//! What names stand for at a place of a text: fronts of scopes, the outermost first, and the variables of loops above them. Scopes
+//! are lent and only their lengths are kept, so that a place costs no copy of what is declared.
 ghost use Rattle.std.specs.Prelude.{◌≡◌, [], ◌∷◌, ◌++◌, length, take, OnOk, OnErr, IfSome, MatchOption, option_map};
 ghost use Rattle.std.specs.Option.{option_copied};
 ghost use Rattle.sv_names.specs.declared.layout.What.TheVariants.{Number};

@@ -1,4 +1,5 @@
-// Names in the order in which they are declared.
+//! Names in the order in which they are declared. A front of the list is what an earlier place sees, so a name is looked for
+//! behind its last place, along links from each entry to the one of the same name before it.
 ghost use Rattle.std.specs.Prelude.{◌≡◌, [], ◌∷◌, ◌++◌, length, take, OnOk, OnErr, All, option_map, ◌≤◌, IfSome, MatchOption};
 ghost use Rattle.std.specs.Option.{option_copied};
 ghost use Rattle.sv_names.specs.Kinds.{scope_is, what_is, names_of, WhatIsSound, EntryIsSound};

@@ -1,4 +1,5 @@
-// One select as a part of what it selects from.
+//! One select as a part of what it selects from: a member, an element, or a range of elements, with the place where it begins.
+//! What is refused is told first; a function over plain values makes the part, so that few exits hold a tree.
 ghost use Rattle.std.specs.Prelude.{◌≡◌, Bool, false, ◌≤◌, ◌*◌, IfOk, IsTrue, List, pos, negsuc, ◌≤ℤ◌, ◌*ℤ◌, unsigned_abs};
 ghost use Rattle.fourvec.specs.Bits.{is_known};
 ghost use Rattle.sv_outside.specs.declared.refusal.TextErr.TheVariants.{Memory};

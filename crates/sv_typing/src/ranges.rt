@@ -1,4 +1,5 @@
-// How many elements a range selects, and where they begin.
+//! How many elements a range selects, and where they begin. Bounds have 32 bits, so that sums and products of places fit 64 bits
+//! and nothing overflows.
 ghost use Rattle.std.specs.Prelude.{◌≡◌, ◌≤◌, ◌*◌, IsTrue, nat_le, pos, unsigned_abs, ◌&&◌, if◌then◌else◌};
 ghost use Rattle.fourvec.specs.Bits.{is_known, is_negative};
 ghost use Rattle.sv_meaning.specs.Meanings.{goes_along, is_bound, whole};

@@ -1,4 +1,5 @@
-// Names before their selects.
+//! Names before their selects: a constant with its bits, or a signal with its layout. Where an expression has to be constant, a
+//! name that is none is refused by another number than a name that means nothing.
 ghost use Rattle.std.specs.Prelude.{◌≡◌, Bool, List, Option, IfSome, Some, option_map, if◌then◌else◌};
 ghost use Rattle.std.specs.Option.{option_copied};
 ghost use Rattle.sv_outside.specs.declared.refusal.TextErr.TheVariants.{No};

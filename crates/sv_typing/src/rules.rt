@@ -1,4 +1,5 @@
-// Rules of typing: what is made of typed parts, or why it is refused.
+//! Rules of typing: what is made of typed parts, or why it is refused. A rule takes the results of all its parts, so that the
+//! cycle over trees hands on no error and holds no tree while it does.
 ghost use Rattle.std.specs.Prelude.{◌≡◌, ◌&&◌, Bool, IfOk, IfErr, pos, int_lt};
 ghost use Rattle.fourvec.specs.Bits.{is_known};
 ghost use Rattle.sv_outside.specs.declared.refusal.Place.{Place};

@@ -1,4 +1,5 @@
-// Concatenations, replications and casts to a size.
+//! Concatenations, replications and casts to a size or a type. Each takes the results of its parts, as the other rules do; a count
+//! of copies is tried against the 128 bits of a vector before it is multiplied.
 ghost use Rattle.std.specs.Prelude.{◌≡◌, ◌≤◌, Bool, List, length, map, Err, IfErr, Some, IfSome, IsTrue, option_map};
 ghost use Rattle.std.specs.Option.{option_copied};
 ghost use Rattle.std.specs.List.{AllZip};

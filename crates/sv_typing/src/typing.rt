@@ -1,4 +1,5 @@
-// Expressions typed by their productions.
+//! Expressions typed by their productions: one cycle of functions over trees, which only takes them apart and calls the rules.
+//! Each constant position is evaluated once, where it stands, so that typing is linear in the tree.
 ghost use Rattle.std.specs.Prelude.{map};
 ghost use Rattle.sv_outside.specs.declared.refusal.Place.{Place};
 ghost use Rattle.sv_meaning.specs.Layouts.{find};
