@@ -1,4 +1,5 @@
-// Vectors made, extended and raised to powers.
+//! Vectors made, extended and raised to powers, as the forms of typed expressions need them. Powers are products modulo 2 ^ 128,
+//! cut to their width at the end.
 ghost use Rattle.std.specs.Prelude.{◌≡◌, ◌≤◌, ◌<◌, ◌^◌, ◌%◌, length, replicate};
 ghost use Rattle.fourvec.specs.Bits.{vector, all_x, first, is_negative};
 ghost use Rattle.sv_meaning.specs.Meanings.{extend, fitted, log_from};

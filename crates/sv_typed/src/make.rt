@@ -1,4 +1,5 @@
-// Nodes made of typed parts. Sections are those of IEEE 1800-2017.
+//! Nodes made of typed parts. Each call says for which meaning its node stands, given what the parts stand for, so that no other
+//! function has to know what a form is worth. Sections are those of IEEE 1800-2017.
 ghost use Rattle.std.specs.Prelude.{◌≡◌, ◌≤◌, ◌*◌, IfOk, List, min, nat_abs, length, IsTrue};
 ghost use Rattle.std.specs.List.{All, AllZip};
 ghost use Rattle.fourvec.specs.Bits.{is_known};

@@ -1,4 +1,5 @@
-// Operators, by how their operands are sized, and what each gives of the bits of its operands.
+//! Operators, by how their operands are sized, and what each gives of the bits of its operands. The groups are those of the forms of
+//! typed expressions, so each form has one rule for its sizes.
 ghost use Rattle.std.specs.Prelude.{◌≡◌, ◌≤◌, length};
 ghost use Rattle.fourvec.specs.Bits.{cond_of, truth_of};
 ghost use Rattle.sv_typed.specs.Ops.{one_of, two_of, turned, reduced, computed, moved, compared, combined};

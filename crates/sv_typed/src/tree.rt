@@ -1,4 +1,5 @@
-// Typed expressions.
+//! Typed expressions. A tree keeps of each part its own size, sign and constancy, since a part's context is known only from above;
+//! what it is made of is an enum of forms, one for each way in which operands are sized.
 use crate::ops::{Arithmetic, Comparison, Logic, Reduction, Shift, Turn};
 use fourvec::{Four, Spot};
 use items::{Boxed, Items};

@@ -1,4 +1,5 @@
-// The bits of typed expressions, where signals are unknown.
+//! The bits of typed expressions, where signals are unknown. It takes no memory, since vectors are copied: so a constant is found
+//! wherever one is asked for, and never refused.
 ghost use Rattle.std.specs.Prelude.{◌≡◌, ◌≤◌, ◌*◌, ◌++◌, max, ◌&&◌, not, length};
 ghost use Rattle.std.specs.List.{All};
 ghost use Rattle.fourvec.specs.Bits.{is_known_bit};
@@ -119,7 +120,7 @@ fn copied(count: u8, bits: &Four) -> Four
 
 impl Typed {
     /// The bits in a context of a width and sign, where each bit of a signal is X. Takes no memory.
-    #[tactic(auto, using(crate::proofs::Worth::worths, crate::proofs::Below::part_widths))]
+    #[tactic(auto, using(crate::proofs::Below::part_widths))]
     #[cycle(value)]
     pub fn value(&self, width: u8, signed: bool) -> Four
         requires sound { IsSound self.now }

@@ -2,7 +2,7 @@ use Rattle.std.proofs.Common.{rules, sym, ap, ◌∙◌, subst, arith}
 use Rattle.std.proofs.Common.{length, ◌++◌}
 use Rattle.std.proofs.lemmas.List.{length-append}
 use Rattle.sv_meaning.specs.Meanings.{nowhere}
-use Rattle.sv_typed.proofs.Worth.{together_more}
+use Rattle.sv_typed.proofs.Worth.{together_more, worth_literal, worth_named, worth_turned, worth_reduced, worth_computed, worth_moved, worth_compared, worth_combined, worth_chosen, worth_power, worth_concat, worth_repeat, worth_standing, worth_fitted}
 use Rattle.sv_typed.specs.Typed.{IsSound, PickIsSound, own, bits_of}
 use Rattle.sv_typed.proofs.Sound.{some_bits, most_bits}
 use Rattle.sv_typed.proofs.Lists.{width_more}
@@ -121,3 +121,69 @@ value::together-parts-preserved t c =
 
 pub tree::Typed::value-value-b-requires : goal.tree::Typed::value-value-b-requires
 tree::Typed::value-value-b-requires t c = search (rules, smaller_parts, sound_parts, fitting_parts)
+
+pub tree::Typed::value-returns-in-Literal-clause-is : goal.tree::Typed::value-returns-in-Literal-clause-is
+tree::Typed::value-returns-in-Literal-clause-is t c = search (rules, worth_literal)
+
+pub tree::Typed::value-returns-in-Named-clause-is : goal.tree::Typed::value-returns-in-Named-clause-is
+tree::Typed::value-returns-in-Named-clause-is t c = search (rules, worth_named)
+
+pub tree::Typed::value-returns-in-Turned-clause-is : goal.tree::Typed::value-returns-in-Turned-clause-is
+tree::Typed::value-returns-in-Turned-clause-is t c = search (rules, worth_turned)
+
+pub tree::Typed::value-returns-in-Reduced-clause-is : goal.tree::Typed::value-returns-in-Reduced-clause-is
+tree::Typed::value-returns-in-Reduced-clause-is t c = search (rules, worth_reduced)
+
+pub tree::Typed::value-returns-in-Computed-clause-is : goal.tree::Typed::value-returns-in-Computed-clause-is
+tree::Typed::value-returns-in-Computed-clause-is t c = search (rules, worth_computed)
+
+pub tree::Typed::value-returns-in-Moved-clause-is : goal.tree::Typed::value-returns-in-Moved-clause-is
+tree::Typed::value-returns-in-Moved-clause-is t c = search (rules, worth_moved)
+
+pub tree::Typed::value-returns-in-Compared-clause-is : goal.tree::Typed::value-returns-in-Compared-clause-is
+tree::Typed::value-returns-in-Compared-clause-is t c = search (rules, worth_compared)
+
+pub tree::Typed::value-returns-in-Combined-clause-is : goal.tree::Typed::value-returns-in-Combined-clause-is
+tree::Typed::value-returns-in-Combined-clause-is t c = search (rules, worth_combined)
+
+pub tree::Typed::value-returns-in-Chosen-clause-is : goal.tree::Typed::value-returns-in-Chosen-clause-is
+tree::Typed::value-returns-in-Chosen-clause-is t c = search (rules, worth_chosen)
+
+pub tree::Typed::value-returns-in-Power-clause-is : goal.tree::Typed::value-returns-in-Power-clause-is
+tree::Typed::value-returns-in-Power-clause-is t c = search (rules, worth_power)
+
+pub tree::Typed::value-returns-in-Concat-clause-is : goal.tree::Typed::value-returns-in-Concat-clause-is
+tree::Typed::value-returns-in-Concat-clause-is t c = search (rules, worth_concat)
+
+pub tree::Typed::value-returns-in-Repeat-clause-is : goal.tree::Typed::value-returns-in-Repeat-clause-is
+tree::Typed::value-returns-in-Repeat-clause-is t c = search (rules, worth_repeat)
+
+pub tree::Typed::value-returns-in-Standing-clause-is : goal.tree::Typed::value-returns-in-Standing-clause-is
+tree::Typed::value-returns-in-Standing-clause-is t c = search (rules, worth_standing)
+
+pub tree::Typed::value-returns-in-Fitted-clause-is : goal.tree::Typed::value-returns-in-Fitted-clause-is
+tree::Typed::value-returns-in-Fitted-clause-is t c = search (rules, worth_fitted)
+
+pub tree::Typed::value-returns-in-Named-clause-width : goal.tree::Typed::value-returns-in-Named-clause-width
+tree::Typed::value-returns-in-Named-clause-width t c = c.extended.ensures.width
+
+pub tree::Typed::value-returns-in-Reduced-clause-width : goal.tree::Typed::value-returns-in-Reduced-clause-width
+tree::Typed::value-returns-in-Reduced-clause-width t c = c.extended-in-Reduced.ensures.width
+
+pub tree::Typed::value-returns-in-Compared-clause-width : goal.tree::Typed::value-returns-in-Compared-clause-width
+tree::Typed::value-returns-in-Compared-clause-width t c = c.extended-in-Compared.ensures.width
+
+pub tree::Typed::value-returns-in-Combined-clause-width : goal.tree::Typed::value-returns-in-Combined-clause-width
+tree::Typed::value-returns-in-Combined-clause-width t c = c.extended-in-Combined.ensures.width
+
+pub tree::Typed::value-returns-in-Concat-clause-width : goal.tree::Typed::value-returns-in-Concat-clause-width
+tree::Typed::value-returns-in-Concat-clause-width t c = c.extended-in-Concat.ensures.width
+
+pub tree::Typed::value-returns-in-Repeat-clause-width : goal.tree::Typed::value-returns-in-Repeat-clause-width
+tree::Typed::value-returns-in-Repeat-clause-width t c = c.extended-in-Repeat.ensures.width
+
+pub tree::Typed::value-returns-in-Standing-clause-width : goal.tree::Typed::value-returns-in-Standing-clause-width
+tree::Typed::value-returns-in-Standing-clause-width t c = c.extended-in-Standing.ensures.width
+
+pub tree::Typed::value-returns-in-Fitted-clause-width : goal.tree::Typed::value-returns-in-Fitted-clause-width
+tree::Typed::value-returns-in-Fitted-clause-width t c = c.extended-in-Fitted.ensures.width
