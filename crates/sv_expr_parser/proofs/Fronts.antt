@@ -15,7 +15,7 @@ use Rattle.sv_cursor.specs.Tests.{mark_test}
 use Rattle.sv_cursor.proofs.Readers.{Agrees, Placed}
 use Rattle.sv_expr_reader.specs.Reading.{expr}
 use Rattle.sv_expr_reader.specs.Answers.{IsSpelled, Decides}
-use Rattle.sv_expr_parser.specs.Parsed.{IsSpelledBy, NoneBeyond, NoneGoesOn, NoneEnds, IsFront, RefusesFront, IsLongest, Refuses}
+use Rattle.sv_expr_parser.specs.Parsed.{IsSpelledBy, NoneBeyond, NoneGoesOn, IsFront, RefusesFront, IsLongest, Refuses}
 use Rattle.sv_expr_parser.specs.Ends.{CanEnd, all_after, nothing_open, ended}
 use Rattle.sv_expr_words.specs.Signs.{select_test, joiner_test, strength_of}
 use Rattle.sv_expr_reader.proofs.Tokens.{Bad, Stops, moved_expr}

@@ -9,8 +9,6 @@ use Rattle.sv_tree.specs.declared.exprs.Expr.TheVariants as e
 use Rattle.sv_tree.specs.GrammarExprs.{Spells, binds, left_level, right_level}
 use Rattle.sv_tree.specs.Nesting.{expr_depths}
 use Rattle.sv_tree.proofs.MadeExprs as made
-use Rattle.sv_cursor.specs.declared.error.ParseErr.{ParseErr}
-use Rattle.sv_cursor.specs.declared.error.ParseErr.TheVariants.{Memory, Syntax, TooDeep}
 use Rattle.sv_cursor.specs.declared.sort.Mark.TheVariants as m
 use Rattle.sv_cursor.specs.Tests.{mark}
 use Rattle.sv_cursor.specs.Parsers.{Outcome, Parser, and_then, told, branch, ◌⊗◌, ◌>>=◌, pure}

@@ -1,5 +1,5 @@
 -- Expressions on lists of tokens, by precedence climbing.
-use Rattle.std.specs.Prelude.{ℕ, zero, suc, ◌-◌, if◌then◌else◌, nat_lt, nat_le, max, List, [], ◌∷◌, length, Option, Some, None, Ok, Err}
+use Rattle.std.specs.Prelude.{ℕ, zero, suc, ◌-◌, if◌then◌else◌, nat_lt, nat_le, max, List, [], ◌∷◌, length, Option, Some, None, Err}
 use Rattle.sv_outside.specs.declared.refusal.Place.{Place}
 use Rattle.sv_outside.specs.declared.text.Token.{Token}
 use Rattle.sv_tree.specs.declared.word.Word.{Word}
@@ -15,7 +15,7 @@ use Rattle.sv_tree.specs.Nesting.{Depths, expr_depths}
 use Rattle.sv_cursor.specs.declared.error.ParseErr.{ParseErr}
 use Rattle.sv_cursor.specs.declared.error.ParseErr.TheVariants.{TooDeep}
 use Rattle.sv_cursor.specs.declared.sort.Mark.TheVariants as m
-use Rattle.sv_cursor.specs.Parsers.{Outcome, Parser, and_then, ◌>>=◌, ◌<$>◌, ◌⊗◌, pure, refuse, too_deep, token, by_told, maybe_read, many, chain, guarded}
+use Rattle.sv_cursor.specs.Parsers.{Parser, and_then, ◌>>=◌, ◌<$>◌, ◌⊗◌, pure, refuse, too_deep, token, by_told, maybe_read, many, chain, guarded}
 use Rattle.sv_cursor.specs.Tests.{mark_test, id_test, literal_test, system_test, mark, keyword}
 use Rattle.sv_expr_words.specs.declared.openers.Opener.{Opener}
 use Rattle.sv_expr_words.specs.declared.openers.Opener.TheVariants as open_by

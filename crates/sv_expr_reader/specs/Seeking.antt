@@ -1,6 +1,6 @@
 -- A walk through tokens that looks for the first one that so many expressions hold.
-use Rattle.std.specs.Prelude.{ℕ, ◌+◌, ◌-◌, ◌^◌, min, nat_le, Bool, true, false, if◌then◌else◌, List, [], ◌∷◌}
-use Rattle.sv_tree.specs.Nesting.{Nesting, Depths}
+use Rattle.std.specs.Prelude.{ℕ, ◌+◌, ◌-◌, ◌^◌, min, nat_le, true, false, if◌then◌else◌, [], ◌∷◌}
+use Rattle.sv_tree.specs.Nesting.{Depths}
 use Rattle.sv_expr_reader.specs.declared.seeking.Seek.{Seek}
 
 -- nothing is passed

@@ -89,7 +89,17 @@ fn last_height(x: &Expr) -> u8
             let most = height(first.get());
             most.max(height(second.get()))
         }
-        _ => 0,
+        Expr::Literal(_) => 0,
+        Expr::Name(_, _) => 0,
+        Expr::Paren(_, _) => 0,
+        Expr::Concat(_, _) => 0,
+        Expr::Repeat(_, _, _) => 0,
+        Expr::CastLiteral(_, _) => 0,
+        Expr::CastName(_, _) => 0,
+        Expr::CastParen(_, _, _) => 0,
+        Expr::CastSign(_, _, _) => 0,
+        Expr::System(_, _, _) => 0,
+        Expr::Unary(_, _, _) => 0,
     }
 }
 

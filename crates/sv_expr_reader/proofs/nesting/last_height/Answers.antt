@@ -1,4 +1,4 @@
-use Rattle.std.proofs.Common.{◌≡◌, ap, sym, ◌∙◌, arith}
+use Rattle.std.proofs.Common.{ap, sym, ◌∙◌, arith}
 use Rattle.sv_expr_reader.specs.Heights.{capped, last}
 use Rattle.sv_expr_reader.proofs.Raised.{last_binary, last_choose}
 use Rattle.sv_expr_reader.proofs.nesting.last_height.Goals as goal

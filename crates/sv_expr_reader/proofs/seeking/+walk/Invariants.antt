@@ -1,5 +1,5 @@
 use Rattle.std.proofs.Common.{◌≡◌, take}
-use Rattle.sv_tree.specs.Nesting.{one, expr_depths, select_depths, after_commas_depths, each_depths}
+use Rattle.sv_tree.specs.Nesting.{expr_depths, select_depths, after_commas_depths, each_depths}
 use Rattle.sv_expr_reader.specs.Seeking.{seek}
 use Rattle.sv_expr_reader.proofs.seeking.+walk.Given as goal
 
