@@ -1,6 +1,2 @@
-pub mod Design
-pub mod Exprs
-pub mod Forms
+pub mod Modules
 pub mod Spelt
-pub mod Stmts
-pub mod Writing

@@ -1,12 +1,8 @@
 //! The kinds and texts of the tokens that a tree is spelled by.
 #![tactic(auto)]
 
-mod design;
-mod exprs;
-mod forms;
-mod lexeme;
+mod modules;
 mod spelling;
-mod stmts;
 
-pub use lexeme::Lexeme;
 pub use spelling::spell;
+pub use sv_write::Lexeme;

@@ -2,11 +2,11 @@
 ghost use Rattle.sv_spell.specs.Spelt.{AreLexemesOf};
 ghost use Rattle.std.specs.Prelude.{IfOk};
 
-use crate::design::source;
-use crate::lexeme::Lexeme;
+use crate::modules::source;
 use items::Items;
 use std::alloc::{AllocError, Global};
 use sv_tree::Source;
+use sv_write::Lexeme;
 
 /// The kinds and texts of the tokens that the tree is spelled by, in order. Whatever tokens spell it, these are theirs,
 /// so two texts with one tree differ in the places of their tokens alone. Of a tree that no tokens spell, as one with a

@@ -1,7 +1,0 @@
-use Rattle.sv_spell.specs.Forms.{write_member}
-use Rattle.sv_spell.specs.Writing.{each}
-use Rattle.sv_spell.proofs.Loops.{Left}
-use Rattle.sv_spell.proofs.forms.+form.Given as goal
-
-abbrev pub invariant-all_members-parts : goal.invariant-all_members-parts
-invariant-all_members-parts l = Left write_member l.all l.part-index (each write_member l.all l.fn.out) l.out

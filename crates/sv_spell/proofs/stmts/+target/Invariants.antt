@@ -1,7 +1,0 @@
-use Rattle.sv_spell.specs.Stmts.{write_lvalue}
-use Rattle.sv_spell.specs.Writing.{commas}
-use Rattle.sv_spell.proofs.Loops.{Left, behind_comma}
-use Rattle.sv_spell.proofs.stmts.+target.Given as goal
-
-abbrev pub invariant-lvalues-parts : goal.invariant-lvalues-parts
-invariant-lvalues-parts l = Left (behind_comma write_lvalue) l.more l.part-index (commas write_lvalue l.all l.fn.out) l.out

@@ -1,0 +1,11 @@
+pub mod Chosen
+pub mod DesignLaws
+pub mod DesignMade
+pub mod ExprsLaws
+pub mod ExprsMade
+pub mod FormsLaws
+pub mod FormsMade
+pub mod Lawful
+pub mod Loops
+pub mod StmtsLaws
+pub mod StmtsMade

@@ -1,0 +1,5 @@
+pub mod Design
+pub mod Exprs
+pub mod Forms
+pub mod Stmts
+pub mod Writing
