@@ -1,3 +1,4 @@
 pub mod Contents
+pub mod Counts
 pub mod Reserved
 pub mod Written

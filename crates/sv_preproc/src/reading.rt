@@ -1,6 +1,6 @@
 // Reads files with their directives.
 ghost use Rattle.std.specs.Prelude.{◌≡◌, ◌≤◌, ◌<◌, ◌+◌, ◌++◌, ◌∷◌, [], ℕ, List, length, IfOk, OnOk, IfErr, IsErr, Err, Some, None};
-ghost use Rattle.sv_outside.specs.Outside.{Rose};
+ghost use Rattle.sv_outside.specs.Outside.{AtMostOneMore, Rose};
 ghost use Rattle.sv_outside.specs.Text.{TokenList};
 ghost use Rattle.sv_outside.specs.declared.refusal.Refusal.{Refusal};
 ghost use Rattle.sv_token.specs.Cut as cut;
@@ -50,7 +50,8 @@ fn start_of(file: usize) -> Place
     }
 }
 
-// Reads a file's bytes for the directive at a place of another file.
+// Reads a file's bytes for the directive at a place of another file, by one read.
+#[tactic(auto, using(sv_outside::proofs::Counts::read_rose, sv_outside::proofs::Counts::read_once, sv_outside::proofs::Counts::read_kept))]
 fn bytes_of<F: Files>(
     alloc: Global,
     files: &mut F,
@@ -63,6 +64,8 @@ fn bytes_of<F: Files>(
     ensures short { IfOk result (λ text. length text.items ≤ cut.most_bytes) }
     ensures caused { IfErr result (HasCause (NotEntered (Possible (F.contents files.old)) (seen known.now) name.now at asked.now)) }
     ensures fault { IfErr result (IfReadFault (Rose (F.faults files.old) (F.faults files.new))) }
+    ensures kept { OnOk result (F.faults files.new ≡ F.faults files.old) }
+    ensures once { AtMostOneMore (F.faults files.old) (F.faults files.new) }
     ensures unchanged { (other : List ℕ) → F.contents files.new other ≡ F.contents files.old other }
     ensures counts_up { F.faults files.old ≤ F.faults files.new }
 {

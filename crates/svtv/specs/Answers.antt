@@ -1,9 +1,10 @@
 -- Which answer comes when, and what it writes.
-use Rattle.std.specs.Prelude.{◌≡◌, ⊤, ℕ, Bool, true, false, List, [], ◌∷◌, map, Option}
+use Rattle.std.specs.Prelude.{◌≡◌, ◌⊎◌, ⊤, ℕ, Bool, true, false, List, [], ◌∷◌, map, Option}
 use Rattle.std.specs.List.{list_all}
 use Rattle.fourvec.specs.declared.Bit.{Bit}
 use Rattle.goal_tree.specs.declared.tree.GoalTree.{GoalTree}
 use Rattle.sv_meaning.specs.Designs.{Design}
+use Rattle.sv_outside.specs.Outside.{one_more}
 use Rattle.sv_outside.specs.declared.refusal.Place.{Place}
 use Rattle.sv_outside.specs.declared.refusal.Refusal.{Refusal}
 use Rattle.svtv_report.specs.Refusals.{memory_text, read_fault_text, refusal_text, usage_text}
@@ -100,6 +101,10 @@ Answers told words Refused text message = (text ≡ []) × RefusesIf told words 
 Answers told words ReadFault text message = (text ≡ []) × UnreadIf told words message
 Answers told words Memory text message = (text ≡ []) × (message ≡ memory_text)
 Answers told words WriteFault text message = ⊥
+
+-- one write failed, on the output or on the errors
+abbrev pub OneFailed : ℕ → ℕ → ℕ → ℕ → Type 0
+OneFailed out new_out err new_err = ((new_out ≡ one_more out) × (new_err ≡ err)) ⊎ ((new_out ≡ out) × (new_err ≡ one_more err))
 
 -- the exit code of the process
 abbrev pub exit_code : Status → ℕ

@@ -1,6 +1,6 @@
 // Why nothing is printed.
-ghost use Rattle.std.specs.Prelude.{◌≡◌, ◌≤◌, ℕ, List, IfOk, IfErr};
-ghost use Rattle.sv_outside.specs.Outside.{Rose};
+ghost use Rattle.std.specs.Prelude.{◌≡◌, ◌≤◌, ℕ, List, IfOk, OnOk, IfErr};
+ghost use Rattle.sv_outside.specs.Outside.{AtMostOneMore, Rose};
 ghost use Rattle.sv_preproc.specs.Laws.{Possible};
 ghost use Rattle.sv_outside.specs.declared.refusal.TextErr.TheVariants.{No};
 ghost use Rattle.svtv.specs.Refusals.{at_first};
@@ -69,11 +69,14 @@ pub fn refused(name: &Name, error: TextErr) -> Stop
     }
 }
 
-/// The whole file of that name.
+/// The whole file of that name, by one read.
+#[tactic(auto, using(sv_outside::proofs::Counts::read_rose, sv_outside::proofs::Counts::read_once, sv_outside::proofs::Counts::read_kept))]
 pub fn read<F: Files>(alloc: Global, files: &mut F, name: &Name) -> Result<Vec<u8>, Stop>
     ensures stands { IfOk result (λ bytes. Possible (F.contents files.old) name.now bytes.items) }
     ensures stop { IfErr result (StopsAt (F.contents files.old) name.now) }
     ensures rose { IfErr result (IfUnread (Rose (F.faults files.old) (F.faults files.new))) }
+    ensures kept { OnOk result (F.faults files.new ≡ F.faults files.old) }
+    ensures once { AtMostOneMore (F.faults files.old) (F.faults files.new) }
     ensures unchanged { (other : List ℕ) → F.contents files.new other ≡ F.contents files.old other }
     ensures counts_up { F.faults files.old ≤ F.faults files.new }
 {

@@ -1,9 +1,10 @@
-use Rattle.std.proofs.Common.{◌≡◌, ◌⊎◌, [], refl, subst, sym}
+use Rattle.std.proofs.Common.{◌≡◌, ◌⊎◌, [], inl, inr, refl, subst, sym}
 use Rattle.std.proofs.lemmas.List.{append-nil}
 use Rattle.svtv.specs.Outcomes.{status_of, text_of, message_of}
 use Rattle.svtv.specs.Legal.{IsDone}
 use Rattle.svtv.specs.declared.status.Status.{Status}
 use Rattle.svtv.specs.declared.status.Status.TheVariants.{Memory}
+use Rattle.sv_outside.proofs.Counts.{rose}
 use Rattle.svtv.proofs.Benches.{have_runs}
 use Rattle.svtv.proofs.Complete.{ends, left}
 use Rattle.svtv.proofs.Ends.{with_text-nothing}
@@ -32,10 +33,10 @@ returns-in-Err-put_all-clause-cut_off g c e =
     )
 
 pub returns-in-Err-clause-complete : goal.returns-in-Err-clause-complete
-returns-in-Err-clause-complete g c command is legal no_file no_out no_err = absurd (no_out c.in-Err.ensures.failed)
+returns-in-Err-clause-complete g c command is legal no_file no_out no_err = absurd (no_out (rose _ _ c.in-Err.ensures.failed))
 
 pub returns-in-Err-put_all-clause-complete : goal.returns-in-Err-put_all-clause-complete
-returns-in-Err-put_all-clause-complete g c command is legal no_file no_out no_err = absurd (no_err c.in-Err-put_all.ensures.failed)
+returns-in-Err-put_all-clause-complete g c command is legal no_file no_out no_err = absurd (no_err (rose _ _ c.in-Err-put_all.ensures.failed))
 
 pub returns-clause-complete : goal.returns-clause-complete
 returns-clause-complete g c command is legal no_file no_out no_err =
@@ -51,3 +52,9 @@ returns-in-Err-put_all-clause-runs g c = have_runs
 
 pub returns-clause-runs : goal.returns-clause-runs
 returns-clause-runs g c = have_runs
+
+pub returns-in-Err-clause-write_fault : goal.returns-in-Err-clause-write_fault
+returns-in-Err-clause-write_fault g c e = inl (c.in-Err.ensures.failed, refl)
+
+pub returns-in-Err-put_all-clause-write_fault : goal.returns-in-Err-put_all-clause-write_fault
+returns-in-Err-put_all-clause-write_fault g c e = inr (c.in-Ok.ensures.kept, c.in-Err-put_all.ensures.failed)
