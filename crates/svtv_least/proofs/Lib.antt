@@ -1,3 +1,4 @@
 pub mod Setting
 pub mod Taking
 pub mod Phases
+pub mod Fitting

@@ -1,12 +1,12 @@
 -- Stimuli that are set row by row.
-use Rattle.std.proofs.Common.{◌≡◌, ℕ, zero, suc, ◌+◌, ◌<◌, ◌≤◌, eqb, true, false, List, [], ◌∷◌, ◌++◌, length, map, take, drop, get_or, slice_set, Option, Some, None, refl, sym, ap, ◌∙◌, arith, inl, inr}
-use Rattle.std.specs.Prelude.{slice_get}
+use Rattle.std.proofs.Common.{◌≡◌, ℕ, zero, suc, ◌+◌, ◌<◌, ◌≤◌, eqb, true, false, List, [], ◌∷◌, ◌++◌, length, map, take, drop, get_or, slice_set, Option, Some, None, refl, sym, ap, ◌∙◌, subst, arith, inl, inr}
+use Rattle.std.specs.Prelude.{All, slice_get}
 use Rattle.std.proofs.lemmas.List.{get_or-set_same, get_or-set_other, get_or-map, map-append, length-map}
 use Rattle.std.proofs.lemmas.Bool.{cases_Bool}
 use Rattle.std.proofs.lemmas.Bool.Decides.{nat_tests}
 use Rattle.fourvec.specs.declared.Bit.{Bit}
 use Rattle.fourvec.specs.declared.Bit.TheVariants.{Unknown}
-use Rattle.fourvec.specs.Bits.{all_x}
+use Rattle.fourvec.specs.Bits.{all_x, each}
 use Rattle.svex_arena.specs.Values.{Vector}
 use Rattle.event_sim.specs.Sims.{store_of}
 use Rattle.svtv_table.specs.declared.bound.Drive.{Drive}
@@ -14,7 +14,8 @@ use Rattle.svtv_table.specs.Stimuli.{drive_value, values_of}
 use Rattle.svtv_runs.specs.Runs.{Asked, asked_in}
 use Rattle.svtv_runs.specs.Leasts.{bit_asked, least_stimulus}
 use Rattle.svtv_runs.proofs.Stimuli.{same, other}
-use Rattle.svtv_least.specs.Running.{asked_vector, row_values}
+use Rattle.svtv_table.specs.declared.bound.Sample.{Sample}
+use Rattle.svtv_least.specs.Running.{Gives, IsGiven, IsOf, asked_vector, row_values, sample_widths}
 
 -- ---- X at every bit
 
@@ -43,6 +44,11 @@ take_next xs i x l e = (let z : i + 1 ≡ suc i = omega arith in ap (λ n. take 
 
 -- ---- lengths
 
+pub each_long : (f : Bit → Bit) (v : List Bit) → length (each f v) ≡ length v
+unfolding each
+each_long f [] = refl
+each_long f (b ∷ bs) = ap suc (each_long f bs)
+
 abbrev pub lengths : List Vector → List ℕ
 lengths values = map (λ v. length v) values
 
@@ -55,13 +61,22 @@ set_lengths [] n v l e = absurd (omega arith)
 set_lengths (x ∷ xs) zero v l e = ap (λ m. m ∷ lengths xs) e
 set_lengths (x ∷ xs) (suc n) v l e = ap (λ ms. length x ∷ ms) (set_lengths xs n v (omega arith) e)
 
-pub as_many : (a b : List Vector) → lengths a ≡ lengths b → length a ≡ length b
-as_many a b e = sym (length-map a (λ v. length v)) ∙ ap length e ∙ length-map b (λ v. length v)
+-- there is a value for each sample, as wide as it
+pub at_below : (values : List Vector) (samples : List Sample) (at : ℕ) → lengths values ≡ sample_widths samples → at < length samples → at < length values
+at_below values samples at e l =
+    let long : length values ≡ length samples = sym (length-map values (λ (v : Vector). length v)) ∙ ap length e ∙ length-map samples (λ (s : Sample). s.width) in
+    omega (arith, long, l)
 
-pub found_at : {A : Type 0} (xs : List A) (n : ℕ) (x d : A) → Some x ≡ slice_get xs n → (n < length xs) × (x ≡ get_or xs n d)
-found_at [] n x d e = cc
-found_at (y ∷ xs) zero x d e = (omega arith, (let z : x ≡ y = cc in z))
-found_at (y ∷ xs) (suc n) x d e = let r = found_at xs n x d e in ((let a = r.0 in omega arith), r.1)
+pub width_of_sample : (values now : List Vector) (samples : List Sample) (at : ℕ) (s : Sample) → lengths values ≡ sample_widths samples → at < length samples → s ≡ get_or samples at s → IsOf (lengths now) s
+    → length (get_or values at []) ≡ length (get_or now s.wire [])
+width_of_sample values now samples at s e l is h =
+    let wire : s.wire < length now = omega (arith, h.wire, length-map now (λ (v : Vector). length v)) in
+    sym (get_or-map (λ (v : Vector). length v) values at [] 0 (at_below values samples at e l))
+    ∙ ap (λ ws. get_or ws at 0) e
+    ∙ get_or-map (λ (x : Sample). x.width) samples at s 0 l
+    ∙ ap (λ (x : Sample). x.width) (sym is)
+    ∙ h.width
+    ∙ get_or-map (λ (v : Vector). length v) now s.wire [] 0 wire
 
 pub got_at : {A : Type 0} (xs : List A) (n : ℕ) (x : A) → n < length xs → x ≡ get_or xs n x → slice_get xs n ≡ Some x
 got_at [] n x l e = absurd (omega arith)
@@ -119,3 +134,15 @@ row_driven choice rows phase at after old new row l e is f h n k =
     let before : (i j : ℕ) → store_of old i j ≡ least_stimulus (values_of choice (drop (at + 1) rows)) phase i j = λ i j. h i j ∙ ap (λ m. least_stimulus (values_of choice (drop m rows)) phase i j) e in
     f (values_of choice (drop (at + 1) rows)) before n k
     ∙ ap (λ (all : List Row). least_stimulus (values_of choice all) phase n k) (sym (drop_next rows at row l ∙ ap (λ (x : Row). x ∷ drop (at + 1) rows) (sym is)))
+
+-- ---- rows that give vectors as wide as the values
+
+pub given_row : (choice : List (List Bit)) (first stim : List Vector) (phase : ℕ) (rows : List Row) (i : ℕ) (row : Row) → lengths stim ≡ lengths first → All (IsGiven choice (lengths first) phase) rows → i < length rows → row ≡ get_or rows i row
+    → IsGiven choice (lengths stim) phase row
+given_row choice first stim phase rows i row e h l is = subst (λ ws. IsGiven choice ws phase row) (sym e) (subst (IsGiven choice (lengths first) phase) (sym is) (h i row l))
+
+pub gives_row : (choice : List (List Bit)) (stim : List Vector) (phase : ℕ) (row : Row) (drives : List Drive) → drives ≡ row.1 → IsGiven choice (lengths stim) phase row → All (Gives choice (length (get_or stim row.0 []))) drives
+gives_row choice stim phase row drives e is =
+    let l : row.0 < length stim = omega (arith, is.wire, length-map stim (λ (v : Vector). length v)) in
+    subst (λ (ds : List Drive). All (Gives choice (length (get_or stim row.0 []))) ds) (sym e)
+    (subst (λ w. All (Gives choice w) row.1) (get_or-map (λ (v : Vector). length v) stim row.0 [] 0 l) is.gives)

@@ -1,16 +1,19 @@
 // The least run, one phase after another.
-ghost use Rattle.std.specs.Prelude.{◌≡◌, ℕ, length, map, slice_get, IfOk, OnOk};
+ghost use Rattle.std.specs.Prelude.{◌≡◌, ℕ, slice_get, All, IfOk};
+ghost use Rattle.fourvec.specs.declared.Bit.TheVariants.{Unknown};
+ghost use Rattle.driver_resolve.specs.Drivers.{widths_of};
 ghost use Rattle.flat_net.specs.Flats.{IsFlat, IsLeastSettling};
-ghost use Rattle.event_sim.specs.Sims.{store_of};
+ghost use Rattle.event_sim.specs.Sims.{Fits, IsValuation, store_of};
 ghost use Rattle.sv_meaning.specs.Designs.{Design};
 ghost use Rattle.sv_elab.specs.Elaborated.{IsElaborated};
+ghost use Rattle.svtv_table.specs.Binding.{IsBound};
 ghost use Rattle.svtv_table.specs.Stimuli.{values_of};
-ghost use Rattle.svtv_runs.specs.Runs.{AreApart, IsLeastRun, Run};
+ghost use Rattle.svtv_runs.specs.Runs.{IsLeastRun, Run};
 ghost use Rattle.svtv_runs.specs.Truths.{sampled};
 ghost use Rattle.svtv_runs.specs.Leasts.{least_stimulus};
-ghost use Rattle.svtv_least.specs.Running.{Serves, sample_widths};
+ghost use Rattle.svtv_least.specs.Running.{AreAsWide, IsGiven, Serves};
 
-use crate::samples::{no_samples, take_samples};
+use crate::samples::{blank_values, take_samples};
 use crate::stimulus::{copy, drive, unknowns};
 use event_sim::Sim;
 use flat_net::{Flat, Valuation};
@@ -19,7 +22,7 @@ use items::Items;
 use std::alloc::{AllocError, Global};
 use svtv_table::{Bound, Drive};
 
-/// What it takes to run a flat design, made once for all choices.
+/// What it takes to run a flat design under a table, made once for all choices: all its room is taken at once.
 pub struct Runner {
     sim: Sim,
     /// The valuation before the next phase.
@@ -27,6 +30,10 @@ pub struct Runner {
     stim: Valuation,
     /// X at every bit.
     blank: Items<Four>,
+    /// The samples of the last run.
+    values: Items<Four>,
+    /// X at every bit of the samples.
+    blank_values: Items<Four>,
 }
 
 impl Drop for Runner {
@@ -36,75 +43,85 @@ impl Drop for Runner {
             prev: _,
             stim: _,
             blank: _,
+            values: _,
+            blank_values: _,
         } = self;
     }
 }
 
 impl Runner {
-    /// Takes the memory that it takes to settle the design.
-    pub fn new(alloc: Global, flat: &Flat) -> Result<Runner, AllocError>
-        requires { IsFlat flat.now }
-        ensures { IfOk result (λ runner. Serves flat.now runner) }
+    /// Takes the memory that it takes to settle the design and to hold the samples.
+    pub fn new(alloc: Global, flat: &Flat, bound: &Bound) -> Result<Runner, AllocError>
+        requires flat { IsFlat flat.now }
+        requires bound { IsBound flat.now.wires bound.now }
+        ensures { IfOk result (λ runner. Serves flat.now bound.now runner) }
     {
         let sim = Sim::new(alloc, flat)?;
         let prev = unknowns(alloc, flat.wires.as_slice())?;
         let stim = unknowns(alloc, flat.wires.as_slice())?;
         let blank = unknowns(alloc, flat.wires.as_slice())?;
+        let values = blank_values(alloc, bound.samples.as_slice())?;
+        let no_values = blank_values(alloc, bound.samples.as_slice())?;
         Ok(Runner {
             sim,
             prev: Valuation { values: prev },
             stim: Valuation { values: stim },
             blank,
+            values,
+            blank_values: no_values,
         })
     }
 
     // One phase.
-    fn phase(
-        &mut self,
-        flat: &Flat,
-        rows: &[(usize, Items<Drive>)],
-        choice: &[Four],
-        phase: usize,
-    ) -> Result<(), AllocError>
+    fn phase(&mut self, flat: &Flat, rows: &[(usize, Items<Drive>)], choice: &[Four], phase: usize)
         requires flat { IsFlat flat.now }
-        requires serves { Serves flat.now self.old }
-        ensures serves { Serves flat.now self.new }
-        ensures least { OnOk result (IsLeastSettling flat.now (least_stimulus (values_of choice.now rows.now) phase) (store_of self.old.prev.values) (store_of self.new.prev.values)) }
+        requires fits { Fits flat.now self.old.sim }
+        requires prev { IsValuation (widths_of flat.now.wires) self.old.prev.values }
+        requires stim { IsValuation (widths_of flat.now.wires) self.old.stim.values }
+        requires blank { IsValuation (widths_of flat.now.wires) self.old.blank }
+        requires unknown { (n k : ℕ) → store_of self.old.blank n k ≡ Unknown }
+        requires given { All (IsGiven choice.now (widths_of flat.now.wires) phase) rows.now }
+        ensures fits { Fits flat.now self.new.sim }
+        ensures prev { IsValuation (widths_of flat.now.wires) self.new.prev.values }
+        ensures stim { IsValuation (widths_of flat.now.wires) self.new.stim.values }
+        ensures blank { self.new.blank ≡ self.old.blank }
+        ensures values { self.new.values ≡ self.old.values }
+        ensures blank_values { self.new.blank_values ≡ self.old.blank_values }
+        ensures least { IsLeastSettling flat.now (least_stimulus (values_of choice.now rows.now) phase) (store_of self.old.prev.values) (store_of self.new.prev.values) }
     {
         copy(self.blank.as_slice(), &mut self.stim.values);
-        drive(&mut self.stim.values, rows, choice, phase)?;
+        drive(&mut self.stim.values, rows, choice, phase);
         self.sim.settle(flat, &self.prev, &self.stim);
         self.sim.save(&mut self.prev);
-        Ok(())
     }
 
-    /// The samples of the least run under a choice, in their order.
-    pub fn samples(
-        &mut self,
-        alloc: Global,
-        flat: &Flat,
-        bound: &Bound,
-        choice: &[Four],
-    ) -> Result<Items<Four>, AllocError>
+    /// The least run under a choice, of which the samples are kept.
+    pub fn run(&mut self, flat: &Flat, bound: &Bound, choice: &[Four])
         requires flat { IsFlat flat.now }
-        requires serves { Serves flat.now self.old }
-        ensures serves { Serves flat.now self.new }
-        ensures widths { IfOk result (λ values. map (λ v. length v) values ≡ sample_widths bound.now.samples) }
-        ensures least { IfOk result (λ values. (d : Design) → IsElaborated d flat.now → AreApart (values_of choice.now bound.now.drives)
-            → (r : Run) → IsLeastRun d (values_of choice.now bound.now.drives) bound.now.phases r
-            → (n k : ℕ) → store_of values n k ≡ sampled r (slice_get bound.now.samples n) k) }
+        requires bound { IsBound flat.now.wires bound.now }
+        requires choice { AreAsWide bound.now.vars choice.now }
+        requires serves { Serves flat.now bound.now self.old }
+        ensures serves { Serves flat.now bound.now self.new }
+        ensures least { (d : Design) → IsElaborated d flat.now → (r : Run) → IsLeastRun d (values_of choice.now bound.now.drives) bound.now.phases r
+            → (n k : ℕ) → store_of self.new.values n k ≡ sampled r (slice_get bound.now.samples n) k }
     {
-        let mut values = no_samples(alloc, bound.samples.as_slice())?;
         copy(self.blank.as_slice(), &mut self.prev.values);
+        copy(self.blank_values.as_slice(), &mut self.values);
         'phases: for phase in 0..bound.phases {
-            self.phase(flat, bound.drives.as_slice(), choice, phase)?;
+            self.phase(flat, bound.drives.as_slice(), choice, phase);
             take_samples(
                 bound.samples.as_slice(),
                 phase,
                 self.prev.values.as_slice(),
-                &mut values,
-            )?;
+                &mut self.values,
+            );
         }
-        Ok(values)
+    }
+
+    /// The samples of the last run, in their order.
+    pub fn samples(&self) -> &[Four]
+        ensures { result.now ≡ self.now.values }
+    {
+        self.values.as_slice()
     }
 }

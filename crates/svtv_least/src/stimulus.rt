@@ -1,14 +1,15 @@
 // The stimulus of a phase.
-ghost use Rattle.std.specs.Prelude.{◌≡◌, ℕ, ◌<◌, ◌≤◌, ◌∷◌, length, map, All, IfOk, IfSome, OnOk};
+ghost use Rattle.std.specs.Prelude.{◌≡◌, ℕ, ◌<◌, ◌≤◌, ◌∷◌, [], length, map, slice_index_or, All, IfOk, Some};
 ghost use Rattle.fourvec.specs.declared.Bit.TheVariants.{Unknown};
 ghost use Rattle.fourvec.specs.Bits.{all_x};
 ghost use Rattle.driver_resolve.specs.Drivers.{widths_of};
 ghost use Rattle.flat_net.specs.Flats.{IsSignal};
 ghost use Rattle.event_sim.specs.Sims.{IsValuation, store_of};
-ghost use Rattle.svtv_table.specs.Stimuli.{drive_value, values_of};
+ghost use Rattle.svtv_table.specs.declared.bound.Drive.TheVariants as drive;
+ghost use Rattle.svtv_table.specs.Stimuli.{drive_value, given, values_of};
 ghost use Rattle.svtv_runs.specs.Runs.{Asked};
 ghost use Rattle.svtv_runs.specs.Leasts.{least_stimulus};
-ghost use Rattle.svtv_least.specs.Running.{asked_vector, row_values};
+ghost use Rattle.svtv_least.specs.Running.{Gives, IsGiven, asked_vector, row_values};
 
 use fourvec::Four;
 use items::Items;
@@ -49,52 +50,43 @@ pub(crate) fn copy(from: &[Four], into: &mut Items<Four>)
     }
 }
 
-// What a drive gives to a wire of a width; a vector of another width cannot come.
-fn driven(choice: &[Four], drive: &Drive, width: u8) -> Option<Four>
+// The value of a variable, or its complement.
+fn chosen(choice: &[Four], number: usize, flipped: bool) -> Four
+    requires { number < length choice.now }
+    ensures is { Some result ≡ drive_value choice.now (drive.Chosen number flipped) }
+    ensures width { length result ≡ length (given choice.now number) }
+{
+    let value = choice[number];
+    if flipped { value.not() } else { value }
+}
+
+// What a drive gives to a wire of a width.
+fn driven(choice: &[Four], drive: &Drive, width: u8) -> Four
     requires some { 0 < width }
     requires most { width ≤ 128 }
-    ensures is { IfSome result (λ v. v ≡ asked_vector width (drive_value choice.now drive.now)) }
-    ensures width { IfSome result (λ v. length v ≡ width) }
+    requires gives { Gives choice.now width drive.now }
+    ensures is { result ≡ asked_vector width (drive_value choice.now drive.now) }
+    ensures width { length result ≡ width }
 {
-    let value = match drive {
+    match drive {
         Drive::Fixed(value) => *value,
-        Drive::Chosen { number, flipped } => {
-            let value = choice.get(*number)?;
-            if *flipped { value.not() } else { *value }
-        }
+        Drive::Chosen { number, flipped } => chosen(choice, *number, *flipped),
         Drive::Free => unknown(width),
-    };
-    if value.width() == width {
-        Some(value)
-    } else {
-        None
     }
 }
 
 // One row more, in front of others.
-fn drive_row(
-    stim: &mut Items<Four>,
-    wire: usize,
-    drives: &[Drive],
-    choice: &[Four],
-    phase: usize,
-) -> Result<(), AllocError>
+fn drive_row(stim: &mut Items<Four>, wire: usize, drives: &[Drive], choice: &[Four], phase: usize)
+    requires wire { wire < length stim.old }
+    requires there { phase < length drives.now }
+    requires gives { All (Gives choice.now (length (slice_index_or stim.old wire []))) drives.now }
     ensures widths { map (λ row. length row) stim.new ≡ map (λ row. length row) stim.old }
-    ensures stim { OnOk result ((rows : Asked) → ((n k : ℕ) → store_of stim.old n k ≡ least_stimulus rows phase n k)
-        → (n k : ℕ) → store_of stim.new n k ≡ least_stimulus (row_values choice.now wire drives.now ∷ rows) phase n k) }
+    ensures stim { (rows : Asked) → ((n k : ℕ) → store_of stim.old n k ≡ least_stimulus rows phase n k)
+        → (n k : ℕ) → store_of stim.new n k ≡ least_stimulus (row_values choice.now wire drives.now ∷ rows) phase n k }
 {
-    let Some(before) = stim.get(wire) else {
-        return Err(AllocError);
-    };
-    let width = before.width();
-    let Some(drive) = drives.get(phase) else {
-        return Err(AllocError);
-    };
-    let Some(value) = driven(choice, drive, width) else {
-        return Err(AllocError);
-    };
+    let width = stim.as_slice()[wire].width();
+    let value = driven(choice, &drives[phase], width);
     stim.set(wire, value);
-    Ok(())
 }
 
 /// The least stimulus of a phase, where it is X at every bit before.
@@ -103,16 +95,16 @@ pub(crate) fn drive(
     rows: &[(usize, Items<Drive>)],
     choice: &[Four],
     phase: usize,
-) -> Result<(), AllocError>
-    requires { (n k : ℕ) → store_of stim.old n k ≡ Unknown }
+)
+    requires unknown { (n k : ℕ) → store_of stim.old n k ≡ Unknown }
+    requires given { All (IsGiven choice.now (map (λ row. length row) stim.old) phase) rows.now }
     ensures widths { map (λ row. length row) stim.new ≡ map (λ row. length row) stim.old }
-    ensures stim { OnOk result ((n k : ℕ) → store_of stim.new n k ≡ least_stimulus (values_of choice.now rows.now) phase n k) }
+    ensures stim { (n k : ℕ) → store_of stim.new n k ≡ least_stimulus (values_of choice.now rows.now) phase n k }
 {
     let mut at = rows.len();
     'rows: while at > 0 {
         at -= 1;
         let row = &rows[at];
-        drive_row(stim, row.0, row.1.as_slice(), choice, phase)?;
+        drive_row(stim, row.0, row.1.as_slice(), choice, phase);
     }
-    Ok(())
 }

@@ -5,7 +5,7 @@ use Rattle.svex_arena.specs.Values.{Vector}
 use Rattle.event_sim.specs.Sims.{store_of}
 use Rattle.svtv_least.specs.Running.{sample_widths}
 use Rattle.svtv_least.proofs.Setting.{all_x_long, lengths_more, pushed_unknown}
-use Rattle.svtv_least.proofs.samples.no_samples.Goals as goal
+use Rattle.svtv_least.proofs.samples.blank_values.Goals as goal
 
 pub samples-preserved : goal.samples-preserved
 samples-preserved c =

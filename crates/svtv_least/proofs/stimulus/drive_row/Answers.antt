@@ -1,16 +1,27 @@
-use Rattle.std.proofs.Common.{List, [], length, ap, ◌∙◌}
+use Rattle.std.proofs.Common.{◌≡◌, List, [], length, get_or, sym, ap, ◌∙◌, subst}
+use Rattle.std.proofs.lemmas.List.{get_or_default}
 use Rattle.svex_arena.specs.Values.{Vector}
 use Rattle.event_sim.specs.Sims.{store_of}
-use Rattle.svtv_least.proofs.Setting.{found_at, set_lengths, lengths, row_set}
+use Rattle.svtv_least.specs.Running.{Gives}
+use Rattle.svtv_least.proofs.Setting.{set_lengths, lengths, row_set}
 use Rattle.svtv_least.proofs.stimulus.drive_row.Goals as goal
+
+pub driven-value-requires-clause-gives : goal.driven-value-requires-clause-gives
+driven-value-requires-clause-gives c =
+    let own : Vector = c.index-as_slice-wire.result in
+    let width : c.width-width.result ≡ length (get_or c.args.stim.now c.args.wire []) =
+    c.width-width.ensures.is ∙ ap length (c.index-as_slice-wire.is ∙ ap (λ (z : List Vector). get_or z c.args.wire own) c.as_slice.ensures ∙ get_or_default c.args.stim.now c.args.wire own [] c.requires.wire) in
+    subst (λ w. Gives c.args.choice.now w c.index-drives-phase.result) (sym width)
+    (subst (Gives c.args.choice.now (length (get_or c.args.stim.now c.args.wire []))) (sym c.index-drives-phase.is) (c.requires.gives c.args.phase c.index-drives-phase.result c.requires.there))
 
 pub returns-clause-widths : goal.returns-clause-widths
 returns-clause-widths c =
-    let at = found_at c.args.stim.now c.args.wire c.in-Some.before.now [] c.in-Some.ensures in
-    ap lengths c.set.ensures ∙ set_lengths c.args.stim.now c.args.wire c.in-Some-driven.value at.0 (c.in-Some-driven.ensures.width ∙ c.width-width.ensures.is ∙ ap length at.1)
+    let own : Vector = c.index-as_slice-wire.result in
+    let width : c.width-width.result ≡ length (get_or c.args.stim.now c.args.wire []) =
+    c.width-width.ensures.is ∙ ap length (c.index-as_slice-wire.is ∙ ap (λ (z : List Vector). get_or z c.args.wire own) c.as_slice.ensures ∙ get_or_default c.args.stim.now c.args.wire own [] c.requires.wire) in
+    ap lengths c.set.ensures ∙ set_lengths c.args.stim.now c.args.wire c.driven-value.result c.requires.wire (c.driven-value.ensures.width ∙ width)
 
 pub returns-clause-stim : goal.returns-clause-stim
 returns-clause-stim c = λ rows h n k.
-    let at = found_at c.args.stim.now c.args.wire c.in-Some.before.now [] c.in-Some.ensures in
     ap (λ (z : List Vector). store_of z n k) c.set.ensures
-    ∙ row_set c.args.choice.now c.args.wire c.args.drives.now c.args.phase c.width-width.result c.args.stim.now c.in-Some-driven.value c.in-Some-get.drive.now rows at.0 c.in-Some-get.ensures.lookup.3.0 c.in-Some-get.ensures.lookup.1 c.in-Some-driven.ensures.is h n k
+    ∙ row_set c.args.choice.now c.args.wire c.args.drives.now c.args.phase c.width-width.result c.args.stim.now c.driven-value.result c.index-drives-phase.result rows c.requires.wire c.requires.there c.index-drives-phase.is c.driven-value.ensures.is h n k
