@@ -57,14 +57,14 @@ module _ (flat : Flat) (bound : Bound) (shapes : List Shape) (tree : GoalTree) (
         → Holds bound.vars bound.samples tree choice r
     kept choice values r c l least h =
         all_from IsClaim (is_true shapes (rows_of choice values)) (IsTrueIn bound.vars bound.samples choice r)
-        (λ x node t e. one_is _ (sym (claim_is bound.vars bound.samples shapes choice values r x node arena c.widths l.widths (l.least d poses.elaborated (poses.apart choice) r least) t) ∙ e))
+        (λ x node t e. one_is _ (sym (claim_is bound.vars bound.samples shapes choice values r x node arena c.widths l.widths (l.least d poses.elaborated r least) t) ∙ e))
         tree.claims goal.claims is_goal.claims h
 
     kept_back : (choice values : List (List Bit)) (r : Run) → IsChoice bound.vars choice → AreLeast flat bound choice values → RunUnder choice r → Holds bound.vars bound.samples tree choice r
         → keeps shapes goal choice values ≡ true
     kept_back choice values r c l least h =
         all_back IsClaim (is_true shapes (rows_of choice values)) (IsTrueIn bound.vars bound.samples choice r)
-        (λ x node t e. claim_is bound.vars bound.samples shapes choice values r x node arena c.widths l.widths (l.least d poses.elaborated (poses.apart choice) r least) t ∙ ap is_one e)
+        (λ x node t e. claim_is bound.vars bound.samples shapes choice values r x node arena c.widths l.widths (l.least d poses.elaborated r least) t ∙ ap is_one e)
         tree.claims goal.claims is_goal.claims h
 
     -- true in the least run, true in every run
@@ -88,7 +88,7 @@ module _ (flat : Flat) (bound : Bound) (shapes : List Shape) (tree : GoalTree) (
             least = subst (λ rows. IsLeastRun d rows bound.phases least.0) (poses.asked choice c) least.1;
             breaks = λ h. let e = kept_back choice shown least.0 c b.least least.1 h in let f = b.keeps in cc;
           };
-          samples = shown_is bound.samples least.0 shown b.least.widths (b.least.least d poses.elaborated (poses.apart choice) least.0 least.1);
+          samples = shown_is bound.samples least.0 shown b.least.widths (b.least.least d poses.elaborated least.0 least.1);
         }
 
     module _ (widths : All (λ v. HasWidth v.width) bound.vars) where

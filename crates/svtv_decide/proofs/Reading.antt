@@ -1,5 +1,5 @@
 -- What nodes of goals have under a choice and samples, and what their expressions have.
-use Rattle.std.proofs.Common.{◌≡◌, ℕ, suc, ◌<◌, Bool, true, cond, List, [], ◌∷◌, length, get_or, map, drop, refl, sym, ap, ◌∙◌, arith, zero-add}
+use Rattle.std.proofs.Common.{◌≡◌, ℕ, suc, ◌<◌, Bool, true, cond, List, [], ◌∷◌, length, get_or, map, drop, refl, sym, ap, ◌∙◌, subst, arith, zero-add}
 use Rattle.std.specs.Prelude.{slice_get}
 use Rattle.std.specs.List.{range_with_len}
 use Rattle.std.proofs.lemmas.Bool.{eqb-true, eq-eqb, ltb-true}
@@ -23,6 +23,9 @@ use Rattle.svex_arena.specs.declared.shape.VarName.TheVariants.{Now, Prev, Stim,
 use Rattle.svex_arena.specs.Arenas.{IsArena}
 use Rattle.svex_arena.specs.Values.{Vector, Rows, fitted, read, AgreesWhere}
 use Rattle.svex_arena.proofs.Lifted.{values_alike}
+use Rattle.svtv_choices.specs.Choices.{choice_of}
+use Rattle.svtv_choices.proofs.Numbers.{widths_are}
+use Rattle.svtv_least.specs.Running.{AreAsWide}
 use Rattle.svtv_runs.specs.Runs.{Run}
 use Rattle.svtv_runs.specs.Truths.{no_run, sampled, table_values, valuation}
 use Rattle.svtv_table.specs.declared.bound.Sample.{Sample}
@@ -79,6 +82,10 @@ table_agrees vars samples choice values h k (Sampled n) w t = reads (widths_in (
 table_agrees vars samples choice values h k (Now n) w t = cc
 table_agrees vars samples choice values h k (Prev n) w t = cc
 table_agrees vars samples choice values h k (Stim n) w t = cc
+
+-- the choice of a number is as wide as the variables
+pub choice_wide : (vars own : List VarDecl) (choice given : List Vector) (n : ℕ) → own ≡ vars → choice ≡ choice_of own n → given ≡ choice → AreAsWide vars given
+choice_wide vars own choice given n v c g = subst (λ vs. AreAsWide vs given) v (subst (λ (x : List Vector). AreAsWide own x) (sym (g ∙ c)) (widths_are own n))
 
 -- ---- what nodes and expressions have
 

@@ -51,7 +51,7 @@ all_true shapes rows nodes = list_all (is_true shapes rows) nodes
 -- the samples of the least run under a choice
 pub record AreLeast (flat : Flat) (bound : Bound) (choice values : List (List Bit)) : Type 0 where
   pub widths : map (λ v. length v) values ≡ sample_widths bound.samples
-  pub least : (d : Design) → IsElaborated d flat → AreApart (values_of choice bound.drives) → (r : Run) → IsLeastRun d (values_of choice bound.drives) bound.phases r
+  pub least : (d : Design) → IsElaborated d flat → (r : Run) → IsLeastRun d (values_of choice bound.drives) bound.phases r
       → (n k : ℕ) → store_of values n k ≡ sampled r (slice_get bound.samples n) k
 
 -- what came of one choice

@@ -11,7 +11,7 @@ ghost use Rattle.svtv_choices.specs.Choices.{bits_of};
 ghost use Rattle.svtv_decide.specs.Trials.{IsDecided, Poses, bench, verdict_where};
 ghost use Rattle.svtv_least.specs.Running.{Serves};
 ghost use Rattle.svtv_report.specs.Seen.{verdict_is};
-ghost use Rattle.svtv_table.specs.Binding.{HasWidth};
+ghost use Rattle.svtv_table.specs.Binding.{HasWidth, IsBound};
 ghost use Rattle.svtv_verdicts.specs.Verdicts.{IsRight};
 
 use crate::tries::{Question, Trial, try_choice};
@@ -47,12 +47,13 @@ fn tried(
     count: u64,
 ) -> Result<Decided, AllocError>
     requires flat { IsFlat question.now.flat.now }
-    requires serves { Serves question.now.flat.now runner.old }
+    requires bound { IsBound question.now.flat.now.wires question.now.bound.now }
+    requires serves { Serves question.now.flat.now question.now.bound.now runner.old }
     requires widths { All (λ var. HasWidth var.width) question.now.bound.now.vars }
     requires few { bits_of question.now.bound.now.vars ≤ 16 }
     requires hyps { All (λ node. node < length question.now.arena.now) question.now.goal.now.hyps }
     requires claims { All (λ node. node < length question.now.arena.now) question.now.goal.now.claims }
-    ensures serves { Serves question.now.flat.now runner.new }
+    ensures serves { Serves question.now.flat.now question.now.bound.now runner.new }
     ensures decided { IfOk result (λ x. IsDecided question.now.flat.now question.now.bound.now question.now.arena.now question.now.goal.now count x.verdict x.shown) }
 {
     let mut met = false;
@@ -83,14 +84,15 @@ pub fn decide(
     bits: u32,
 ) -> Result<Decided, AllocError>
     requires flat { IsFlat question.now.flat.now }
-    requires serves { Serves question.now.flat.now runner.old }
+    requires bound { IsBound question.now.flat.now.wires question.now.bound.now }
+    requires serves { Serves question.now.flat.now question.now.bound.now runner.old }
     requires widths { All (λ var. HasWidth var.width) question.now.bound.now.vars }
     requires bits { bits ≡ bits_of question.now.bound.now.vars }
     requires few { bits ≤ 16 }
     requires arena { IsArena question.now.arena.now }
     requires hyps { All (λ node. node < length question.now.arena.now) question.now.goal.now.hyps }
     requires claims { All (λ node. node < length question.now.arena.now) question.now.goal.now.claims }
-    ensures serves { Serves question.now.flat.now runner.new }
+    ensures serves { Serves question.now.flat.now question.now.bound.now runner.new }
 
     // The verdict is right, whatever budget is given, whatever design the flat one was made of, and whatever the nodes of the goal were made of.
     ensures right { (budget : Option ℕ) (d : Design) (asked : List (List Bit) → Asked) (tree : GoalTree) → Poses d asked question.now.flat.now question.now.bound.now

@@ -4,9 +4,9 @@ ghost use Rattle.flat_net.specs.Flats.{IsFlat};
 ghost use Rattle.svtv_choices.specs.Choices as c;
 ghost use Rattle.svtv_choices.specs.Choices.{bits_of};
 ghost use Rattle.svtv_decide.specs.Trials as spec;
-ghost use Rattle.svtv_decide.specs.Trials.{IsTrial};
-ghost use Rattle.svtv_least.specs.Running.{Serves};
-ghost use Rattle.svtv_table.specs.Binding.{HasWidth};
+ghost use Rattle.svtv_decide.specs.Trials.{AreLeast, IsTrial};
+ghost use Rattle.svtv_least.specs.Running.{AreAsWide, Serves};
+ghost use Rattle.svtv_table.specs.Binding.{HasWidth, IsBound};
 
 use flat_net::Flat;
 use fourvec::{Bit, Four};
@@ -57,6 +57,25 @@ fn all_true(alloc: Global, arena: &Arena, nodes: &[Node], env: &Env) -> Result<b
     Ok(true)
 }
 
+// The samples of the least run under a choice.
+fn least_samples(
+    alloc: Global,
+    question: &Question<'_>,
+    runner: &mut Runner,
+    choice: &[Four],
+) -> Result<Vec<Four>, AllocError>
+    requires flat { IsFlat question.now.flat.now }
+    requires bound { IsBound question.now.flat.now.wires question.now.bound.now }
+    requires choice { AreAsWide question.now.bound.now.vars choice.now }
+    requires serves { Serves question.now.flat.now question.now.bound.now runner.old }
+    ensures serves { Serves question.now.flat.now question.now.bound.now runner.new }
+    ensures least { IfOk result (λ values. AreLeast question.now.flat.now question.now.bound.now choice.now values.items) }
+{
+    runner.run(question.flat, question.bound, choice);
+    let values = runner.samples().to_vec(alloc)?;
+    Ok(values)
+}
+
 /// Tries the choice of a number.
 pub fn try_choice(
     alloc: Global,
@@ -65,12 +84,13 @@ pub fn try_choice(
     number: u64,
 ) -> Result<Trial, AllocError>
     requires flat { IsFlat question.now.flat.now }
-    requires serves { Serves question.now.flat.now runner.old }
+    requires bound { IsBound question.now.flat.now.wires question.now.bound.now }
+    requires serves { Serves question.now.flat.now question.now.bound.now runner.old }
     requires widths { All (λ var. HasWidth var.width) question.now.bound.now.vars }
     requires few { bits_of question.now.bound.now.vars ≤ 16 }
     requires hyps { All (λ node. node < length question.now.arena.now) question.now.goal.now.hyps }
     requires claims { All (λ node. node < length question.now.arena.now) question.now.goal.now.claims }
-    ensures serves { Serves question.now.flat.now runner.new }
+    ensures serves { Serves question.now.flat.now question.now.bound.now runner.new }
     ensures trial { IfOk result (λ trial. IsTrial question.now.flat.now question.now.bound.now question.now.arena.now question.now.goal.now (c.choice_of question.now.bound.now.vars number) trial) }
 {
     let choice = choice_of(alloc, question.bound.vars.as_slice(), number)?;
@@ -84,8 +104,7 @@ pub fn try_choice(
     if !all_true(alloc, question.arena, question.goal.hyps.as_slice(), &env)? {
         return Ok(Trial::Unmet);
     }
-    let values = runner.samples(alloc, question.flat, question.bound, &env.chosen)?;
-    env.sampled = values.into_vec();
+    env.sampled = least_samples(alloc, question, runner, &env.chosen)?;
     if all_true(alloc, question.arena, question.goal.claims.as_slice(), &env)? {
         return Ok(Trial::Kept);
     }
