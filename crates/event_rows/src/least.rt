@@ -1,91 +1,67 @@
-//! Least runs of a table over a flat design. `drives` has a row for each input of the table, its wire and a cell for each phase: digits,
-//! `chosen.0` and `~chosen.0` for the variable of that number and its complement, or `free`. `samples` has words such as `1.0.2`: a wire, a
-//! phase and the width. `run 4` is over that many phases: a row has the choice of the variable and the samples: `01 => 10 xx 01`.
+//! Least runs of a table over a flat design. `table` has the records of a table of one variable, as the tool reads them. `run` has in each
+//! row the choice of the variable and the samples, by record and then by phase: `01 => 10 xx 01`.
 
+ghost use Rattle.std.specs.Prelude.{All, IfOk, IfSome};
 ghost use Rattle.flat_net.specs.Flats.{IsFlat};
-ghost use Rattle.svtv_least.specs.Running.{Serves};
+ghost use Rattle.svtv_least.specs.Running.{AreAsWide, Serves};
+ghost use Rattle.svtv_table.specs.Binding.{HasWidth, IsBound};
 
 use crate::design::{empty, put_design};
 use crate::settled::told;
 use crate::sound::is_sound;
-use case_rows::{Fault, Report, digits, part, put_vectors, rows_of, sides, size, small, word};
+use case_rows::{Fault, Report, digits, put, put_vectors, rows_of, sides};
 use flat_net::Flat;
-use items::Items;
+use fourvec::Four;
 use std::alloc::Global;
-use sv_outside::Name;
+use sv_outside::{Signal, TextErr};
 use svtv_least::Runner;
-use svtv_table::{Bound, Drive, Sample};
+use svtv_table::{Bound, bind, read_table};
 
-fn chosen(name: &[u8], number: &[u8]) -> Option<Drive> {
-    Some(Drive::Chosen {
-        number: usize::from(small(number)?),
-        flipped: name == b"~chosen".as_slice(),
-    })
-}
-
-fn cell(text: &[u8]) -> Option<Drive> {
-    if text == b"free".as_slice() {
-        return Some(Drive::Free);
-    }
-    match digits(text) {
-        Some(value) => Some(Drive::Fixed(value)),
-        None => chosen(part(text, b'.', 0), part(text, b'.', 1)),
+fn fault_of(error: TextErr) -> Fault {
+    match error {
+        TextErr::No(_) => Fault::Form,
+        TextErr::Memory => Fault::Memory,
     }
 }
 
-fn put_cells(cells: &mut Items<Drive>, row: &[u8]) -> Result<(), Fault> {
-    for text in row.split(|c| *c == b' ').skip(1) {
-        let cell = cell(text).ok_or(Fault::Form)?;
-        cells.push(cell)?;
-    }
-    Ok(())
-}
-
-fn put_drives(alloc: Global, bound: &mut Bound, row: &[u8]) -> Result<(), Fault> {
-    let wire = size(word(row, 0))?;
-    let mut cells = Items::new(alloc);
-    put_cells(&mut cells, row)?;
-    Ok(bound.drives.push((wire, cells))?)
-}
-
-fn put_sample(alloc: Global, bound: &mut Bound, text: &[u8]) -> Result<(), Fault> {
-    let (wire, phase) = (size(part(text, b'.', 0))?, size(part(text, b'.', 1))?);
-    let width = small(part(text, b'.', 2)).ok_or(Fault::Form)?;
-    let name = Name::new(alloc, b"s")?;
-    Ok(
-        bound.samples.push(Sample {
-            name,
-            wire,
-            phase,
-            width,
-        })?,
-    )
-}
-
-fn put_samples(alloc: Global, bound: &mut Bound, row: &[u8]) -> Result<(), Fault> {
-    for text in row.split(|c| *c == b' ') {
-        put_sample(alloc, bound, text)?;
-    }
-    Ok(())
-}
-
-fn put_table(alloc: Global, bound: &mut Bound, drives: &[u8], samples: &[u8]) -> Result<(), Fault> {
-    for line in drives.split(|c| *c == b'\n') {
+// The records of a block, as the text of a table.
+fn put_table(text: &mut Vec<u8>, block: &[u8]) -> Result<(), Fault> {
+    for line in block.split(|c| *c == b'\n') {
         if let Some(row) = rows_of(line) {
-            put_drives(alloc, bound, row)?;
-        }
-    }
-    for line in samples.split(|c| *c == b'\n') {
-        if let Some(row) = rows_of(line) {
-            put_samples(alloc, bound, row)?;
+            put(text, row)?;
+            text.push(b'\n')?;
         }
     }
     Ok(())
+}
+
+fn bound_of(alloc: Global, text: &[u8], wires: &[Signal]) -> Result<Bound, Fault>
+    requires { All (λ wire. HasWidth wire.width) wires.now }
+    ensures { IfOk result (IsBound wires.now) }
+{
+    let table = match read_table(alloc, text) {
+        Ok(table) => table,
+        Err(error) => return Err(fault_of(error)),
+    };
+    match bind(alloc, &table, wires) {
+        Ok(bound) => Ok(bound),
+        Err(error) => Err(fault_of(error)),
+    }
+}
+
+// The value of the one variable, where it is as wide as that.
+fn choice_of(bound: &Bound, question: &[u8]) -> Option<[Four; 1]>
+    ensures { IfSome result (AreAsWide bound.now.vars) }
+{
+    let value = digits(question)?;
+    match bound.vars.as_slice() {
+        [var] if var.width == value.width() => Some([value]),
+        _ => None,
+    }
 }
 
 // Whether the samples of a choice are those that are wanted.
 fn run_of_row(
-    alloc: Global,
     flat: &Flat,
     bound: &Bound,
     runner: &mut Runner,
@@ -93,29 +69,31 @@ fn run_of_row(
     said: &mut Vec<u8>,
 ) -> Result<bool, Fault>
     requires flat { IsFlat flat.now }
-    requires serves { Serves flat.now runner.old }
-    ensures { Serves flat.now runner.new }
+    requires bound { IsBound flat.now.wires bound.now }
+    requires serves { Serves flat.now bound.now runner.old }
+    ensures { Serves flat.now bound.now runner.new }
 {
     let (question, wanted) = sides(row);
-    let choice = digits(question).ok_or(Fault::Form)?;
-    let samples = runner.samples(alloc, flat, bound, &[choice])?;
-    put_vectors(said, samples.as_slice())?;
+    let choice = choice_of(bound, question).ok_or(Fault::Form)?;
+    runner.run(flat, bound, &choice);
+    put_vectors(said, runner.samples())?;
     Ok(said.as_slice() == wanted)
 }
 
 fn run_all(
     alloc: Global,
     flat: &Flat,
-    bound: &Bound,
+    text: &[u8],
     block: &[u8],
     report: &mut Report,
 ) -> Result<(), Fault>
     requires { IsFlat flat.now }
 {
-    let mut runner = Runner::new(alloc, flat)?;
+    let bound = bound_of(alloc, text, flat.wires.as_slice())?;
+    let mut runner = Runner::new(alloc, flat, &bound)?;
     'lines: for line in block.split(|c| *c == b'\n') {
         if let Some(row) = rows_of(line) {
-            let answer = run_of_row(alloc, flat, bound, &mut runner, row, report.said());
+            let answer = run_of_row(flat, &bound, &mut runner, row, report.said());
             report.take(row, answer)?;
         }
     }
@@ -125,58 +103,34 @@ fn run_all(
 fn run_sound(
     alloc: Global,
     flat: &mut Flat,
-    bound: &Bound,
-    design: &[u8],
+    given: &Given,
     block: &[u8],
     report: &mut Report,
 ) -> Result<(), Fault> {
-    put_design(alloc, flat, design)?;
+    put_design(alloc, flat, given.design)?;
     if !is_sound(alloc, flat)? {
         return Err(Fault::Form);
     }
-    run_all(alloc, flat, bound, block, report)
+    let mut text = Vec::new(alloc);
+    put_table(&mut text, given.table)?;
+    run_all(alloc, flat, &text, block, report)
 }
 
-/// What a run stands on: the design, the drives and the samples, as text.
+/// What a run stands on: the design and the table, as text.
 #[derive(Clone, Copy)]
 pub struct Given<'a> {
     pub design: &'a [u8],
-    pub drives: &'a [u8],
-    pub samples: &'a [u8],
-}
-
-// Judges a run with a table and a design that are empty before.
-fn run_given(
-    alloc: Global,
-    given: &Given,
-    flat: &mut Flat,
-    bound: &mut Bound,
-    block: &[u8],
-    report: &mut Report,
-) -> Result<(), Fault> {
-    put_table(alloc, bound, given.drives, given.samples)?;
-    run_sound(alloc, flat, bound, given.design, block, report)
-}
-
-fn table(alloc: Global, phases: usize) -> Bound {
-    Bound {
-        phases,
-        vars: Items::new(alloc),
-        drives: Items::new(alloc),
-        samples: Items::new(alloc),
-    }
+    pub table: &'a [u8],
 }
 
 /// Judges the runs of a table over a design.
 pub fn judge_run(
     alloc: Global,
     given: &Given,
-    line: &[u8],
     block: &[u8],
     report: &mut Report,
 ) -> Result<(), Fault> {
-    let mut bound = table(alloc, size(word(line, 1))?);
     let mut flat = empty(alloc);
-    let judged = run_given(alloc, given, &mut flat, &mut bound, block, report);
+    let judged = run_sound(alloc, &mut flat, given, block, report);
     told(block, judged, report)
 }

@@ -17,16 +17,14 @@ use std::{env, fs, io};
 #[derive(Clone, Copy)]
 enum Key {
     Design,
-    Drives,
-    Samples,
+    Table,
     Settle,
     Run,
 }
 
-static KEYS: [(&[u8], Key); 5] = [
+static KEYS: [(&[u8], Key); 4] = [
     (b"design", Key::Design),
-    (b"drives", Key::Drives),
-    (b"samples", Key::Samples),
+    (b"table", Key::Table),
     (b"settle", Key::Settle),
     (b"run", Key::Run),
 ];
@@ -36,8 +34,7 @@ static KEYS: [(&[u8], Key); 5] = [
 struct Keys {
     alloc: Global,
     design: Vec<u8>,
-    drives: Vec<u8>,
-    samples: Vec<u8>,
+    table: Vec<u8>,
 }
 
 fn keep(kept: &mut Vec<u8>, block: &[u8]) -> Result<(), Fault> {
@@ -49,8 +46,7 @@ impl Keys {
     fn given(&self) -> Given<'_> {
         Given {
             design: self.design.as_slice(),
-            drives: self.drives.as_slice(),
-            samples: self.samples.as_slice(),
+            table: self.table.as_slice(),
         }
     }
 }
@@ -59,10 +55,9 @@ impl Bench for Keys {
     fn key(&mut self, line: &[u8], block: &[u8], report: &mut Report) -> Result<(), Fault> {
         match named(&KEYS, word(line, 0)) {
             Some(Key::Design) => keep(&mut self.design, block),
-            Some(Key::Drives) => keep(&mut self.drives, block),
-            Some(Key::Samples) => keep(&mut self.samples, block),
+            Some(Key::Table) => keep(&mut self.table, block),
             Some(Key::Settle) => judge_settling(self.alloc, &self.design, block, report),
-            Some(Key::Run) => judge_run(self.alloc, &self.given(), line, block, report),
+            Some(Key::Run) => judge_run(self.alloc, &self.given(), block, report),
             None => report.take(line, Err(Fault::Form)),
         }
     }
@@ -74,8 +69,7 @@ fn judge_file(rt: &HostRuntime, name: &str, report: &mut Report) -> io::Result<(
     let mut keys = Keys {
         alloc,
         design: Vec::new(alloc),
-        drives: Vec::new(alloc),
-        samples: Vec::new(alloc),
+        table: Vec::new(alloc),
     };
     match judge_text(&mut keys, name.as_bytes(), &text, report) {
         Ok(()) => Ok(()),
