@@ -4,10 +4,10 @@ use Rattle.sv_outside.specs.declared.refusal.Refusal.{Refusal}
 use Rattle.svtv_words.specs.Commands.{Command, IsCommand, prove, sim}
 use Rattle.svtv_words.proofs.Commands.{one_command}
 use Rattle.svtv.specs.Answers.{Answers, PrintsIf, Prints}
-use Rattle.svtv.specs.Files.{Text, Told}
+use Rattle.svtv_files.specs.Files.{Text, Told}
 use Rattle.svtv.specs.Legal.{AreLegal, IsDone}
 use Rattle.svtv.specs.Outcomes.{IfLeft, status_of}
-use Rattle.svtv.specs.Refusals.{Refuses}
+use Rattle.svtv_files.specs.Refusals.{Refuses}
 use Rattle.svtv.specs.declared.status.Status.{Status}
 use Rattle.svtv.specs.declared.status.Status.TheVariants.{AllProved, Done, NotAll, Usage, Refused, ReadFault, WriteFault, Memory}
 use Rattle.svtv.specs.declared.work.Outcome.{Outcome}

@@ -43,9 +43,9 @@ use Rattle.svtv_table.specs.Valuing.{values_faults}
 use Rattle.svtv_table.specs.declared.bound.Sample.{Sample}
 use Rattle.svtv_table.specs.declared.bound.VarDecl.{VarDecl}
 use Rattle.table_cells.specs.declared.table.Table.{Table}
-use Rattle.svtv.specs.Files.{Text, Told, IsDesignFile, IsTableText, samples_in, vars_of}
+use Rattle.svtv_files.specs.Files.{Text, Told, IsDesignFile, IsTableText, samples_in, vars_of}
 use Rattle.svtv.specs.Legal.{IsShallow, IsShort, IsLegalDesign, IsLegalTable, IsLegalSetup, AreLegalGoals, AreLegalValues}
-use Rattle.svtv.specs.Refusals.{BehindSetup, HasNoRoom, HasRoom, IsFirstFault, RefusesDesign, RefusesGoals, RefusesProof, RefusesSetup, RefusesSimulation, RefusesTable, RefusesValues, TooLong}
+use Rattle.svtv_files.specs.Refusals.{BehindSetup, HasNoRoom, HasRoom, IsFirstFault, RefusesDesign, RefusesGoals, RefusesProof, RefusesSetup, RefusesSimulation, RefusesTable, RefusesValues, TooLong}
 use Rattle.svtv.proofs.Records.{one_records}
 
 -- ---- texts

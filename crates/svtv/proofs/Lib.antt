@@ -1,9 +1,5 @@
-pub mod Designs
-pub mod Tables
-pub mod Benches
-pub mod Verdicts
-pub mod Turns
-pub mod Ends
-pub mod Records
-pub mod Legal
 pub mod Complete
+pub mod Ends
+pub mod Legal
+pub mod Records
+pub mod Runs

@@ -1,57 +1,21 @@
 -- Which answer comes when, and what it writes.
-use Rattle.std.specs.Prelude.{◌≡◌, ◌⊎◌, ⊤, ℕ, Bool, true, false, List, [], ◌∷◌, map, Option}
-use Rattle.std.specs.List.{list_all}
+use Rattle.std.specs.Prelude.{◌≡◌, ◌⊎◌, ℕ, true, false, List, []}
 use Rattle.fourvec.specs.declared.Bit.{Bit}
-use Rattle.goal_tree.specs.declared.tree.GoalTree.{GoalTree}
 use Rattle.sv_meaning.specs.Designs.{Design}
 use Rattle.sv_outside.specs.Outside.{one_more}
 use Rattle.sv_outside.specs.declared.refusal.Place.{Place}
 use Rattle.sv_outside.specs.declared.refusal.Refusal.{Refusal}
+use Rattle.svtv_commands.specs.Done.{Proves, Simulates}
+use Rattle.svtv_files.specs.Files.{Text, Told, bench_of, vars_of}
+use Rattle.svtv_files.specs.Refusals.{Refuses, LeavesUnread}
 use Rattle.svtv_report.specs.Refusals.{memory_text, read_fault_text, refusal_text, usage_text}
-use Rattle.svtv_report.specs.Shown.{sample_texts, var_texts}
-use Rattle.svtv_report.specs.Texts.{report, value_lines}
-use Rattle.svtv_runs.specs.Runs.{Run}
 use Rattle.svtv_table.specs.Binding.{bind_faults}
 use Rattle.svtv_table.specs.Stimuli.{IsChoice}
-use Rattle.table_cells.specs.declared.table.Table.{Table}
-use Rattle.svtv_verdicts.specs.Benches.{Bench, HasOneLeast, IsLeastUnder, sampled_in}
-use Rattle.svtv_verdicts.specs.Verdicts.{Verdict, proved, vacuous, failed, undecided, IsRight}
+use Rattle.svtv_verdicts.specs.Benches.{HasOneLeast}
 use Rattle.svtv_words.specs.Commands.{Command, IsCommand, prove, sim}
-use Rattle.svtv.specs.Files.{Text, Told, AreGoalsFile, IsValuesFile, bench_of, samples_in, vars_of}
-use Rattle.svtv.specs.Refusals.{IsSetup, Refuses, LeavesUnread}
+use Rattle.table_cells.specs.declared.table.Table.{Table}
 use Rattle.svtv.specs.declared.status.Status.{Status}
 use Rattle.svtv.specs.declared.status.Status.TheVariants.{AllProved, Done, NotAll, Usage, Refused, ReadFault, WriteFault, Memory}
-
--- ---- proofs
-
-abbrev pub is_proved : Verdict → Bool
-is_proved proved = true
-is_proved vacuous = false
-is_proved (failed choice) = false
-is_proved (undecided n) = false
-
--- for each goal, in order, a verdict that is right where this budget is given, or none
-abbrev pub AreRight : Bench → List GoalTree → Option ℕ → List Verdict → List (List (List Bit)) → Type 0
-AreRight b [] budget [] [] = ⊤
-AreRight b (goal ∷ goals) budget (verdict ∷ verdicts) (values ∷ shown) = IsRight b goal budget verdict values × AreRight b goals budget verdicts shown
-AreRight b goals budget verdicts shown = ⊥
-
-abbrev pub goal_names : List GoalTree → List Text
-goal_names goals = map (λ g. g.name.text) goals
-
--- The headline: the text is the report of verdicts, one for each goal in order, that are right on what the three files stand for. They are so whatever
--- budget is given, and where none is: no goal is left undecided.
-pub record Proves (told : Told) (d t g : Text) (top : Option Text) (all : Bool) (text : Text) : Type 0 where
-  pub design : Design
-  pub table : Table
-  pub setup : IsSetup told d t top design table
-  pub goals : List GoalTree
-  pub are_goals : AreGoalsFile told g (vars_of design table) (samples_in design table) goals
-  pub verdicts : List Verdict
-  pub shown : List (List (List Bit))
-  pub right : (budget : Option ℕ) → AreRight (bench_of design table) goals budget verdicts shown
-  pub printed : text ≡ report (var_texts (vars_of design table)) (sample_texts (samples_in design table)) (goal_names goals) verdicts shown
-  pub whole : all ≡ list_all is_proved verdicts
 
 -- ---- runs
 
@@ -59,19 +23,6 @@ pub record Proves (told : Told) (d t g : Text) (top : Option Text) (all : Bool) 
 -- verdict is over no runs.
 abbrev pub HaveRuns : Type 0
 HaveRuns = (design : Design) (table : Table) → bind_faults design.wires table ≡ [] → (choice : List (List Bit)) → IsChoice (vars_of design table) choice → HasOneLeast (bench_of design table) choice
-
--- ---- simulations
-
--- The text has the samples of the least run under the values of a file.
-pub record Simulates (told : Told) (d t v : Text) (top : Option Text) (text : Text) : Type 0 where
-  pub design : Design
-  pub table : Table
-  pub setup : IsSetup told d t top design table
-  pub choice : List (List Bit)
-  pub is_choice : IsValuesFile told v (vars_of design table) choice
-  pub run : Run
-  pub least : IsLeastUnder (bench_of design table) choice run
-  pub printed : text ≡ value_lines [] (sample_texts (samples_in design table)) (sampled_in (samples_in design table) run)
 
 -- ---- answers
 

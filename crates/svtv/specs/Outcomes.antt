@@ -4,11 +4,11 @@ use Rattle.svtv_report.specs.Refusals.{memory_text, read_fault_text, refusal_tex
 use Rattle.sv_outside.specs.declared.refusal.Place.{Place}
 use Rattle.sv_outside.specs.declared.refusal.Refusal.{Refusal}
 use Rattle.svtv_words.specs.Commands.{Command, prove, sim}
-use Rattle.svtv.specs.Answers.{Proves, Simulates}
-use Rattle.svtv.specs.Refusals.{LeavesProof, LeavesSimulation, RefusesProof, RefusesSimulation}
-use Rattle.svtv.specs.declared.stop.Stop.{Stop}
-use Rattle.svtv.specs.declared.stop.Stop.TheVariants as stop
-use Rattle.svtv.specs.Files.{Text, Told}
+use Rattle.svtv_commands.specs.Done.{Proves, Simulates}
+use Rattle.svtv_files.specs.Refusals.{LeavesProof, LeavesSimulation, RefusesProof, RefusesSimulation}
+use Rattle.svtv_files.specs.declared.stop.Stop.{Stop}
+use Rattle.svtv_files.specs.declared.stop.Stop.TheVariants as stop
+use Rattle.svtv_files.specs.Files.{Text, Told}
 use Rattle.svtv.specs.declared.status.Status.{Status}
 use Rattle.svtv.specs.declared.status.Status.TheVariants as status
 use Rattle.svtv.specs.declared.work.Outcome.{Outcome}

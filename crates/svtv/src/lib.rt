@@ -1,16 +1,8 @@
-//! The top call: the words, the files, the proofs or the simulation, the text.
+//! The top call: the words, the command over its files, the text.
 #![tactic(auto)]
 
-mod design;
-mod goals;
-mod proving;
-mod setup;
-mod simulation;
 mod status;
-mod stop;
-mod table;
 mod top;
-mod values;
 mod work;
 
 pub use status::Status;

@@ -8,12 +8,11 @@ ghost use Rattle.svtv_words.specs.Commands as m;
 ghost use Rattle.svtv_words.specs.Commands.{IsCommand, command_is};
 ghost use Rattle.svtv.specs.declared.status.Status.TheVariants as status;
 
-use crate::proving::prove;
-use crate::simulation::simulate;
 use crate::status::Status;
-use crate::stop::Stop;
 use std::alloc::{AllocError, Global};
 use sv_outside::{Files, Name};
+use svtv_commands::{prove, simulate};
+use svtv_files::Stop;
 use svtv_report::{memory_text, read_fault_text, refusal_text, usage_text};
 use svtv_words::{Command, Verb, command_of};
 

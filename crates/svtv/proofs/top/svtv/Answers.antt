@@ -4,8 +4,8 @@ use Rattle.svtv.specs.Outcomes.{status_of, text_of, message_of}
 use Rattle.svtv.specs.Legal.{IsDone}
 use Rattle.svtv.specs.declared.status.Status.{Status}
 use Rattle.svtv.specs.declared.status.Status.TheVariants.{Memory}
+use Rattle.svtv.proofs.Runs.{have_runs}
 use Rattle.sv_outside.proofs.Counts.{rose}
-use Rattle.svtv.proofs.Benches.{have_runs}
 use Rattle.svtv.proofs.Complete.{ends, left}
 use Rattle.svtv.proofs.Ends.{with_text-nothing}
 use Rattle.svtv.proofs.top.svtv.Goals as goal

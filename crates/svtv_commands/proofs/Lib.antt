@@ -1,0 +1,4 @@
+pub mod Benches
+pub mod Designs
+pub mod Tables
+pub mod Turns

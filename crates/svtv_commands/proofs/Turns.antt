@@ -1,0 +1,200 @@
+-- Files in their turn: those before them are legal.
+use Rattle.std.proofs.Common.{◌≡◌, ℕ, ◌≤◌, List, [], map, Option, Bool, sym, ◌∙◌, ap, subst, inl, inr}
+use Rattle.std.specs.List.{All, AllZip, IsDistinct}
+use Rattle.std.specs.Str.{bytes_eq}
+use Rattle.flat_net.specs.declared.flat.Flat.{Flat}
+use Rattle.fourvec.specs.declared.Bit.{Bit}
+use Rattle.goal_text.specs.declared.goal.Goal.{Goal}
+use Rattle.goal_text.specs.Nodes.{IsGoal}
+use Rattle.goal_tree.specs.declared.tree.GoalTree.{GoalTree}
+use Rattle.sv_elab.specs.Elaborated.{IsElaborated}
+use Rattle.sv_meaning.specs.Designs.{Design}
+use Rattle.sv_outside.specs.declared.refusal.TextErr.{TextErr}
+use Rattle.sv_outside.specs.declared.refusal.TextErr.TheVariants as e
+use Rattle.sv_outside.specs.declared.text.Signal.{Signal}
+use Rattle.svex_arena.specs.declared.shape.Shape.{Shape}
+use Rattle.svtv_choices.specs.Choices.{bits_of}
+use Rattle.svtv_choices.specs.Rooms.{room_faults}
+use Rattle.svtv_choices.proofs.Values.{values_choice}
+use Rattle.svtv_decide.specs.Trials.{Poses, bench}
+use Rattle.svtv_report.specs.Shown.{sample_texts, var_texts}
+use Rattle.svtv_report.specs.Texts.{value_lines, report}
+use Rattle.svtv_least.specs.Running.{AreAsWide}
+use Rattle.svtv_runs.specs.Runs.{Asked, Run, IsLeastRun}
+use Rattle.svtv_runs.proofs.Runs.{least_run_stands}
+use Rattle.svtv_table.specs.Binding.{HasWidth, IsBound, bound_of}
+use Rattle.svtv_table.specs.Faults as faults
+use Rattle.svtv_table.specs.Names.{name_of}
+use Rattle.svtv_table.specs.Stimuli.{IsChoice, values_of}
+use Rattle.svtv_table.specs.declared.bound.Bound.{Bound}
+use Rattle.svtv_table.specs.declared.bound.Sample.{Sample}
+use Rattle.svtv_table.specs.declared.bound.VarDecl.{VarDecl}
+use Rattle.svtv_table.proofs.Bounds as bounds
+use Rattle.svtv_table.proofs.Formed.{is_formed}
+use Rattle.svtv_table.proofs.Shape.{is_bound}
+use Rattle.svtv_table.specs.Reading.{IsWellFormed}
+use Rattle.svtv_verdicts.specs.Benches.{sampled_in}
+use Rattle.svtv_commands.specs.Done.{Proves, Simulates}
+use Rattle.svtv_files.specs.Files.{Text, Told, IsDesignFile, IsValuesFile, bench_of, samples_in, vars_of}
+use Rattle.svtv_commands.specs.Inputs.{AreGoalsIn, Stands}
+use Rattle.svtv_texts.specs.Rights.{IsReport, names_of}
+use Rattle.svtv_files.specs.Refusals.{HasNoRoom, HasRoom, LeavesProof, LeavesSetup, LeavesSimulation, RefusesGoals, RefusesProof, RefusesSetup, RefusesSimulation, RefusesTable, RefusesValues}
+use Rattle.svtv_files.specs.Stopping.{IsOf, Stops}
+use Rattle.svtv_commands.specs.declared.setup.Setup.{Setup}
+use Rattle.svtv_files.specs.declared.stop.Stop.{Stop}
+use Rattle.svtv_files.specs.declared.stop.Stop.TheVariants.{Refused, Unread, Memory}
+use Rattle.svtv_commands.proofs.Benches.{poses, samples_wide}
+use Rattle.svtv_commands.proofs.Tables.{StopsAs}
+use Rattle.svtv_texts.proofs.Verdicts.{names_same}
+
+pub same_told : (new told : Told) → ((other : Text) → new other ≡ told other) → new ≡ told
+same_told new told h = λ i other. h other i
+
+-- ---- the table
+
+table_stop : (told : Told) (d t : Text) (top : Option Text) (design : Design) (stop : Stop) → IsDesignFile told d top design → StopsAs t (RefusesTable told t design.wires) stop
+    → Stops (RefusesSetup told d t top) (LeavesSetup told d t top) stop
+table_stop told d t top design (Refused file r) is h = inr (h.0, design, is, h.1)
+table_stop told d t top design (Unread file place) is h = inr (h.0, h.1, design, is)
+table_stop told d t top design Memory is h = tt
+
+pub table_turn : (told new : Told) (d t : Text) (top : Option Text) (design : Design) (flat : Flat) (wires : List Signal) (stop : Stop) → new ≡ told → wires ≡ flat.wires → IsDesignFile told d top design
+    → IsElaborated design flat → StopsAs t (RefusesTable new t wires) stop → Stops (RefusesSetup told d t top) (LeavesSetup told d t top) stop
+table_turn told new d t top design flat wires stop n w is el h =
+    table_stop told d t top design stop is
+    (subst (λ (ws : List Signal). StopsAs t (RefusesTable told t ws) stop) (w ∙ el.wires) (subst (λ (x : Told). StopsAs t (RefusesTable x t wires) stop) n h))
+
+-- ---- behind a design and a table
+
+module _ (told : Told) (d t : Text) (top : Option Text) (x : Setup) (s : Stands told d t top x) where
+  wires_wide : All (λ w. HasWidth w.width) s.design.wires
+  wires_wide = subst (λ ws. All (λ (w : Signal). HasWidth w.width) ws) s.elaborated.wires (λ i c l. let signal = s.elaborated.sound.wires i c l in (signal.some, signal.most))
+
+  vars_are : x.bound.vars ≡ vars_of s.design x.table
+  unfolding bound_of
+  vars_are = ap (λ (b : Bound). b.vars) s.bound
+
+  samples_are : x.bound.samples ≡ samples_in s.design x.table
+  unfolding bound_of
+  samples_are = ap (λ (b : Bound). b.samples) s.bound
+
+  pub vars_wide : (vars : List VarDecl) → vars ≡ x.bound.vars → All (λ v. HasWidth v.width) vars
+  vars_wide vars h = subst (λ vs. All (λ (v : VarDecl). HasWidth v.width) vs) (sym (h ∙ vars_are)) (bounds.vars_wide s.design.wires x.table.rows wires_wide)
+
+  pub samples_all_wide : (samples : List Sample) → samples ≡ x.bound.samples → All (λ v. HasWidth v.width) samples
+  samples_all_wide samples h = subst (λ vs. All (λ (v : Sample). HasWidth v.width) vs) (sym (h ∙ samples_are)) (samples_wide s.design.wires wires_wide x.table.rows)
+
+  pub vars_distinct : (vars : List VarDecl) → vars ≡ x.bound.vars → IsDistinct bytes_eq (map name_of vars)
+  vars_distinct vars h = subst (λ vs. IsDistinct bytes_eq (map name_of vs)) (sym (h ∙ vars_are)) (bounds.vars_distinct s.design.wires x.table.rows)
+
+  -- the table fits the wires
+  pub fits : IsBound x.flat.wires x.bound
+  fits =
+      let read = s.setup.is_table.read in
+      let formed : IsWellFormed x.table = subst IsWellFormed (sym read.is) (is_formed read.records read.clear) in
+      subst (λ (b : Bound). IsBound x.flat.wires b) (sym s.bound)
+      (subst (λ (ws : List Signal). IsBound ws (bound_of s.design.wires x.table)) (sym s.elaborated.wires) (is_bound s.design.wires x.table formed s.setup.is_table.clear))
+
+  -- ---- proofs
+
+  room_stop : (g : Text) (error : TextErr) (stop : Stop) → faults.Stops (room_faults x.table.rows (vars_of s.design x.table)) error → IsOf t error stop → Stops (RefusesProof told d t g top) (LeavesProof told d t g top) stop
+  unfolding faults.Stops
+  room_stop g (e.No r) (Refused file own) h i = inr (s.design, x.table, s.setup, inl (i.1, subst (HasNoRoom s.design x.table) (sym i.0) h))
+  room_stop g (e.No r) (Unread file place) h i = absurd i
+  room_stop g (e.No r) Memory h i = tt
+  room_stop g e.Memory (Refused file own) h i = absurd i
+  room_stop g e.Memory (Unread file place) h i = absurd i
+  room_stop g e.Memory Memory h i = tt
+
+  pub room_turn : (g : Text) (vars : List VarDecl) (error : TextErr) (stop : Stop) → vars ≡ x.bound.vars → faults.Stops (room_faults x.table.rows vars) error → IsOf t error stop
+      → Stops (RefusesProof told d t g top) (LeavesProof told d t g top) stop
+  room_turn g vars error stop v h i = room_stop g error stop (subst (λ vs. faults.Stops (room_faults x.table.rows vs) error) (v ∙ vars_are) h) i
+
+  goals_stop : (g : Text) (stop : Stop) → HasRoom s.design x.table → StopsAs g (RefusesGoals told g (vars_of s.design x.table) (samples_in s.design x.table)) stop
+      → Stops (RefusesProof told d t g top) (LeavesProof told d t g top) stop
+  goals_stop g (Refused file r) room h = inr (s.design, x.table, s.setup, inr (h.0, room, h.1))
+  goals_stop g (Unread file place) room h = inr (s.design, x.table, s.setup, (h.0, h.1, room))
+  goals_stop g Memory room h = tt
+
+  pub goals_turn : (new : Told) (g : Text) (vars : List VarDecl) (samples : List Sample) (own : List VarDecl) (bits : ℕ) (stop : Stop) → new ≡ told → vars ≡ x.bound.vars → samples ≡ x.bound.samples → own ≡ x.bound.vars
+      → bits ≡ bits_of own → bits ≤ 16 → StopsAs g (RefusesGoals new g vars samples) stop → Stops (RefusesProof told d t g top) (LeavesProof told d t g top) stop
+  goals_turn new g vars samples own bits stop n v m o b few h =
+      let room : bits_of (vars_of s.design x.table) ≤ 16 = subst (λ k. k ≤ 16) (b ∙ ap bits_of (o ∙ vars_are)) few in
+      goals_stop g stop room
+      (subst (λ ss. StopsAs g (RefusesGoals told g (vars_of s.design x.table) ss) stop) (m ∙ samples_are)
+      (subst (λ vs. StopsAs g (RefusesGoals told g vs samples) stop) (v ∙ vars_are) (subst (λ (y : Told). StopsAs g (RefusesGoals y g vars samples) stop) n h)))
+
+  -- what the report is a report of
+  abbrev Reports : Bound → List Shape → List Goal → Bool → Text → Type 0
+  Reports b shapes goals all text = (design : Design) (asked : List (List Bit) → Asked) (trees : List GoalTree) → Poses design asked x.flat b → AllZip (IsGoal b.vars b.samples shapes) trees goals
+      → IsReport (bench design asked b) trees (names_of goals) all text
+
+  pub is_proof : (new : Told) (g : Text) (vars : List VarDecl) (samples : List Sample) (shapes : List Shape) (goals : List Goal) (all : Bool) (text : Text) → new ≡ told → vars ≡ x.bound.vars → samples ≡ x.bound.samples
+      → AreGoalsIn new g vars samples shapes goals → Reports x.bound shapes goals all text → Proves told d t g top all text
+  unfolding bound_of
+  is_proof new g vars samples shapes goals all text n v m are h =
+      let own : AreGoalsIn told g (vars_of s.design x.table) (samples_in s.design x.table) shapes goals =
+      subst (λ ss. AreGoalsIn told g (vars_of s.design x.table) ss shapes goals) (m ∙ samples_are)
+      (subst (λ vs. AreGoalsIn told g vs samples shapes goals) (v ∙ vars_are) (subst (λ (y : Told). AreGoalsIn y g vars samples shapes goals) n are)) in
+      let reports : Reports (bound_of s.design.wires x.table) shapes goals all text = subst (λ (b : Bound). Reports b shapes goals all text) s.bound h in
+      let r : IsReport (bench_of s.design x.table) own.trees (names_of goals) all text =
+      reports s.design (bench_of s.design x.table).asked own.trees (poses s.design x.flat x.table s.elaborated s.setup.is_table.clear) own.each in
+      record {
+        design = s.design;
+        table = x.table;
+        setup = s.setup;
+        goals = own.trees;
+        are_goals = own.file;
+        verdicts = r.verdicts;
+        shown = r.shown;
+        right = r.right;
+        printed = r.printed ∙ ap (λ names. report (var_texts (vars_of s.design x.table)) (sample_texts (samples_in s.design x.table)) names r.verdicts r.shown) (names_same (vars_of s.design x.table) (samples_in s.design x.table) shapes own.trees goals own.each);
+        whole = r.whole;
+      }
+
+  -- ---- simulations
+
+  values_stop : (v : Text) (stop : Stop) → StopsAs v (RefusesValues told v (vars_of s.design x.table)) stop → Stops (RefusesSimulation told d t v top) (LeavesSimulation told d t v top) stop
+  values_stop v (Refused file r) h = inr (s.design, x.table, s.setup, (h.0, h.1))
+  values_stop v (Unread file place) h = inr (s.design, x.table, s.setup, (h.0, h.1))
+  values_stop v Memory h = tt
+
+  pub values_turn : (new : Told) (v : Text) (vars : List VarDecl) (stop : Stop) → new ≡ told → vars ≡ x.bound.vars → StopsAs v (RefusesValues new v vars) stop
+      → Stops (RefusesSimulation told d t v top) (LeavesSimulation told d t v top) stop
+  values_turn new v vars stop n q h =
+      values_stop v stop (subst (λ vs. StopsAs v (RefusesValues told v vs) stop) (q ∙ vars_are) (subst (λ (y : Told). StopsAs v (RefusesValues y v vars) stop) n h))
+
+  -- the values of a file are as wide as the variables
+  pub values_wide : (new : Told) (v : Text) (vars : List VarDecl) (choice own : List (List Bit)) → vars ≡ x.bound.vars → own ≡ choice → IsValuesFile new v vars choice → AreAsWide x.bound.vars own
+  values_wide new v vars choice own q o is =
+      let file : IsValuesFile new v (vars_of s.design x.table) choice = subst (λ vs. IsValuesFile new v vs choice) (q ∙ vars_are) is in
+      let chosen : IsChoice (vars_of s.design x.table) choice = subst (λ c. IsChoice (vars_of s.design x.table) c) (sym file.is)
+      (values_choice (vars_of s.design x.table) file.records (bounds.vars_distinct s.design.wires x.table.rows) file.clear) in
+      subst (λ vs. AreAsWide vs own) (sym vars_are) (subst (λ c. AreAsWide (vars_of s.design x.table) c) (sym o) chosen.widths)
+
+  -- what the text has the samples of
+  abbrev Samples : Bound → List (List Bit) → Text → Type 0
+  Samples b choice text = (design : Design) → IsElaborated design x.flat → (r : Run) → IsLeastRun design (values_of choice b.drives) b.phases r
+      → text ≡ value_lines [] (sample_texts b.samples) (sampled_in b.samples r)
+
+  pub is_simulation : (new : Told) (v : Text) (vars : List VarDecl) (choice own : List (List Bit)) (text : Text) → new ≡ told → vars ≡ x.bound.vars → own ≡ choice → IsValuesFile new v vars choice
+      → Samples x.bound own text → Simulates told d t v top text
+  unfolding bound_of
+  is_simulation new v vars choice own text n q o is h =
+      let file : IsValuesFile told v (vars_of s.design x.table) choice = subst (λ vs. IsValuesFile told v vs choice) (q ∙ vars_are) (subst (λ (y : Told). IsValuesFile y v vars choice) n is) in
+      let chosen : IsChoice (vars_of s.design x.table) choice = subst (λ c. IsChoice (vars_of s.design x.table) c) (sym file.is)
+      (values_choice (vars_of s.design x.table) file.records (bounds.vars_distinct s.design.wires x.table.rows) file.clear) in
+      let p = poses s.design x.flat x.table s.elaborated s.setup.is_table.clear in
+      let b = bound_of s.design.wires x.table in
+      let samples : Samples b choice text = subst (λ c. Samples b c text) o (subst (λ (y : Bound). Samples y own text) s.bound h) in
+      let least = least_run_stands s.design (values_of choice b.drives) b.phases (p.apart choice) in
+      record {
+        design = s.design;
+        table = x.table;
+        setup = s.setup;
+        choice = choice;
+        is_choice = file;
+        run = least.0;
+        least = subst (λ rows. IsLeastRun s.design rows b.phases least.0) (p.asked choice chosen) least.1;
+        printed = samples s.design s.elaborated least.0 least.1;
+      }

@@ -1,0 +1,40 @@
+-- What a command that is done prints.
+use Rattle.std.specs.Prelude.{◌≡◌, ℕ, Bool, List, [], Option}
+use Rattle.std.specs.List.{list_all}
+use Rattle.fourvec.specs.declared.Bit.{Bit}
+use Rattle.goal_tree.specs.declared.tree.GoalTree.{GoalTree}
+use Rattle.sv_meaning.specs.Designs.{Design}
+use Rattle.svtv_files.specs.Files.{Text, Told, AreGoalsFile, IsValuesFile, bench_of, samples_in, vars_of}
+use Rattle.svtv_files.specs.Refusals.{IsSetup}
+use Rattle.svtv_report.specs.Shown.{sample_texts, var_texts}
+use Rattle.svtv_report.specs.Texts.{report, value_lines}
+use Rattle.svtv_runs.specs.Runs.{Run}
+use Rattle.svtv_texts.specs.Rights.{AreRight, goal_names, is_proved}
+use Rattle.svtv_verdicts.specs.Benches.{IsLeastUnder, sampled_in}
+use Rattle.svtv_verdicts.specs.Verdicts.{Verdict}
+use Rattle.table_cells.specs.declared.table.Table.{Table}
+
+-- The headline: the text is the report of verdicts, one for each goal in order, that are right on what the three files stand for. They are so whatever
+-- budget is given, and where none is: no goal is left undecided.
+pub record Proves (told : Told) (d t g : Text) (top : Option Text) (all : Bool) (text : Text) : Type 0 where
+  pub design : Design
+  pub table : Table
+  pub setup : IsSetup told d t top design table
+  pub goals : List GoalTree
+  pub are_goals : AreGoalsFile told g (vars_of design table) (samples_in design table) goals
+  pub verdicts : List Verdict
+  pub shown : List (List (List Bit))
+  pub right : (budget : Option ℕ) → AreRight (bench_of design table) goals budget verdicts shown
+  pub printed : text ≡ report (var_texts (vars_of design table)) (sample_texts (samples_in design table)) (goal_names goals) verdicts shown
+  pub whole : all ≡ list_all is_proved verdicts
+
+-- The text has the samples of the least run under the values of a file.
+pub record Simulates (told : Told) (d t v : Text) (top : Option Text) (text : Text) : Type 0 where
+  pub design : Design
+  pub table : Table
+  pub setup : IsSetup told d t top design table
+  pub choice : List (List Bit)
+  pub is_choice : IsValuesFile told v (vars_of design table) choice
+  pub run : Run
+  pub least : IsLeastUnder (bench_of design table) choice run
+  pub printed : text ≡ value_lines [] (sample_texts (samples_in design table)) (sampled_in (samples_in design table) run)

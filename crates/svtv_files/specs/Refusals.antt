@@ -1,0 +1,148 @@
+-- Why a file is refused, or is not read, when its turn comes: the files before it are legal.
+use Rattle.std.specs.Prelude.{◌≡◌, ◌⊎◌, ◌<◌, ◌≤◌, ◌^◌, List, length, slice_get, Option, Some, Err, IfSome}
+use Rattle.std.specs.List.{Contains}
+use Rattle.goal_text.specs.Goals.{HasCause}
+use Rattle.sv_elab.specs.Elaborated.{sound_design}
+use Rattle.sv_meaning.specs.Designs.{Design}
+use Rattle.sv_meaning.specs.Faults.{Faults}
+use Rattle.sv_outside.specs.Text.{TokenList}
+use Rattle.sv_outside.specs.declared.refusal.Place.{Place}
+use Rattle.sv_outside.specs.declared.refusal.Refusal.{Refusal}
+use Rattle.sv_outside.specs.declared.refusal.TextErr.TheVariants.{No}
+use Rattle.sv_outside.specs.declared.text.Signal.{Signal}
+use Rattle.sv_parser.specs.Answers.{IsSpelled}
+use Rattle.sv_parser.specs.Whole.{IsSyntax, IsDeep}
+use Rattle.sv_preproc.specs.Directives.{IsWholeText}
+use Rattle.sv_preproc.specs.Laws.{Possible}
+use Rattle.sv_preproc.specs.Reached.{StopsIn, no, unread}
+use Rattle.sv_tree.specs.declared.design.Source.{Source}
+use Rattle.svtv_choices.specs.Choices.{bits_of}
+use Rattle.svtv_choices.specs.Rooms.{room_faults}
+use Rattle.svtv_table.specs.Binding.{bind_faults}
+use Rattle.svtv_table.specs.Faults.{first_of}
+use Rattle.svtv_table.specs.Fields.{IsRecords}
+use Rattle.svtv_table.specs.Reading.{table_faults}
+use Rattle.svtv_table.specs.Valuing.{values_faults}
+use Rattle.svtv_table.specs.declared.bound.Sample.{Sample}
+use Rattle.svtv_table.specs.declared.bound.VarDecl.{VarDecl}
+use Rattle.table_cells.specs.declared.table.Table.{Table}
+use Rattle.svtv_words.specs.Commands.{Command, prove, sim}
+use Rattle.svtv_files.specs.Files.{Text, Told, IsDesignFile, IsTableText, IsTableFile, vars_of, samples_in}
+
+-- ---- designs
+
+-- the place is one of the file of that name
+abbrev pub IsIn : TokenList → Refusal → Text → Type 0
+IsIn tokens r file = slice_get tokens.files r.place.file ≡ Some file
+
+-- No tree spells the tokens of the text, or each is nested too deep: why and where.
+pub record IsUnparsed (told : Told) (name : Text) (file : Text) (r : Refusal) : Type 0 where
+  pub tokens : TokenList
+  pub text : IsWholeText (Possible told) name tokens
+  pub why : IsSyntax tokens.list tokens.end (No r) ⊎ IsDeep tokens.list tokens.end (No r)
+  pub place : IsIn tokens r file
+
+-- This stands against what the tree means.
+pub record IsFaulty (told : Told) (name : Text) (top : Option Text) (file : Text) (r : Refusal) : Type 0 where
+  pub tokens : TokenList
+  pub text : IsWholeText (Possible told) name tokens
+  pub tree : Source
+  pub spelled : IsSpelled tree tokens.list
+  pub faults : Faults
+  pub means : sound_design tree top ≡ Err faults
+  pub stands : Contains faults r
+  pub place : IsIn tokens r file
+
+-- The design is refused for this, in the file of that name.
+abbrev pub RefusesDesign : Told → Text → Option Text → Text → Refusal → Type 0
+RefusesDesign told name top file r = StopsIn (Possible told) name (no r) file ⊎ IsUnparsed told name file r ⊎ IsFaulty told name top file r
+
+abbrev pub UnreadDesign : Told → Text → Text → Place → Type 0
+UnreadDesign told name file place = StopsIn (Possible told) name (unread place) file
+
+-- ---- other files
+
+abbrev pub at_first : Place
+at_first = record { file = 0; line = 1; column = 1 }
+
+-- E4: the file is too long
+abbrev pub TooLong : Told → Text → Refusal → Type 0
+TooLong told name r = (r ≡ record { number = 4; place = at_first; count = 0 }) × IfSome (told name) (λ bytes. 2 ^ 24 < length bytes)
+
+-- The first of the faults of its records.
+pub record IsFirstFault (told : Told) (name : Text) (faults : List (List Text) → List Refusal) (r : Refusal) : Type 0 where
+  pub text : Text
+  pub stands : Possible told name text
+  pub records : List (List Text)
+  pub cut : IsRecords text records
+  pub first : first_of (faults records) ≡ Some r
+
+-- The first of what stands against the table over these wires.
+pub record IsUnbound (told : Told) (name : Text) (wires : List Signal) (r : Refusal) : Type 0 where
+  pub table : Table
+  pub read : IsTableText told name table
+  pub first : first_of (bind_faults wires table) ≡ Some r
+
+abbrev pub RefusesTable : Told → Text → List Signal → Refusal → Type 0
+RefusesTable told name wires r = TooLong told name r ⊎ IsFirstFault told name table_faults r ⊎ IsUnbound told name wires r
+
+pub record IsBadGoals (told : Told) (name : Text) (vars : List VarDecl) (samples : List Sample) (r : Refusal) : Type 0 where
+  pub text : Text
+  pub stands : Possible told name text
+  pub cause : HasCause 0 text vars samples r
+
+abbrev pub RefusesGoals : Told → Text → List VarDecl → List Sample → Refusal → Type 0
+RefusesGoals told name vars samples r = TooLong told name r ⊎ IsBadGoals told name vars samples r
+
+abbrev pub RefusesValues : Told → Text → List VarDecl → Refusal → Type 0
+RefusesValues told name vars r = TooLong told name r ⊎ IsFirstFault told name (values_faults vars) r
+
+-- ---- turns
+
+-- The two files are a legal design, and a legal table over its wires.
+pub record IsSetup (told : Told) (d t : Text) (top : Option Text) (design : Design) (table : Table) : Type 0 where
+  pub is_design : IsDesignFile told d top design
+  pub is_table : IsTableFile told t design.wires table
+
+-- one of the two is refused
+abbrev pub RefusesSetup : Told → Text → Text → Option Text → Text → Refusal → Type 0
+RefusesSetup told d t top file r = RefusesDesign told d top file r ⊎ ((file ≡ t) × (design : Design) × IsDesignFile told d top design × RefusesTable told t design.wires r)
+
+-- or is not read
+abbrev pub LeavesSetup : Told → Text → Text → Option Text → Text → Place → Type 0
+LeavesSetup told d t top file place = UnreadDesign told d file place ⊎ ((file ≡ t) × (place ≡ at_first) × (design : Design) × IsDesignFile told d top design)
+
+-- both are legal
+abbrev pub BehindSetup : Told → Text → Text → Option Text → (Design → Table → Type 0) → Type 0
+BehindSetup told d t top Then = (design : Design) × (table : Table) × IsSetup told d t top design table × Then design table
+
+-- E40 where a proof would try too many choices
+abbrev pub HasNoRoom : Design → Table → Refusal → Type 0
+HasNoRoom design table r = first_of (room_faults table.rows (vars_of design table)) ≡ Some r
+
+abbrev pub HasRoom : Design → Table → Type 0
+HasRoom design table = bits_of (vars_of design table) ≤ 16
+
+-- which file of a proof is refused, and for what
+abbrev pub RefusesProof : Told → Text → Text → Text → Option Text → Text → Refusal → Type 0
+RefusesProof told d t g top file r = RefusesSetup told d t top file r ⊎ BehindSetup told d t top (λ design table.
+    ((file ≡ t) × HasNoRoom design table r) ⊎ ((file ≡ g) × HasRoom design table × RefusesGoals told g (vars_of design table) (samples_in design table) r))
+
+-- which is not read: for a design's file at the directive that asks for it
+abbrev pub LeavesProof : Told → Text → Text → Text → Option Text → Text → Place → Type 0
+LeavesProof told d t g top file place = LeavesSetup told d t top file place ⊎ BehindSetup told d t top (λ design table. (file ≡ g) × (place ≡ at_first) × HasRoom design table)
+
+-- the same of a simulation
+abbrev pub RefusesSimulation : Told → Text → Text → Text → Option Text → Text → Refusal → Type 0
+RefusesSimulation told d t v top file r = RefusesSetup told d t top file r ⊎ BehindSetup told d t top (λ design table. (file ≡ v) × RefusesValues told v (vars_of design table) r)
+
+abbrev pub LeavesSimulation : Told → Text → Text → Text → Option Text → Text → Place → Type 0
+LeavesSimulation told d t v top file place = LeavesSetup told d t top file place ⊎ BehindSetup told d t top (λ design table. (file ≡ v) × (place ≡ at_first))
+
+abbrev pub Refuses : Told → Command → Text → Refusal → Type 0
+Refuses told (prove d t g top budget) file r = RefusesProof told d t g top file r
+Refuses told (sim d t v top) file r = RefusesSimulation told d t v top file r
+
+abbrev pub LeavesUnread : Told → Command → Text → Place → Type 0
+LeavesUnread told (prove d t g top budget) file place = LeavesProof told d t g top file place
+LeavesUnread told (sim d t v top) file place = LeavesSimulation told d t v top file place

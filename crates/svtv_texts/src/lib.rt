@@ -1,0 +1,8 @@
+//! The texts of a proof and of a simulation: goals decided in order with their report, and the samples of a least run.
+#![tactic(auto)]
+
+mod judging;
+mod samples;
+
+pub use judging::reported;
+pub use samples::sampled;
