@@ -1,13 +1,2 @@
-pub mod Opening
+pub mod Filed
 pub mod WholeDesign
-pub mod Declaring
-pub mod DeclaringParams
-pub mod DeclaringWires
-pub mod LevelsHeld
-pub mod LevelsSeen
-pub mod PortsIndexed
-pub mod PortsLists
-pub mod Walking
-pub mod WalkingBlocks
-pub mod WalkingChildren
-pub mod WalkingTrees

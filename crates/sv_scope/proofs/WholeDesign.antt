@@ -1,149 +1,35 @@
--- The file level, the top, and what is made of a walk's end.
-use Rattle.std.proofs.Common.{◌≡◌, ℕ, suc, ◌+◌, ◌-◌, ◌<◌, ◌≤◌, Bool, true, false, List, [], ◌∷◌, ◌++◌, length, map, drop, get_or, Option, Some, None, Result, Ok, Err, refl, sym, ap, ◌∙◌, subst, arith}
-use Rattle.std.proofs.lemmas.List.{map-append}
+-- The top, and what is made of a walk's end.
+use Rattle.std.proofs.Common.{◌≡◌, ℕ, suc, ◌-◌, true, List, [], ◌∷◌, length, map, Option, Some, None, Result, Ok, Err, refl, sym, ap, ◌∙◌, subst, arith}
 use Rattle.std.specs.List.{slice_get}
 use Rattle.std.specs.Result.{IsErrAnd}
-use Rattle.sv_outside.specs.declared.refusal.Refusal.{Refusal}
 use Rattle.sv_outside.specs.declared.refusal.TextErr.{TextErr}
 use Rattle.sv_outside.specs.declared.refusal.TextErr.TheVariants.{No, Memory}
 use Rattle.sv_tree.specs.declared.design.Module.{Module}
-use Rattle.sv_tree.specs.declared.design.Param.{Param}
 use Rattle.sv_tree.specs.declared.design.Source.{Source}
 use Rattle.sv_tree.specs.declared.design.SourcePart.{SourcePart}
-use Rattle.sv_tree.specs.declared.design.SourcePart.TheVariants as part
-use Rattle.sv_tree.specs.declared.forms.Typedef.{Typedef}
-use Rattle.sv_meaning.specs.Faults.{Faults, Judged, ◌>>=◌, provided, fault_if, twice}
+use Rattle.sv_meaning.specs.Faults.{Faults, Judged, ◌>>=◌, provided}
 use Rattle.sv_meaning.specs.Layouts.{Name}
 use Rattle.sv_hierarchy.specs.Libraries.{IsLibraryOf, modules_in}
 use Rattle.sv_hierarchy.specs.Scopes as m
 use Rattle.sv_hierarchy.specs.Scopes.{library, instances_from}
-use Rattle.sv_hierarchy.proofs.Found.{there_is, library_is, library_once}
+use Rattle.sv_hierarchy.proofs.Found.{library_is, library_once}
 use Rattle.sv_loops.specs.Answers.{Answers}
-use Rattle.sv_modules.specs.Naming.{Adds, Holds, holds}
 use Rattle.sv_modules.specs.Libraries.{modules_once}
 use Rattle.sv_modules.specs.Listed.{modules_of}
-use Rattle.sv_modules.specs.declared.name_set.NameSet.{NameSet}
 use Rattle.sv_modules.specs.declared.numbered.Modules.{Modules}
-use Rattle.sv_modules.proofs.Sets.{holds_more}
-use Rattle.sv_modules.proofs.Turns.{drop_next, drop_none}
 use Rattle.sv_meaning.specs.Params.{Connection}
-use Rattle.sv_scope.specs.Levels.{levels_are}
-use Rattle.sv_scope.specs.Library.{KnowsNumber}
+use Rattle.sv_levels.specs.Levels.{levels_are}
+use Rattle.sv_levels.specs.Library.{KnowsNumber}
 use Rattle.sv_scope.specs.Scoped.{IsRead, IsScoped, IsWalked, Reads}
-use Rattle.sv_scope.specs.Walks.{state_of, work_is}
-use Rattle.sv_scope.specs.declared.instances.Library.{Library}
-use Rattle.sv_scope.specs.declared.walker.Walker.{Walker}
-use Rattle.sv_scope.specs.declared.walker.Open.{Open}
+use Rattle.sv_levels.specs.Tasks.{work_is}
+use Rattle.sv_walk.specs.Walks.{state_of}
+use Rattle.sv_levels.specs.declared.library.Library.{Library}
+use Rattle.sv_walk.specs.declared.walker.Walker.{Walker}
+use Rattle.sv_walk.specs.declared.walker.Open.{Open}
 use Rattle.sv_scope.specs.declared.whole.DesignScopes.{DesignScopes}
-use Rattle.sv_scope.proofs.Opening.{Reached, answers_memory, refused_first, IsAmong, among_unused, among_one, among_named, own_number}
-
--- ---- the parts of a text
-
-abbrev name_of : m.Known → Name
-name_of k = k.tree.name.text
-
--- So many parts of a text are read: some library has these names of modules and this many names above each, and what is left leads on from it.
-pub record Filed (parts : List SourcePart) (i : ℕ) (start st : m.State) (names : NameSet) (above : List ℕ) : Type 0 where
-  pub all : m.Library
-  pub names_are : Holds names (map (λ (k : m.Known). k.tree.name.text) all)
-  pub above_are : map (λ (k : m.Known). k.above) all ≡ above
-  pub rest : m.library parts [] start ≡ m.library (drop i parts) all st
-
-pub filed_none : (parts : List SourcePart) (start : m.State) (names : NameSet) (above : List ℕ) → Holds names [] → above ≡ [] → Filed parts 0 start start names above
-filed_none parts start names above h e = record { all = []; names_are = h; above_are = sym e; rest = refl }
-
-known_of : m.Library → m.State → Module → m.Known
-known_of all st t = record { tree = t; number = length all; above = (m.here st).consts }
-
-module_is : (t : Module) (more : List SourcePart) (all : m.Library) (st : m.State) → m.library (part.Module t ∷ more) all st ≡
-    (provided (fault_if (m.is_there (m.module_named t.name.text all)) twice t.name.place) (known_of all st t) >>= λ k. m.library more (all ++ k ∷ []) st)
-unfolding library known_of
-module_is t more all st = refl
-
-typedef_is : (d : Typedef) (more : List SourcePart) (all : m.Library) (st : m.State) → m.library (part.Typedef d ∷ more) all st ≡ (m.add_typedef d st >>= m.library more all)
-unfolding library
-typedef_is d more all st = refl
-
-param_is : (p : Param) (more : List SourcePart) (all : m.Library) (st : m.State) → m.library (part.Param p ∷ more) all st ≡ (m.add_params p st >>= m.library more all)
-unfolding library
-param_is p more all st = refl
-
-library_end : (all : m.Library) (st : m.State) → m.library [] all st ≡ Ok (all, st)
-unfolding library
-library_end all st = refl
-
-unless_there : (b : Bool) (t : Module) (k : m.Known) (f : m.Known → Judged (m.Library × m.State)) → b ≡ false → (provided (fault_if b twice t.name.place) k >>= f) ≡ f k
-unless_there false t k f h = refl
-unless_there true t k f h = cc
-
-if_there : (b : Bool) (t : Module) (k : m.Known) (f : m.Known → Judged (m.Library × m.State)) → b ≡ true → (provided (fault_if b twice t.name.place) k >>= f) ≡ Err (record { number = twice; place = t.name.place; count = 0 } ∷ [])
-if_there true t k f h = refl
-if_there false t k f h = cc
-
-next_part : (parts : List SourcePart) (i : ℕ) (x y : SourcePart) (all : m.Library) (st : m.State) → i < length parts → x ≡ get_or parts i x → x ≡ y → m.library (drop i parts) all st ≡ m.library (y ∷ drop (i + 1) parts) all st
-next_part parts i x y all st h e g = ap (λ (ps : List SourcePart). m.library ps all st) (drop_next parts i x h e ∙ ap (λ (p : SourcePart). p ∷ drop (i + 1) parts) g)
-
-pub filed_module : (parts : List SourcePart) (i : ℕ) (start st : m.State) (names more : NameSet) (above longer : List ℕ) (x : SourcePart) (t : Module) (n : ℕ) → Filed parts i start st names above → i < length parts → x ≡ get_or parts i x →
-    x ≡ part.Module t → holds names t.name.text ≡ false → Adds names (t.name.text ∷ []) more → longer ≡ above ++ n ∷ [] → n ≡ (m.here st).consts → Filed parts (i + 1) start st more longer
-unfolding known_of
-filed_module parts i start st names more above longer x t n f h e g none adds l k = record {
-  all = f.all ++ known_of f.all st t ∷ [];
-  names_are = subst (Holds more) (sym (map-append (λ (y : m.Known). y.tree.name.text) f.all (known_of f.all st t ∷ []))) (holds_more names more (map (λ (y : m.Known). y.tree.name.text) f.all) (t.name.text ∷ []) f.names_are adds);
-  above_are = map-append (λ (y : m.Known). y.above) f.all (known_of f.all st t ∷ []) ∙ ap (λ (ns : List ℕ). ns ++ (m.here st).consts ∷ []) f.above_are ∙ ap (λ (c : ℕ). above ++ c ∷ []) (sym k) ∙ sym l;
-  rest = f.rest ∙ next_part parts i x (part.Module t) f.all st h e g ∙ module_is t (drop (i + 1) parts) f.all st
-      ∙ unless_there (m.is_there (m.module_named t.name.text f.all)) t (known_of f.all st t) (λ y. m.library (drop (i + 1) parts) (f.all ++ y ∷ []) st) (there_is t.name.text f.all ∙ sym (f.names_are t.name.text) ∙ none);
-}
-
-pub filed_twice : {D : Type 0} (s : m.Library × m.State → D → Type 0) (parts : List SourcePart) (i : ℕ) (start st : m.State) (names : NameSet) (above : List ℕ) (x : SourcePart) (t : Module) → Filed parts i start st names above → i < length parts →
-    x ≡ get_or parts i x → x ≡ part.Module t → holds names t.name.text ≡ true → (why : Refusal) → why ≡ record { number = twice; place = t.name.place; count = 0 } → Answers s (m.library parts [] start) (Err (No why))
-filed_twice s parts i start st names above x t f h e g there why k =
-    subst (λ (y : Refusal). Answers s (m.library parts [] start) (Err (No y))) (sym k)
-    (subst (λ (j : Judged (m.Library × m.State)). Answers s j (Err (No (record { number = twice; place = t.name.place; count = 0 }))))
-    (sym (f.rest ∙ next_part parts i x (part.Module t) f.all st h e g ∙ module_is t (drop (i + 1) parts) f.all st
-    ∙ if_there (m.is_there (m.module_named t.name.text f.all)) t (known_of f.all st t) (λ y. m.library (drop (i + 1) parts) (f.all ++ y ∷ []) st) (there_is t.name.text f.all ∙ sym (f.names_are t.name.text) ∙ there)))
-    (0, omega arith, refl))
-
-pub filed_typedef : (parts : List SourcePart) (i : ℕ) (start st next : m.State) (names : NameSet) (above : List ℕ) (x : SourcePart) (d : Typedef) → Filed parts i start st names above → i < length parts → x ≡ get_or parts i x →
-    x ≡ part.Typedef d → m.add_typedef d st ≡ Ok next → Filed parts (i + 1) start next names above
-filed_typedef parts i start st next names above x d f h e g n = record {
-  all = f.all;
-  names_are = f.names_are;
-  above_are = f.above_are;
-  rest = f.rest ∙ next_part parts i x (part.Typedef d) f.all st h e g ∙ typedef_is d (drop (i + 1) parts) f.all st ∙ ap (λ (j : Judged m.State). j >>= m.library (drop (i + 1) parts) f.all) n;
-}
-
-pub filed_param : (parts : List SourcePart) (i : ℕ) (start st next : m.State) (names : NameSet) (above : List ℕ) (x : SourcePart) (p : Param) → Filed parts i start st names above → i < length parts → x ≡ get_or parts i x →
-    x ≡ part.Param p → m.add_params p st ≡ Ok next → Filed parts (i + 1) start next names above
-filed_param parts i start st next names above x p f h e g n = record {
-  all = f.all;
-  names_are = f.names_are;
-  above_are = f.above_are;
-  rest = f.rest ∙ next_part parts i x (part.Param p) f.all st h e g ∙ param_is p (drop (i + 1) parts) f.all st ∙ ap (λ (j : Judged m.State). j >>= m.library (drop (i + 1) parts) f.all) n;
-}
-
-pub no_typedef : {B D : Type 0} (r : m.State → B → Type 0) (s : m.Library × m.State → D → Type 0) (parts : List SourcePart) (i : ℕ) (start st : m.State) (names : NameSet) (above : List ℕ) (x : SourcePart) (d : Typedef) (why : TextErr) →
-    Filed parts i start st names above → i < length parts → x ≡ get_or parts i x → x ≡ part.Typedef d → Answers r (m.add_typedef d st) (Err why) → Answers s (m.library parts [] start) (Err why)
-no_typedef r s parts i start st names above x d why f h e g n =
-    subst (λ (j : Judged (m.Library × m.State)). Answers s j (Err why)) (sym (f.rest ∙ next_part parts i x (part.Typedef d) f.all st h e g ∙ typedef_is d (drop (i + 1) parts) f.all st))
-    (refused_first r s (m.add_typedef d st) (m.library (drop (i + 1) parts) f.all) why n)
-
-pub no_param : {B D : Type 0} (r : m.State → B → Type 0) (s : m.Library × m.State → D → Type 0) (parts : List SourcePart) (i : ℕ) (start st : m.State) (names : NameSet) (above : List ℕ) (x : SourcePart) (p : Param) (why : TextErr) →
-    Filed parts i start st names above → i < length parts → x ≡ get_or parts i x → x ≡ part.Param p → Answers r (m.add_params p st) (Err why) → Answers s (m.library parts [] start) (Err why)
-no_param r s parts i start st names above x p why f h e g n =
-    subst (λ (j : Judged (m.Library × m.State)). Answers s j (Err why)) (sym (f.rest ∙ next_part parts i x (part.Param p) f.all st h e g ∙ param_is p (drop (i + 1) parts) f.all st))
-    (refused_first r s (m.add_params p st) (m.library (drop (i + 1) parts) f.all) why n)
-
--- the same of values that are equal
-pub filed_as : (parts : List SourcePart) (i : ℕ) (start : m.State) (w v : Walker) (o p : Open) (names more : NameSet) (above longer : List ℕ) → v ≡ w → p ≡ o → more ≡ names → longer ≡ above →
-    Filed parts i start (state_of w o) names above → Filed parts i start (state_of v p) more longer
-filed_as parts i start w v o p names more above longer a b c d f =
-    subst (λ (x : Walker). Filed parts i start (state_of x p) more longer) (sym a)
-    (subst (λ (x : Open). Filed parts i start (state_of w x) more longer) (sym b)
-    (subst (λ (x : NameSet). Filed parts i start (state_of w o) x longer) (sym c)
-    (subst (λ (x : List ℕ). Filed parts i start (state_of w o) names x) (sym d) f)))
-
-pub filed_end : (parts : List SourcePart) (i : ℕ) (start st : m.State) (names : NameSet) (above : List ℕ) (f : Filed parts i start st names above) → length parts ≤ i → m.library parts [] start ≡ Ok (f.all, st)
-filed_end parts i start st names above f h = f.rest ∙ ap (λ (ps : List SourcePart). m.library ps f.all st) (drop_none parts i h) ∙ library_end f.all st
+use Rattle.sv_walk.proofs.Opening.{Reached}
+use Rattle.sv_levels.proofs.Wired.{refused_first}
+use Rattle.sv_levels.proofs.ByNumber.{answers_memory, IsAmong, among_unused, among_one, among_named, own_number}
 
 -- ---- the top
 

@@ -1,8 +1,2 @@
-pub mod Levels
-pub mod Overriding
-pub mod Walks
-pub mod Ports
-pub mod Looping
-pub mod Items
-pub mod Library
+pub mod Filing
 pub mod Scoped

@@ -8,15 +8,16 @@ use Rattle.sv_meaning.specs.Layouts.{Name}
 use Rattle.sv_meaning.specs.Designs.{Design}
 use Rattle.sv_loops.specs.Answers.{Answers}
 use Rattle.sv_hierarchy.specs.Scopes as m
-use Rattle.sv_scope.specs.declared.instances.Library.{Library}
-use Rattle.sv_scope.specs.declared.instances.Known.{Known}
-use Rattle.sv_scope.specs.declared.levels.Instance.{Instance}
+use Rattle.sv_levels.specs.declared.library.Library.{Library}
+use Rattle.sv_levels.specs.declared.library.Known.{Known}
+use Rattle.sv_levels.specs.declared.levels.Instance.{Instance}
 use Rattle.sv_scope.specs.declared.whole.DesignScopes.{DesignScopes}
-use Rattle.sv_scope.specs.declared.walker.Walker.{Walker}
-use Rattle.sv_scope.specs.declared.walker.Open.{Open}
-use Rattle.sv_scope.specs.Levels.{front_is, levels_are}
-use Rattle.sv_scope.specs.Library.{IsLibrary, known_is}
-use Rattle.sv_scope.specs.Walks.{state_of, work_is}
+use Rattle.sv_walk.specs.declared.walker.Walker.{Walker}
+use Rattle.sv_walk.specs.declared.walker.Open.{Open}
+use Rattle.sv_levels.specs.Levels.{levels_are}
+use Rattle.sv_levels.specs.Library.{IsLibrary, known_is}
+use Rattle.sv_levels.specs.Tasks.{work_is}
+use Rattle.sv_walk.specs.Walks.{state_of}
 
 -- ---- what a walk found at its end
 
@@ -72,7 +73,3 @@ design_is s = record { wires = wires_of s; works = map (m.work_at (levels_of s))
 
 abbrev pub instances_of : DesignScopes → List m.Instance
 instances_of s = m.instances_from 1 (levels_of s) (m.behind (levels_of s))
-
--- an instance or block, with all names that it sees at its end
-abbrev pub instance_is : List m.Level → Instance → m.Instance
-instance_is all i = record { path = i.path.now; module_number = i.module; parent = i.parent; scope = m.live_at all (front_is i.at) }

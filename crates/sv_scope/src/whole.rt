@@ -4,20 +4,21 @@ ghost use Rattle.std.specs.Option.{option_copied};
 ghost use Rattle.sv_loops.specs.Answers.{Answers};
 ghost use Rattle.sv_const.specs.Names.{names_are, loops_of};
 ghost use Rattle.sv_hierarchy.specs.Scopes as m;
-ghost use Rattle.sv_scope.specs.Levels.{front_is};
-ghost use Rattle.sv_scope.specs.Scoped.{FromSome, FromTop, IsScoped, IsWalked, Reads, instance_is, instances_of, levels_of, turns_of, wires_of, works_of};
-ghost use Rattle.sv_scope.specs.Walks.{IsNothing, work_is};
+ghost use Rattle.sv_levels.specs.Levels.{front_is, instance_is};
+ghost use Rattle.sv_scope.specs.Scoped.{FromSome, FromTop, IsScoped, IsWalked, Reads, instances_of, levels_of, turns_of, wires_of, works_of};
+ghost use Rattle.sv_levels.specs.Tasks.{work_is};
+ghost use Rattle.sv_walk.specs.Walks.{IsNothing};
 
+use crate::file::file_level;
 use crate::held::let_go;
-use crate::instances::{Known, Library};
-use crate::levels::{Front, Instance, Levels};
-use crate::walker::{Open, Walker, Work};
 use items::{Items, both};
 use std::alloc::{AllocError, Global};
 use sv_const::Names;
+use sv_levels::{Front, Instance, Known, Levels, Library, Work};
 use sv_modules::{Modules, top_of};
 use sv_outside::{Name, Signal, TextErr};
 use sv_tree::Source;
+use sv_walk::{Open, Walker};
 
 /// How many levels instances nest below the top.
 const DEEPEST: usize = 32;
@@ -60,7 +61,7 @@ fn filed<'a>(
     ensures { Reads source.now walker.new result }
 {
     let mut file = walker.begin_file()?;
-    let above = walker.file_level(&mut file, source.parts.as_slice());
+    let above = file_level(walker, &mut file, source.parts.as_slice());
     let (file, above) = both(file, above)?;
     let ((file, above), modules) = both((file, above), Modules::new(walker.alloc, source))?;
     Ok((file, Library { modules, above }))

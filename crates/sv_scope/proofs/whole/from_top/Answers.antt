@@ -3,11 +3,13 @@ use Rattle.sv_meaning.specs.Faults.{Judged}
 use Rattle.sv_hierarchy.specs.Scopes as m
 use Rattle.sv_loops.specs.Answers.{Answers}
 use Rattle.sv_modules.specs.Connections.{connection_is}
-use Rattle.sv_scope.specs.Levels.{front_is}
-use Rattle.sv_scope.specs.Library.{known_is}
+use Rattle.sv_levels.specs.Levels.{front_is}
+use Rattle.sv_levels.specs.Library.{known_is}
 use Rattle.sv_scope.specs.Scoped.{IsWalked}
-use Rattle.sv_scope.specs.Walks.{given_is, state_of}
-use Rattle.sv_scope.proofs.Opening.{Reached, passed_on, walked_to}
+use Rattle.sv_levels.specs.Tasks.{given_is}
+use Rattle.sv_walk.specs.Walks.{state_of}
+use Rattle.sv_walk.proofs.Opening.{Reached, walked_to}
+use Rattle.sv_levels.proofs.Wired.{passed_on}
 use Rattle.sv_scope.proofs.WholeDesign.{top_begun, top_stopped, top_opened, walked_answers}
 use Rattle.sv_scope.proofs.whole.from_top.Goals as goal
 

@@ -2,8 +2,8 @@ use Rattle.std.proofs.Common.{refl}
 use Rattle.std.specs.Option.{option_copied}
 use Rattle.sv_hierarchy.specs.Scopes as m
 use Rattle.sv_scope.specs.Scoped.{IsWalked}
-use Rattle.sv_scope.specs.declared.walker.Walker.{Walker}
-use Rattle.sv_scope.proofs.Opening.{passed_on}
+use Rattle.sv_walk.specs.declared.walker.Walker.{Walker}
+use Rattle.sv_levels.proofs.Wired.{passed_on}
 use Rattle.sv_scope.proofs.WholeDesign.{scoped_ok}
 use Rattle.sv_scope.proofs.whole.scopes.Goals as goal
 

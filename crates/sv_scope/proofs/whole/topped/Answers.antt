@@ -1,13 +1,14 @@
-use Rattle.std.proofs.Common.{◌≡◌, ℕ, List, sym, ap, subst}
+use Rattle.std.proofs.Common.{◌≡◌, ℕ, sym, ap, subst}
 use Rattle.std.specs.Option.{option_copied}
 use Rattle.sv_meaning.specs.Faults.{Judged, ◌>>=◌}
 use Rattle.sv_hierarchy.specs.Scopes as m
 use Rattle.sv_loops.specs.Answers.{Answers}
 use Rattle.sv_modules.specs.Listed.{modules_of}
-use Rattle.sv_scope.specs.Library.{known_is}
+use Rattle.sv_levels.specs.Library.{known_is}
 use Rattle.sv_scope.specs.Scoped.{IsWalked}
-use Rattle.sv_scope.specs.Walks.{state_of}
-use Rattle.sv_scope.proofs.Opening.{Reached, passed_on, refused_first}
+use Rattle.sv_walk.specs.Walks.{state_of}
+use Rattle.sv_walk.proofs.Opening.{Reached}
+use Rattle.sv_levels.proofs.Wired.{passed_on, refused_first}
 use Rattle.sv_scope.proofs.WholeDesign.{known_refused, top_at}
 use Rattle.sv_scope.proofs.whole.topped.Goals as goal
 

@@ -4,7 +4,8 @@ use Rattle.sv_meaning.specs.Faults.{Judged, ◌>>=◌}
 use Rattle.sv_hierarchy.specs.Scopes as m
 use Rattle.sv_loops.specs.Answers.{Answers}
 use Rattle.sv_scope.specs.Scoped.{IsWalked}
-use Rattle.sv_scope.proofs.Opening.{Reached, passed_on}
+use Rattle.sv_walk.proofs.Opening.{Reached}
+use Rattle.sv_levels.proofs.Wired.{passed_on}
 use Rattle.sv_scope.proofs.whole.walk.Goals as goal
 
 pub returns-in_err-file : goal.returns-in_err-file

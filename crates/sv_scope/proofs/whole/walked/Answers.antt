@@ -4,8 +4,8 @@ use Rattle.std.specs.Option.{option_copied}
 use Rattle.sv_hierarchy.specs.Scopes as m
 use Rattle.sv_loops.specs.Answers.{Answers}
 use Rattle.sv_scope.specs.Scoped.{IsWalked}
-use Rattle.sv_scope.specs.declared.walker.Walker.{Walker}
-use Rattle.sv_scope.proofs.Opening.{passed_on}
+use Rattle.sv_walk.specs.declared.walker.Walker.{Walker}
+use Rattle.sv_levels.proofs.Wired.{passed_on}
 use Rattle.sv_scope.proofs.WholeDesign.{ok_walked}
 use Rattle.sv_scope.proofs.whole.walked.Goals as goal
 

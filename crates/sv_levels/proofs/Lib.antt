@@ -1,0 +1,7 @@
+pub mod ByNumber
+pub mod Giving
+pub mod LevelsHeld
+pub mod LevelsSeen
+pub mod PortsIndexed
+pub mod PortsLists
+pub mod Wired

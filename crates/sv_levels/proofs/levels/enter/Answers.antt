@@ -1,0 +1,15 @@
+use Rattle.std.proofs.Common.{◌≡◌, ◌++◌, take, refl}
+use Rattle.sv_const.specs.Names.{frames_of}
+use Rattle.sv_levels.proofs.LevelsHeld.{got, not_got, done_as}
+use Rattle.sv_levels.proofs.LevelsSeen.{entered, not_entered}
+use Rattle.sv_levels.proofs.levels.enter.Goals as goal
+
+pub returns-in_ok-push_scope-in-Some-clause-frames : goal.returns-in_ok-push_scope-in-Some-clause-frames
+returns-in_ok-push_scope-in-Some-clause-frames c =
+    done_as c.push_scope-in-Some.result (frames_of c.push_scope-in-Some.new.self ≡ frames_of c.push_scope.new.self ++ take c.args.front.consts c.in-Some.level.now.consts) _
+    (λ e. entered c.args.levels.now c.args.front.level c.args.nets c.args.front.consts c.in-Some.level.now (frames_of c.args.names.now) (frames_of c.push_scope.new.self) (frames_of c.push_scope-in-Some.new.self)
+    (got c.args.levels.now c.args.levels.now c.args.front.level c.in-Some.level.now refl c.in-Some.ensures.lookup.3.0 c.in-Some.ensures.lookup.1) c.in_ok-push_scope-in-Some.ensures.frames e)
+    c.push_scope-in-Some.ensures.frames
+
+pub returns-in-None-clause-frames : goal.returns-in-None-clause-frames
+returns-in-None-clause-frames c = not_entered c.args.levels.now c.args.front.level c.args.nets c.args.front.consts (frames_of c.args.names.now) (not_got c.args.levels.now c.args.levels.now c.args.front.level refl c.in-None.ensures.lookup.3)

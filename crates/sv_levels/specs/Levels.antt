@@ -1,0 +1,39 @@
+-- Scopes as code holds them.
+use Rattle.std.specs.Prelude.{ℕ, List, length, map}
+use Rattle.sv_const.specs.Kinds.{scope_is}
+use Rattle.sv_meaning.specs.Layouts.{Scope}
+use Rattle.sv_hierarchy.specs.Scopes as m
+use Rattle.sv_levels.specs.declared.levels.Front.{Front}
+use Rattle.sv_levels.specs.declared.levels.Instance.{Instance}
+use Rattle.sv_levels.specs.declared.levels.Level.{Level}
+use Rattle.sv_levels.specs.declared.levels.Levels.{Levels}
+
+abbrev pub front_is : Front → m.Front
+front_is f = record { level = f.level; nets = f.nets; consts = f.consts }
+
+abbrev pub level_is : Level → m.Level
+level_is x = record {
+  path = x.path;
+  module_number = x.module;
+  parent = x.parent;
+  around = map front_is x.around;
+  nets = scope_is x.nets;
+  consts = scope_is x.consts;
+}
+
+abbrev pub levels_are : Levels → List m.Level
+levels_are levels = map level_is levels.list.items
+
+-- the place behind all that is declared in a scope
+abbrev pub front_of : List m.Level → ℕ → m.Front
+front_of all n = record { level = n; nets = length (m.level_at all n).nets; consts = length (m.level_at all n).consts }
+
+abbrev pub seen_frames : List m.Level → List Front → Scope
+seen_frames all fronts = m.seen_along all (map front_is fronts)
+
+abbrev pub live_frames : List m.Level → List Front → Scope
+live_frames all fronts = m.live_along all (map front_is fronts)
+
+-- an instance or block, with all names that it sees at its end
+abbrev pub instance_is : List m.Level → Instance → m.Instance
+instance_is all i = record { path = i.path.now; module_number = i.module; parent = i.parent; scope = m.live_at all (front_is i.at) }

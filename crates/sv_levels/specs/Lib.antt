@@ -1,0 +1,5 @@
+pub mod Levels
+pub mod Tasks
+pub mod Overriding
+pub mod Ports
+pub mod Library

@@ -1,0 +1,296 @@
+// The scopes of a design, each with its names.
+ghost use Rattle.std.specs.Prelude.{◌≡◌, [], ◌∷◌, ◌++◌, length, map, slice_get, take, IfOk, OnOk, option_map};
+ghost use Rattle.sv_const.specs.Kinds.{WhatIsSound, entry_is, scope_is};
+ghost use Rattle.sv_const.specs.Names.{frames_of, loops_of, names_are};
+ghost use Rattle.sv_hierarchy.specs.Scopes.{behind, fronts_at, instances_from, level_at, live_at, prefix_of, seen_at, with_const, with_level, with_net};
+ghost use Rattle.sv_levels.specs.Levels.{instance_is};
+ghost use Rattle.sv_levels.specs.Levels.{front_is, front_of, level_is, levels_are, live_frames, seen_frames};
+
+use crate::held::let_go;
+use items::Items;
+use std::alloc::{AllocError, Global};
+use sv_const::{Names, Scope, What};
+use sv_outside::Name;
+
+/// A place in a scope: so many of its nets and variables, and so many of its constants and types, are declared above.
+#[derive(Clone, Copy, PartialEq, Eq, Debug)]
+pub struct Front {
+    /// The number of the scope: 0 is the file level.
+    pub level: usize,
+    pub nets: usize,
+    pub consts: usize,
+}
+
+/// A scope with names of its own: the file level, an instance or a generate block.
+pub struct Level {
+    pub path: Name,
+    /// Its module, by the number in the text.
+    pub module: usize,
+    /// The scope that it stands in.
+    pub parent: usize,
+    /// The places in the scopes whose names it sees, the outermost first.
+    pub around: Items<Front>,
+    /// Its nets and variables, behind the variable of the loop that it is a turn of.
+    pub nets: Scope,
+    /// Its constants, types and genvars.
+    pub consts: Scope,
+}
+
+impl Drop for Level {
+    fn drop(self) {
+        let Level {
+            path: _,
+            module: _,
+            parent: _,
+            around: _,
+            nets: _,
+            consts: _,
+        } = self;
+    }
+}
+
+/// An instance or a generate block.
+#[derive(Clone, Copy)]
+pub struct Instance<'a> {
+    pub path: &'a Name,
+    /// Its module, by the number in the text.
+    pub module: usize,
+    /// The instance or block that it stands in, by number. The top stands in none.
+    pub parent: Option<usize>,
+    /// The place behind all of its declarations.
+    pub at: Front,
+}
+
+/// All scopes so far, by number.
+pub struct Levels {
+    list: Vec<Level>,
+}
+
+impl Drop for Levels {
+    fn drop(self) {
+        let Levels { list: _ } = self;
+    }
+}
+
+impl Levels {
+    pub fn new(alloc: Global) -> Levels
+        ensures { levels_are result ≡ [] }
+    {
+        Levels {
+            list: Vec::new(alloc),
+        }
+    }
+
+    pub fn len(&self) -> usize
+        ensures { result ≡ length (levels_are self.now) }
+    {
+        self.list.len()
+    }
+
+    /// One scope more.
+    pub fn push(&mut self, level: Level) -> Result<(), AllocError>
+        ensures { OnOk result (levels_are self.new ≡ levels_are self.old ++ level_is level ∷ []) }
+    {
+        self.list.push(level)?;
+        Ok(())
+    }
+
+    /// The number of the module of a scope.
+    pub fn module(&self, level: usize) -> usize
+        ensures { result ≡ (level_at (levels_are self.now) level).module_number }
+    {
+        match self.list.get(level) {
+            Some(level) => level.module,
+            None => 0,
+        }
+    }
+
+    /// The place behind all that is declared in a scope so far.
+    pub fn front(&self, level: usize) -> Front
+        ensures { front_is result ≡ front_of (levels_are self.now) level }
+    {
+        match self.list.get(level) {
+            Some(found) => Front {
+                level,
+                nets: found.nets.len(),
+                consts: found.consts.len(),
+            },
+            None => Front {
+                level,
+                nets: 0,
+                consts: 0,
+            },
+        }
+    }
+
+    /// The instance or generate block of a number; the scope behind the file level is the first.
+    pub fn instance(&self, number: usize) -> Option<Instance<'_>>
+        ensures { option_map (instance_is (levels_are self.now)) result ≡ slice_get (instances_from 1 (levels_are self.now) (behind (levels_are self.now))) number }
+    {
+        let count = self.len();
+        if number >= count {
+            return None;
+        }
+        let level = number + 1;
+        let found = self.list.get(level)?;
+        Some(Instance {
+            path: &found.path,
+            module: found.module,
+            parent: found.parent.checked_sub(1),
+            at: Front {
+                level,
+                nets: found.nets.len(),
+                consts: found.consts.len(),
+            },
+        })
+    }
+
+    /// The path of a name that is declared in a scope.
+    pub fn path(&self, alloc: Global, level: usize, name: &[u8]) -> Result<Name, AllocError>
+        ensures { IfOk result (λ path. path ≡ prefix_of (level_at (levels_are self.now) level).path ++ name.now) }
+    {
+        match self.list.get(level) {
+            Some(level) => joined(alloc, level.path.bytes(), name),
+            None => Name::new(alloc, name),
+        }
+    }
+
+    /// One constant, type or genvar more.
+    pub fn add_const(&mut self, level: usize, name: Name, what: What) -> Result<(), AllocError>
+        requires { WhatIsSound what }
+        ensures { OnOk result (levels_are self.new ≡ with_level level (with_const (entry_is (name, what))) (levels_are self.old)) }
+    {
+        match self.list.get_mut(level) {
+            Some(level) => level.consts.push(name, what),
+            None => {
+                let_go(what);
+                Ok(())
+            }
+        }
+    }
+
+    /// One net or variable more.
+    pub fn add_net(&mut self, level: usize, name: Name, what: What) -> Result<(), AllocError>
+        requires { WhatIsSound what }
+        ensures { OnOk result (levels_are self.new ≡ with_level level (with_net (entry_is (name, what))) (levels_are self.old)) }
+    {
+        match self.list.get_mut(level) {
+            Some(level) => level.nets.push(name, what),
+            None => {
+                let_go(what);
+                Ok(())
+            }
+        }
+    }
+
+    /// The places in the scopes whose names are seen at a place, that one the last.
+    pub fn fronts(&self, alloc: Global, at: Front) -> Result<Items<Front>, AllocError>
+        ensures { IfOk result (λ all. map front_is all ≡ fronts_at (levels_are self.now) (front_is at)) }
+    {
+        let mut all = self.around(alloc, at.level)?;
+        all.push(at)?;
+        Ok(all)
+    }
+
+    // The places in the scopes around one.
+    fn around(&self, alloc: Global, level: usize) -> Result<Items<Front>, AllocError>
+        ensures { IfOk result (λ all. map front_is all ≡ (level_at (levels_are self.now) level).around) }
+    {
+        match self.list.get(level) {
+            Some(level) => Ok(Items::from_vec(level.around.as_slice().to_vec(alloc)?)),
+            None => Ok(Items::new(alloc)),
+        }
+    }
+
+    /// What a constant expression at a place sees: what is declared above it (6.20.2, 23.9).
+    pub fn seen(&self, alloc: Global, at: Front) -> Result<Names<'_>, AllocError>
+        ensures names { IfOk result (λ names. names_are names ≡ seen_at (levels_are self.now) (front_is at)) }
+        ensures loops { IfOk result (λ names. loops_of names ≡ []) }
+    {
+        let fronts = self.fronts(alloc, at)?;
+        seen_along(alloc, &self.list, fronts.as_slice())
+    }
+
+    /// What all else at a place sees: all nets and variables of the scopes around it, and the constants and types above it.
+    pub fn live(&self, alloc: Global, at: Front) -> Result<Names<'_>, AllocError>
+        ensures names { IfOk result (λ names. names_are names ≡ live_at (levels_are self.now) (front_is at)) }
+        ensures loops { IfOk result (λ names. loops_of names ≡ []) }
+    {
+        let fronts = self.fronts(alloc, at)?;
+        live_along(alloc, &self.list, fronts.as_slice())
+    }
+}
+
+// A path, a dot and a name; the name alone where the path is empty.
+fn joined(alloc: Global, path: &[u8], name: &[u8]) -> Result<Name, AllocError>
+    ensures { IfOk result (λ all. all ≡ prefix_of path.now ++ name.now) }
+{
+    if path.is_empty() {
+        return Name::new(alloc, name);
+    }
+    let mut bytes = path.to_vec(alloc)?;
+    bytes.push(b'.')?;
+    bytes.extend_from_slice(name)?;
+    Name::new(alloc, &bytes)
+}
+
+// How many nets and variables a scope has.
+fn nets_of(levels: &[Level], level: usize) -> usize
+    ensures { result ≡ length (level_at (map level_is levels.now) level).nets }
+{
+    match levels.get(level) {
+        Some(level) => level.nets.len(),
+        None => 0,
+    }
+}
+
+// The names of a front of a scope, of which so many nets are seen.
+fn enter<'a>(
+    names: &mut Names<'a>,
+    levels: &'a [Level],
+    front: Front,
+    nets: usize,
+) -> Result<(), AllocError>
+    ensures frames { OnOk result (scope_is (frames_of names.new) ≡ scope_is (frames_of names.old) ++ (take nets (level_at (map level_is levels.now) front.level).nets ++ take front.consts (level_at (map level_is levels.now) front.level).consts)) }
+    ensures loops { OnOk result (loops_of names.new ≡ loops_of names.old) }
+{
+    match levels.get(front.level) {
+        Some(level) => {
+            names.push_scope(&level.nets, nets)?;
+            names.push_scope(&level.consts, front.consts)
+        }
+        None => Ok(()),
+    }
+}
+
+// The names of fronts of scopes, with the nets above each.
+fn seen_along<'a>(
+    alloc: Global,
+    levels: &'a [Level],
+    fronts: &[Front],
+) -> Result<Names<'a>, AllocError>
+    ensures names { IfOk result (λ names. names_are names ≡ seen_frames (map level_is levels.now) fronts.now) }
+    ensures loops { IfOk result (λ names. loops_of names ≡ []) }
+{
+    let mut names = Names::new(alloc);
+    'fronts: for front in fronts {
+        enter(&mut names, levels, *front, front.nets)?;
+    }
+    Ok(names)
+}
+
+// The names of fronts of scopes, with all nets of each.
+fn live_along<'a>(
+    alloc: Global,
+    levels: &'a [Level],
+    fronts: &[Front],
+) -> Result<Names<'a>, AllocError>
+    ensures names { IfOk result (λ names. names_are names ≡ live_frames (map level_is levels.now) fronts.now) }
+    ensures loops { IfOk result (λ names. loops_of names ≡ []) }
+{
+    let mut names = Names::new(alloc);
+    'fronts: for front in fronts {
+        enter(&mut names, levels, *front, nets_of(levels, front.level))?;
+    }
+    Ok(names)
+}

@@ -1,0 +1,15 @@
+// What an instance gives to parameters.
+ghost use Rattle.std.specs.Prelude.{map};
+ghost use Rattle.sv_modules.specs.Naming.{Indexes};
+ghost use Rattle.sv_levels.specs.Overriding.{given_name};
+
+use crate::tasks::Given;
+use sv_modules::NameIndex;
+
+/// What an instance gives to parameters, of which the first for a name counts.
+#[derive(Drop)]
+pub struct Overrides<'a> {
+    pub list: Vec<Given<'a>>,
+    pub index: NameIndex,
+    ghost indexed: { Indexes index (map given_name list.items) },
+}

@@ -1,0 +1,130 @@
+// Parameters (IEEE 1800-2017, 6.20).
+ghost use Rattle.std.specs.Prelude.{◌≡◌, None, Option, MatchOption, IfOk, map};
+ghost use Rattle.std.specs.Option.{option_copied};
+ghost use Rattle.sv_tree.specs.declared.design.ParamType.{ParamType as TypeOfParam};
+ghost use Rattle.sv_tree.specs.declared.design.ParamWord.{ParamWord as WordOfParam};
+ghost use Rattle.sv_const.specs.Names.{names_are};
+ghost use Rattle.sv_meaning.specs.Params.{name_alone, param_value};
+ghost use Rattle.sv_meaning.specs.Values.{mean};
+ghost use Rattle.sv_types.specs.Values.{JudgesValue};
+ghost use Rattle.sv_hierarchy.specs.Scopes as m;
+ghost use Rattle.sv_hierarchy.specs.Scopes.{header_of};
+ghost use Rattle.sv_modules.specs.Naming.{Indexes};
+ghost use Rattle.sv_levels.specs.Overriding.{given_name};
+ghost use Rattle.sv_levels.specs.Tasks.{actual_is, given_is};
+
+use crate::held::let_go;
+use crate::overrides::Overrides;
+use crate::tasks::{Actual, Given};
+use items::Items;
+use std::alloc::{AllocError, Global};
+use sv_const::{Known, Names};
+use sv_modules::NameIndex;
+use sv_outside::TextErr;
+use sv_tree::{Expr, ParPort, ParamType, ParamWord, Word};
+use sv_types::param_value;
+
+/// The value of a parameter that an expression gives, or a name that stands for itself.
+pub fn value_of(
+    alloc: Global,
+    form: Option<&ParamType>,
+    names: &Names<'_>,
+    value: Actual<'_>,
+    value_names: &Names<'_>,
+) -> Result<Known, TextErr>
+    ensures { JudgesValue (param_value (names_are names.now) (option_copied form.entry) (mean (names_are value_names.now) (actual_is value.entry))) result }
+{
+    match value {
+        Actual::Written(expr) => param_value(alloc, form, names, expr, value_names),
+        Actual::Named(word) => value_named(alloc, form, names, word, value_names),
+    }
+}
+
+// The value that a name gives which stands for itself.
+fn value_named(
+    alloc: Global,
+    form: Option<&ParamType>,
+    names: &Names<'_>,
+    word: &Word,
+    value_names: &Names<'_>,
+) -> Result<Known, TextErr>
+    ensures { JudgesValue (param_value (names_are names.now) (option_copied form.entry) (mean (names_are value_names.now) (name_alone word.now))) result }
+{
+    let text = word.text.copy()?;
+    let place = word.place;
+    let expr = Expr::Name(Word { text, place }, Items::new(alloc));
+    let found = param_value(alloc, form, names, &expr, value_names);
+    let_go(expr);
+    found
+}
+
+/// What is given to a parameter, or else its own expression. A `localparam` is given nothing.
+pub fn given_to<'a>(given: &Overrides<'a>, word: ParamWord, own: Given<'a>) -> Given<'a>
+    ensures { given_is result ≡ m.given_or (given_is own.entry).name (m.overriding word (map given_is given.now.list.items)) (given_is own.entry) }
+{
+    match word {
+        ParamWord::Parameter => given.given_or(own),
+        ParamWord::Localparam => own,
+    }
+}
+
+// Where each name stands first among those to which something is given.
+fn index_of(alloc: Global, list: &[Given<'_>]) -> Result<NameIndex, AllocError>
+    ensures { IfOk result (λ index. Indexes index (map given_name list.now)) }
+{
+    let mut index = NameIndex::new(alloc);
+    'list: for (number, given) in list.iter().enumerate() {
+        index.note(given.name.text.bytes(), number)?;
+    }
+    Ok(index)
+}
+
+/// The type of an entry of a module's list. With neither a word nor a type it is that of the entry before.
+pub fn entry_type<'a>(port: &'a ParPort, before: Option<&'a ParamType>) -> Option<&'a ParamType>
+    ensures { (w : WordOfParam) → option_copied result ≡ (header_of (w, option_copied before.entry) port.now).1 }
+{
+    match &port.form {
+        Some(form) => Some(form),
+        None => type_by_word(port.word, before),
+    }
+}
+
+// The type of an entry without one.
+fn type_by_word<'a>(word: Option<ParamWord>, before: Option<&'a ParamType>) -> Option<&'a ParamType>
+    ensures { MatchOption word (option_copied result ≡ option_copied before.entry) (λ w. option_copied result ≡ None) }
+{
+    match word {
+        Some(_) => None,
+        None => before,
+    }
+}
+
+/// The word of an entry of a module's list, or else that of the entry before.
+pub fn entry_word(port: &ParPort, before: ParamWord) -> ParamWord
+    ensures { (t : Option TypeOfParam) → result ≡ (header_of (before, t) port.now).0 }
+{
+    match port.word {
+        Some(word) => word,
+        None => before,
+    }
+}
+
+impl<'a> Overrides<'a> {
+    /// These.
+    pub fn new(alloc: Global, list: Vec<Given<'a>>) -> Result<Overrides<'a>, AllocError>
+        ensures { IfOk result (λ all. all.list.items ≡ list.entry.items) }
+    {
+        let index = index_of(alloc, &list)?;
+        Ok(Overrides { list, index })
+    }
+
+    /// The first that is given to the name, or else another.
+    pub fn given_or(&self, other: Given<'a>) -> Given<'a>
+        ensures { given_is result ≡ m.given_or (given_is other.entry).name (map given_is self.now.list.items) (given_is other.entry) }
+    {
+        match self.index.number(other.name.text.bytes()) {
+            Some(number) => self.list.get(number).copied().unwrap_or(other),
+            None => other,
+        }
+    }
+}

@@ -1,7 +1,0 @@
-use Rattle.std.proofs.Common.{map, sym}
-use Rattle.sv_scope.specs.Walks.{given_is}
-use Rattle.sv_scope.proofs.DeclaringParams.{given_local}
-use Rattle.sv_scope.proofs.params.given_to.Goals as goal
-
-pub returns-in-Localparam : goal.returns-in-Localparam
-returns-in-Localparam c = sym (given_local c.args.own.name.now.text c.args.word (map given_is c.args.given.now.list.items) (given_is c.args.own) c.in-Localparam.is)

@@ -1,7 +1,0 @@
-use Rattle.std.proofs.Common.{map, take}
-use Rattle.sv_modules.specs.Naming.{Indexes}
-use Rattle.sv_scope.specs.Ports.{port_name}
-use Rattle.sv_scope.proofs.ports.index_of.Given as goal
-
-abbrev pub invariant-ports : goal.invariant-ports
-invariant-ports l = Indexes l.index (map port_name (take l.number l.ports))

@@ -1,0 +1,9 @@
+pub mod Declaring
+pub mod DeclaringParams
+pub mod DeclaringWires
+pub mod HeaderPorts
+pub mod Opening
+pub mod Walking
+pub mod WalkingBlocks
+pub mod WalkingChildren
+pub mod WalkingTrees

@@ -1,0 +1,38 @@
+use Rattle.std.proofs.Common.{◌∙◌, ℕ, ◌+◌, refl, sym, ap}
+use Rattle.sv_const.specs.Kinds.{layout_is}
+use Rattle.sv_const.proofs.Sound.{sound_is, sound_most}
+use Rattle.sv_hierarchy.specs.Scopes as m
+use Rattle.sv_walk.specs.Walks.{state_of}
+use Rattle.sv_walk.proofs.Declaring.{handed}
+use Rattle.sv_walk.proofs.DeclaringWires.{counted, wire_added, wire_taken, wire_too_large}
+use Rattle.sv_walk.proofs.walker.Walker.add_wire.Goals as goal
+
+pub returns-in_err-declare_at : goal.returns-in_err-declare_at
+returns-in_err-declare_at c =
+    handed (m.add_wire c.args.input (layout_is c.args.layout.now) c.args.word.now (state_of c.args.self.now c.args.current.now)) c.args.self.now c.args.self.now c.declare_at.new.self c.declare_at.new.self c.from_residual.result c.in_err-declare_at.field-0.0 c.from_residual.ensures.1
+    (wire_taken c.args.self.now c.args.self.now c.args.current.now c.declare_at.new.self c.declare_at.new.self c.args.input (layout_is c.args.layout.now) c.args.word.now c.bytes.result.now c.in_err-declare_at.field-0.0 c.bytes.ensures (c.in_err-declare_at.ensures c.args.self.now))
+
+pub with_bits-requires : goal.with_bits-requires
+with_bits-requires c = sound_most c.args.layout.now c.requires
+
+pub returns-in_err-tally : goal.returns-in_err-tally
+returns-in_err-tally c =
+    handed (m.add_wire c.args.input (layout_is c.args.layout.now) c.args.word.now (state_of c.args.self.now c.args.current.now)) c.args.self.now c.args.self.now c.declare_at.new.self c.declare_at.new.self c.from_residual-in_err-tally.result c.in_err-tally.field-0.0 c.from_residual-in_err-tally.ensures.1
+    (wire_too_large c.args.self.now c.args.self.now c.args.current.now c.declare_at.new.self c.declare_at.new.self c.args.input (layout_is c.args.layout.now) c.args.word.now c.bytes.result.now c.args.layout.now.width c.args.self.now.tally.turns c.in_ok-declare_at.field-0 c.in_err-tally.field-0.0
+    c.bytes.ensures (sound_is c.args.layout.now c.requires) (c.in_ok-declare_at.ensures c.args.self.now) c.in_err-tally.ensures)
+
+pub put_wire-requires-clause-bits : goal.put_wire-requires-clause-bits
+put_wire-requires-clause-bits c =
+    (counted (m.size_faults c.args.word.now.place (c.args.self.now.tally.bits + c.args.layout.now.width)) (c.args.self.now.tally.bits + c.args.layout.now.width) c.args.layout.now.width c.in_ok-tally.tally c.args.self.now.tally.turns c.in_ok-tally.ensures).1.0
+    ∙ ap (λ (x : ℕ). c.args.self.now.tally.bits + x) (sound_is c.args.layout.now c.requires)
+
+pub put_wire-requires-clause-turns : goal.put_wire-requires-clause-turns
+put_wire-requires-clause-turns c =
+    (counted (m.size_faults c.args.word.now.place (c.args.self.now.tally.bits + c.args.layout.now.width)) (c.args.self.now.tally.bits + c.args.layout.now.width) c.args.layout.now.width c.in_ok-tally.tally c.args.self.now.tally.turns c.in_ok-tally.ensures).1.1
+
+pub returns : goal.returns
+returns c =
+    wire_added c.args.self.now c.put_wire.new.self c.args.current.now c.declare_at.new.self c.args.input (layout_is c.args.layout.now) c.args.word.now c.args.word.now.place c.bytes.result.now c.in_ok-declare_at.field-0 c.bytes.ensures refl (c.in_ok-declare_at.ensures c.args.self.now)
+    (ap (λ (x : ℕ). m.size_faults c.args.word.now.place (c.args.self.now.tally.bits + x)) (sym (sound_is c.args.layout.now c.requires))
+    ∙ (counted (m.size_faults c.args.word.now.place (c.args.self.now.tally.bits + c.args.layout.now.width)) (c.args.self.now.tally.bits + c.args.layout.now.width) c.args.layout.now.width c.in_ok-tally.tally c.args.self.now.tally.turns c.in_ok-tally.ensures).0)
+    c.in_ok-put_wire.ensures

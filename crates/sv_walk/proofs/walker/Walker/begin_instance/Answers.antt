@@ -1,0 +1,13 @@
+use Rattle.std.proofs.Common.{map, refl, ap, ◌∙◌}
+use Rattle.sv_levels.specs.Library.{known_is}
+use Rattle.sv_levels.specs.Tasks.{given_is}
+use Rattle.sv_walk.proofs.Opening.{begun_is, one_front}
+use Rattle.sv_walk.proofs.walker.Walker.begin_instance.Goals as goal
+
+pub returns : goal.returns
+returns c = λ current.
+    begun_is c.args.self.now c.push-2.new.self c.new-3.result c.new-5.result current (known_is c.args.known) c.args.path c.args.parent (map given_is c.args.given.items)
+    (record { path = c.args.path; «module» = c.args.known.number; parent = c.args.parent; around = c.push.new.self; nets = c.new.result; consts = c.new-2.result })
+    c.in_ok-push-2.ensures refl refl refl
+    (one_front c.push.new.self c.new-around.result (record { level = 0; nets = 0; consts = c.args.known.above }) c.in_ok-push.ensures.ok c.new-around.ensures)
+    c.new.ensures c.new-2.ensures c.new-3.ensures.items (c.new-5.ensures.level ∙ c.len-level.ensures) c.new-5.ensures.constructs (c.new-5.ensures.overridden ∙ ap (map given_is) c.in_ok-overridden.ensures) c.new-5.ensures.taken

@@ -1,0 +1,151 @@
+// Generate blocks are begun (IEEE 1800-2017, 27).
+ghost use Rattle.std.specs.Prelude.{◌≡◌, IfOk};
+ghost use Rattle.std.specs.Option.{option_copied};
+ghost use Rattle.sv_const.specs.Kinds.{scope_is};
+ghost use Rattle.sv_loops.specs.Answers.{Answers};
+ghost use Rattle.sv_hierarchy.specs.Scopes.{count_turn, inner, under};
+ghost use Rattle.sv_tree.specs.declared.design.Item.{Item as Tree};
+ghost use Rattle.sv_tree.specs.declared.design.Item.TheVariants as it;
+ghost use Rattle.sv_walk.specs.Items.{Begins, BeginsLoop, OpensLoop, declare_turns, opened_turn};
+ghost use Rattle.sv_walk.specs.declared.walker.Open.{Open as Opened};
+ghost use Rattle.sv_walk.specs.declared.walker.Walker.{Walker as Walking};
+ghost use Rattle.sv_walk.specs.Walks.{Walks, state_of};
+
+use crate::walker::{Open, Walker};
+use fourvec::Four;
+use items::Items;
+use std::alloc::AllocError;
+use sv_const::Scope;
+use sv_levels::{Level, Overrides, Turns, block_name, block_place, index_scope, turn_name};
+use sv_outside::{Place, TextErr};
+use sv_tree::{Expr, Gen, Step, Word};
+
+// The label of a body, and where it begins.
+fn head_of(body: &Gen) -> (Option<&Word>, Place)
+    ensures { (option_copied result.0 ≡ (under body.now).label) × (result.1 ≡ (under body.now).start) }
+{
+    match body {
+        Gen::Block(place, label, _, _) => (label.as_ref(), *place),
+        Gen::Single(place, _) => (None, *place),
+    }
+}
+
+// The name of a loop is declared where there are turns.
+fn declare_turns(
+    current: &mut Open<'_>,
+    place: Place,
+    name: &[u8],
+    values: &Items<Four>,
+) -> Result<(), TextErr>
+    ensures { (w : Walking) → Walks (declare_turns place name.now values.now) w current.old w current.new result }
+{
+    if values.is_empty() {
+        Ok(())
+    } else {
+        current.declare_at(place, name)
+    }
+}
+
+impl<'a> Walker<'a> {
+    // One turn more, or E20.
+    fn count_turn(&mut self, place: Place) -> Result<(), TextErr>
+        ensures { (o : Opened) → Walks (count_turn place) self.old o self.new o result }
+    {
+        self.tally = self.tally.with_turn(place)?;
+        Ok(())
+    }
+
+    // A block of that name in a path is begun, in which these names stand first.
+    fn begin(
+        &mut self,
+        current: &Open<'a>,
+        part: &[u8],
+        nets: Scope,
+    ) -> Result<Open<'a>, AllocError>
+        ensures { IfOk result (λ block. state_of self.new block ≡ inner part.now (scope_is nets) (state_of self.old current.now)) }
+    {
+        let at = self.here(current);
+        let path = self.levels.path(self.alloc, current.level, part)?;
+        let around = self.levels.fronts(self.alloc, at)?;
+        let module = self.levels.module(current.level);
+        let level = self.levels.len();
+        self.levels.push(Level {
+            path,
+            module,
+            parent: current.level,
+            around,
+            nets,
+            consts: Scope::new(self.alloc),
+        })?;
+        let overridden = Overrides::new(self.alloc, Vec::new(self.alloc))?;
+        Ok(Open::new(self.alloc, level, overridden))
+    }
+
+    /// A block with a label, or with the number of its construct, is declared and begun; or E13 (27.6).
+    pub(crate) fn block(
+        &mut self,
+        current: &mut Open<'a>,
+        label: Option<&Word>,
+        place: Place,
+        number: usize,
+    ) -> Result<Open<'a>, TextErr>
+        ensures { Begins (option_copied label.entry) place number self.old current.old self.new current.new result }
+    {
+        let name = block_name(self.alloc, label, number)?;
+        current.declare_at(block_place(label, place), name.bytes())?;
+        let block = self.begin(current, name.bytes(), Scope::new(self.alloc))?;
+        Ok(block)
+    }
+
+    /// The turns of a loop, which is a construct more; its name is declared where there are turns. Or why it is refused, or E13.
+    pub(crate) fn open_loop(
+        &self,
+        current: &mut Open<'a>,
+        place: Place,
+        header: bool,
+        variable: &Word,
+        start: &Expr,
+        test: &Expr,
+        next: &Step,
+        body: &Gen,
+    ) -> Result<Turns, TextErr>
+        ensures { (item : Tree) → item ≡ it.For place header variable.now start.now test.now next.now body.now → OpensLoop item place variable.now body.now self.now current.old current.new result }
+    {
+        let values = self.loop_values(current, place, header, variable, start, test, next)?;
+        self.begin_loop(current, values, body)
+    }
+
+    // A loop with these values of its variable is a construct more, whose name is declared where there are turns; or E13.
+    fn begin_loop(
+        &self,
+        current: &mut Open<'a>,
+        values: Items<Four>,
+        body: &Gen,
+    ) -> Result<Turns, TextErr>
+        ensures { BeginsLoop body.now values self.now current.old current.new result }
+    {
+        current.next_construct()?;
+        let (label, start) = head_of(body);
+        let name = block_name(self.alloc, label, current.constructs)?;
+        declare_turns(current, block_place(label, start), name.bytes(), &values)?;
+        Ok(Turns { name, values })
+    }
+
+    /// The block of a turn of the loop at a place is begun, with the variable of these bits; or E20 (27.4).
+    pub(crate) fn begin_turn(
+        &mut self,
+        current: &Open<'a>,
+        place: Place,
+        name: &[u8],
+        variable: &Word,
+        bits: Four,
+    ) -> Result<Open<'a>, TextErr>
+        ensures { Answers (λ st block. st ≡ state_of self.new block) (opened_turn place name.now variable.now.text bits (state_of self.old current.now)) result }
+    {
+        self.count_turn(place)?;
+        let part = turn_name(self.alloc, name, &bits)?;
+        let nets = index_scope(self.alloc, variable, bits)?;
+        let block = self.begin(current, part.bytes(), nets)?;
+        Ok(block)
+    }
+}

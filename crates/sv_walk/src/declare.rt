@@ -1,0 +1,232 @@
+// Declarations of constants, types, nets and variables (IEEE 1800-2017, 6.5, 6.18, 6.19).
+ghost use Rattle.std.specs.Prelude.{◌≡◌, ◌+◌, false, IfOk, OnOk};
+ghost use Rattle.std.specs.Option.{option_copied};
+ghost use Rattle.sv_const.specs.Kinds.{IsSound, WhatIsSound, layout_is, what_is};
+ghost use Rattle.sv_types.specs.Types.{JudgesForm, all_declared, declared_is};
+ghost use Rattle.sv_meaning.specs.Forms.{form};
+ghost use Rattle.sv_meaning.specs.Layouts as layouts;
+ghost use Rattle.sv_meaning.specs.Layouts.{width};
+ghost use Rattle.sv_hierarchy.specs.Scopes.{add_constant, add_constants, add_genvar, add_typedef, add_wire, formed, seen, walk_all, with_form, with_form_or_bit, with_wire};
+ghost use Rattle.sv_walk.specs.Walks.{Finds, Walks, state_of};
+
+use crate::held::let_go;
+use crate::walker::{Open, Walker};
+use std::alloc::AllocError;
+use sv_const::{Form, Layout, What};
+use sv_levels::Tally;
+use sv_outside::{Name, Place, Signal, TextErr};
+use sv_tree::{TypeTree, Typedef, Word};
+use sv_types::{Enumerator, Formed, copy, form_of};
+
+/// One bit.
+pub(crate) fn scalar() -> Layout
+    ensures is { layout_is result ≡ layouts.scalar false }
+    ensures sound { IsSound result }
+{
+    Layout {
+        width: 1,
+        signed: false,
+        form: Form::Scalar,
+    }
+}
+
+impl<'a> Walker<'a> {
+    /// A constant, a type or a genvar.
+    pub(crate) fn add_constant(
+        &mut self,
+        current: &mut Open<'a>,
+        place: Place,
+        name: Name,
+        what: What,
+    ) -> Result<(), TextErr>
+        requires { WhatIsSound what }
+        ensures { Walks (add_constant (record { text = name; place = place }, what_is what)) self.old current.old self.new current.new result }
+    {
+        match current.declare_at(place, name.bytes()) {
+            Ok(()) => {
+                self.levels.add_const(current.level, name, what)?;
+                Ok(())
+            }
+            Err(why) => {
+                let_go(what);
+                Err(why)
+            }
+        }
+    }
+
+    // A constant of an enumeration.
+    fn add_enumerator(&mut self, current: &mut Open<'a>, label: &Enumerator) -> Result<(), TextErr>
+        ensures { Walks (add_constant (declared_is label.now)) self.old current.old self.new current.new result }
+    {
+        let name = label.name.copy()?;
+        self.add_constant(current, label.place, name, What::Number(label.value))
+    }
+
+    // The constants of an enumeration.
+    fn add_constants(&mut self, current: &mut Open<'a>, list: &[Enumerator]) -> Result<(), TextErr>
+        ensures { Walks (add_constants (all_declared list.now)) self.old current.old self.new current.new result }
+    {
+        'list: for label in list {
+            self.add_enumerator(current, label)?;
+        }
+        Ok(())
+    }
+
+    /// The layout of a type, whose enumerators become names.
+    pub(crate) fn formed(
+        &mut self,
+        current: &mut Open<'a>,
+        tree: &TypeTree,
+    ) -> Result<Layout, TextErr>
+        ensures is { Finds (λ x layout. x ≡ layout_is layout) (formed tree.now) self.old current.old self.new current.new result }
+        ensures sound { IfOk result (λ layout. IsSound layout) }
+    {
+        let found = self.form_here(current, tree)?;
+        let Formed { layout, declared } = found;
+        match self.add_constants(current, declared.as_slice()) {
+            Ok(()) => Ok(layout),
+            Err(why) => {
+                let_go(layout);
+                Err(why)
+            }
+        }
+    }
+
+    // The layout of a type and the constants that it declares, by what is declared above.
+    fn form_here(&self, current: &Open<'a>, tree: &TypeTree) -> Result<Formed, TextErr>
+        ensures { JudgesForm (form (seen (state_of self.now current.now)) tree.now) result }
+    {
+        let at = self.here(current);
+        let mut names = self.levels.seen(self.alloc, at)?;
+        let found = form_of(self.alloc, tree, &mut names);
+        let_go(names);
+        found
+    }
+
+    /// A type with a name.
+    pub fn add_typedef(&mut self, current: &mut Open<'a>, tree: &Typedef) -> Result<(), TextErr>
+        ensures { Walks (add_typedef tree.now) self.old current.old self.new current.new result }
+    {
+        let name = tree.name.text.copy()?;
+        let layout = self.formed(current, &tree.form)?;
+        self.add_constant(current, tree.name.place, name, What::Kind(layout))
+    }
+
+    /// A net or variable: E13 where its name is taken, E22 where there are too many bits.
+    pub(crate) fn add_wire(
+        &mut self,
+        current: &mut Open<'a>,
+        input: bool,
+        layout: &Layout,
+        word: &Word,
+    ) -> Result<(), TextErr>
+        requires { IsSound layout.now }
+        ensures { Walks (add_wire input (layout_is layout.now) word.now) self.old current.old self.new current.new result }
+    {
+        current.declare_at(word.place, word.text.bytes())?;
+        let tally = self.tally.with_bits(word.place, layout.width as u64)?;
+        self.put_wire(current, input, layout, word, tally)?;
+        Ok(())
+    }
+
+    // A wire more, by which so much is counted.
+    fn put_wire(
+        &mut self,
+        current: &Open<'a>,
+        input: bool,
+        layout: &Layout,
+        word: &Word,
+        tally: Tally,
+    ) -> Result<(), AllocError>
+        requires sound { IsSound layout.now }
+        requires bits { tally.bits ≡ self.old.tally.bits + width (layout_is layout.now) }
+        requires turns { tally.turns ≡ self.old.tally.turns }
+        ensures { OnOk result (with_wire input (layout_is layout.now) word.now.text (state_of self.old current.now) ≡ state_of self.new current.now) }
+    {
+        let path = self
+            .levels
+            .path(self.alloc, current.level, word.text.bytes())?;
+        let name = word.text.copy()?;
+        let layout_of_wire = copy(self.alloc, layout)?;
+        let what = What::Wire {
+            number: self.wires.len(),
+            layout: layout_of_wire,
+        };
+        self.levels.add_net(current.level, name, what)?;
+        self.wires.push(Signal {
+            path,
+            width: layout.width,
+            input,
+        })?;
+        self.tally = tally;
+        Ok(())
+    }
+
+    // Nets or variables of one layout.
+    fn add_wires(
+        &mut self,
+        current: &mut Open<'a>,
+        layout: &Layout,
+        words: &[Word],
+    ) -> Result<(), TextErr>
+        requires { IsSound layout.now }
+        ensures { Walks (walk_all (add_wire false (layout_is layout.now)) words.now) self.old current.old self.new current.new result }
+    {
+        'words: for word in words {
+            self.add_wire(current, false, layout, word)?;
+        }
+        Ok(())
+    }
+
+    /// Variables of a type.
+    pub(crate) fn add_variables(
+        &mut self,
+        current: &mut Open<'a>,
+        tree: &TypeTree,
+        words: &[Word],
+    ) -> Result<(), TextErr>
+        ensures { Walks (with_form tree.now (λ x. walk_all (add_wire false x) words.now)) self.old current.old self.new current.new result }
+    {
+        let layout = self.formed(current, tree)?;
+        let added = self.add_wires(current, &layout, words);
+        let_go(layout);
+        added
+    }
+
+    /// Nets of a type, or of one bit.
+    pub(crate) fn add_nets(
+        &mut self,
+        current: &mut Open<'a>,
+        tree: Option<&TypeTree>,
+        words: &[Word],
+    ) -> Result<(), TextErr>
+        ensures { Walks (with_form_or_bit (option_copied tree.entry) (λ x. walk_all (add_wire false x) words.now)) self.old current.old self.new current.new result }
+    {
+        match tree {
+            Some(tree) => self.add_variables(current, tree, words),
+            None => self.add_wires(current, &scalar(), words),
+        }
+    }
+
+    // A variable of generate loops.
+    fn add_genvar(&mut self, current: &mut Open<'a>, word: &Word) -> Result<(), TextErr>
+        ensures { Walks (add_genvar word.now) self.old current.old self.new current.new result }
+    {
+        let name = word.text.copy()?;
+        self.add_constant(current, word.place, name, What::Genvar)
+    }
+
+    /// Variables of generate loops.
+    pub(crate) fn add_genvars(
+        &mut self,
+        current: &mut Open<'a>,
+        words: &[Word],
+    ) -> Result<(), TextErr>
+        ensures { Walks (walk_all add_genvar words.now) self.old current.old self.new current.new result }
+    {
+        'words: for word in words {
+            self.add_genvar(current, word)?;
+        }
+        Ok(())
+    }
+}

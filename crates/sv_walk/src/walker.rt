@@ -1,0 +1,138 @@
+// Where a walk through the items of a design stands.
+ghost use Rattle.std.specs.Prelude.{◌≡◌, [], map, IfOk};
+ghost use Rattle.sv_meaning.specs.Layouts.{Name as Bytes};
+ghost use Rattle.sv_meaning.specs.Names.{has_name};
+ghost use Rattle.sv_modules.specs.Naming.{holds};
+ghost use Rattle.sv_hierarchy.specs.Scopes.{add_work, declare_at, file_state, next_construct, here};
+ghost use Rattle.sv_walk.specs.declared.walker.Walker.{Walker as Walking};
+ghost use Rattle.sv_levels.specs.Levels.{front_is};
+ghost use Rattle.sv_levels.specs.Tasks.{given_is, task_is};
+ghost use Rattle.sv_walk.specs.Walks.{IsNothing, Walks, state_of};
+
+use items::Items;
+use std::alloc::{AllocError, Global};
+use sv_const::{Scope, refusal};
+use sv_levels::{Child, Front, Level, Levels, Overrides, Tally, Task, Work};
+use sv_modules::NameSet;
+use sv_outside::{Name, Place, Signal, TextErr};
+
+/// All that was found so far.
+#[derive(Drop)]
+pub struct Walker<'a> {
+    pub alloc: Global,
+    pub levels: Levels,
+    pub tally: Tally,
+    pub wires: Items<Signal>,
+    pub works: Vec<Work<'a>>,
+    /// The instances below the one that is read.
+    pub children: Vec<Child<'a>>,
+}
+
+/// The scope that is read: its number, its names, the number of its generate constructs, and what its parameters are given.
+pub struct Open<'a> {
+    pub level: usize,
+    pub taken: NameSet,
+    pub constructs: usize,
+    pub overridden: Overrides<'a>,
+}
+
+impl Drop for Open<'_> {
+    fn drop(self) {
+        let Open {
+            level: _,
+            taken: _,
+            constructs: _,
+            overridden: _,
+        } = self;
+    }
+}
+
+impl<'a> Open<'a> {
+    /// A scope with no names, to whose parameters this is given.
+    pub fn new(alloc: Global, level: usize, overridden: Overrides<'a>) -> Open<'a>
+        ensures level { result.level ≡ level }
+        ensures constructs { result.constructs ≡ 0 }
+        ensures overridden { map given_is result.overridden.list.items ≡ map given_is overridden.entry.list.items }
+        ensures taken { (name : Bytes) → holds result.taken name ≡ has_name name [] }
+    {
+        Open {
+            level,
+            taken: NameSet::new(alloc),
+            constructs: 0,
+            overridden,
+        }
+    }
+
+    /// Declares a name, or E13 at a place (3.13, 23.9).
+    pub(crate) fn declare_at(&mut self, place: Place, name: &[u8]) -> Result<(), TextErr>
+        ensures { (w : Walking) → Walks (declare_at place name.now) w self.old w self.new result }
+    {
+        if self.taken.has(name) {
+            return Err(TextErr::No(refusal(13, place)));
+        }
+        self.taken.add(name)?;
+        Ok(())
+    }
+
+    /// One generate construct more.
+    pub(crate) fn next_construct(&mut self) -> Result<(), TextErr>
+        ensures { (w : Walking) → Walks next_construct w self.old w self.new result }
+    {
+        match self.constructs.checked_add(1) {
+            Some(next) => {
+                self.constructs = next;
+                Ok(())
+            }
+            None => Err(TextErr::Memory),
+        }
+    }
+}
+
+impl<'a> Walker<'a> {
+    /// Nothing is found.
+    pub fn new(alloc: Global) -> Walker<'a>
+        ensures { IsNothing result }
+    {
+        Walker {
+            alloc,
+            levels: Levels::new(alloc),
+            tally: Tally::new(),
+            wires: Items::new(alloc),
+            works: Vec::new(alloc),
+            children: Vec::new(alloc),
+        }
+    }
+
+    /// The place that is read.
+    pub fn here(&self, current: &Open<'a>) -> Front
+        ensures { front_is result ≡ here (state_of self.now current.now) }
+    {
+        self.levels.front(current.level)
+    }
+
+    /// One task more.
+    pub fn add_work(&mut self, current: &Open<'a>, task: Task<'a>) -> Result<(), TextErr>
+        ensures { Walks (add_work (task_is task.entry)) self.old current.now self.new current.now result }
+    {
+        let at = self.here(current);
+        self.works.push(Work { at, task })?;
+        Ok(())
+    }
+
+    /// The file level is begun.
+    pub fn begin_file(&mut self) -> Result<Open<'a>, AllocError>
+        requires { IsNothing self.old }
+        ensures { IfOk result (λ current. state_of self.new current ≡ file_state) }
+    {
+        self.levels.push(Level {
+            path: Name::new(self.alloc, b"")?,
+            module: 0,
+            parent: 0,
+            around: Items::new(self.alloc),
+            nets: Scope::new(self.alloc),
+            consts: Scope::new(self.alloc),
+        })?;
+        let overridden = Overrides::new(self.alloc, Vec::new(self.alloc))?;
+        Ok(Open::new(self.alloc, 0, overridden))
+    }
+}
