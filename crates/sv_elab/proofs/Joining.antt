@@ -1,7 +1,7 @@
 -- Ports that are joined.
-use Rattle.std.proofs.Common.{◌≡◌, ◌≢◌, ℕ, ◌+◌, ◌<◌, ◌≤◌, eqb, Bool, true, false, ◌&&◌, List, [], ◌∷◌, ◌++◌, length, take, get_or, refl, sym, ap, ◌∙◌, arith, length-append, append_assoc, inl, inr}
+use Rattle.std.proofs.Common.{◌≡◌, ◌≢◌, ℕ, ◌+◌, ◌<◌, ◌≤◌, eqb, Bool, true, false, ◌&&◌, List, [], ◌∷◌, ◌++◌, length, take, drop, min, get_or, refl, sym, ap, ◌∙◌, arith, length-append, append_assoc, inl, inr}
 use Rattle.std.specs.Prelude.{◌==◌}
-use Rattle.std.proofs.lemmas.List.{append-nil, take_all}
+use Rattle.std.proofs.lemmas.List.{append-nil, take_all, at_drop_more, at_drop_all}
 use Rattle.std.proofs.lemmas.Bool.{cases_Bool}
 use Rattle.std.proofs.lemmas.Bool.Decides.{nat_tests}
 use Rattle.lhs_alias.specs.declared.segs.WireBit.{WireBit}
@@ -30,16 +30,17 @@ bits_push (x ∷ parts) p = ap (λ zs. lhs_bits x.to ++ zs) (bits_push parts p) 
 parts_more : (parts : List Part) (i : ℕ) (p : Part) → i < length parts → p ≡ get_or parts i p → parts_bits (take (i + 1) parts) ≡ parts_bits (take i parts) ++ lhs_bits p.to
 parts_more parts i p l e = ap parts_bits (taken_more parts i p l e) ∙ bits_push (take i parts) p
 
-pub count_none : (parts : List Part) → 0 ≡ length (parts_bits (take 0 parts))
+pub count_more : (parts : List Part) (i : ℕ) (p : Part) → i < length parts → p ≡ get_or parts i p → length (parts_bits (drop i parts)) ≡ length (lhs_bits p.to) + length (parts_bits (drop (i + 1) parts))
 unfolding parts_bits
-count_none parts = refl
+count_more parts i p l e =
+    at_drop_more (λ xs. length (parts_bits xs)) parts i p l ∙ ap (λ (q : Part). length (lhs_bits q.to ++ parts_bits (drop (i + 1) parts))) (sym e) ∙ length-append (lhs_bits p.to) (parts_bits (drop (i + 1) parts))
 
-pub count_more : (parts : List Part) (i : ℕ) (p : Part) (count more next : ℕ) → i < length parts → p ≡ get_or parts i p → count ≡ length (parts_bits (take i parts)) → more ≡ length (lhs_bits p.to) → next ≡ count + more → next ≡ length (parts_bits (take (i + 1) parts))
-count_more parts i p count more next l e h k m =
-    let a = ap length (parts_more parts i p l e) in omega (arith, length-append (parts_bits (take i parts)) (lhs_bits p.to))
+pub count_end : (parts : List Part) (i : ℕ) → length parts ≤ i → length (parts_bits (drop i parts)) ≡ 0
+unfolding parts_bits
+count_end parts i l = at_drop_all (λ xs. length (parts_bits xs)) parts i l
 
-pub count_end : (parts : List Part) (i count : ℕ) → length parts ≤ i → count ≡ length (parts_bits (take i parts)) → count ≡ length (parts_bits parts)
-count_end parts i count l h = h ∙ ap (λ xs. length (parts_bits xs)) (take_all i parts l)
+pub part_sum : (count n rest here w next all : ℕ) → here ≡ n + rest → w ≡ min 255 n → next ≡ min (count + w) 255 → min 255 (count + here) ≡ all → min 255 (next + rest) ≡ all
+part_sum count n rest here w next all h k m e = grind (arith, h, k, m, e)
 
 pub bits_none : (parts : List Part) (all : List Seg) → all ≡ [] → lhs_bits all ≡ parts_bits (take 0 parts)
 unfolding parts_bits
@@ -78,8 +79,14 @@ fixed_there f ts x w count b h e g c is =
       | inr t ↦ t ∙ sym k
     ]
 
-pub counted : (count all w n : ℕ) → eqb count all ≡ true → all ≡ w → count ≡ n → n ≡ w
-counted count all w n e a c = let m : count ≡ all = grind (arith, nat_tests, e) in sym c ∙ m ∙ a
+pub counted : (count n w : ℕ) → eqb count w ≡ true → count ≡ min 255 n → w ≤ 128 → n ≡ w
+counted count n w e c l = let m : count ≡ w = grind (arith, nat_tests, e) in grind (arith, m, c, l)
+
+pub same_test : (count n w : ℕ) → count ≡ min 255 n → w ≤ 128 → eqb count w ≡ eqb n w
+same_test count n w c l = elim (cases_Bool (eqb n w)) as (λ _. eqb count w ≡ eqb n w) [
+  | inl t ↦ let m : n ≡ w = grind (arith, nat_tests, t) in let k : count ≡ w = grind (arith, m, c, l) in let z : eqb count w ≡ true = grind (arith, nat_tests, k) in z ∙ sym t
+  | inr t ↦ let m : n ≢ w = grind (arith, nat_tests, t) in let k : count ≢ w = grind (arith, m, c, l) in let z : eqb count w ≡ false = grind (arith, nat_tests, k) in z ∙ sym t
+]
 
 -- ---- joins
 

@@ -1,7 +1,7 @@
 -- Drivers of parts of targets.
-use Rattle.std.proofs.Common.{◌≡◌, ℕ, zero, suc, ◌+◌, ◌-◌, ◌<◌, ◌≤◌, List, [], ◌∷◌, ◌++◌, length, take, map, get_or, refl, sym, ap, ◌∙◌, subst, arith, IsTrue, length-append, append_assoc}
+use Rattle.std.proofs.Common.{◌≡◌, ℕ, zero, suc, ◌+◌, ◌-◌, ◌<◌, ◌≤◌, List, [], ◌∷◌, ◌++◌, length, take, drop, min, map, get_or, refl, sym, ap, ◌∙◌, subst, arith, IsTrue, length-append, append_assoc}
 use Rattle.std.specs.List.{zip, range_with_len}
-use Rattle.std.proofs.lemmas.List.{append-nil, take_all}
+use Rattle.std.proofs.lemmas.List.{append-nil, take_all, at_drop_more, at_drop_all}
 use Rattle.std.proofs.lemmas.List.Elements.{All-nil, All-push, All-weaker}
 use Rattle.fourvec.specs.declared.Bit.{Bit}
 use Rattle.fourvec.specs.Bits.{slice_of}
@@ -31,22 +31,30 @@ seg_long : (n k w : ℕ) → length (map (bit n) (range_with_len k w)) ≡ w
 seg_long n k zero = refl
 seg_long n k (suc w) = ap suc (seg_long n (k + 1) w)
 
-bits_push : (segs : List Seg) (s : Seg) → length (lhs_bits (segs ++ s ∷ [])) ≡ length (lhs_bits segs) + s.width
+one_more : (s : Seg) (rest : List Seg) → length (lhs_bits (s ∷ rest)) ≡ s.width + length (lhs_bits rest)
 unfolding seg_bits
-bits_push [] s = seg_long s.wire s.lo s.width ∙ (let z : s.width ≡ 0 + s.width = omega arith in z)
-bits_push (x ∷ segs) s = let a = bits_push segs s in omega (arith, length-append (lhs_bits (segs ++ s ∷ [])) (seg_bits x), length-append (lhs_bits segs) (seg_bits x))
+one_more s rest = let e = length-append (lhs_bits rest) (seg_bits s) in let w = seg_long s.wire s.lo s.width in omega (arith, e, w)
 
-pub bits_more : (segs : List Seg) (i count next : ℕ) (s : Seg) → i < length segs → s ≡ get_or segs i s → count ≡ length (lhs_bits (take i segs)) → next ≡ count + s.width → next ≡ length (lhs_bits (take (i + 1) segs))
-bits_more segs i count next s l e h k = k ∙ ap (λ n. n + s.width) h ∙ sym (ap (λ xs. length (lhs_bits xs)) (taken_more segs i s l e) ∙ bits_push (take i segs) s)
+pub bits_more : (segs : List Seg) (i : ℕ) (s : Seg) → i < length segs → length (lhs_bits (drop i segs)) ≡ (get_or segs i s).width + length (lhs_bits (drop (i + 1) segs))
+bits_more segs i s l = at_drop_more (λ xs. length (lhs_bits xs)) segs i s l ∙ one_more (get_or segs i s) (drop (i + 1) segs)
 
-pub bits_end : (segs : List Seg) (i count : ℕ) → length segs ≤ i → count ≡ length (lhs_bits (take i segs)) → count ≡ length (lhs_bits segs)
-bits_end segs i count l h = h ∙ ap (λ xs. length (lhs_bits xs)) (take_all i segs l)
+pub bits_end : (segs : List Seg) (i : ℕ) → length segs ≤ i → length (lhs_bits (drop i segs)) ≡ 0
+bits_end segs i l = at_drop_all (λ xs. length (lhs_bits xs)) segs i l
+
+pub sum_more : (count w rest here next all : ℕ) → here ≡ w + rest → next ≡ min (count + w) 255 → min 255 (count + here) ≡ all → min 255 (next + rest) ≡ all
+sum_more count w rest here next all h n e = grind (arith, h, n, e)
+
+pub sum_end : (count rest all : ℕ) → count ≤ 255 → rest ≡ 0 → min 255 (count + rest) ≡ all → count ≡ all
+sum_end count rest all c r e = grind (arith, c, r, e)
 
 -- ---- one part
 
-pub puts : (widths : List ℕ) (old new : List Shape) (value lo count node : ℕ) (part : Part) (target : List Seg) → count ≡ length (lhs_bits part.to) → lo ≡ part.lo → part.lo ≤ width_at old value → count ≤ width_at old value - lo
+counted : (count n room : ℕ) → count ≡ min 255 n → count ≤ room → room ≤ 128 → count ≡ n
+counted count n room e l m = grind (arith, e, l, m)
+
+pub puts : (widths : List ℕ) (old new : List Shape) (value lo count node : ℕ) (part : Part) (target : List Seg) → width_at old value ≤ 128 → count ≡ min 255 (length (lhs_bits part.to)) → lo ≡ part.lo → part.lo ≤ width_at old value → count ≤ width_at old value - lo
     → LieIn widths part.to → FromOne old new (λ v. slice_of v lo count) value count node → target ≡ part.to → Puts widths old new value part (record { target = target; value = node })
-puts widths old new value lo count node part target c l low room lies h t = record {
+puts widths old new value lo count node part target most short l low room lies h t = let c = counted count (length (lhs_bits part.to)) (width_at old value - lo) short room (omega (arith, most)) in record {
   target = t;
   within = omega arith;
   value_is = λ bits. h.value bits ∙ ap (λ n. slice_of (bits_at_node bits old value) n count) l ∙ ap (λ n. slice_of (bits_at_node bits old value) part.lo n) c;

@@ -1,5 +1,5 @@
 // Ports that are joined to their actuals (IEEE 1800-2017, 23.3.3).
-ghost use Rattle.std.specs.Prelude.{◌≡◌, ◌==◌, ◌&&◌, ◌≤◌, ◌<◌, ◌∷◌, [], ℕ, List, All, length, true, IsTrue, IfOk, IfSome};
+ghost use Rattle.std.specs.Prelude.{◌≡◌, ◌==◌, ◌&&◌, ◌≤◌, ◌<◌, ◌∷◌, [], ℕ, List, All, length, min, true, IsTrue, IfOk};
 ghost use Rattle.lhs_alias.specs.Segs.{lhs_bits};
 ghost use Rattle.lhs_alias.specs.Lies.{LieIn};
 ghost use Rattle.driver_resolve.specs.Drivers.{is_wire};
@@ -15,31 +15,28 @@ use lhs_alias::{Lhs, Seg};
 use std::alloc::{AllocError, Global};
 use sv_targets::{Part, Target};
 
-// How many bits parts have together.
-fn bits_in(parts: &[Part]) -> Option<usize>
-    ensures { IfSome result (λ n. n ≡ length (parts_bits parts.now)) }
+// How many bits parts have together, 255 where there are more.
+fn bits_in(parts: &[Part]) -> u8
+    ensures { result ≡ min 255 (length (parts_bits parts.now)) }
 {
-    let mut count = 0usize;
+    let mut count = 0u8;
     'parts: for part in parts {
-        let more = bits_of(&part.to)?;
-        count = count.checked_add(more as usize)?;
+        count = count.saturating_add(bits_of(&part.to));
     }
-    Some(count)
+    count
 }
 
 /// Whether a port of so many bits is joined to an actual that is such a target: as wide, with all selects constant and in range.
-pub(crate) fn is_joined(target: &Target, width: u8) -> Result<bool, AllocError>
-    ensures long { IfOk result (λ b. b ≡ true → length (parts_bits target.now.parts) ≡ width) }
+pub(crate) fn is_joined(target: &Target, width: u8) -> bool
+    requires { width ≤ 128 }
+    ensures long { result ≡ true → length (parts_bits target.now.parts) ≡ width }
     ensures is { (f : Faults) (ts : List t.Target) → IsLowered f ts target.now
-        → IfOk result (λ b. b ≡ (t.widths ts == width && (t.are_fixed ts && are_present (t.slots ts)))) }
+        → result ≡ (t.widths ts == width && (t.are_fixed ts && are_present (t.slots ts))) }
 {
     if target.width != width as usize || !target.fixed {
-        return Ok(false);
+        return false;
     }
-    match bits_in(target.parts.as_slice()) {
-        Some(count) => Ok(count == target.width),
-        None => Err(AllocError),
-    }
+    bits_in(target.parts.as_slice()) == width
 }
 
 // The bits of parts as one target.

@@ -1,5 +1,5 @@
 // The drivers of parts of targets.
-ghost use Rattle.std.specs.Prelude.{◌≡◌, ◌≤◌, ◌<◌, length, IfOk, IfSome};
+ghost use Rattle.std.specs.Prelude.{◌≡◌, ◌<◌, length, min, IfOk};
 ghost use Rattle.lhs_alias.specs.Segs.{lhs_bits};
 ghost use Rattle.svex_arena.specs.Arenas.{Extends};
 ghost use Rattle.sv_targets.specs.Slots.{Slots, AreParts};
@@ -13,16 +13,15 @@ use sv_stmt::sliced;
 use sv_targets::Part;
 use svex_arena::{Arena, Node};
 
-/// How many bits segments have together, where that is at most 128.
-pub(crate) fn bits_of(to: &Lhs) -> Option<u8>
-    ensures is { IfSome result (λ n. n ≡ length (lhs_bits to.now)) }
-    ensures most { IfSome result (λ n. n ≤ 128) }
+/// How many bits segments have together, 255 where there are more.
+pub(crate) fn bits_of(to: &Lhs) -> u8
+    ensures { result ≡ min 255 (length (lhs_bits to.now)) }
 {
     let mut count = 0u8;
     'segs: for seg in to.segs() {
-        count = count.checked_add(seg.width)?;
+        count = count.saturating_add(seg.width);
     }
-    if count <= 128 { Some(count) } else { None }
+    count
 }
 
 // The driver that gives a part of a target its bits of a value.
@@ -38,9 +37,7 @@ fn part_driver(
     ensures ok { IfOk result (λ d. Puts widths.now arena.old arena.new value part.now d) }
 {
     let width = arena.width(value);
-    let Some(count) = bits_of(&part.to) else {
-        return Err(AllocError);
-    };
+    let count = bits_of(&part.to);
     if count == 0 || part.lo > width as usize {
         return Err(AllocError);
     }

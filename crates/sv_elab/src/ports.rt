@@ -128,7 +128,7 @@ fn to_target(
     ensures is { (wires : List Signal) (x : Meant) → widths_of wires ≡ widths.now → m.width x ≡ port.width → m.is_signed x ≡ port.signed
         → JudgesWork wires (d.port (names_are names.now) port.way port.wire x actual.now) made arena.new result }
 {
-    if is_joined(target, port.width)? {
+    if is_joined(target, port.width) {
         let join = join_of(alloc, port.wire, port.width, target.parts.as_slice())?;
         return Ok(Parts {
             drivers: Items::new(alloc),

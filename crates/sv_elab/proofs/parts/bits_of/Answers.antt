@@ -1,11 +1,16 @@
-use Rattle.std.proofs.Common.{get_or}
-use Rattle.std.proofs.lemmas.List.{get_or_default}
+use Rattle.std.proofs.Common.{◌+◌, length, drop, min, get_or, arith}
+use Rattle.lhs_alias.specs.Segs.{lhs_bits}
 use Rattle.lhs_alias.specs.declared.segs.Seg.{Seg}
-use Rattle.sv_elab.proofs.Parting.{bits_more}
+use Rattle.sv_elab.proofs.Parting.{bits_more, bits_end, sum_more, sum_end}
 use Rattle.sv_elab.proofs.parts.bits_of.Goals as goal
 
 pub segs-preserved : goal.segs-preserved
 segs-preserved c =
     let segs = c.segs-seg-items.result.now in
-    let s : Seg = get_or segs c.segs.seg-index (record { wire = 0; lo = 0; width = 0 }) in
-    bits_more segs c.segs.seg-index c.segs.count c.in_ok-count.count s c.segs-test.true (get_or_default segs c.segs.seg-index (record { wire = 0; lo = 0; width = 0 }) s c.segs-test.true) c.segs.invariant c.in_ok-count.ensures.1
+    let none : Seg = record { wire = 0; lo = 0; width = 0 } in
+    let i = c.segs.seg-index in
+    let next = c.saturating_add-count.ensures in
+    record {
+      fits = grind (arith, next);
+      total = sum_more c.segs.count (get_or segs i none).width (length (lhs_bits (drop (i + 1) segs))) (length (lhs_bits (drop i segs))) c.saturating_add-count.result (min 255 (length (lhs_bits segs))) (bits_more segs i none c.segs-test.true) next c.segs.invariant.total;
+    }
