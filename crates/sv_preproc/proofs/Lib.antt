@@ -12,4 +12,3 @@ pub mod Ahead
 pub mod Counts
 pub mod Refusals
 pub mod Items
-pub mod Main

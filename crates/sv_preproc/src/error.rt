@@ -38,7 +38,7 @@ impl<T: Drop> From<AllocFailed<T>> for PreErr {
 }
 
 /// Why an item is not read: the number of the refusal, or want of memory.
-#[derive(Clone, Copy, Debug, PartialEq, Eq)]
+#[derive(Clone, Copy)]
 pub enum ItemErr {
     Refused(u8),
     OutOfMemory,

@@ -12,7 +12,7 @@ pub struct Known {
 
 /// A conditional that is open: whether the branch round it counts, whether one of its branches was taken, and
 /// whether this one is its last.
-#[derive(Clone, Copy, Debug, PartialEq, Eq)]
+#[derive(Clone, Copy)]
 pub struct Frame {
     pub live: bool,
     pub taken: bool,

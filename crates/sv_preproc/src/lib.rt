@@ -1,4 +1,4 @@
-//! Reads a text with its directives.
+//! Reads files with their directives, one behind the other. `preprocess` of `sv_text` reads a whole text with these.
 #![tactic(auto)]
 
 mod branch;
@@ -12,7 +12,8 @@ mod reading;
 mod role;
 
 pub use error::PreErr;
-pub use known::Frame;
+pub use known::{Frame, Known};
 pub use law::one_text;
-pub use reading::preprocess;
+pub use macros::Macros;
+pub use reading::{Entered, enter, read_all, start_of};
 pub use role::Role;

@@ -1,3 +1,4 @@
+use Rattle.std.proofs.lemmas.Result.{IfOk-from_err}
 use Rattle.std.proofs.Common.{◌≡◌, ◌∷◌, ◌++◌, [], ◌-◌, ◌+◌, suc, refl, arith, sym, ◌∙◌, ap, Some, None}
 use Rattle.std.specs.Prelude.{option_map}
 use Rattle.std.proofs.lemmas.Grind.{common_steps}
@@ -87,3 +88,21 @@ returns-in_default-role_of t c =
       refused = c.pieces.invariant.refuses 6 (overrun_foreign (texts c.args.macros.now) c.args.place c.args.depth c.pieces.rest.now c.pieces.total c.in-Some.first.now c.in-Some.after.now whole
           (λ e. c.in_default-role_of.not-Kept (c.role_of.ensures ∙ e)) (λ e. c.in_default-role_of.not-Used (c.role_of.ensures ∙ e)));
     }
+
+pub returns-in_err-copy_at-in-Kept-clause-within : goal.returns-in_err-copy_at-in-Kept-clause-within
+returns-in_err-copy_at-in-Kept-clause-within t c = IfOk-from_err _ _ c.from_residual.ensures.0
+
+pub returns-in_err-copy_at-in-Kept-clause-written : goal.returns-in_err-copy_at-in-Kept-clause-written
+returns-in_err-copy_at-in-Kept-clause-written t c = IfOk-from_err _ _ c.from_residual.ensures.0
+
+pub returns-in_err-push-in-Kept-clause-within : goal.returns-in_err-push-in-Kept-clause-within
+returns-in_err-push-in-Kept-clause-within t c = IfOk-from_err _ _ c.from_residual-in_err-push-in-Kept.ensures.0
+
+pub returns-in_err-push-in-Kept-clause-written : goal.returns-in_err-push-in-Kept-clause-written
+returns-in_err-push-in-Kept-clause-written t c = IfOk-from_err _ _ c.from_residual-in_err-push-in-Kept.ensures.0
+
+pub returns-in_err-total-in-Used-clause-within : goal.returns-in_err-total-in-Used-clause-within
+returns-in_err-total-in-Used-clause-within t c = IfOk-from_err _ _ c.from_residual-in_err-total-in-Used.ensures.0
+
+pub returns-in_err-total-in-Used-clause-written : goal.returns-in_err-total-in-Used-clause-written
+returns-in_err-total-in-Used-clause-written t c = IfOk-from_err _ _ c.from_residual-in_err-total-in-Used.ensures.0

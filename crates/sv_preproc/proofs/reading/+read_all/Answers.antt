@@ -1,3 +1,4 @@
+use Rattle.std.proofs.lemmas.Result.{IfOk-from_err}
 use Rattle.std.proofs.Common.{◌≡◌, ◌<◌, ◌∷◌, ◌++◌, ◌-◌, [], List, suc, arith, refl, sym, ◌∙◌, ap, subst, None, length, reverse}
 use Rattle.std.specs.Prelude.{◌&&◌}
 use Rattle.std.proofs.lemmas.Grind.{common_steps}
@@ -219,3 +220,156 @@ returns-clause-reads g t c =
     let none : c.items.rest.now ≡ [] = grind (arith, common_steps) in
     let closed : c.items.frames.items ≡ [] = grind (arith, common_steps) in
     reads_all c.items.invariant.reached none (ap reverse closed)
+
+pub returns-in_err-copy_at-in-Kept-clause-reads : goal.returns-in_err-copy_at-in-Kept-clause-reads
+returns-in_err-copy_at-in-Kept-clause-reads g t c = IfOk-from_err _ _ c.from_residual.ensures.0
+
+pub returns-in_err-copy_at-in-Kept-clause-within : goal.returns-in_err-copy_at-in-Kept-clause-within
+returns-in_err-copy_at-in-Kept-clause-within g t c = IfOk-from_err _ _ c.from_residual.ensures.0
+
+pub returns-in_err-inner-in-Included-clause-reads : goal.returns-in_err-inner-in-Included-clause-reads
+returns-in_err-inner-in-Included-clause-reads g t c = IfOk-from_err _ _ c.from_residual-in_err-inner-in-Included.ensures.0
+
+pub returns-in_err-inner-in-Included-clause-within : goal.returns-in_err-inner-in-Included-clause-within
+returns-in_err-inner-in-Included-clause-within g t c = IfOk-from_err _ _ c.from_residual-in_err-inner-in-Included.ensures.0
+
+pub returns-in_err-live-in-Opened-clause-reads : goal.returns-in_err-live-in-Opened-clause-reads
+returns-in_err-live-in-Opened-clause-reads g t c = IfOk-from_err _ _ c.from_residual-in_err-live-in-Opened.ensures.0
+
+pub returns-in_err-live-in-Opened-clause-within : goal.returns-in_err-live-in-Opened-clause-within
+returns-in_err-live-in-Opened-clause-within g t c = IfOk-from_err _ _ c.from_residual-in_err-live-in-Opened.ensures.0
+
+pub returns-in_err-name-in-Included-clause-reads : goal.returns-in_err-name-in-Included-clause-reads
+returns-in_err-name-in-Included-clause-reads g t c = IfOk-from_err _ _ c.from_residual-in_err-name-in-Included.ensures.0
+
+pub returns-in_err-name-in-Included-clause-within : goal.returns-in_err-name-in-Included-clause-within
+returns-in_err-name-in-Included-clause-within g t c = IfOk-from_err _ _ c.from_residual-in_err-name-in-Included.ensures.0
+
+pub returns-in_err-push-in-Kept-clause-reads : goal.returns-in_err-push-in-Kept-clause-reads
+returns-in_err-push-in-Kept-clause-reads g t c = IfOk-from_err _ _ c.from_residual-in_err-push-in-Kept.ensures.0
+
+pub returns-in_err-push-in-Kept-clause-within : goal.returns-in_err-push-in-Kept-clause-within
+returns-in_err-push-in-Kept-clause-within g t c = IfOk-from_err _ _ c.from_residual-in_err-push-in-Kept.ensures.0
+
+pub returns-in_err-read_all-in-Included-clause-reads : goal.returns-in_err-read_all-in-Included-clause-reads
+returns-in_err-read_all-in-Included-clause-reads g t c = IfOk-from_err _ _ c.from_residual-in_err-read_all-in-Included.ensures.0
+
+pub returns-in_err-read_all-in-Included-clause-within : goal.returns-in_err-read_all-in-Included-clause-within
+returns-in_err-read_all-in-Included-clause-within g t c = IfOk-from_err _ _ c.from_residual-in_err-read_all-in-Included.ensures.0
+
+pub returns-in_err-rest-in-Defined-clause-reads : goal.returns-in_err-rest-in-Defined-clause-reads
+returns-in_err-rest-in-Defined-clause-reads g t c = IfOk-from_err _ _ c.from_residual-in_err-rest-in-Defined.ensures.0
+
+pub returns-in_err-rest-in-Defined-clause-within : goal.returns-in_err-rest-in-Defined-clause-within
+returns-in_err-rest-in-Defined-clause-within g t c = IfOk-from_err _ _ c.from_residual-in_err-rest-in-Defined.ensures.0
+
+pub returns-clause-unchanged : goal.returns-clause-unchanged
+returns-clause-unchanged g t c = c.items.invariant.unchanged
+
+pub returns-clause-counts_up : goal.returns-clause-counts_up
+returns-clause-counts_up g t c = c.items.invariant.counts_up
+
+pub returns-in-Broken-clause-unchanged : goal.returns-in-Broken-clause-unchanged
+returns-in-Broken-clause-unchanged g t c = c.items.invariant.unchanged
+
+pub returns-in-Broken-clause-counts_up : goal.returns-in-Broken-clause-counts_up
+returns-in-Broken-clause-counts_up g t c = c.items.invariant.counts_up
+
+pub returns-in-Err-clause-unchanged : goal.returns-in-Err-clause-unchanged
+returns-in-Err-clause-unchanged g t c = c.items.invariant.unchanged
+
+pub returns-in-Err-clause-counts_up : goal.returns-in-Err-clause-counts_up
+returns-in-Err-clause-counts_up g t c = c.items.invariant.counts_up
+
+pub returns-in-Err-turn-clause-unchanged : goal.returns-in-Err-turn-clause-unchanged
+returns-in-Err-turn-clause-unchanged g t c = c.items.invariant.unchanged
+
+pub returns-in-Err-turn-clause-counts_up : goal.returns-in-Err-turn-clause-counts_up
+returns-in-Err-turn-clause-counts_up g t c = c.items.invariant.counts_up
+
+pub returns-then-room-eq0-clause-unchanged : goal.returns-then-room-eq0-clause-unchanged
+returns-then-room-eq0-clause-unchanged g t c = c.items.invariant.unchanged
+
+pub returns-then-room-eq0-clause-counts_up : goal.returns-then-room-eq0-clause-counts_up
+returns-then-room-eq0-clause-counts_up g t c = c.items.invariant.counts_up
+
+pub returns-then-not-is_empty-clause-unchanged : goal.returns-then-not-is_empty-clause-unchanged
+returns-then-not-is_empty-clause-unchanged g t c = c.items.invariant.unchanged
+
+pub returns-then-not-is_empty-clause-counts_up : goal.returns-then-not-is_empty-clause-counts_up
+returns-then-not-is_empty-clause-counts_up g t c = c.items.invariant.counts_up
+
+pub returns-in_err-copy_at-in-Kept-clause-unchanged : goal.returns-in_err-copy_at-in-Kept-clause-unchanged
+returns-in_err-copy_at-in-Kept-clause-unchanged g t c = c.items.invariant.unchanged
+
+pub returns-in_err-copy_at-in-Kept-clause-counts_up : goal.returns-in_err-copy_at-in-Kept-clause-counts_up
+returns-in_err-copy_at-in-Kept-clause-counts_up g t c = c.items.invariant.counts_up
+
+pub returns-in_err-push-in-Kept-clause-unchanged : goal.returns-in_err-push-in-Kept-clause-unchanged
+returns-in_err-push-in-Kept-clause-unchanged g t c = c.items.invariant.unchanged
+
+pub returns-in_err-push-in-Kept-clause-counts_up : goal.returns-in_err-push-in-Kept-clause-counts_up
+returns-in_err-push-in-Kept-clause-counts_up g t c = c.items.invariant.counts_up
+
+pub returns-in_err-rest-in-Defined-clause-unchanged : goal.returns-in_err-rest-in-Defined-clause-unchanged
+returns-in_err-rest-in-Defined-clause-unchanged g t c = c.items.invariant.unchanged
+
+pub returns-in_err-rest-in-Defined-clause-counts_up : goal.returns-in_err-rest-in-Defined-clause-counts_up
+returns-in_err-rest-in-Defined-clause-counts_up g t c = c.items.invariant.counts_up
+
+pub returns-in_err-name-in-Included-clause-unchanged : goal.returns-in_err-name-in-Included-clause-unchanged
+returns-in_err-name-in-Included-clause-unchanged g t c = c.items.invariant.unchanged
+
+pub returns-in_err-name-in-Included-clause-counts_up : goal.returns-in_err-name-in-Included-clause-counts_up
+returns-in_err-name-in-Included-clause-counts_up g t c = c.items.invariant.counts_up
+
+pub returns-in_err-live-in-Opened-clause-unchanged : goal.returns-in_err-live-in-Opened-clause-unchanged
+returns-in_err-live-in-Opened-clause-unchanged g t c = c.items.invariant.unchanged
+
+pub returns-in_err-live-in-Opened-clause-counts_up : goal.returns-in_err-live-in-Opened-clause-counts_up
+returns-in_err-live-in-Opened-clause-counts_up g t c = c.items.invariant.counts_up
+
+pub returns-in_err-inner-in-Included-clause-unchanged : goal.returns-in_err-inner-in-Included-clause-unchanged
+returns-in_err-inner-in-Included-clause-unchanged g t c = λ n. c.in_err-inner-in-Included.ensures.unchanged n ∙ c.items.invariant.unchanged n
+
+pub returns-in_err-inner-in-Included-clause-counts_up : goal.returns-in_err-inner-in-Included-clause-counts_up
+returns-in_err-inner-in-Included-clause-counts_up g t c = omega (arith, c.in_err-inner-in-Included.ensures.counts_up, c.items.invariant.counts_up)
+
+pub returns-in_err-read_all-in-Included-clause-unchanged : goal.returns-in_err-read_all-in-Included-clause-unchanged
+returns-in_err-read_all-in-Included-clause-unchanged g t c = λ n. c.in_err-read_all-in-Included.ensures.unchanged n ∙ c.in_ok-inner-in-Included.ensures.unchanged n ∙ c.items.invariant.unchanged n
+
+pub returns-in_err-read_all-in-Included-clause-counts_up : goal.returns-in_err-read_all-in-Included-clause-counts_up
+returns-in_err-read_all-in-Included-clause-counts_up g t c = omega (arith, c.in_err-read_all-in-Included.ensures.counts_up, c.in_ok-inner-in-Included.ensures.counts_up, c.items.invariant.counts_up)
+
+pub returns-clause-within : goal.returns-clause-within
+returns-clause-within g t c = c.items.invariant.within
+
+pub returns-in-Broken-clause-reads : goal.returns-in-Broken-clause-reads
+returns-in-Broken-clause-reads g t c = tt
+
+pub returns-in-Broken-clause-within : goal.returns-in-Broken-clause-within
+returns-in-Broken-clause-within g t c = tt
+
+pub returns-in-Err-clause-reads : goal.returns-in-Err-clause-reads
+returns-in-Err-clause-reads g t c = tt
+
+pub returns-in-Err-clause-within : goal.returns-in-Err-clause-within
+returns-in-Err-clause-within g t c = tt
+
+pub returns-in-Err-turn-clause-reads : goal.returns-in-Err-turn-clause-reads
+returns-in-Err-turn-clause-reads g t c = tt
+
+pub returns-in-Err-turn-clause-within : goal.returns-in-Err-turn-clause-within
+returns-in-Err-turn-clause-within g t c = tt
+
+pub returns-then-room-eq0-clause-reads : goal.returns-then-room-eq0-clause-reads
+returns-then-room-eq0-clause-reads g t c = tt
+
+pub returns-then-room-eq0-clause-within : goal.returns-then-room-eq0-clause-within
+returns-then-room-eq0-clause-within g t c = tt
+
+pub returns-then-not-is_empty-clause-reads : goal.returns-then-not-is_empty-clause-reads
+returns-then-not-is_empty-clause-reads g t c = tt
+
+pub returns-then-not-is_empty-clause-within : goal.returns-then-not-is_empty-clause-within
+returns-then-not-is_empty-clause-within g t c = tt

@@ -3,9 +3,9 @@ use Rattle.sv_preproc.specs.Laws.{Possible}
 use Rattle.sv_preproc.specs.Reached.{Stops}
 use Rattle.sv_preproc.specs.Seen.{seen, texts, HasCause}
 use Rattle.sv_preproc.proofs.Errors.{handed_on}
-use Rattle.sv_preproc.proofs.Main.{first_state, main_unentered, main_stopped}
+use Rattle.sv_text.proofs.Main.{first_state, main_unentered, main_stopped}
 use Rattle.sv_preproc.proofs.Items.{told_as}
-use Rattle.sv_preproc.proofs.reading.read_main.Goals as goal
+use Rattle.sv_text.proofs.reading.read_main.Goals as goal
 
 pub returns-in_err-file-clause-caused : goal.returns-in_err-file-clause-caused
 returns-in_err-file-clause-caused g c =
