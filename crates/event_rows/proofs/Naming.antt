@@ -2,10 +2,10 @@
 use Rattle.std.proofs.Common.{◌≡◌, ℕ, ◌+◌, ◌<◌, Bool, false, List, length, get_or, set, sym, ◌∙◌, subst, inl, inr, arith}
 use Rattle.std.proofs.lemmas.Bool.{cases_eq}
 use Rattle.std.proofs.lemmas.List.{get_or-set_same, get_or-set_other}
-use Rattle.svex_arena.specs.declared.shape.Shape.{Shape}
-use Rattle.svex_arena.specs.Shapes.{shape_at}
+use Rattle.svex_shape.specs.declared.shape.Shape.{Shape}
+use Rattle.svex_shape.specs.Shapes.{shape_at}
 use Rattle.svex_arena.specs.Arenas.{IsArena}
-use Rattle.svex_arena.specs.Values.{each_variable_of, each_variable}
+use Rattle.svex_shape.specs.Values.{each_variable_of, each_variable}
 use Rattle.svex_arena.proofs.Numbering.{map_children}
 use Rattle.svex_arena.proofs.Steps.{variables_read, variables-step}
 use Rattle.driver_resolve.specs.Drivers.{is_of_wires}

@@ -1,7 +1,7 @@
 -- Words of the test whether a flat design is well formed.
 use Rattle.std.specs.Prelude.{◌≡◌, ℕ, ◌<◌, Bool, false, List, All, IsTrue, slice_index_or}
-use Rattle.svex_arena.specs.declared.shape.Shape.{Shape}
-use Rattle.svex_arena.specs.Values.{each_variable}
+use Rattle.svex_shape.specs.declared.shape.Shape.{Shape}
+use Rattle.svex_shape.specs.Values.{each_variable}
 use Rattle.driver_resolve.specs.Drivers.{is_of_wires}
 use Rattle.flat_net.specs.Flats.{is_path_byte}
 

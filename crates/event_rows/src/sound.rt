@@ -3,8 +3,8 @@
 ghost use Rattle.std.specs.Prelude.{◌≡◌, ℕ, ◌<◌, ◌≤◌, ◌&&◌, ◌==◌, false, length, map, slice_index_or, All, IsTrue, IfOk};
 ghost use Rattle.lhs_alias.specs.Pairs.{HaveOwnChildren};
 ghost use Rattle.lhs_alias.specs.Joined.{Stands, widths_of as joined_widths};
-ghost use Rattle.svex_arena.specs.Shapes.{ChildrenBelow};
-ghost use Rattle.svex_arena.specs.Values.{each_variable_of};
+ghost use Rattle.svex_shape.specs.Shapes.{ChildrenBelow};
+ghost use Rattle.svex_shape.specs.Values.{each_variable_of};
 ghost use Rattle.driver_resolve.specs.Drivers.{widths_of, is_wire, is_of_wires, IsDriver};
 ghost use Rattle.flat_net.specs.Flats.{IsSignal, IsJoin, IsFlat, links_of, is_path_byte};
 ghost use Rattle.event_sim.specs.Sims.{IsValuation};
@@ -88,7 +88,7 @@ fn is_named(widths: &[u8], name: &VarName, width: u8) -> bool
 }
 
 // Whether a node names present and previous values of wires alone, by whether its children do.
-#[tactic(auto, unfolding(svex_arena::specs::Values::each_variable_of))]
+#[tactic(auto, unfolding(svex_shape::specs::Values::each_variable_of))]
 fn names_wires(widths: &[u8], shape: &Shape, done: &[bool]) -> bool
     requires { ChildrenBelow (length done.now) shape.now }
     ensures { result ≡ each_variable_of (is_of_wires widths.now) (λ k. slice_index_or done.now k false) shape.now }

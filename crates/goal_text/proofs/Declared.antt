@@ -7,8 +7,8 @@ use Rattle.std.proofs.lemmas.Bool.Decides.{nat_tests}
 use Rattle.fourvec.proofs.Order.{both}
 use Rattle.driver_resolve.specs.Drivers.{is_wire}
 use Rattle.sv_meaning.specs.Layouts.{Name, Origin, of_choice, of_samples, What, Layout, NamedSignal, Declared, plain, signal_is, width}
-use Rattle.sv_stmt.specs.Lowering.{look_test, HoldsOfDeclared}
-use Rattle.sv_stmt.specs.declared.look.Look.TheVariants.{Present}
+use Rattle.sv_lower.specs.Lowering.{look_test, HoldsOfDeclared}
+use Rattle.sv_lower.specs.declared.look.Look.TheVariants.{Present}
 use Rattle.svtv_table.specs.Binding.{HasWidth}
 use Rattle.svtv_table.specs.declared.bound.Sample.{Sample}
 use Rattle.svtv_table.specs.declared.bound.VarDecl.{VarDecl}

@@ -13,7 +13,7 @@ use Rattle.sv_modules.specs.Naming.{holds, Holds, Adds}
 use Rattle.sv_modules.specs.declared.name_set.NameSet.{NameSet}
 use Rattle.sv_modules.proofs.Sets.{holds_more}
 use Rattle.sv_modules.proofs.Turns.{drop_next, drop_none, map_next}
-use Rattle.sv_const.specs.Judging.{IsCause}
+use Rattle.sv_typing.specs.Judging.{IsCause}
 use Rattle.sv_tree.specs.declared.exprs.Expr.{Expr}
 use Rattle.goal_tree.specs.declared.tree.GoalTree.{GoalTree}
 use Rattle.goal_text.specs.Faults.{exprs_faults, goals_faults, tree_faults, twice_goal}

@@ -6,13 +6,13 @@ use Rattle.std.proofs.lemmas.Bool.Decides.{nat_tests}
 use Rattle.fourvec.proofs.Order.{both}
 use mir.Syntax.{w64}
 use mir.Val.{to_z, of_z}
-use Rattle.sv_const.proofs.Sound.{same_bound}
-use Rattle.sv_const.specs.Kinds.{Entry, entry_is, scope_is, form_is, layout_is, FormIsSound, IsSound}
-use Rattle.sv_const.specs.declared.layout.Layout.{Layout}
-use Rattle.sv_const.specs.declared.layout.Form.TheVariants as f
-use Rattle.sv_const.specs.declared.layout.Form.TheBlock.{shape-the_row-Layout-0, hidden-the_row-Layout-0}
-use Rattle.sv_const.specs.Names.{names_are, frames_of, loops_of}
-use Rattle.sv_const.specs.declared.names.Names.{Names}
+use Rattle.sv_names.proofs.Sound.{same_bound}
+use Rattle.sv_names.specs.Kinds.{Entry, entry_is, scope_is, form_is, layout_is, FormIsSound, IsSound}
+use Rattle.sv_names.specs.declared.layout.Layout.{Layout}
+use Rattle.sv_names.specs.declared.layout.Form.TheVariants as f
+use Rattle.sv_names.specs.declared.layout.Form.TheBlock.{shape-the_row-Layout-0, hidden-the_row-Layout-0}
+use Rattle.sv_names.specs.Names.{names_are, frames_of, loops_of}
+use Rattle.sv_names.specs.declared.names.Names.{Names}
 use Rattle.sv_meaning.specs.Layouts.{Origin, Scope, count_between, dim, plain, scalar, signal_is, width}
 use Rattle.sv_meaning.specs.Meanings.{is_bound}
 use Rattle.sv_modules.proofs.Turns.{drop_next, drop_none}

@@ -6,10 +6,10 @@ use Rattle.sv_outside.specs.declared.refusal.TextErr.TheVariants.{No, Memory}
 use Rattle.sv_outside.specs.declared.text.Token.{Token}
 use Rattle.sv_token.specs.Cut.{IsRefused, past, start}
 use Rattle.sv_token.specs.Result.{IfRefused}
-use Rattle.sv_const.specs.Judging.{IsCause}
+use Rattle.sv_typing.specs.Judging.{IsCause}
 use Rattle.goal_tree.specs.declared.tree.GoalTree.{GoalTree}
 use Rattle.goal_tree.specs.Parsed.{AreGoals}
-use Rattle.svex_arena.specs.declared.shape.Shape.{Shape}
+use Rattle.svex_shape.specs.declared.shape.Shape.{Shape}
 use Rattle.svtv_table.specs.declared.bound.Sample.{Sample}
 use Rattle.svtv_table.specs.declared.bound.VarDecl.{VarDecl}
 use Rattle.goal_text.specs.declared.goal.Goal.{Goal}

@@ -8,19 +8,19 @@ use Rattle.sv_meaning.specs.Layouts.{Read, Scope, Origin, of_wires, of_choice, o
 use Rattle.sv_meaning.specs.Meanings as m
 use Rattle.sv_meaning.specs.Values.{mean}
 use Rattle.sv_modules.proofs.Turns.{take_next}
-use Rattle.sv_stmt.specs.Lowering.{look_read, look_test, each_signal, HoldsOfDeclared}
-use Rattle.sv_stmt.specs.Nodes.{bits_at_node}
-use Rattle.sv_stmt.specs.declared.look.Look.TheVariants.{Present}
-use Rattle.sv_stmt.proofs.Making.{made, from_unary}
-use Rattle.sv_stmt.proofs.Sources.{declared_hold}
+use Rattle.sv_lower.specs.Lowering.{look_read, look_test, each_signal, HoldsOfDeclared}
+use Rattle.sv_lower.specs.Nodes.{bits_at_node}
+use Rattle.sv_lower.specs.declared.look.Look.TheVariants.{Present}
+use Rattle.sv_lower.proofs.Making.{made, from_unary}
+use Rattle.sv_lower.proofs.Sources.{declared_hold}
 use Rattle.sv_tree.specs.declared.exprs.Expr.{Expr}
 use Rattle.sv_typed.specs.declared.tree.Typed.{Typed}
 use Rattle.sv_typed.specs.Typed.{own, worth, Stands}
-use Rattle.svex_arena.specs.declared.shape.Shape.{Shape}
-use Rattle.svex_arena.specs.declared.shape.Shape.TheVariants.{Unary}
-use Rattle.svex_arena.specs.declared.shape.Un.TheVariants.{Truth}
-use Rattle.svex_arena.specs.declared.shape.VarName.{VarName}
-use Rattle.svex_arena.specs.Values.{each_variable}
+use Rattle.svex_shape.specs.declared.shape.Shape.{Shape}
+use Rattle.svex_shape.specs.declared.shape.Shape.TheVariants.{Unary}
+use Rattle.svex_shape.specs.declared.shape.Un.TheVariants.{Truth}
+use Rattle.svex_shape.specs.declared.shape.VarName.{VarName}
+use Rattle.svex_shape.specs.Values.{each_variable}
 use Rattle.svex_arena.specs.Arenas.{Extends, Interned, IsArena}
 use Rattle.svex_arena.proofs.Steps.{value-extends, width-extends, variables-extends}
 use Rattle.goal_tree.specs.declared.tree.GoalTree.{GoalTree}

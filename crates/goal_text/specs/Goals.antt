@@ -9,7 +9,7 @@ use Rattle.sv_outside.specs.declared.refusal.TextErr.{TextErr}
 use Rattle.sv_outside.specs.declared.refusal.TextErr.TheVariants.{No, Memory}
 use Rattle.sv_outside.specs.declared.text.Token.{Token}
 use Rattle.sv_token.specs.Cut.{IsRefused, IsWithin, Lexes, past, start}
-use Rattle.svex_arena.specs.declared.shape.Shape.{Shape}
+use Rattle.svex_shape.specs.declared.shape.Shape.{Shape}
 use Rattle.svtv_table.specs.declared.bound.Sample.{Sample}
 use Rattle.svtv_table.specs.declared.bound.VarDecl.{VarDecl}
 use Rattle.goal_text.specs.declared.goal.Goal.{Goal}

@@ -7,16 +7,16 @@ use Rattle.goal_tree.specs.declared.tree.GoalTree.{GoalTree}
 use Rattle.sv_meaning.specs.Layouts.{Scope}
 use Rattle.sv_meaning.specs.Meanings.{truth}
 use Rattle.sv_meaning.specs.Values.{mean}
-use Rattle.sv_stmt.specs.Lowering.{look_read, look_test, each_signal, HoldsOfDeclared}
-use Rattle.sv_stmt.specs.Nodes.{bits_at_node}
-use Rattle.sv_stmt.specs.declared.look.Look.TheVariants.{Present}
+use Rattle.sv_lower.specs.Lowering.{look_read, look_test, each_signal, HoldsOfDeclared}
+use Rattle.sv_lower.specs.Nodes.{bits_at_node}
+use Rattle.sv_lower.specs.declared.look.Look.TheVariants.{Present}
 use Rattle.sv_tree.specs.declared.exprs.Expr.{Expr}
 use Rattle.sv_typed.specs.declared.tree.Typed.{Typed}
 use Rattle.sv_typed.specs.Typed.{own}
-use Rattle.svex_arena.specs.declared.shape.Shape.{Shape}
-use Rattle.svex_arena.specs.declared.shape.VarName.{VarName}
-use Rattle.svex_arena.specs.Shapes.{width_at}
-use Rattle.svex_arena.specs.Values.{each_variable}
+use Rattle.svex_shape.specs.declared.shape.Shape.{Shape}
+use Rattle.svex_shape.specs.declared.shape.VarName.{VarName}
+use Rattle.svex_shape.specs.Shapes.{width_at}
+use Rattle.svex_shape.specs.Values.{each_variable}
 use Rattle.svtv_table.specs.declared.bound.Sample.{Sample}
 use Rattle.svtv_table.specs.declared.bound.VarDecl.{VarDecl}
 use Rattle.goal_text.specs.declared.goal.Goal.{Goal}

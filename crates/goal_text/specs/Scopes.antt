@@ -3,8 +3,8 @@ use Rattle.std.specs.Prelude.{ℕ, ◌+◌, Bool, false, List, [], ◌∷◌, �
 use Rattle.driver_resolve.specs.Drivers.{is_wire}
 use Rattle.fourvec.specs.declared.Bit.{Bit}
 use Rattle.sv_meaning.specs.Layouts.{Name, Read, Scope, Origin, of_wires, of_choice, of_samples, plain, signal_is}
-use Rattle.svex_arena.specs.declared.shape.VarName.{VarName}
-use Rattle.svex_arena.specs.declared.shape.VarName.TheVariants.{Now, Chosen, Sampled}
+use Rattle.svex_shape.specs.declared.shape.VarName.{VarName}
+use Rattle.svex_shape.specs.declared.shape.VarName.TheVariants.{Now, Chosen, Sampled}
 use Rattle.svtv_table.specs.declared.bound.Sample.{Sample}
 use Rattle.svtv_table.specs.declared.bound.VarDecl.{VarDecl}
 

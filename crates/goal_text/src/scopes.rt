@@ -1,15 +1,15 @@
 // The variables and samples of a table as names.
 ghost use Rattle.std.specs.Prelude.{◌≡◌, ◌++◌, ◌≤◌, All, IfOk, IsTrue, false};
 ghost use Rattle.goal_text.specs.Scopes.{variables_of, samples_of};
-ghost use Rattle.sv_const.specs.Kinds.{layout_is, scope_is, IsSound};
-ghost use Rattle.sv_const.specs.Names.{names_are};
+ghost use Rattle.sv_names.specs.Kinds.{layout_is, scope_is, IsSound};
+ghost use Rattle.sv_names.specs.Names.{names_are};
 ghost use Rattle.sv_meaning.specs.Layouts.{count_between, dim, plain, scalar};
 ghost use Rattle.sv_meaning.specs.Meanings.{is_bound};
 ghost use Rattle.svtv_table.specs.Binding.{HasWidth};
 
 use items::Boxed;
 use std::alloc::{AllocError, Global};
-use sv_const::{Form, Layout, Names, Scope, What};
+use sv_names::{Form, Layout, Names, Scope, What};
 use svtv_table::{Sample, VarDecl};
 
 // One bit, unsigned.

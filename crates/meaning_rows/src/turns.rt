@@ -1,10 +1,10 @@
 // The turns of loops behind turns that were made before.
-ghost use Rattle.sv_const.specs.Kinds.{IsSound};
+ghost use Rattle.sv_names.specs.Kinds.{IsSound};
 
 use crate::counts::tokens_of;
 use std::alloc::{AllocError, Global};
 use sv_actions::typed_body;
-use sv_const::{Form, Layout, Names, Scope, What};
+use sv_names::{Form, Layout, Names, Scope, What};
 use sv_outside::{Name, Refusal, TextErr};
 use sv_parser::parse;
 use sv_tree::{Item, Source, SourcePart, Stmt};

@@ -16,9 +16,9 @@ use Rattle.sv_meaning.specs.Deeds as deeds
 use Rattle.sv_meaning.specs.Deeds.{Deed, idle, after, either, assign, if_else, merged}
 use Rattle.sv_typed.specs.declared.tree.Typed.{Typed}
 use Rattle.sv_typed.specs.Typed.{Stands, IsSound, names_of, names_picked, picked_width}
-use Rattle.sv_const.specs.Judging.{IsTyped, IsCause}
-use Rattle.sv_const.proofs.Lists.{contains_both, both_clear, then_clear, in_left, in_right}
-use Rattle.sv_const.proofs.Judged.{cause_from}
+use Rattle.sv_typing.specs.Judging.{IsTyped, IsCause}
+use Rattle.sv_typing.proofs.Lists.{contains_both, both_clear, then_clear, in_left, in_right}
+use Rattle.sv_typing.proofs.Judged.{cause_from}
 use Rattle.sv_targets.specs.declared.targets.TypedTarget.{TypedTarget}
 use Rattle.sv_targets.specs.Targets.{StandsFor, AreTargets, width_of_all}
 use Rattle.sv_targets.proofs.Targeting.{widths_are}

@@ -7,6 +7,7 @@ use Rattle.std.proofs.lemmas.List.Elements.{Contains-append_left, Contains-appen
 use mathlib.Core.Former.{Count}
 use Rattle.fourvec.specs.declared.Bit.{Bit}
 use Rattle.sv_outside.specs.declared.refusal.TextErr.{TextErr}
+use Rattle.sv_outside.specs.declared.refusal.Place.{Place}
 use Rattle.sv_tree.specs.declared.word.Word.{Word}
 use Rattle.sv_tree.specs.declared.stmts.Lvalue.{Lvalue, Name, Concat', Row_of-Lvalue, end_of-Lvalue, more_of-Lvalue}
 use Rattle.sv_tree.specs.declared.stmts.Stmt.{Stmt, Empty, Block', If', Case', For', Assign, Row_of-Stmt, end_of-Stmt, more_of-Stmt, Row_of-Arm, end_of-Arm, more_of-Arm, Held-Stmt-If-3, None', Some'}
@@ -17,9 +18,9 @@ use Rattle.sv_meaning.specs.Layouts as m
 use Rattle.sv_meaning.specs.Meanings.{Meaning, Step}
 use Rattle.sv_meaning.specs.Targets.{Target, target_of, target_faults, targets, targets_of, lvalue_faults, all_lvalue_faults, wide_target}
 use Rattle.sv_meaning.specs.Deeds.{with_index}
-use Rattle.sv_const.specs.declared.names.Names.{Names}
-use Rattle.sv_const.specs.Names.{names_are, frames_of, loops_of}
-use Rattle.sv_const.proofs.Lists.{left_clear, right_clear, first_clear}
+use Rattle.sv_names.specs.declared.names.Names.{Names}
+use Rattle.sv_names.specs.Names.{names_are, frames_of, loops_of}
+use Rattle.sv_typing.proofs.Lists.{left_clear, right_clear, first_clear}
 use Rattle.sv_targets.specs.declared.targets.TypedTarget.{TypedTarget}
 use Rattle.sv_targets.specs.Targets.{StandsFor, JudgesTargets}
 use Rattle.sv_actions.specs.declared.action.Case.{Case}
@@ -110,20 +111,20 @@ rooted_more : (named : Signals) (a b : List Target) → Rooted named a → Roote
 rooted_more named [] b h k = k
 rooted_more named (t ∷ a) b h k = (h.0, rooted_more named a b h.1 k)
 
-rooted_one : (judge : Meaning → Faults) (named : Signals) (w : Word) (o : Option What) (all : List Step) → target_faults judge w o all ≡ [] → Within (signal_of o) named → Rooted named (target_of o all ∷ [])
-rooted_one judge named w (Some (signal_is of_wires n x)) all f h = (h (wire_signal n (width x)) (0, omega arith, refl), tt)
-rooted_one judge named w (Some (signal_is of_choice n x)) all f h = cc
-rooted_one judge named w (Some (signal_is of_samples n x)) all f h = cc
-rooted_one judge named w (Some (number_is v t)) all f h = cc
-rooted_one judge named w (Some (type_is t)) all f h = cc
-rooted_one judge named w (Some genvar_is) all f h = cc
-rooted_one judge named w None all f h = cc
+rooted_one : (judge : Meaning → Faults) (named : Signals) (p : Place) (w : Word) (o : Option What) (all : List Step) → target_faults judge p w o all ≡ [] → Within (signal_of o) named → Rooted named (target_of o all ∷ [])
+rooted_one judge named p w (Some (signal_is of_wires n x)) all f h = (h (wire_signal n (width x)) (0, omega arith, refl), tt)
+rooted_one judge named p w (Some (signal_is of_choice n x)) all f h = cc
+rooted_one judge named p w (Some (signal_is of_samples n x)) all f h = cc
+rooted_one judge named p w (Some (number_is v t)) all f h = cc
+rooted_one judge named p w (Some (type_is t)) all f h = cc
+rooted_one judge named p w (Some genvar_is) all f h = cc
+rooted_one judge named p w None all f h = cc
 
 mutual
   unfolding targets lvalue_faults root_signals
 
   rooted : (judge : Meaning → Faults) (at : Scope) (named : Signals) (x : Lvalue) → lvalue_faults judge at x ≡ [] → Within (root_signals at x) named → Rooted named (targets at x)
-  rooted judge at named (Name w all) f h = rooted_one judge named w (find w.text at) _ f h
+  rooted judge at named (Name w all) f h = rooted_one judge named _ w (find w.text at) _ f h
   rooted judge at named (Concat' p s all) f h = all_rooted judge at named all (first_clear (all_lvalue_faults judge at all) (wide_target p (targets_of at all)) f) h
 
   all_rooted : {k : Count} (judge : Meaning → Faults) (at : Scope) (named : Signals) (all : Row_of-Lvalue k) → all_lvalue_faults judge at all ≡ [] → Within (all_root_signals at all) named → Rooted named (targets_of at all)

@@ -17,9 +17,9 @@ use Rattle.sv_meaning.specs.Deeds.{Deed, CaseArm, after, together, either, merge
 use Rattle.sv_typed.specs.declared.tree.Typed.{Typed}
 use Rattle.sv_typed.specs.Typed.{Stands, IsSound, worth, literal_of, names_of, names_together}
 use Rattle.sv_typed.proofs.Sound.{most_bits}
-use Rattle.sv_const.specs.Judging.{IsTyped, IsCause}
-use Rattle.sv_const.proofs.Lists.{contains_left, contains_right, contains_both, both_clear, then_clear, in_left, in_right}
-use Rattle.sv_const.proofs.Judged.{cause_from}
+use Rattle.sv_typing.specs.Judging.{IsTyped, IsCause}
+use Rattle.sv_typing.proofs.Lists.{contains_left, contains_right, contains_both, both_clear, then_clear, in_left, in_right}
+use Rattle.sv_typing.proofs.Judged.{cause_from}
 use Rattle.sv_actions.specs.declared.action.Action.{Action}
 use Rattle.sv_actions.specs.declared.action.Action.TheVariants as act
 use Rattle.sv_actions.specs.declared.action.Action.TheBlock.{shape-the_row-Action-0, hidden-the_row-Action-0, shape-the_row-Arm-1, hidden-the_row-Arm-1}

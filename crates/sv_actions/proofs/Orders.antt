@@ -7,9 +7,9 @@ use Rattle.sv_outside.specs.declared.refusal.Refusal.{Refusal}
 use Rattle.sv_outside.specs.declared.refusal.TextErr.{TextErr}
 use Rattle.sv_meaning.specs.Faults.{Faults, or_then}
 use Rattle.sv_meaning.specs.Deeds.{Deed, idle, after}
-use Rattle.sv_const.specs.Judging.{IsCause}
-use Rattle.sv_const.proofs.Lists.{in_left, in_right, in_first, in_second, contains_both}
-use Rattle.sv_const.proofs.Judged.{cause_from}
+use Rattle.sv_typing.specs.Judging.{IsCause}
+use Rattle.sv_typing.proofs.Lists.{in_left, in_right, in_first, in_second, contains_both}
+use Rattle.sv_typing.proofs.Judged.{cause_from}
 use Rattle.sv_actions.specs.Listing.{in_order}
 
 -- ---- deeds one after the other

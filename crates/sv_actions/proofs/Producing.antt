@@ -31,12 +31,12 @@ use Rattle.sv_meaning.specs.Targets.{Target, targets, targets_of, widths, wide_t
 use Rattle.sv_meaning.specs.Deeds.{Deed, CaseArm, deed, deeds, arms, idle, after, assign, if_else, case_of, is_casez, in_turn, in_turns, one_turn, turns, turn_faults, with_index, labels_of, all_faults}
 use Rattle.sv_typed.specs.declared.tree.Pick.{Pick}
 use Rattle.sv_typed.specs.Typed.{PickIsSound, picked_width}
-use Rattle.sv_const.specs.declared.names.Names.{Names}
-use Rattle.sv_const.specs.Kinds.{Entry, scope_is}
-use Rattle.sv_const.specs.Names.{names_are, entries_of, frames_of, loops_of}
-use Rattle.sv_const.specs.Judging.{IsCause}
-use Rattle.sv_const.proofs.Lists.{in_left, in_right, in_first, in_second, contains_both, then_clear, second_clear}
-use Rattle.sv_const.proofs.Judged.{cause_from}
+use Rattle.sv_names.specs.declared.names.Names.{Names}
+use Rattle.sv_names.specs.Kinds.{Entry, scope_is}
+use Rattle.sv_names.specs.Names.{names_are, entries_of, frames_of, loops_of}
+use Rattle.sv_typing.specs.Judging.{IsCause}
+use Rattle.sv_typing.proofs.Lists.{in_left, in_right, in_first, in_second, contains_both, then_clear, second_clear}
+use Rattle.sv_typing.proofs.Judged.{cause_from}
 use Rattle.sv_loops.specs.Answers.{Gives}
 use Rattle.sv_targets.specs.declared.targets.TypedTarget.{TypedTarget}
 use Rattle.sv_targets.specs.Targets.{StandsFor, AreTargets, JudgesTargets, width_of_all}

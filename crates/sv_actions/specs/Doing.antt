@@ -13,7 +13,7 @@ use Rattle.sv_meaning.specs.Targets.{present, with_wire}
 use Rattle.sv_meaning.specs.Deeds.{merged, same_value}
 use Rattle.sv_typed.specs.declared.tree.Typed.{Typed}
 use Rattle.sv_typed.specs.Typed.{worth, own, literal_of, names_of, names_together, names_picked, picked_width, IsSound, PickIsSound}
-use Rattle.sv_const.specs.Picks.{picked_put}
+use Rattle.sv_typing.specs.Picks.{picked_put}
 use Rattle.sv_targets.specs.declared.targets.TypedTarget.{TypedTarget}
 use Rattle.sv_targets.specs.Slots.{slots_of}
 use Rattle.sv_targets.specs.Targets.{width_of_all}

@@ -13,7 +13,7 @@ use Rattle.sv_meaning.specs.Values.{mean}
 use Rattle.sv_meaning.specs.Deeds.{Deed, CaseArm, deed, idle, after, one_turn, with_index, labels_of, longest, all_signed, all_faults, most_turns_together}
 use Rattle.sv_meaning.specs.Blocks.{marks}
 use Rattle.sv_typed.specs.Typed.{Stands, IsSound}
-use Rattle.sv_const.specs.Judging.{IsCause}
+use Rattle.sv_typing.specs.Judging.{IsCause}
 use Rattle.sv_actions.specs.declared.action.Arm as a
 use Rattle.sv_actions.specs.declared.statements.Acted.{Acted}
 use Rattle.sv_actions.specs.declared.labels.Labels.{Labels}

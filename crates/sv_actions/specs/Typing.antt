@@ -5,7 +5,7 @@ use Rattle.settling.specs.Settling.{Store}
 use Rattle.sv_outside.specs.declared.refusal.TextErr.{TextErr}
 use Rattle.sv_meaning.specs.Layouts.{Read, NamedSignal}
 use Rattle.sv_meaning.specs.Deeds.{Deed}
-use Rattle.sv_const.specs.Judging.{IsCause}
+use Rattle.sv_typing.specs.Judging.{IsCause}
 use Rattle.sv_actions.specs.declared.action.Action.{Action}
 use Rattle.sv_actions.specs.declared.statements.Acted.{Acted}
 use Rattle.sv_actions.specs.Doing.{Fits, names_all, run_all, writes_all}

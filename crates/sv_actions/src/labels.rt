@@ -1,15 +1,16 @@
 // Labels of case statements.
 ghost use Rattle.std.specs.Prelude.{◌≡◌, ◌&&◌, map};
 ghost use Rattle.sv_meaning.specs.Values.{mean};
-ghost use Rattle.sv_const.specs.Names.{names_are};
+ghost use Rattle.sv_names.specs.Names.{names_are};
 ghost use Rattle.sv_actions.specs.Listing.{JudgesLabels};
 
 use items::Items;
 use std::alloc::Global;
-use sv_const::{Names, typed};
+use sv_names::Names;
 use sv_outside::TextErr;
 use sv_tree::Expr;
 use sv_typed::Typed;
+use sv_typing::typed;
 
 /// The labels of an arm, with the largest of their sizes, and whether all are signed.
 #[derive(Drop)]

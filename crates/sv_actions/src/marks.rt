@@ -2,13 +2,13 @@
 ghost use Rattle.std.specs.Prelude.{◌≡◌, [], ◌++◌, IfOk, IfErr};
 ghost use Rattle.sv_meaning.specs.Faults.{Faults};
 ghost use Rattle.sv_meaning.specs.Blocks.{marks, mark_faults, is_mark};
-ghost use Rattle.sv_const.specs.Judging.{IsCause};
+ghost use Rattle.sv_typing.specs.Judging.{IsCause};
 ghost use Rattle.sv_actions.specs.Listing.{JudgesFaults, else_marks, faults_in, arm_marks};
 
 use items::Boxed;
-use sv_const::refusal;
 use sv_outside::{Place, TextErr};
 use sv_tree::{Arm, AssignMark, Stmt};
+use sv_typing::refusal;
 
 // Whether an assignment of a block has this mark.
 fn is_mark(clocked: bool, mark: AssignMark) -> bool

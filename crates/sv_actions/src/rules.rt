@@ -6,7 +6,7 @@ ghost use Rattle.sv_meaning.specs.Layouts.{NamedSignal};
 ghost use Rattle.sv_meaning.specs.Meanings.{Meaning, free_faults};
 ghost use Rattle.sv_meaning.specs.Targets.{Target};
 ghost use Rattle.sv_meaning.specs.Deeds.{CaseArm, Deed, idle, after, assign, if_else, case_of};
-ghost use Rattle.sv_const.specs.Judging.{Judges};
+ghost use Rattle.sv_typing.specs.Judging.{Judges};
 ghost use Rattle.sv_targets.specs.Targets.{JudgesTargets, AreNarrow, width_of_all};
 ghost use Rattle.sv_actions.specs.Typing.{IsActed, JudgesDeed};
 ghost use Rattle.sv_actions.specs.Doing.{IsAimed};

@@ -3,7 +3,7 @@ ghost use Rattle.std.specs.Prelude.{◌≡◌, ℕ, ◌++◌, List, IfOk};
 ghost use Rattle.fourvec.specs.declared.Bit.{Bit};
 ghost use Rattle.sv_meaning.specs.Layouts.{NamedSignal};
 ghost use Rattle.sv_meaning.specs.Deeds.{CaseArm, deed, is_casez};
-ghost use Rattle.sv_const.specs.Names.{names_are, entries_of, frames_of, loops_of};
+ghost use Rattle.sv_names.specs.Names.{names_are, entries_of, frames_of, loops_of};
 ghost use Rattle.sv_actions.specs.Texts.{target_signals, other_signals, arm_signals, of_each};
 ghost use Rattle.sv_actions.specs.Typing.{JudgesDeed};
 ghost use Rattle.sv_actions.specs.Listing.{AreArms, JudgesArms, in_order, all_deeds, else_deed, turn_deed, arm_of, all_arms, rest_of, Within, ActedAims, ArmsAim};
@@ -16,11 +16,12 @@ use crate::turns::{arms_behind, enter, leave, made_behind, one_more};
 use fourvec::Four;
 use items::{Boxed, Items};
 use std::alloc::Global;
-use sv_const::{IndexRule, Names, typed};
 use sv_loops::turns;
+use sv_names::Names;
 use sv_outside::{Place, TextErr};
 use sv_targets::typed_targets;
 use sv_tree::{Arm, CaseWord, Stmt, Word};
+use sv_typing::{IndexRule, typed};
 
 /// Actions, and how many turns of loops were made up to their end.
 #[derive(Drop)]

@@ -2,17 +2,18 @@
 ghost use Rattle.std.specs.Prelude.{◌≡◌, [], ◌∷◌, ◌++◌, List, IfErr, OnOk, OnErr};
 ghost use Rattle.sv_outside.specs.declared.refusal.TextErr.TheVariants.{Memory};
 ghost use Rattle.sv_meaning.specs.Deeds.{turn_faults};
-ghost use Rattle.sv_const.specs.Kinds.{Entry};
-ghost use Rattle.sv_const.specs.Names.{frames_of, loops_of};
+ghost use Rattle.sv_names.specs.Kinds.{Entry};
+ghost use Rattle.sv_names.specs.Names.{frames_of, loops_of};
 ghost use Rattle.sv_loops.specs.Steps.{index_is};
 ghost use Rattle.sv_actions.specs.Listing.{JudgesFaults, made_behind, arms_behind};
 
 use crate::arms::ActedArms;
 use crate::statements::Acted;
 use fourvec::Four;
-use sv_const::{Known, Names, refusal};
+use sv_names::{Known, Names};
 use sv_outside::{Place, TextErr};
 use sv_tree::Word;
+use sv_typing::refusal;
 
 /// How many turns all loops of a design make together at most.
 const MOST_TURNS: u64 = 1_000_000;

@@ -5,10 +5,10 @@ use Rattle.std.proofs.lemmas.List.Elements.{Contains-append_left, Contains-appen
 use Rattle.std.proofs.lemmas.List.{drop_more, drop_all, take-take, drop-take, take_all, at_drop_more}
 use Rattle.fourvec.specs.declared.Bit.{Bit}
 use Rattle.fourvec.specs.Bits.{slice_of}
-use Rattle.svex_arena.specs.declared.shape.VarName.{VarName}
-use Rattle.svex_arena.specs.declared.shape.Shape.{Shape}
-use Rattle.svex_arena.specs.Shapes.{width_at}
-use Rattle.svex_arena.specs.Values.{each_variable}
+use Rattle.svex_shape.specs.declared.shape.VarName.{VarName}
+use Rattle.svex_shape.specs.declared.shape.Shape.{Shape}
+use Rattle.svex_shape.specs.Shapes.{width_at}
+use Rattle.svex_shape.specs.Values.{each_variable}
 use Rattle.svex_arena.specs.Arenas.{IsArena, Extends}
 use Rattle.svex_arena.proofs.Keeping.{extends_on}
 use Rattle.svex_arena.proofs.Steps.{value-extends, width-extends, variables-extends}
@@ -19,9 +19,9 @@ use Rattle.sv_typed.specs.declared.tree.Typed.{Typed}
 use Rattle.sv_typed.specs.Typed.{names_of, names_picked, PickIsSound}
 use Rattle.sv_targets.specs.declared.targets.TypedTarget.{TypedTarget}
 use Rattle.sv_targets.specs.Targets.{width_of_all}
-use Rattle.sv_stmt.specs.Nodes.{bits_at_node, FromOne}
-use Rattle.sv_stmt.proofs.Sizing.{length-node}
-use Rattle.sv_stmt.proofs.Trees.{taken_more}
+use Rattle.sv_lower.specs.Nodes.{bits_at_node, FromOne}
+use Rattle.sv_lower.proofs.Sizing.{length-node}
+use Rattle.sv_lower.proofs.Trees.{taken_more}
 use Rattle.sv_actions.specs.Doing.{assigned_bits, write_to, write_into, target_names, TargetFits}
 use Rattle.sv_actions.proofs.Producing.{wide_by}
 use Rattle.sv_stores.specs.declared.scene.Scene.{Scene}

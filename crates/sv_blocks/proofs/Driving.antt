@@ -12,17 +12,17 @@ use Rattle.lhs_alias.specs.declared.segs.Seg.{Seg}
 use Rattle.lhs_alias.specs.Segs.{bit, seg_bits, lhs_bits, IsSeg}
 use Rattle.lhs_alias.specs.Lies.{LiesIn, LieIn}
 use Rattle.settling.specs.Settling.{Store, Contribution, value_at}
-use Rattle.svex_arena.specs.declared.shape.VarName.{VarName}
-use Rattle.svex_arena.specs.declared.shape.Shape.{Shape}
-use Rattle.svex_arena.specs.Shapes.{width_at}
-use Rattle.svex_arena.specs.Values.{each_variable}
+use Rattle.svex_shape.specs.declared.shape.VarName.{VarName}
+use Rattle.svex_shape.specs.declared.shape.Shape.{Shape}
+use Rattle.svex_shape.specs.Shapes.{width_at}
+use Rattle.svex_shape.specs.Values.{each_variable}
 use Rattle.svex_arena.specs.Arenas.{IsArena, Extends}
 use Rattle.svex_arena.proofs.Keeping.{extends_on}
 use Rattle.svex_arena.proofs.Steps.{value-extends, width-extends, variables-extends}
 use Rattle.driver_resolve.specs.declared.driver.Driver.{Driver}
 use Rattle.driver_resolve.specs.Drivers.{bitwise, Phase, bits_in, reading, driver_gives, drivers_give}
-use Rattle.sv_stmt.specs.Nodes.{bits_at_node, FromOne}
-use Rattle.sv_stmt.proofs.Sizing.{length-node}
+use Rattle.sv_lower.specs.Nodes.{bits_at_node, FromOne}
+use Rattle.sv_lower.proofs.Sizing.{length-node}
 use Rattle.sv_stores.specs.declared.scene.Scene.{Scene}
 use Rattle.sv_stores.specs.Scenes.{place_in, width_in, base, store_of, HoldsIn, AreNodes, IsScene}
 use Rattle.sv_blocks.specs.Driving.{run_seg, given, SceneFits, IsPlaced, Drives, DriveAll}

@@ -5,10 +5,10 @@ use Rattle.std.specs.Prelude.{IfOk}
 use Rattle.fourvec.specs.declared.Bit.{Bit}
 use Rattle.fourvec.specs.Bits.{first}
 use Rattle.lhs_alias.specs.declared.segs.WireBit.{WireBit}
-use Rattle.svex_arena.specs.declared.shape.VarName.{VarName}
-use Rattle.svex_arena.specs.declared.shape.VarName.TheVariants.{Now, Prev}
-use Rattle.svex_arena.specs.declared.shape.Shape.{Shape}
-use Rattle.svex_arena.specs.Values.{each_variable}
+use Rattle.svex_shape.specs.declared.shape.VarName.{VarName}
+use Rattle.svex_shape.specs.declared.shape.VarName.TheVariants.{Now, Prev}
+use Rattle.svex_shape.specs.declared.shape.Shape.{Shape}
+use Rattle.svex_shape.specs.Values.{each_variable}
 use Rattle.svex_arena.specs.Arenas.{Extends}
 use Rattle.svex_arena.proofs.Keeping.{extends_on}
 use Rattle.settling.specs.Settling.{Store}
@@ -16,7 +16,7 @@ use Rattle.driver_resolve.specs.declared.driver.Driver.{Driver}
 use Rattle.driver_resolve.specs.Drivers.{Phase, bits_in}
 use Rattle.sv_meaning.specs.Deeds.{merged}
 use Rattle.sv_meaning.specs.Blocks.{trigger_bit}
-use Rattle.sv_stmt.specs.Nodes.{bits_at_node}
+use Rattle.sv_lower.specs.Nodes.{bits_at_node}
 use Rattle.sv_actions.specs.declared.action.Action.{Action}
 use Rattle.sv_actions.specs.Doing.{run_all, names_all}
 use Rattle.sv_stores.specs.declared.scene.Scene.{Scene}

@@ -6,10 +6,10 @@ use Rattle.std.proofs.lemmas.List.{drop_more, drop_all}
 use Rattle.fourvec.specs.declared.Bit.{Bit}
 use Rattle.fourvec.specs.declared.Bit.TheVariants.{Zero}
 use Rattle.fourvec.specs.Bits.{planes, eq_of, and_of, or_of}
-use Rattle.svex_arena.specs.declared.shape.VarName.{VarName}
-use Rattle.svex_arena.specs.declared.shape.Shape.{Shape}
-use Rattle.svex_arena.specs.Shapes.{width_at}
-use Rattle.svex_arena.specs.Values.{each_variable}
+use Rattle.svex_shape.specs.declared.shape.VarName.{VarName}
+use Rattle.svex_shape.specs.declared.shape.Shape.{Shape}
+use Rattle.svex_shape.specs.Shapes.{width_at}
+use Rattle.svex_shape.specs.Values.{each_variable}
 use Rattle.svex_arena.specs.Arenas.{Extends}
 use Rattle.svex_arena.proofs.Keeping.{extends_on, extends_self}
 use Rattle.svex_arena.proofs.Steps.{value-extends, width-extends, variables-extends}
@@ -18,7 +18,7 @@ use Rattle.sv_meaning.specs.Layouts.{Read, NamedSignal}
 use Rattle.sv_typed.specs.declared.tree.Typed.{Typed}
 use Rattle.sv_typed.specs.Typed.{worth, names_of, names_together, literal_of}
 use Rattle.sv_meaning.specs.Deeds.{same_value}
-use Rattle.sv_stmt.specs.Nodes.{bits_at_node, IsConstant, FromTwo}
+use Rattle.sv_lower.specs.Nodes.{bits_at_node, IsConstant, FromTwo}
 use Rattle.sv_actions.specs.declared.action.Case.{Case}
 use Rattle.sv_actions.specs.Doing.{label_equals, label_matches}
 use Rattle.sv_stores.specs.declared.scene.Scene.{Scene}

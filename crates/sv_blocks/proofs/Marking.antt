@@ -10,7 +10,7 @@ use Rattle.settling.specs.Settling.{same_bit}
 use Rattle.svex_arena.specs.Substs.{given_or, entry_at}
 use Rattle.sv_meaning.specs.Blocks.{has_bit, distinct}
 use Rattle.sv_meaning.specs.Targets.{present}
-use Rattle.sv_stmt.proofs.Trees.{taken_more}
+use Rattle.sv_lower.proofs.Trees.{taken_more}
 use Rattle.sv_typed.specs.declared.tree.Typed.{Typed}
 use Rattle.sv_targets.specs.declared.targets.TypedTarget.{TypedTarget}
 use Rattle.sv_targets.specs.Slots.{slots_of}

@@ -9,13 +9,13 @@ use Rattle.fourvec.proofs.Places.{low_ones}
 use Rattle.fourvec.proofs.Basic.{low_plane-lt, planes_of}
 use Rattle.fourvec.proofs.Tables.{same_on_two}
 use Rattle.fourvec.proofs.Widths.{length-each}
-use Rattle.sv_meaning.specs.Meanings.{nowhere}
+use Rattle.sv_meaning.specs.Meanings.{nowhere, literal_value}
 use Rattle.sv_meaning.specs.Deeds.{mask_bit, mask, same_value}
 use Rattle.sv_literal.specs.declared.meaning.Literal.{Literal as Known}
 use Rattle.sv_typed.specs.declared.tree.Typed.{Typed}
 use Rattle.sv_typed.specs.declared.tree.TypedForm.{TypedForm, Literal}
 use Rattle.sv_typed.specs.declared.tree.TypedForm.TheVariants as f
-use Rattle.sv_typed.specs.Typed.{form_worth, worth, form_literal, literal_of, literal_bits}
+use Rattle.sv_typed.specs.Typed.{form_worth, worth, form_literal, literal_of}
 use Rattle.sv_blocks.specs.Masks.{equal_masked}
 
 -- ---- planes
@@ -55,7 +55,7 @@ no_literal : (x : TypedForm) → ((l : Known) → x ≡ f.Literal l → ⊥) →
 no_literal (Literal l) h = absurd (h l refl)
 no_literal x h = refl
 
-literal_worth : (t : Typed) (l : Known) (w : ℕ) (s : Bool) → t.form ≡ f.Literal l → worth t nowhere w s ≡ literal_bits l w s
+literal_worth : (t : Typed) (l : Known) (w : ℕ) (s : Bool) → t.form ≡ f.Literal l → worth t nowhere w s ≡ literal_value l w s
 unfolding form_worth
 literal_worth t l w s e = ap (λ x. form_worth t.width x nowhere w s) e
 

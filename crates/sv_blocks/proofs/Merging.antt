@@ -6,19 +6,19 @@ use Rattle.fourvec.specs.declared.Bit.{Bit}
 use Rattle.fourvec.specs.declared.Bit.TheVariants.{Zero, One, Unknown, Floating}
 use Rattle.fourvec.specs.Bits.{keep_bit, each_pair, first, choose, pick_of}
 use Rattle.fourvec.proofs.Order.{both}
-use Rattle.svex_arena.specs.declared.shape.VarName.{VarName}
-use Rattle.svex_arena.specs.declared.shape.Shape.{Shape}
-use Rattle.svex_arena.specs.declared.shape.Shape.TheVariants.{Pick}
-use Rattle.svex_arena.specs.Shapes.{width_at, width_of}
-use Rattle.svex_arena.specs.Values.{value_of, each_variable, each_variable_of}
+use Rattle.svex_shape.specs.declared.shape.VarName.{VarName}
+use Rattle.svex_shape.specs.declared.shape.Shape.{Shape}
+use Rattle.svex_shape.specs.declared.shape.Shape.TheVariants.{Pick}
+use Rattle.svex_shape.specs.Shapes.{width_at, width_of}
+use Rattle.svex_shape.specs.Values.{value_of, each_variable, each_variable_of}
 use Rattle.svex_arena.specs.Arenas.{IsArena, Extends}
 use Rattle.svex_arena.proofs.Keeping.{extends_on}
 use Rattle.svex_arena.proofs.Steps.{value-extends, width-extends, variables-extends}
 use Rattle.driver_resolve.specs.Drivers.{bitwise}
 use Rattle.settling.specs.Settling.{Store}
 use Rattle.sv_meaning.specs.Deeds.{merged}
-use Rattle.sv_stmt.specs.Nodes.{bits_at_node, IsMade, FromThree}
-use Rattle.sv_stmt.proofs.Sizing.{length-node}
+use Rattle.sv_lower.specs.Nodes.{bits_at_node, IsMade, FromThree}
+use Rattle.sv_lower.proofs.Sizing.{length-node}
 use Rattle.sv_stores.specs.declared.scene.Scene.{Scene}
 use Rattle.sv_stores.specs.Scenes.{place_in, width_in, base, store_of, HoldsIn, AreNodes, IsScene, Shows}
 use Rattle.sv_blocks.specs.Sides.{Merges}

@@ -7,11 +7,11 @@ use Rattle.fourvec.specs.declared.Spot.{Spot}
 use Rattle.fourvec.specs.Bits.{is_known, slice_of, each}
 use Rattle.fourvec.specs.Spots.{reached, window, place_of, overlaid, kept_bit, dyn_slice_of, dyn_put_of}
 use Rattle.fourvec.proofs.Order.{both}
-use Rattle.svex_arena.specs.declared.shape.VarName.{VarName}
-use Rattle.svex_arena.specs.declared.shape.Shape.{Shape}
-use Rattle.svex_arena.specs.declared.shape.Shape.TheVariants.{DynPut}
-use Rattle.svex_arena.specs.Shapes.{width_at, width_of}
-use Rattle.svex_arena.specs.Values.{value_of, each_variable, each_variable_of}
+use Rattle.svex_shape.specs.declared.shape.VarName.{VarName}
+use Rattle.svex_shape.specs.declared.shape.Shape.{Shape}
+use Rattle.svex_shape.specs.declared.shape.Shape.TheVariants.{DynPut}
+use Rattle.svex_shape.specs.Shapes.{width_at, width_of}
+use Rattle.svex_shape.specs.Values.{value_of, each_variable, each_variable_of}
 use Rattle.svex_arena.specs.Arenas.{IsArena, Extends}
 use Rattle.svex_arena.proofs.Steps.{value-extends, width-extends, variables-extends}
 use Rattle.svex_arena.proofs.Keeping.{extends_on}
@@ -25,11 +25,11 @@ use Rattle.sv_typed.specs.declared.tree.Typed.{Typed}
 use Rattle.sv_typed.specs.declared.tree.PickPlace.TheBlock.{shape-the_row-Typed-0, hidden-the_row-Typed-0}
 use Rattle.sv_typed.specs.Typed.{own, names_of, form_names, pick_place, place_names, spot_place}
 use Rattle.sv_typed.proofs.Worth as worths
-use Rattle.sv_stmt.specs.declared.parts.Place.{Place}
-use Rattle.sv_stmt.specs.Nodes.{bits_at_node, IsMade, FromOne, FromTwo, FromThree}
-use Rattle.sv_stmt.specs.Lowering.{each_signal, no_signal}
-use Rattle.sv_stmt.proofs.Nameless.{nameless}
-use Rattle.sv_stmt.proofs.Sizing.{length-node}
+use Rattle.sv_lower.specs.declared.parts.Place.{Place}
+use Rattle.sv_lower.specs.Nodes.{bits_at_node, IsMade, FromOne, FromTwo, FromThree}
+use Rattle.sv_lower.specs.Lowering.{each_signal, no_signal}
+use Rattle.sv_lower.proofs.Nameless.{nameless}
+use Rattle.sv_lower.proofs.Sizing.{length-node}
 use Rattle.sv_stores.specs.declared.scene.Scene.{Scene}
 use Rattle.sv_blocks.specs.declared.parts.Spotted.{Spotted}
 use Rattle.sv_blocks.specs.declared.parts.Spotted.TheVariants.{At, Moving}

@@ -5,9 +5,9 @@ use Rattle.std.proofs.lemmas.List.Elements.{Contains-append_left, Contains-appen
 use Rattle.std.proofs.lemmas.List.{drop_more, drop_all, take_all, at_drop_more, at_drop_all}
 use Rattle.fourvec.specs.declared.Bit.{Bit}
 use Rattle.fourvec.specs.Bits.{first, truth_of}
-use Rattle.svex_arena.specs.declared.shape.VarName.{VarName}
-use Rattle.svex_arena.specs.declared.shape.Shape.{Shape}
-use Rattle.svex_arena.specs.Values.{each_variable}
+use Rattle.svex_shape.specs.declared.shape.VarName.{VarName}
+use Rattle.svex_shape.specs.declared.shape.Shape.{Shape}
+use Rattle.svex_shape.specs.Values.{each_variable}
 use Rattle.svex_arena.specs.Arenas.{Extends}
 use Rattle.svex_arena.proofs.Keeping.{extends_on}
 use Rattle.svex_arena.proofs.Steps.{value-extends, variables-extends}
@@ -18,7 +18,7 @@ use Rattle.sv_meaning.specs.Deeds.{merged}
 use Rattle.sv_typed.specs.declared.tree.Typed.{Typed}
 use Rattle.sv_typed.specs.Typed.{own, names_of, names_together}
 use Rattle.sv_targets.specs.declared.targets.TypedTarget.{TypedTarget}
-use Rattle.sv_stmt.specs.Nodes.{bits_at_node}
+use Rattle.sv_lower.specs.Nodes.{bits_at_node}
 use Rattle.sv_actions.specs.declared.action.Action.{Action}
 use Rattle.sv_actions.specs.declared.action.Action.TheVariants as act
 use Rattle.sv_actions.specs.declared.action.Arm.{Arm}

@@ -9,18 +9,18 @@ use Rattle.fourvec.specs.declared.Bit.TheVariants.{Unknown}
 use Rattle.fourvec.specs.Bits.{slice_of}
 use Rattle.fourvec.proofs.Order.{both}
 use Rattle.fourvec.proofs.Tables.{left_of, right_of}
-use Rattle.svex_arena.specs.declared.shape.VarName.{VarName}
-use Rattle.svex_arena.specs.declared.shape.VarName.TheVariants.{Now}
-use Rattle.svex_arena.specs.declared.shape.Shape.{Shape}
-use Rattle.svex_arena.specs.declared.shape.Shape.TheVariants.{Var}
-use Rattle.svex_arena.specs.Shapes.{width_at, width_of}
-use Rattle.svex_arena.specs.Values.{value_of, each_variable, each_variable_of}
+use Rattle.svex_shape.specs.declared.shape.VarName.{VarName}
+use Rattle.svex_shape.specs.declared.shape.VarName.TheVariants.{Now}
+use Rattle.svex_shape.specs.declared.shape.Shape.{Shape}
+use Rattle.svex_shape.specs.declared.shape.Shape.TheVariants.{Var}
+use Rattle.svex_shape.specs.Shapes.{width_at, width_of}
+use Rattle.svex_shape.specs.Values.{value_of, each_variable, each_variable_of}
 use Rattle.svex_arena.specs.Arenas.{IsArena, Extends}
 use Rattle.svex_arena.proofs.Keeping.{extends_on}
 use Rattle.svex_arena.proofs.Steps.{value-extends, width-extends, variables-extends}
 use Rattle.driver_resolve.specs.Drivers.{bitwise}
-use Rattle.sv_stmt.specs.Nodes.{bits_at_node, IsMade, FromOne, FromTwo}
-use Rattle.sv_stmt.proofs.Sizing.{length-node}
+use Rattle.sv_lower.specs.Nodes.{bits_at_node, IsMade, FromOne, FromTwo}
+use Rattle.sv_lower.proofs.Sizing.{length-node}
 use Rattle.sv_stores.specs.declared.scene.Scene.{Scene}
 use Rattle.sv_stores.specs.Scenes.{mark_at, are_marked, is_whole, width_in, Shows}
 use Rattle.sv_blocks.specs.Sides.{IsSide, Mixes}

@@ -13,7 +13,7 @@ use Rattle.sv_meaning.specs.Blocks.{has_bit, distinct}
 use Rattle.sv_typed.specs.declared.tree.Typed.{Typed}
 use Rattle.sv_typed.specs.declared.tree.Pick.{Pick}
 use Rattle.sv_typed.specs.Typed.{names_of, names_together, names_picked, place_names}
-use Rattle.sv_const.specs.Picks.{fixed_pick, picked_slots}
+use Rattle.sv_typing.specs.Picks.{fixed_pick, picked_slots}
 use Rattle.sv_targets.specs.declared.targets.TypedTarget.{TypedTarget}
 use Rattle.sv_targets.specs.Slots.{target_slots, slots_of}
 use Rattle.sv_actions.specs.declared.action.Case.{Case}

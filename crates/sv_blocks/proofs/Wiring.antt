@@ -4,13 +4,13 @@ use Rattle.std.specs.List.{All, Contains}
 use Rattle.std.proofs.lemmas.List.{replicate-append-replicate, take_all, get_or_push, get_or_past, length_push, length-replicate, get_or-replicate, get_or_append_left}
 use Rattle.std.specs.Prelude.{is_some}
 use Rattle.std.proofs.lemmas.List.Elements.{All-push, All-nil, All-weaker}
-use Rattle.sv_stmt.proofs.Trees.{taken_more}
+use Rattle.sv_lower.proofs.Trees.{taken_more}
 use Rattle.std.proofs.lemmas.Bool.{cases_lt, cases_eq}
 use Rattle.svex_arena.specs.Substs.{entry_at, given_or}
 use Rattle.sv_meaning.specs.Layouts.{What, signal_is, of_wires, width, NamedSignal}
-use Rattle.sv_const.specs.declared.layout.Layout.{Layout as Laid}
-use Rattle.sv_const.specs.Kinds.{layout_is, IsSound}
-use Rattle.sv_const.proofs.Sound.{sound_width}
+use Rattle.sv_names.specs.declared.layout.Layout.{Layout as Laid}
+use Rattle.sv_names.specs.Kinds.{layout_is, IsSound}
+use Rattle.sv_names.proofs.Sound.{sound_width}
 use Rattle.sv_stores.specs.declared.scene.Scene.{Scene}
 use Rattle.sv_blocks.specs.declared.wires.Wire.{Wire}
 use Rattle.sv_blocks.specs.declared.wires.Places.{Places}

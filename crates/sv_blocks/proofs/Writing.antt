@@ -6,10 +6,10 @@ use Rattle.std.proofs.lemmas.Bool.{cases_lt, cases_eq, cases_Bool}
 use Rattle.std.proofs.lemmas.Bool.Decides.{nat_tests}
 use Rattle.fourvec.specs.declared.Bit.{Bit}
 use Rattle.fourvec.specs.Bits.{slice_of}
-use Rattle.svex_arena.specs.declared.shape.VarName.{VarName}
-use Rattle.svex_arena.specs.declared.shape.Shape.{Shape}
-use Rattle.svex_arena.specs.Shapes.{width_at}
-use Rattle.svex_arena.specs.Values.{each_variable}
+use Rattle.svex_shape.specs.declared.shape.VarName.{VarName}
+use Rattle.svex_shape.specs.declared.shape.Shape.{Shape}
+use Rattle.svex_shape.specs.Shapes.{width_at}
+use Rattle.svex_shape.specs.Values.{each_variable}
 use Rattle.svex_arena.specs.Arenas.{IsArena, Extends}
 use Rattle.svex_arena.proofs.Keeping.{extends_on}
 use Rattle.svex_arena.proofs.Steps.{value-extends, width-extends, variables-extends}
@@ -20,11 +20,11 @@ use Rattle.sv_meaning.specs.Meanings.{bits_at, bits_from}
 use Rattle.sv_meaning.specs.Targets.{put_at, with_wire}
 use Rattle.sv_typed.specs.declared.tree.Pick.{Pick}
 use Rattle.sv_typed.specs.Typed.{pick_place, place_names, spot_place, names_picked, picked_width, PickIsSound}
-use Rattle.sv_const.specs.Picks.{picked_put}
+use Rattle.sv_typing.specs.Picks.{picked_put}
 use Rattle.sv_targets.specs.declared.targets.TypedTarget.{TypedTarget}
 use Rattle.sv_targets.specs.Targets.{width_of_all}
-use Rattle.sv_stmt.specs.Nodes.{bits_at_node, FromOne}
-use Rattle.sv_stmt.proofs.Sizing.{length-node}
+use Rattle.sv_lower.specs.Nodes.{bits_at_node, FromOne}
+use Rattle.sv_lower.proofs.Sizing.{length-node}
 use Rattle.sv_actions.specs.Doing.{write_to, write_into, target_names, TargetFits}
 use Rattle.sv_stores.specs.declared.scene.Scene.{Scene}
 use Rattle.sv_blocks.specs.declared.parts.Spotted.{Spotted}

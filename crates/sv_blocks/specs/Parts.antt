@@ -3,17 +3,17 @@ use Rattle.std.specs.Prelude.{◌≡◌, ℕ, ◌+◌, ◌<◌, ◌≤◌, Bool,
 use Rattle.fourvec.specs.declared.Bit.{Bit}
 use Rattle.fourvec.specs.Bits.{slice_of}
 use Rattle.fourvec.specs.Spots.{reached, overlaid}
-use Rattle.svex_arena.specs.declared.shape.VarName.{VarName}
-use Rattle.svex_arena.specs.declared.shape.Shape.{Shape}
-use Rattle.svex_arena.specs.Shapes.{width_at}
-use Rattle.svex_arena.specs.Values.{each_variable}
+use Rattle.svex_shape.specs.declared.shape.VarName.{VarName}
+use Rattle.svex_shape.specs.declared.shape.Shape.{Shape}
+use Rattle.svex_shape.specs.Shapes.{width_at}
+use Rattle.svex_shape.specs.Values.{each_variable}
 use Rattle.sv_meaning.specs.Layouts.{NamedSignal}
 use Rattle.sv_meaning.specs.Meanings.{bits_at}
 use Rattle.sv_meaning.specs.Targets.{put_at}
 use Rattle.sv_typed.specs.declared.tree.Pick.{Pick}
 use Rattle.sv_typed.specs.Typed.{pick_place, place_names, spot_place, names_picked}
-use Rattle.sv_const.specs.Picks.{picked_put}
-use Rattle.sv_stmt.specs.Nodes.{bits_at_node}
+use Rattle.sv_typing.specs.Picks.{picked_put}
+use Rattle.sv_lower.specs.Nodes.{bits_at_node}
 use Rattle.sv_stores.specs.declared.scene.Scene.{Scene}
 use Rattle.sv_blocks.specs.declared.parts.Spotted.{Spotted}
 use Rattle.sv_blocks.specs.declared.parts.Spotted.TheVariants.{At, Moving}

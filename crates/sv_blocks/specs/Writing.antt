@@ -1,16 +1,16 @@
 -- Assignments as steps over nodes.
 use Rattle.std.specs.Prelude.{◌≡◌, ℕ, Bool, List, ◌++◌, IsTrue}
 use Rattle.fourvec.specs.declared.Bit.{Bit}
-use Rattle.svex_arena.specs.declared.shape.VarName.{VarName}
-use Rattle.svex_arena.specs.declared.shape.Shape.{Shape}
-use Rattle.svex_arena.specs.Values.{each_variable}
+use Rattle.svex_shape.specs.declared.shape.VarName.{VarName}
+use Rattle.svex_shape.specs.declared.shape.Shape.{Shape}
+use Rattle.svex_shape.specs.Values.{each_variable}
 use Rattle.settling.specs.Settling.{Store}
 use Rattle.sv_meaning.specs.Layouts.{Read, NamedSignal}
 use Rattle.sv_typed.specs.declared.tree.Typed.{Typed}
 use Rattle.sv_typed.specs.Typed.{names_of, names_picked}
 use Rattle.sv_targets.specs.declared.targets.TypedTarget.{TypedTarget}
 use Rattle.sv_targets.specs.Targets.{width_of_all}
-use Rattle.sv_stmt.specs.Nodes.{bits_at_node}
+use Rattle.sv_lower.specs.Nodes.{bits_at_node}
 use Rattle.sv_actions.specs.Doing.{assigned_bits, write_to, write_into, target_names}
 use Rattle.sv_stores.specs.declared.scene.Scene.{Scene}
 use Rattle.sv_stores.specs.Scenes.{store_of, reads_in, Allows, HoldsIn}

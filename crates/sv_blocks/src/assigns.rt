@@ -1,8 +1,8 @@
 // Assignments in blocks (IEEE 1800-2017, 10.4).
 ghost use Rattle.std.specs.Prelude.{◌≡◌, ℕ, ◌<◌, ◌≤◌, max, take, All, length, IfOk, OnOk};
 ghost use Rattle.fourvec.specs.declared.Bit.{Bit};
-ghost use Rattle.svex_arena.specs.declared.shape.VarName.{VarName};
-ghost use Rattle.svex_arena.specs.Shapes.{width_at};
+ghost use Rattle.svex_shape.specs.declared.shape.VarName.{VarName};
+ghost use Rattle.svex_shape.specs.Shapes.{width_at};
 ghost use Rattle.svex_arena.specs.Arenas.{Extends};
 ghost use Rattle.sv_typed.specs.Typed.{IsSound, names_of};
 ghost use Rattle.sv_targets.specs.Targets.{width_of_all};
@@ -14,7 +14,7 @@ ghost use Rattle.sv_blocks.specs.Writing.{Wrote, WroteAll, assigns, assign_names
 use crate::states::put_node;
 use crate::writes::written;
 use std::alloc::{AllocError, Global};
-use sv_stmt::sliced;
+use sv_lower::sliced;
 use sv_stores::{Scene, State, lowered, place_of};
 use sv_targets::TypedTarget;
 use sv_typed::Typed;

@@ -11,7 +11,7 @@ use driver_resolve::Driver;
 use items::Items;
 use lhs_alias::{Lhs, Seg, WireBit};
 use std::alloc::{AllocError, Global};
-use sv_stmt::sliced;
+use sv_lower::sliced;
 use sv_stores::{Scene, place_of};
 use svex_arena::{Arena, Node};
 

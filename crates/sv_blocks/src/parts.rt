@@ -1,18 +1,18 @@
 // Parts of nodes, and nodes with parts put into them (IEEE 1800-2017, 11.5.1).
 ghost use Rattle.std.specs.Prelude.{◌≡◌, ◌+◌, ◌<◌, ◌≤◌, ◌++◌, Some, length, take, drop, IfOk, IfSome};
 ghost use Rattle.fourvec.specs.Spots.{reached, overlaid, dyn_put_of};
-ghost use Rattle.svex_arena.specs.Shapes.{width_at};
+ghost use Rattle.svex_shape.specs.Shapes.{width_at};
 ghost use Rattle.svex_arena.specs.Arenas.{Extends};
 ghost use Rattle.sv_meaning.specs.Layouts.{Read};
 ghost use Rattle.sv_typed.specs.Typed.{own, spot_place, IsSound, PickIsSound};
-ghost use Rattle.sv_stmt.specs.Nodes.{FromTwo, FromThree};
+ghost use Rattle.sv_lower.specs.Nodes.{FromTwo, FromThree};
 ghost use Rattle.sv_stores.specs.Scenes.{IsScene, IsState};
 ghost use Rattle.sv_blocks.specs.Fitting.{PickSits};
 ghost use Rattle.sv_blocks.specs.Parts.{SpotIsIn, SpotIsWide, Spots, ReadsPart, PutsPart, IsLay};
 
 use fourvec::Spot;
 use std::alloc::{AllocError, Global};
-use sv_stmt::{Place, beside, is_nameless, make, part_at, place_at, place_of, sliced, windowed};
+use sv_lower::{Place, beside, is_nameless, make, part_at, place_at, place_of, sliced, windowed};
 use sv_stores::{Scene, State, lowered};
 use sv_typed::{Pick, PickPlace, Typed};
 use svex_arena::{Arena, Node, Shape};

@@ -1,6 +1,6 @@
 // Actions as steps over nodes (IEEE 1800-2017, 10.4, 12.4, 12.5).
 ghost use Rattle.std.specs.Prelude.{◌≡◌, ◌<◌, All, length, OnOk};
-ghost use Rattle.svex_arena.specs.Shapes.{width_at};
+ghost use Rattle.svex_shape.specs.Shapes.{width_at};
 ghost use Rattle.svex_arena.specs.Arenas.{Extends};
 ghost use Rattle.sv_typed.specs.Typed.{names_of};
 ghost use Rattle.sv_actions.specs.Doing.{run, run_all, names, names_all, Fits, CaseFits};

@@ -1,12 +1,12 @@
 // What names of wires read that a combinational block writes (IEEE 1800-2017, 9.2.2.2).
 ghost use Rattle.std.specs.Prelude.{◌≡◌, ℕ, ◌<◌, ◌≤◌, ◌+◌, length, IfOk};
-ghost use Rattle.svex_arena.specs.Shapes.{width_at};
+ghost use Rattle.svex_shape.specs.Shapes.{width_at};
 ghost use Rattle.svex_arena.specs.Arenas.{Extends};
 ghost use Rattle.sv_stores.specs.Scenes.{mark_at, are_marked, width_in, IsScene, Shows};
 ghost use Rattle.sv_blocks.specs.Sides.{Mixes, IsSide};
 
 use std::alloc::{AllocError, Global};
-use sv_stmt::{beside, make, sliced};
+use sv_lower::{beside, make, sliced};
 use sv_stores::Scene;
 use svex_arena::{Arena, Node, Shape, VarName};
 

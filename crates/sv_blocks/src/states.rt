@@ -1,16 +1,16 @@
 // States of blocks: their stores, and what names see of these.
 ghost use Rattle.std.specs.Prelude.{◌≡◌, ◌<◌, length, slice_set, IfOk, OnOk, None};
-ghost use Rattle.svex_arena.specs.Shapes.{width_at};
+ghost use Rattle.svex_shape.specs.Shapes.{width_at};
 ghost use Rattle.svex_arena.specs.Arenas.{Extends};
 ghost use Rattle.fourvec.specs.Bits.{pick_of};
-ghost use Rattle.sv_stmt.specs.Nodes.{FromThree};
+ghost use Rattle.sv_lower.specs.Nodes.{FromThree};
 ghost use Rattle.sv_stores.specs.Scenes.{width_in, IsScene, IsState, AreNodes, AreSeen, SeenBy};
 ghost use Rattle.sv_blocks.specs.Sides.{Merges};
 
 use crate::shown::shown;
 use items::Items;
 use std::alloc::{AllocError, Global};
-use sv_stmt::make;
+use sv_lower::make;
 use sv_stores::{Scene, State};
 use svex_arena::{Arena, Node, Shape};
 

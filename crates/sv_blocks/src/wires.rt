@@ -1,14 +1,14 @@
 // The wires that the statements of a block write.
 ghost use Rattle.std.specs.Prelude.{◌≡◌, ℕ, ◌<◌, ◌*◌, false, replicate, ◌++◌, All, List, length, slice_index_or, Some, None, IfOk, IfSome, OnOk};
-ghost use Rattle.sv_const.specs.Kinds.{what_is, WhatIsSound};
-ghost use Rattle.sv_const.specs.Names.{names_are};
+ghost use Rattle.sv_names.specs.Kinds.{what_is, WhatIsSound};
+ghost use Rattle.sv_names.specs.Names.{names_are};
 ghost use Rattle.sv_meaning.specs.Layouts.{NamedSignal, find};
 ghost use Rattle.sv_actions.specs.Texts.{signal_of, root_signals, target_signals, other_signals, arm_signals, of_each};
 ghost use Rattle.sv_blocks.specs.Declaring.{HasBits, IsAmong, IsThere, ArePlaces, IsBegun, maybe_wire, wires_are};
 
 use items::{Boxed, Items};
 use std::alloc::{AllocError, Global};
-use sv_const::{Names, What};
+use sv_names::{Names, What};
 use sv_stores::Scene;
 use sv_tree::{Arm, Lvalue, Stmt};
 

@@ -1,6 +1,6 @@
 // Values written into chains of selects (IEEE 1800-2017, 10.4, 11.5.1).
 ghost use Rattle.std.specs.Prelude.{◌≡◌, ◌<◌, ◌≤◌, length, All, IfOk};
-ghost use Rattle.svex_arena.specs.Shapes.{width_at};
+ghost use Rattle.svex_shape.specs.Shapes.{width_at};
 ghost use Rattle.svex_arena.specs.Arenas.{Extends};
 ghost use Rattle.sv_typed.specs.Typed.{picked_width, PickIsSound};
 ghost use Rattle.sv_stores.specs.Scenes.{IsScene, IsState};

@@ -14,10 +14,10 @@ use Rattle.lhs_alias.specs.Segs.{bit}
 use Rattle.lhs_alias.specs.Lies.{LieIn}
 use Rattle.sv_outside.specs.declared.text.Signal.{Signal}
 use Rattle.settling.specs.Settling.{Store}
-use Rattle.svex_arena.specs.declared.shape.VarName.{VarName}
-use Rattle.svex_arena.specs.declared.shape.VarName.TheVariants.{Now, Prev}
-use Rattle.svex_arena.specs.declared.shape.Shape.{Shape}
-use Rattle.svex_arena.specs.Values.{each_variable}
+use Rattle.svex_shape.specs.declared.shape.VarName.{VarName}
+use Rattle.svex_shape.specs.declared.shape.VarName.TheVariants.{Now, Prev}
+use Rattle.svex_shape.specs.declared.shape.Shape.{Shape}
+use Rattle.svex_shape.specs.Values.{each_variable}
 use Rattle.driver_resolve.specs.declared.driver.Driver.{Driver}
 use Rattle.driver_resolve.specs.Drivers.{Phase, bits_in, IsDriver, is_wire, is_of_wires, widths_of, drivers_give}
 use Rattle.sv_meaning.specs.Layouts.{Read, Scope, Origin, of_wires, of_choice, of_samples, NamedSignal, Declared}

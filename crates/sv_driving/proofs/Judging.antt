@@ -7,23 +7,23 @@ use Rattle.std.proofs.lemmas.Bool.{cases_Bool}
 use Rattle.std.proofs.lemmas.Bool.Decides.{nat_tests}
 use Rattle.sv_outside.specs.declared.refusal.TextErr.{TextErr}
 use Rattle.sv_outside.specs.declared.text.Signal.{Signal}
-use Rattle.svex_arena.specs.declared.shape.VarName.{VarName}
-use Rattle.svex_arena.specs.declared.shape.Shape.{Shape}
-use Rattle.svex_arena.specs.Values.{each_variable}
+use Rattle.svex_shape.specs.declared.shape.VarName.{VarName}
+use Rattle.svex_shape.specs.declared.shape.Shape.{Shape}
+use Rattle.svex_shape.specs.Values.{each_variable}
 use Rattle.driver_resolve.specs.declared.driver.Driver.{Driver}
 use Rattle.driver_resolve.specs.Drivers.{Phase, IsDriver, widths_of, drivers_give}
-use Rattle.sv_const.specs.Judging.{IsCause}
-use Rattle.sv_const.proofs.Judged.{cause_from}
+use Rattle.sv_typing.specs.Judging.{IsCause}
+use Rattle.sv_typing.proofs.Judged.{cause_from}
 use Rattle.sv_tree.specs.declared.stmts.Stmt.{Stmt}
 use Rattle.sv_tree.specs.declared.stmts.Event.{Event}
 use Rattle.sv_tree.specs.declared.stmts.Block.{Block}
 use Rattle.sv_outside.specs.declared.refusal.Place.{Place}
 use Rattle.sv_outside.specs.declared.refusal.TextErr.TheVariants.{No, Memory}
-use Rattle.sv_const.specs.declared.layout.Layout.{Layout as Laid}
-use Rattle.sv_const.specs.declared.layout.What.{What}
-use Rattle.sv_const.specs.declared.layout.What.TheVariants as kind
-use Rattle.sv_const.specs.Kinds.{layout_is, what_is, WhatIsSound, IsSound}
-use Rattle.sv_const.proofs.Sound.{sound_width}
+use Rattle.sv_names.specs.declared.layout.Layout.{Layout as Laid}
+use Rattle.sv_names.specs.declared.layout.What.{What}
+use Rattle.sv_names.specs.declared.layout.What.TheVariants as kind
+use Rattle.sv_names.specs.Kinds.{layout_is, what_is, WhatIsSound, IsSound}
+use Rattle.sv_names.proofs.Sound.{sound_width}
 use Rattle.sv_meaning.specs.Faults.{Faults, fault, fault_if, unknown_name, bad_width}
 use Rattle.sv_meaning.specs.Layouts.{Scope, What as Meant, Origin, of_wires, of_choice, of_samples, signal_is, width, find, NamedSignal, Declared}
 use Rattle.sv_meaning.specs.Deeds.{Deed, deed, merged}

@@ -3,14 +3,14 @@ use Rattle.std.specs.Prelude.{◌≡◌, ℕ, Bool, List, [], ◌∷◌, ◌++�
 use Rattle.std.specs.List.{All, Contains}
 use Rattle.sv_outside.specs.declared.text.Signal.{Signal}
 use Rattle.sv_outside.specs.declared.refusal.TextErr.{TextErr}
-use Rattle.svex_arena.specs.declared.shape.VarName.{VarName}
-use Rattle.svex_arena.specs.declared.shape.VarName.TheVariants.{Now, Prev}
-use Rattle.svex_arena.specs.declared.shape.Shape.{Shape}
-use Rattle.svex_arena.specs.Values.{each_variable}
+use Rattle.svex_shape.specs.declared.shape.VarName.{VarName}
+use Rattle.svex_shape.specs.declared.shape.VarName.TheVariants.{Now, Prev}
+use Rattle.svex_shape.specs.declared.shape.Shape.{Shape}
+use Rattle.svex_shape.specs.Values.{each_variable}
 use Rattle.settling.specs.Settling.{Store}
 use Rattle.driver_resolve.specs.declared.driver.Driver.{Driver}
 use Rattle.driver_resolve.specs.Drivers.{Phase, IsDriver, is_wire, widths_of, drivers_give}
-use Rattle.sv_const.specs.Judging.{IsCause}
+use Rattle.sv_typing.specs.Judging.{IsCause}
 use Rattle.sv_meaning.specs.Faults.{Faults}
 use Rattle.sv_meaning.specs.Layouts.{Scope, of_wires, NamedSignal, Declared}
 use Rattle.sv_meaning.specs.Deeds.{merged}

@@ -1,13 +1,13 @@
 // Blocks as drivers (IEEE 1800-2017, 9.2.2).
 ghost use Rattle.std.specs.Prelude.{◌≡◌, ℕ, Bool, false, ◌+◌, List, [], true, All, Some, is_some, IsTrue, IfOk, IfErr};
 ghost use Rattle.sv_outside.specs.declared.text.Signal.{Signal};
-ghost use Rattle.svex_arena.specs.declared.shape.VarName.{VarName};
-ghost use Rattle.svex_arena.specs.Values.{each_variable};
+ghost use Rattle.svex_shape.specs.declared.shape.VarName.{VarName};
+ghost use Rattle.svex_shape.specs.Values.{each_variable};
 ghost use Rattle.svex_arena.specs.Arenas.{Extends};
 ghost use Rattle.driver_resolve.specs.Drivers.{Phase, IsDriver, widths_of, drivers_give};
-ghost use Rattle.sv_const.specs.Kinds.{what_is, WhatIsSound};
-ghost use Rattle.sv_const.specs.Judging.{IsCause};
-ghost use Rattle.sv_const.specs.Names.{names_are, entries_of};
+ghost use Rattle.sv_names.specs.Kinds.{what_is, WhatIsSound};
+ghost use Rattle.sv_typing.specs.Judging.{IsCause};
+ghost use Rattle.sv_names.specs.Names.{names_are, entries_of};
 ghost use Rattle.sv_meaning.specs.Deeds.{deed};
 ghost use Rattle.sv_meaning.specs.Layouts.{Scope, find};
 ghost use Rattle.sv_meaning.specs.Blocks.{is_clocked, clock_faults, event_faults, event_manner, block_faults, block_value, manner};
@@ -25,10 +25,11 @@ use items::Items;
 use std::alloc::{AllocError, Global};
 use sv_actions::{Acted, Action, judge_marks, typed_body};
 use sv_blocks::{Clock, Marked, all_bits, mark_all, scene_drivers, scene_of, stmt_wires, wire_of};
-use sv_const::{Names, What, refusal};
+use sv_names::{Names, What};
 use sv_outside::TextErr;
 use sv_stores::Scene;
 use sv_tree::{Block, BlockKind, Event, Stmt};
+use sv_typing::refusal;
 use svex_arena::Arena;
 
 // The clock of an event by what its name stands for: a net or variable of one bit; or E12 or E14.

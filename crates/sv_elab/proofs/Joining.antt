@@ -12,7 +12,7 @@ use Rattle.lhs_alias.specs.Pairs.{FallTo}
 use Rattle.sv_meaning.specs.Faults.{Faults}
 use Rattle.sv_meaning.specs.Targets.{Target, slots, present, are_fixed, widths}
 use Rattle.sv_meaning.specs.Designs.{are_present}
-use Rattle.sv_stmt.proofs.Trees.{taken_more}
+use Rattle.sv_lower.proofs.Trees.{taken_more}
 use Rattle.sv_targets.specs.declared.parts.Part.{Part}
 use Rattle.sv_targets.specs.declared.parts.Target as lowered
 use Rattle.sv_targets.specs.Slots.{IsLowered}

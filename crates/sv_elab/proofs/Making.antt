@@ -11,7 +11,7 @@ use Rattle.sv_outside.specs.declared.refusal.TextErr.TheVariants.{No, Memory}
 use Rattle.lhs_alias.specs.Segs.{lhs_bits}
 use Rattle.lhs_alias.specs.Joined as j
 use Rattle.settling.specs.Settling.{Store, Link}
-use Rattle.svex_arena.specs.declared.shape.Shape.{Shape}
+use Rattle.svex_shape.specs.declared.shape.Shape.{Shape}
 use Rattle.svex_arena.specs.Arenas.{Extends}
 use Rattle.svex_arena.proofs.Steps.{variables-extends}
 use Rattle.driver_resolve.specs.declared.driver.Driver.{Driver}
@@ -21,7 +21,7 @@ use Rattle.flat_net.specs.Flats as f
 use Rattle.sv_meaning.specs.Faults.{Faults}
 use Rattle.sv_meaning.specs.Designs as d
 use Rattle.sv_meaning.specs.Designs.{Work, gives, contributions_of, names_now, work_faults, work_turns, faults_from}
-use Rattle.sv_const.specs.Judging.{IsCause}
+use Rattle.sv_typing.specs.Judging.{IsCause}
 use Rattle.sv_blocks.specs.Driving.{IsPlaced}
 use Rattle.sv_blocks.proofs.Driving.{gives_kept, placed_kept, mentions_kept}
 use Rattle.sv_elab.specs.declared.works.Parts.{Parts}

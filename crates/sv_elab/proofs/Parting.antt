@@ -8,16 +8,16 @@ use Rattle.fourvec.specs.Bits.{slice_of}
 use Rattle.lhs_alias.specs.declared.segs.Seg.{Seg}
 use Rattle.lhs_alias.specs.Segs.{bit, seg_bits, lhs_bits}
 use Rattle.lhs_alias.specs.Lies.{LieIn}
-use Rattle.svex_arena.specs.declared.shape.Shape.{Shape}
-use Rattle.svex_arena.specs.Shapes.{width_at}
-use Rattle.svex_arena.specs.Values.{each_variable}
+use Rattle.svex_shape.specs.declared.shape.Shape.{Shape}
+use Rattle.svex_shape.specs.Shapes.{width_at}
+use Rattle.svex_shape.specs.Values.{each_variable}
 use Rattle.svex_arena.specs.Arenas.{IsArena, Extends}
 use Rattle.svex_arena.proofs.Steps.{value-extends, width-extends, variables-extends}
 use Rattle.driver_resolve.specs.declared.driver.Driver.{Driver}
 use Rattle.driver_resolve.specs.Drivers.{bitwise, Phase, bits_in, driver_gives, drivers_give}
-use Rattle.sv_stmt.specs.Nodes.{bits_at_node, FromOne}
-use Rattle.sv_stmt.proofs.Sizing.{length-node}
-use Rattle.sv_stmt.proofs.Trees.{taken_more}
+use Rattle.sv_lower.specs.Nodes.{bits_at_node, FromOne}
+use Rattle.sv_lower.proofs.Sizing.{length-node}
+use Rattle.sv_lower.proofs.Trees.{taken_more}
 use Rattle.sv_targets.specs.declared.parts.Part.{Part}
 use Rattle.sv_targets.specs.Slots.{Slots, AreParts}
 use Rattle.sv_blocks.specs.Driving.{IsPlaced}

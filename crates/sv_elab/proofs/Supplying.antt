@@ -10,11 +10,11 @@ use Rattle.lhs_alias.specs.declared.segs.Seg.{Seg}
 use Rattle.lhs_alias.specs.Segs.{lhs_bits}
 use Rattle.lhs_alias.specs.Lies.{LieIn}
 use Rattle.settling.specs.Settling.{Store, Contribution}
-use Rattle.svex_arena.specs.declared.shape.VarName.{VarName}
-use Rattle.svex_arena.specs.declared.shape.VarName.TheVariants.{Now}
-use Rattle.svex_arena.specs.declared.shape.Shape.{Shape}
-use Rattle.svex_arena.specs.Shapes.{width_at}
-use Rattle.svex_arena.specs.Values.{each_variable}
+use Rattle.svex_shape.specs.declared.shape.VarName.{VarName}
+use Rattle.svex_shape.specs.declared.shape.VarName.TheVariants.{Now}
+use Rattle.svex_shape.specs.declared.shape.Shape.{Shape}
+use Rattle.svex_shape.specs.Shapes.{width_at}
+use Rattle.svex_shape.specs.Values.{each_variable}
 use Rattle.driver_resolve.specs.declared.driver.Driver.{Driver}
 use Rattle.driver_resolve.specs.Drivers.{Phase, bits_in, drivers_give, IsDriver, is_wire, is_of_wires}
 use Rattle.sv_outside.specs.declared.refusal.TextErr.{TextErr}
@@ -32,14 +32,14 @@ use Rattle.sv_typed.specs.declared.tree.Root.{Root}
 use Rattle.sv_typed.specs.declared.tree.Root.TheVariants.{Signal}
 use Rattle.sv_typed.specs.declared.tree.Origin.TheVariants.{Wires}
 use Rattle.sv_typed.specs.Typed.{worth, Stands, IsNamed, picked, picked_width, names_picked}
-use Rattle.sv_const.specs.Judging.{IsCause}
-use Rattle.sv_stmt.specs.declared.look.Look.TheVariants.{Present}
-use Rattle.sv_stmt.specs.Lowering.{look_read, look_test, each_signal, HoldsOfNames}
-use Rattle.sv_stmt.specs.Nodes.{bits_at_node}
-use Rattle.sv_stmt.proofs.Sources.{assigned_worth, names_hold}
+use Rattle.sv_typing.specs.Judging.{IsCause}
+use Rattle.sv_lower.specs.declared.look.Look.TheVariants.{Present}
+use Rattle.sv_lower.specs.Lowering.{look_read, look_test, each_signal, HoldsOfNames}
+use Rattle.sv_lower.specs.Nodes.{bits_at_node}
+use Rattle.sv_lower.proofs.Sources.{assigned_worth, names_hold}
 use Rattle.sv_targets.specs.declared.parts.Target as lowered
 use Rattle.sv_targets.specs.Slots.{Slots, AreParts, IsLowered}
-use Rattle.sv_blocks.specs.Blocks.{AreWires}
+use Rattle.sv_driving.specs.Blocks.{AreWires}
 use Rattle.sv_elab.specs.Elaborated.{has_number, names_only}
 use Rattle.sv_elab.specs.Working.{Fills, Supplies, JudgesSupply, wire_seg}
 use Rattle.sv_elab.proofs.Wires.{seg_is, run_long}

@@ -18,23 +18,23 @@ use Rattle.sv_meaning.specs.Faults.{Faults, Judged, provided, ◌>>=◌}
 use Rattle.sv_meaning.specs.Layouts.{Name, NamedSignal}
 use Rattle.sv_meaning.specs.Designs as d
 use Rattle.sv_meaning.specs.Designs.{Work, Design, design_faults, work_faults, faults_from, contributions_of}
-use Rattle.sv_const.specs.Judging.{IsCause}
+use Rattle.sv_typing.specs.Judging.{IsCause}
 use Rattle.sv_loops.specs.Answers.{Answers}
 use Rattle.sv_hierarchy.specs.Scopes as h
 use Rattle.sv_hierarchy.specs.Scopes.{State, Standing, live_at, design_of, design, scopes}
 use Rattle.sv_scope.specs.declared.whole.DesignScopes.{DesignScopes}
-use Rattle.sv_scope.specs.declared.walker.Work as walker
-use Rattle.sv_scope.specs.Walks.{work_is}
+use Rattle.sv_levels.specs.declared.tasks.Work as walker
+use Rattle.sv_levels.specs.Tasks.{work_is}
 use Rattle.sv_scope.specs.Scoped.{IsScoped, design_is, levels_of, wires_of, works_of, turns_of}
 use Rattle.scope_laws.specs.Wires.{IsWire}
 use Rattle.scope_laws.proofs.Seen.{seen_are_wires, ports_are_wires}
 use Rattle.scope_laws.proofs.Closing.{ports_stand_above}
-use Rattle.sv_blocks.specs.Blocks.{AreWires}
+use Rattle.sv_driving.specs.Blocks.{AreWires}
 use Rattle.sv_elab.specs.declared.whole.Making.{Making}
 use Rattle.sv_elab.specs.Elaborated.{IsElaborated, sound_design}
 use Rattle.sv_elab.specs.Working.{TaskFits, TaskStandsAbove, AreSound, IsMade}
 use Rattle.sv_elab.proofs.Wires.{stimuli_are}
-use Rattle.sv_stmt.proofs.Trees.{taken_more}
+use Rattle.sv_lower.proofs.Trees.{taken_more}
 use Rattle.sv_elab.proofs.Lists.{map_twice, split_map}
 use Rattle.sv_elab.proofs.Making.{all_given, one_cause}
 

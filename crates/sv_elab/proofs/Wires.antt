@@ -7,7 +7,7 @@ use Rattle.settling.specs.Settling.{Store, Contribution, value_at}
 use Rattle.driver_resolve.specs.Drivers as f
 use Rattle.sv_meaning.specs.Designs as d
 use Rattle.sv_meaning.specs.Designs.{bits_of_wire, pairs}
-use Rattle.sv_stmt.proofs.Trees.{taken_more}
+use Rattle.sv_lower.proofs.Trees.{taken_more}
 use Rattle.sv_elab.specs.Working.{wire_seg}
 
 pub run_is : (n k w : ℕ) → bits_of_wire n k w ≡ map (bit n) (range_with_len k w)

@@ -9,9 +9,9 @@ use Rattle.sv_outside.specs.declared.refusal.TextErr.{TextErr}
 use Rattle.sv_outside.specs.declared.refusal.TextErr.TheVariants.{No, Memory}
 use Rattle.sv_outside.specs.declared.refusal.Refusal.{Refusal}
 use Rattle.lhs_alias.specs.Segs.{lhs_bits}
-use Rattle.svex_arena.specs.declared.shape.VarName.{VarName}
-use Rattle.svex_arena.specs.declared.shape.Shape.{Shape}
-use Rattle.svex_arena.specs.Values.{each_variable}
+use Rattle.svex_shape.specs.declared.shape.VarName.{VarName}
+use Rattle.svex_shape.specs.declared.shape.Shape.{Shape}
+use Rattle.svex_shape.specs.Values.{each_variable}
 use Rattle.driver_resolve.specs.declared.driver.Driver.{Driver}
 use Rattle.driver_resolve.specs.Drivers.{Phase, drivers_give, widths_of, IsDriver}
 use Rattle.flat_net.specs.declared.flat.Join.{Join}
@@ -35,11 +35,11 @@ use Rattle.sv_meaning.specs.Deeds.{deed}
 use Rattle.sv_meaning.specs.Blocks.{manner, block_faults, block_value}
 use Rattle.sv_meaning.specs.Designs as d
 use Rattle.sv_meaning.specs.Designs.{Work, is_joined, are_present, as_targets, actual_faults, bits_of_wire, pairs, block_gives, block_names, port_gives, port_faults, port_names, assigned_to, no_word, wires_named, names_now, work_faults}
-use Rattle.sv_const.specs.Judging.{IsCause}
+use Rattle.sv_typing.specs.Judging.{IsCause}
 use Rattle.sv_targets.specs.declared.parts.Target as lowered
 use Rattle.sv_targets.specs.Slots.{IsLowered}
-use Rattle.sv_blocks.specs.Texts.{signals_of}
-use Rattle.sv_blocks.specs.Blocks.{AreWires, Reads}
+use Rattle.sv_actions.specs.Texts.{signals_of}
+use Rattle.sv_driving.specs.Blocks.{AreWires, Reads}
 use Rattle.sv_elab.specs.declared.works.Parts.{Parts}
 use Rattle.sv_elab.specs.Elaborated.{names_only}
 use Rattle.sv_elab.specs.Working.{JudgesSupply, JoinsTo, IsWorked, JudgesWork}

@@ -11,10 +11,10 @@ use Rattle.lhs_alias.specs.Segs.{lhs_bits}
 use Rattle.lhs_alias.specs.Lies.{LieIn}
 use Rattle.lhs_alias.specs.Joined as j
 use Rattle.settling.specs.Settling.{Store, Contribution}
-use Rattle.svex_arena.specs.declared.shape.VarName.{VarName}
-use Rattle.svex_arena.specs.declared.shape.Shape.{Shape}
-use Rattle.svex_arena.specs.Shapes.{width_at}
-use Rattle.svex_arena.specs.Values.{each_variable}
+use Rattle.svex_shape.specs.declared.shape.VarName.{VarName}
+use Rattle.svex_shape.specs.declared.shape.Shape.{Shape}
+use Rattle.svex_shape.specs.Shapes.{width_at}
+use Rattle.svex_shape.specs.Values.{each_variable}
 use Rattle.driver_resolve.specs.declared.driver.Driver.{Driver}
 use Rattle.driver_resolve.specs.Drivers.{Phase, bits_in, drivers_give, widths_of, IsDriver}
 use Rattle.flat_net.specs.declared.flat.Join.{Join}
@@ -23,15 +23,15 @@ use Rattle.sv_meaning.specs.Faults.{Faults}
 use Rattle.sv_meaning.specs.Layouts as m
 use Rattle.sv_meaning.specs.Designs as d
 use Rattle.sv_meaning.specs.Designs.{Work, driven, work_faults, work_turns, faults_from}
-use Rattle.sv_const.specs.Judging.{IsCause}
+use Rattle.sv_typing.specs.Judging.{IsCause}
 use Rattle.sv_hierarchy.specs.Scopes as h
 use Rattle.sv_scope.specs.declared.whole.DesignScopes.{DesignScopes}
 use Rattle.sv_scope.specs.Scoped.{levels_of, wires_of, works_of}
-use Rattle.sv_stmt.specs.Nodes.{bits_at_node}
+use Rattle.sv_lower.specs.Nodes.{bits_at_node}
 use Rattle.sv_targets.specs.declared.parts.Part.{Part}
 use Rattle.sv_targets.specs.Slots.{Slots}
 use Rattle.sv_blocks.specs.Driving.{IsPlaced}
-use Rattle.sv_blocks.specs.Blocks.{AreWires}
+use Rattle.sv_driving.specs.Blocks.{AreWires}
 use Rattle.sv_elab.specs.declared.works.Parts.{Parts}
 use Rattle.sv_elab.specs.declared.whole.Making.{Making}
 use Rattle.sv_elab.specs.Elaborated.{names_only, Stem, AllStem}

@@ -1,23 +1,23 @@
 // Continuous assignments (IEEE 1800-2017, 10.3).
 ghost use Rattle.std.specs.Prelude.{◌++◌, ◌≤◌, List, false};
 ghost use Rattle.svex_arena.specs.Arenas.{Extends};
-ghost use Rattle.sv_const.specs.Names.{names_are};
+ghost use Rattle.sv_names.specs.Names.{names_are};
 ghost use Rattle.sv_meaning.specs.Faults.{Faults};
 ghost use Rattle.sv_meaning.specs.Meanings.{fixed_faults};
 ghost use Rattle.sv_meaning.specs.Values.{mean};
 ghost use Rattle.sv_meaning.specs.Targets as t;
 ghost use Rattle.sv_meaning.specs.Designs.{assigned_to, wires_named};
 ghost use Rattle.sv_targets.specs.Slots.{IsLowered};
-ghost use Rattle.sv_blocks.specs.Blocks.{AreWires};
+ghost use Rattle.sv_driving.specs.Blocks.{AreWires};
 ghost use Rattle.sv_elab.specs.Working.{JudgesSupply};
 
 use crate::parts::part_drivers;
 use driver_resolve::Driver;
 use items::Items;
 use std::alloc::Global;
-use sv_const::Names;
+use sv_lowered::lower_expr;
+use sv_names::Names;
 use sv_outside::TextErr;
-use sv_stmt::lower_expr;
 use sv_targets::{Target, target_of};
 use sv_tree::{Expr, Lvalue};
 use svex_arena::Arena;

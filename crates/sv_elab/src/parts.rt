@@ -9,7 +9,7 @@ use driver_resolve::Driver;
 use items::Items;
 use lhs_alias::Lhs;
 use std::alloc::{AllocError, Global};
-use sv_stmt::sliced;
+use sv_lower::sliced;
 use sv_targets::Part;
 use svex_arena::{Arena, Node};
 

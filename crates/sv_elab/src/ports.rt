@@ -2,7 +2,7 @@
 ghost use Rattle.std.specs.Prelude.{◌≡◌, ◌≤◌, ◌∷◌, [], List, false, Some, IsTrue, IfOk};
 ghost use Rattle.svex_arena.specs.Arenas.{Extends};
 ghost use Rattle.driver_resolve.specs.Drivers.{is_wire};
-ghost use Rattle.sv_const.specs.Names.{names_are};
+ghost use Rattle.sv_names.specs.Names.{names_are};
 ghost use Rattle.sv_meaning.specs.Faults.{Faults};
 ghost use Rattle.sv_meaning.specs.Layouts as m;
 ghost use Rattle.sv_meaning.specs.Layouts.{signal_is, of_wires, Layout as Meant};
@@ -15,8 +15,8 @@ ghost use Rattle.sv_tree.specs.declared.design.Way.TheVariants as ways;
 ghost use Rattle.sv_outside.specs.declared.text.Signal.{Signal};
 ghost use Rattle.driver_resolve.specs.Drivers.{widths_of};
 ghost use Rattle.sv_targets.specs.Slots.{IsLowered};
-ghost use Rattle.sv_blocks.specs.Blocks.{AreWires};
-ghost use Rattle.sv_const.specs.Judging.{IsCause};
+ghost use Rattle.sv_driving.specs.Blocks.{AreWires};
+ghost use Rattle.sv_typing.specs.Judging.{IsCause};
 ghost use Rattle.sv_elab.specs.Working.{AreBelow, JudgesSupply, Supplies, JudgesWork};
 
 use crate::joins::{is_joined, join_of, whole_wire};
@@ -25,12 +25,14 @@ use crate::works::{Parts, given};
 use driver_resolve::Driver;
 use items::Items;
 use std::alloc::{AllocError, Global};
-use sv_const::{Names, refusal, start, typed};
+use sv_lower::{Look, lower_assigned};
+use sv_lowered::lower_expr;
+use sv_names::Names;
 use sv_outside::TextErr;
-use sv_stmt::{Look, lower_assigned, lower_expr};
 use sv_targets::{Target, target_of_actual};
 use sv_tree::{Expr, Way};
 use sv_typed::{Origin, Root, Typed};
+use sv_typing::{refusal, start, typed};
 use svex_arena::Arena;
 
 /// A port: its direction, its wire, how many bits it has and whether it is signed.

@@ -5,13 +5,13 @@ ghost use Rattle.driver_resolve.specs.Drivers.{widths_of};
 ghost use Rattle.sv_outside.specs.declared.text.Signal.{Signal};
 ghost use Rattle.lhs_alias.specs.Joined as j;
 ghost use Rattle.flat_net.specs.Flats.{IsFlat, IsJoin, links_of};
-ghost use Rattle.sv_const.specs.Judging.{IsCause};
+ghost use Rattle.sv_typing.specs.Judging.{IsCause};
 ghost use Rattle.sv_loops.specs.Answers.{Answers};
 ghost use Rattle.sv_meaning.specs.Designs as d;
 ghost use Rattle.sv_meaning.specs.Designs.{design_faults, work_faults};
 ghost use Rattle.sv_hierarchy.specs.Scopes.{live_at, work_at};
 ghost use Rattle.sv_scope.specs.Scoped.{design_is, levels_of, wires_of, works_of};
-ghost use Rattle.sv_scope.specs.Walks.{work_is};
+ghost use Rattle.sv_levels.specs.Tasks.{work_is};
 ghost use Rattle.sv_elab.specs.Elaborated.{IsElaborated, sound_design};
 ghost use Rattle.sv_elab.specs.Working.{AreSizes, AreSound, IsMade, TaskFits, TaskStandsAbove, join_list};
 

@@ -5,13 +5,13 @@ ghost use Rattle.driver_resolve.specs.declared.driver.Driver.{Driver as Driving}
 ghost use Rattle.sv_outside.specs.declared.text.Signal.{Signal};
 ghost use Rattle.sv_outside.specs.declared.refusal.TextErr.{TextErr as Why};
 ghost use Rattle.svex_arena.specs.Arenas.{Extends};
-ghost use Rattle.sv_const.specs.Names.{names_are, entries_of};
-ghost use Rattle.sv_const.specs.Kinds.{layout_is};
+ghost use Rattle.sv_names.specs.Names.{names_are, entries_of};
+ghost use Rattle.sv_names.specs.Kinds.{layout_is};
 ghost use Rattle.sv_meaning.specs.Params.{name_alone};
 ghost use Rattle.sv_meaning.specs.Designs as d;
 ghost use Rattle.sv_hierarchy.specs.Scopes.{work_of};
-ghost use Rattle.sv_scope.specs.Walks.{task_is, actual_is};
-ghost use Rattle.sv_blocks.specs.Blocks.{AreWires};
+ghost use Rattle.sv_levels.specs.Tasks.{task_is, actual_is};
+ghost use Rattle.sv_driving.specs.Blocks.{AreWires};
 ghost use Rattle.sv_elab.specs.Working.{AreBelow, AreSizes, JudgesWork, PortFits, TaskFits, TaskStandsAbove};
 
 use crate::assigns::assigned;
@@ -20,8 +20,8 @@ use driver_resolve::Driver;
 use flat_net::Join;
 use items::Items;
 use std::alloc::{AllocError, Global};
-use sv_blocks::block_drivers;
-use sv_const::{Layout, Names};
+use sv_driving::block_drivers;
+use sv_names::{Layout, Names};
 use sv_outside::TextErr;
 use sv_scope::{Actual, Task};
 use sv_tree::{Expr, Way, Word};

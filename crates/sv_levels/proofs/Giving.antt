@@ -15,7 +15,7 @@ use Rattle.sv_tree.specs.declared.design.ParamType.{ParamType}
 use Rattle.sv_meaning.specs.Layouts.{Name, Scope}
 use Rattle.sv_meaning.specs.Params.{name_alone, param_value}
 use Rattle.sv_meaning.specs.Values.{mean}
-use Rattle.sv_const.specs.declared.layout.Known.{Known}
+use Rattle.sv_names.specs.declared.layout.Known.{Known}
 use Rattle.sv_types.specs.Values.{JudgesValue}
 use Rattle.sv_modules.specs.declared.name_index.NameIndex.{NameIndex}
 use Rattle.sv_modules.specs.Naming.{Indexes, number_under}

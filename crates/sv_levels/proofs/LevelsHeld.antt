@@ -4,8 +4,8 @@ use Rattle.std.specs.Option.{SomeIff}
 use Rattle.std.specs.Result.{IfOk, OnOk}
 use Rattle.std.proofs.lemmas.List.{length-map, map-append}
 use Rattle.std.proofs.lemmas.Option.{slice_get-map, slice_get_past, slice_get_read}
-use Rattle.sv_const.specs.declared.layout.What.{What}
-use Rattle.sv_const.specs.Kinds.{Entry, entry_is, scope_is}
+use Rattle.sv_names.specs.declared.layout.What.{What}
+use Rattle.sv_names.specs.Kinds.{Entry, entry_is, scope_is}
 use Rattle.sv_meaning.specs.Layouts.{Name}
 use Rattle.sv_hierarchy.specs.Scopes as m
 use Rattle.sv_levels.specs.declared.levels.Front.{Front}

@@ -2,10 +2,10 @@
 use Rattle.std.proofs.Common.{◌≡◌, ℕ, ◌+◌, ◌<◌, ◌≤◌, List, [], ◌∷◌, ◌++◌, length, map, take, get_or, slice_get, Some, None, sym, ap, ◌∙◌, append_assoc, arith}
 use Rattle.std.proofs.lemmas.List.{append-nil, map-append, take-map, take_all}
 use Rattle.std.proofs.Math.Seq.{take-nil}
-use Rattle.sv_const.specs.declared.names.Names.{Names}
-use Rattle.sv_const.specs.Kinds.{Entry, entry_is, scope_is}
-use Rattle.sv_const.specs.Names.{frames_of, loops_of, names_are}
-use Rattle.sv_const.proofs.Lookups.{nothing_above}
+use Rattle.sv_names.specs.declared.names.Names.{Names}
+use Rattle.sv_names.specs.Kinds.{Entry, entry_is, scope_is}
+use Rattle.sv_names.specs.Names.{frames_of, loops_of, names_are}
+use Rattle.sv_names.proofs.Lookups.{nothing_above}
 use Rattle.sv_meaning.specs.Layouts.{Scope}
 use Rattle.sv_modules.proofs.Turns.{map_next}
 use Rattle.sv_hierarchy.specs.Scopes as m

@@ -5,13 +5,13 @@ use Rattle.std.specs.Option.{option_map, option_copied, IfSome}
 use Rattle.std.specs.Slice.{IsItemAt}
 use Rattle.std.proofs.lemmas.Option.{slice_get_past, slice_get_read}
 use Rattle.std.specs.Cmp.Lexicographic.{nat_list_eq_equiv}
-use Rattle.sv_const.specs.declared.layout.Layout.{Layout as Coded}
+use Rattle.sv_names.specs.declared.layout.Layout.{Layout as Coded}
 use Rattle.std.proofs.lemmas.List.{append-nil, map-append}
 use Rattle.std.proofs.lemmas.List.Elements.{All-get_or}
 use Rattle.sv_tree.specs.declared.word.Word.{Word}
 use Rattle.sv_tree.specs.declared.exprs.Expr.{Expr}
 use Rattle.sv_tree.specs.declared.design.Port.{Port}
-use Rattle.sv_const.specs.Kinds.{IsSound, layout_is}
+use Rattle.sv_names.specs.Kinds.{IsSound, layout_is}
 use Rattle.sv_meaning.specs.Layouts.{Name}
 use Rattle.sv_modules.specs.declared.connect.Connection.{Connection}
 use Rattle.sv_modules.specs.Connections.{connection_is, joined_is}

@@ -1,6 +1,6 @@
 -- Scopes as code holds them.
 use Rattle.std.specs.Prelude.{ℕ, List, length, map}
-use Rattle.sv_const.specs.Kinds.{scope_is}
+use Rattle.sv_names.specs.Kinds.{scope_is}
 use Rattle.sv_meaning.specs.Layouts.{Scope}
 use Rattle.sv_hierarchy.specs.Scopes as m
 use Rattle.sv_levels.specs.declared.levels.Front.{Front}

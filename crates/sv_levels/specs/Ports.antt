@@ -5,7 +5,7 @@ use Rattle.sv_tree.specs.declared.design.Port.{Port}
 use Rattle.sv_tree.specs.declared.design.Way.{Way}
 use Rattle.sv_meaning.specs.Faults.{Judged, ◌>>=◌}
 use Rattle.sv_meaning.specs.Layouts.{Name, Layout}
-use Rattle.sv_const.specs.Kinds.{IsSound, layout_is}
+use Rattle.sv_names.specs.Kinds.{IsSound, layout_is}
 use Rattle.sv_hierarchy.specs.Scopes as m
 use Rattle.sv_levels.specs.declared.ports.OpenPort.{OpenPort}
 

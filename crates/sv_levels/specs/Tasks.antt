@@ -3,7 +3,7 @@ use Rattle.std.specs.Prelude.{Option, Some, None}
 use Rattle.std.specs.Borrow.{Bor}
 use Rattle.sv_tree.specs.declared.exprs.Expr.{Expr}
 use Rattle.sv_meaning.specs.Params.{name_alone}
-use Rattle.sv_const.specs.Kinds.{layout_is}
+use Rattle.sv_names.specs.Kinds.{layout_is}
 use Rattle.sv_hierarchy.specs.Scopes as m
 use Rattle.sv_levels.specs.declared.tasks.Actual.{Actual}
 use Rattle.sv_levels.specs.declared.tasks.Actual.TheVariants.{Named, Written}

@@ -1,7 +1,7 @@
 // The scopes of a design, each with its names.
 ghost use Rattle.std.specs.Prelude.{◌≡◌, [], ◌∷◌, ◌++◌, length, map, slice_get, take, IfOk, OnOk, option_map};
-ghost use Rattle.sv_const.specs.Kinds.{WhatIsSound, entry_is, scope_is};
-ghost use Rattle.sv_const.specs.Names.{frames_of, loops_of, names_are};
+ghost use Rattle.sv_names.specs.Kinds.{WhatIsSound, entry_is, scope_is};
+ghost use Rattle.sv_names.specs.Names.{frames_of, loops_of, names_are};
 ghost use Rattle.sv_hierarchy.specs.Scopes.{behind, fronts_at, instances_from, level_at, live_at, prefix_of, seen_at, with_const, with_level, with_net};
 ghost use Rattle.sv_levels.specs.Levels.{instance_is};
 ghost use Rattle.sv_levels.specs.Levels.{front_is, front_of, level_is, levels_are, live_frames, seen_frames};
@@ -9,7 +9,7 @@ ghost use Rattle.sv_levels.specs.Levels.{front_is, front_of, level_is, levels_ar
 use crate::held::let_go;
 use items::Items;
 use std::alloc::{AllocError, Global};
-use sv_const::{Names, Scope, What};
+use sv_names::{Names, Scope, What};
 use sv_outside::Name;
 
 /// A place in a scope: so many of its nets and variables, and so many of its constants and types, are declared above.

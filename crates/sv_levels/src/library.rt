@@ -12,10 +12,10 @@ use crate::ports::{port_names, ports_of};
 use crate::tasks::Child;
 use items::Items;
 use std::alloc::Global;
-use sv_const::refusal;
 use sv_modules::{Connection, Modules, connections, open_params};
 use sv_outside::TextErr;
 use sv_tree::{Module, Pins};
+use sv_typing::refusal;
 
 /// The modules of a text, and for each how many names of the file level are declared above it.
 pub struct Library<'a> {

@@ -1,7 +1,7 @@
 // The variables of generate loops (IEEE 1800-2017, 27.4).
 ghost use Rattle.std.specs.Prelude.{◌≡◌, false, [], ◌∷◌, IfOk};
-ghost use Rattle.sv_const.specs.Kinds.{scope_is};
-ghost use Rattle.sv_const.specs.Names.{names_are};
+ghost use Rattle.sv_names.specs.Kinds.{scope_is};
+ghost use Rattle.sv_names.specs.Names.{names_are};
 ghost use Rattle.sv_tree.specs.declared.word.Word.{Word as Spelt};
 ghost use Rattle.sv_meaning.specs.Deeds.{index_entry};
 ghost use Rattle.sv_meaning.specs.Faults.{is_clear};
@@ -11,7 +11,7 @@ ghost use Rattle.sv_hierarchy.specs.Scopes.{genvar_faults};
 use fourvec::Four;
 use items::Items;
 use std::alloc::{AllocError, Global};
-use sv_const::{Known, Names, Scope, What};
+use sv_names::{Known, Names, Scope, What};
 use sv_outside::Name;
 use sv_tree::Word;
 

@@ -3,7 +3,7 @@ ghost use Rattle.std.specs.Prelude.{◌≡◌, None, Option, MatchOption, IfOk, 
 ghost use Rattle.std.specs.Option.{option_copied};
 ghost use Rattle.sv_tree.specs.declared.design.ParamType.{ParamType as TypeOfParam};
 ghost use Rattle.sv_tree.specs.declared.design.ParamWord.{ParamWord as WordOfParam};
-ghost use Rattle.sv_const.specs.Names.{names_are};
+ghost use Rattle.sv_names.specs.Names.{names_are};
 ghost use Rattle.sv_meaning.specs.Params.{name_alone, param_value};
 ghost use Rattle.sv_meaning.specs.Values.{mean};
 ghost use Rattle.sv_types.specs.Values.{JudgesValue};
@@ -18,8 +18,8 @@ use crate::overrides::Overrides;
 use crate::tasks::{Actual, Given};
 use items::Items;
 use std::alloc::{AllocError, Global};
-use sv_const::{Known, Names};
 use sv_modules::NameIndex;
+use sv_names::{Known, Names};
 use sv_outside::TextErr;
 use sv_tree::{Expr, ParPort, ParamType, ParamWord, Word};
 use sv_types::param_value;

@@ -1,7 +1,7 @@
 // The ports of an instance, and what they are connected to (IEEE 1800-2017, 23.2.2 and 23.3.2).
 ghost use Rattle.std.specs.Prelude.{◌≡◌, ◌&&◌, [], ◌∷◌, ◌++◌, map, Some, IfOk, IfSome, OnOk, option_map};
 ghost use Rattle.std.specs.Option.{option_copied};
-ghost use Rattle.sv_const.specs.Kinds.{IsSound};
+ghost use Rattle.sv_names.specs.Kinds.{IsSound};
 ghost use Rattle.sv_modules.specs.Connections.{connection_is, joined_is};
 ghost use Rattle.sv_modules.specs.Naming.{Indexes, texts_of};
 ghost use Rattle.sv_hierarchy.specs.Scopes as m;
@@ -13,8 +13,8 @@ ghost use Rattle.sv_levels.specs.Tasks.{actual_is, given_is, work_is};
 use crate::levels::Front;
 use crate::tasks::{Actual, Given, Task, Work};
 use std::alloc::{AllocError, Global};
-use sv_const::Layout;
 use sv_modules::{Connection, Joined, NameIndex};
+use sv_names::Layout;
 use sv_tree::{Module, Port, Way, Word};
 use sv_types::copy;
 

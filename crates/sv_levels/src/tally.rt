@@ -5,8 +5,8 @@ ghost use Rattle.sv_meaning.specs.Faults.{provided};
 ghost use Rattle.sv_hierarchy.specs.Scopes.{size_faults};
 ghost use Rattle.sv_loops.specs.Answers.{Answers};
 
-use sv_const::refusal;
 use sv_outside::{Place, TextErr};
+use sv_typing::refusal;
 
 /// The bits of all wires with the instances below the top, at most.
 const MOST_BITS: u64 = 1_048_576;

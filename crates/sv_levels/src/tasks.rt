@@ -1,6 +1,6 @@
 // What a walk through the items of a design finds.
 use crate::levels::Front;
-use sv_const::Layout;
+use sv_names::Layout;
 use sv_outside::Name;
 use sv_tree::{Block, Expr, Lvalue, Pins, Way, Word};
 

@@ -8,9 +8,9 @@ ghost use Rattle.sv_hierarchy.specs.Scopes.{block_name, block_place, turn_name};
 use fourvec::Four;
 use itoa::Buffer;
 use std::alloc::{AllocError, Global};
-use sv_const::small;
 use sv_outside::{Name, Place, TextErr};
 use sv_tree::Word;
+use sv_typing::small;
 
 /// The name of a block: its label, or that of the construct with a number (27.6).
 pub fn block_name(alloc: Global, label: Option<&Word>, number: usize) -> Result<Name, AllocError>

@@ -1,9 +1,9 @@
 -- Names with the variable of a loop above them.
 use Rattle.std.proofs.Common.{◌≡◌, List, [], ◌∷◌, ◌++◌, refl, sym, ap, ◌∙◌, append_assoc}
 use Rattle.std.proofs.lemmas.List.{map-append}
-use Rattle.sv_const.specs.declared.names.Names.{Names}
-use Rattle.sv_const.specs.Kinds.{Entry, entry_is, scope_is}
-use Rattle.sv_const.specs.Names.{names_are, entries_of, frames_of, loops_of}
+use Rattle.sv_names.specs.declared.names.Names.{Names}
+use Rattle.sv_names.specs.Kinds.{Entry, entry_is, scope_is}
+use Rattle.sv_names.specs.Names.{names_are, entries_of, frames_of, loops_of}
 use Rattle.sv_meaning.specs.Layouts.{Name}
 use Rattle.sv_meaning.specs.Deeds.{with_index}
 use Rattle.sv_loops.specs.Steps.{index_is}

@@ -15,9 +15,9 @@ use Rattle.sv_typed.specs.declared.ops.Arithmetic.{Arithmetic}
 use Rattle.sv_typed.specs.declared.ops.Pair.TheVariants.{Computed}
 use Rattle.sv_typed.specs.Ops.{pair_meaning}
 use Rattle.sv_typed.specs.Typed.{Stands, IsSound, IsNamed, RootIsSound, PickIsSound, picked, picked_width, are_constant_picks, names_picked}
-use Rattle.sv_const.specs.Judging.{IsTyped, IsCause}
-use Rattle.sv_const.proofs.Lists.{both_clear}
-use Rattle.sv_const.proofs.OfRules.{cause_right}
+use Rattle.sv_typing.specs.Judging.{IsTyped, IsCause}
+use Rattle.sv_typing.proofs.Lists.{both_clear}
+use Rattle.sv_typing.proofs.OfRules.{cause_right}
 use Rattle.sv_loops.specs.Steps.{moved_by}
 
 abbrev variable : Word → List Bit → Meaning

@@ -12,10 +12,10 @@ use Rattle.sv_meaning.specs.Params.{converted_faults}
 use Rattle.sv_meaning.specs.Deeds.{index_value, fixed_truth, is_taken}
 use Rattle.sv_typed.specs.declared.tree.Typed.{Typed}
 use Rattle.sv_typed.specs.Typed.{Stands, worth, own}
-use Rattle.sv_const.specs.Judging.{IsTyped, IsCause}
-use Rattle.sv_const.proofs.Lists.{in_second, in_fault, no_fault, then_clear}
-use Rattle.sv_const.proofs.OfRules.{cause_first}
-use Rattle.sv_const.proofs.Fixing.{own_is}
+use Rattle.sv_typing.specs.Judging.{IsTyped, IsCause}
+use Rattle.sv_typing.proofs.Lists.{in_second, in_fault, no_fault, then_clear}
+use Rattle.sv_typing.proofs.OfRules.{cause_first}
+use Rattle.sv_typing.proofs.Fixing.{own_is}
 use Rattle.sv_loops.specs.Answers.{Gives}
 
 pub taken_is : (a : List Bit) (b : Bit) → slice_get a 0 ≡ Some b → is_taken (first a) ≡ is_taken b

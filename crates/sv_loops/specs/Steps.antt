@@ -5,8 +5,8 @@ use Rattle.sv_tree.specs.declared.word.Word.{Word}
 use Rattle.sv_typed.specs.declared.ops.Arithmetic.{Arithmetic}
 use Rattle.sv_typed.specs.declared.ops.Pair.TheVariants.{Computed}
 use Rattle.sv_typed.specs.Ops.{pair_meaning}
-use Rattle.sv_const.specs.declared.layout.What.TheVariants.{Number}
-use Rattle.sv_const.specs.Kinds.{Entry}
+use Rattle.sv_names.specs.declared.layout.What.TheVariants.{Number}
+use Rattle.sv_names.specs.Kinds.{Entry}
 use Rattle.sv_meaning.specs.Layouts.{Name, number_is}
 use Rattle.sv_meaning.specs.Meanings.{Meaning, named}
 

@@ -2,8 +2,8 @@
 ghost use Rattle.std.specs.Prelude.{◌≡◌, ◌∷◌, [], ◌++◌, List, length, IfOk, IfErr, OnOk, OnErr};
 ghost use Rattle.sv_outside.specs.declared.refusal.TextErr.TheVariants.{Memory};
 ghost use Rattle.sv_meaning.specs.Deeds.{turns, turns_from, holds_at, next_value, with_index, most_turns};
-ghost use Rattle.sv_const.specs.Kinds.{Entry};
-ghost use Rattle.sv_const.specs.Names.{names_are, entries_of, frames_of, loops_of};
+ghost use Rattle.sv_names.specs.Kinds.{Entry};
+ghost use Rattle.sv_names.specs.Names.{names_are, entries_of, frames_of, loops_of};
 ghost use Rattle.sv_loops.specs.Answers.{Gives};
 ghost use Rattle.sv_loops.specs.Steps.{index_is};
 
@@ -12,9 +12,10 @@ use crate::steps::next_value;
 use fourvec::Four;
 use items::Items;
 use std::alloc::Global;
-use sv_const::{Known, Names, refusal};
+use sv_names::{Known, Names};
 use sv_outside::{Place, TextErr};
 use sv_tree::{Expr, Step, Word};
+use sv_typing::refusal;
 
 /// How many turns a loop has at most.
 const MOST_TURNS: usize = 4096;

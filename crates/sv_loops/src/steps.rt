@@ -5,8 +5,8 @@ ghost use Rattle.sv_meaning.specs.Layouts.{number_is};
 ghost use Rattle.sv_meaning.specs.Meanings.{Meaning, named};
 ghost use Rattle.sv_meaning.specs.Values.{mean};
 ghost use Rattle.sv_meaning.specs.Deeds.{index_value, counted, next_value};
-ghost use Rattle.sv_const.specs.Judging.{Judges, IsTyped};
-ghost use Rattle.sv_const.specs.Names.{names_are};
+ghost use Rattle.sv_typing.specs.Judging.{Judges, IsTyped};
+ghost use Rattle.sv_names.specs.Names.{names_are};
 ghost use Rattle.sv_loops.specs.Answers.{Gives};
 ghost use Rattle.sv_loops.specs.Steps.{moved_by};
 
@@ -14,10 +14,11 @@ use crate::constants::{index_value, low_bits};
 use fourvec::Four;
 use items::Items;
 use std::alloc::Global;
-use sv_const::{Names, start, typed};
+use sv_names::Names;
 use sv_outside::TextErr;
 use sv_tree::{Expr, Step, StepMark, StepSign, Word};
 use sv_typed::{Arithmetic, Root, Typed};
+use sv_typing::{start, typed};
 
 // One more or one less, modulo 2 ^ 32.
 fn counted(mark: StepMark, bits: &Four) -> Four

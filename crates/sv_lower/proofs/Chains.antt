@@ -7,8 +7,8 @@ use Rattle.fourvec.specs.declared.Spot.{Spot}
 use Rattle.fourvec.specs.Spots.{window, dyn_slice_of}
 use Rattle.fourvec.proofs.Order.{both}
 use Rattle.fourvec.proofs.Tables.{left_of, right_of}
-use Rattle.svex_arena.specs.declared.shape.Shape.{Shape}
-use Rattle.svex_arena.specs.Shapes.{width_at}
+use Rattle.svex_shape.specs.declared.shape.Shape.{Shape}
+use Rattle.svex_shape.specs.Shapes.{width_at}
 use Rattle.svex_arena.specs.Arenas.{Extends}
 use Rattle.svex_arena.proofs.Steps.{value-extends, width-extends, variables-extends}
 use Rattle.driver_resolve.specs.Drivers.{bitwise}

@@ -8,10 +8,10 @@ use Rattle.fourvec.specs.declared.Spot.{Spot}
 use Rattle.fourvec.specs.Bits.{is_known, low_plane, all_x}
 use Rattle.fourvec.specs.Spots.{place_of, window, dyn_slice_of}
 use Rattle.fourvec.proofs.Basic.{low_plane-lt}
-use Rattle.svex_arena.specs.declared.shape.Shape.{Shape}
-use Rattle.svex_arena.specs.declared.shape.Shape.TheVariants.{DynSlice}
-use Rattle.svex_arena.specs.Shapes.{width_of}
-use Rattle.svex_arena.specs.Values.{value_of, each_variable_of}
+use Rattle.svex_shape.specs.declared.shape.Shape.{Shape}
+use Rattle.svex_shape.specs.declared.shape.Shape.TheVariants.{DynSlice}
+use Rattle.svex_shape.specs.Shapes.{width_of}
+use Rattle.svex_shape.specs.Values.{value_of, each_variable_of}
 use Rattle.svex_arena.specs.Arenas.{IsArena, Extends}
 use Rattle.svex_arena.proofs.Steps.{value-extends, variables-extends}
 use Rattle.fourvec.proofs.Order.{both}

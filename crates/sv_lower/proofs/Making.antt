@@ -4,12 +4,12 @@ use Rattle.fourvec.specs.declared.Bit.{Bit}
 use Rattle.fourvec.specs.Bits.{cond_of}
 use Rattle.driver_resolve.specs.Drivers.{bitwise}
 use Rattle.fourvec.proofs.Order.{both}
-use Rattle.svex_arena.specs.declared.shape.Un.{Un}
-use Rattle.svex_arena.specs.declared.shape.Bin.{Bin}
-use Rattle.svex_arena.specs.declared.shape.Shape.{Shape}
-use Rattle.svex_arena.specs.declared.shape.Shape.TheVariants.{Const, Unary, Binary, Cond}
-use Rattle.svex_arena.specs.Shapes.{ChildrenBelow, width_of, width_at, unary_width, binary_width}
-use Rattle.svex_arena.specs.Values.{value_of, value_at, each_variable_of, each_variable, unary_value, binary_value}
+use Rattle.svex_shape.specs.declared.shape.Un.{Un}
+use Rattle.svex_shape.specs.declared.shape.Bin.{Bin}
+use Rattle.svex_shape.specs.declared.shape.Shape.{Shape}
+use Rattle.svex_shape.specs.declared.shape.Shape.TheVariants.{Const, Unary, Binary, Cond}
+use Rattle.svex_shape.specs.Shapes.{ChildrenBelow, width_of, width_at, unary_width, binary_width}
+use Rattle.svex_shape.specs.Values.{value_of, value_at, each_variable_of, each_variable, unary_value, binary_value}
 use Rattle.svex_arena.specs.Arenas.{IsArena, Interned, Extends}
 use Rattle.svex_arena.proofs.Numbering.{map_children}
 use Rattle.svex_arena.proofs.Steps.{value_follows, width_follows, variables_follow, value_reads, width_reads, variables_read, value-extends, width-extends, variables-extends}

@@ -6,10 +6,10 @@ use Rattle.fourvec.specs.declared.Bit.{Bit}
 use Rattle.fourvec.specs.declared.Bit.TheVariants.{Unknown}
 use Rattle.fourvec.specs.Bits.{all_x, slice_of, concat_of}
 use Rattle.fourvec.specs.Spots.{window}
-use Rattle.svex_arena.specs.declared.shape.Shape.{Shape}
-use Rattle.svex_arena.specs.declared.shape.Shape.TheVariants.{Slice}
-use Rattle.svex_arena.specs.Shapes.{width_of, width_at}
-use Rattle.svex_arena.specs.Values.{value_of, each_variable_of}
+use Rattle.svex_shape.specs.declared.shape.Shape.{Shape}
+use Rattle.svex_shape.specs.declared.shape.Shape.TheVariants.{Slice}
+use Rattle.svex_shape.specs.Shapes.{width_of, width_at}
+use Rattle.svex_shape.specs.Values.{value_of, each_variable_of}
 use Rattle.svex_arena.specs.Arenas.{IsArena, Extends}
 use Rattle.svex_arena.proofs.Steps.{value-extends, width-extends, variables-extends}
 use Rattle.driver_resolve.specs.Drivers.{bitwise}

@@ -5,13 +5,13 @@ use Rattle.std.specs.List.{range_with_len}
 use Rattle.fourvec.specs.declared.Bit.{Bit}
 use Rattle.fourvec.specs.declared.Bit.TheVariants.{Unknown}
 use Rattle.fourvec.specs.Spots.{window}
-use Rattle.svex_arena.specs.declared.shape.VarName.{VarName}
-use Rattle.svex_arena.specs.declared.shape.VarName.TheVariants.{Chosen, Sampled}
-use Rattle.svex_arena.specs.declared.shape.Shape.{Shape}
-use Rattle.svex_arena.specs.declared.shape.Shape.TheVariants.{Var}
-use Rattle.svex_arena.specs.Shapes.{width_of}
+use Rattle.svex_shape.specs.declared.shape.VarName.{VarName}
+use Rattle.svex_shape.specs.declared.shape.VarName.TheVariants.{Chosen, Sampled}
+use Rattle.svex_shape.specs.declared.shape.Shape.{Shape}
+use Rattle.svex_shape.specs.declared.shape.Shape.TheVariants.{Var}
+use Rattle.svex_shape.specs.Shapes.{width_of}
 use Rattle.svex_arena.specs.Substs.{given_or}
-use Rattle.svex_arena.specs.Values.{value_of, each_variable, each_variable_of}
+use Rattle.svex_shape.specs.Values.{value_of, each_variable, each_variable_of}
 use Rattle.svex_arena.specs.Arenas.{Extends}
 use Rattle.svex_arena.proofs.Steps.{value-extends, variables-extends}
 use Rattle.driver_resolve.specs.Drivers.{bitwise}

@@ -4,11 +4,11 @@ use Rattle.std.proofs.lemmas.List.{take_all, take-append-le}
 use Rattle.std.proofs.lemmas.List.FromFn.{length-map-range_with_len}
 use Rattle.fourvec.specs.declared.Bit.{Bit}
 use Rattle.fourvec.proofs.Moves.{extend_none}
-use Rattle.svex_arena.specs.declared.shape.VarName.{VarName}
-use Rattle.svex_arena.specs.declared.shape.Shape.{Shape}
-use Rattle.svex_arena.specs.declared.shape.Shape.TheVariants.{Slice, Zext, Sext}
-use Rattle.svex_arena.specs.Shapes.{width_of, width_at}
-use Rattle.svex_arena.specs.Values.{HasWidths, value_of, each_variable_of}
+use Rattle.svex_shape.specs.declared.shape.VarName.{VarName}
+use Rattle.svex_shape.specs.declared.shape.Shape.{Shape}
+use Rattle.svex_shape.specs.declared.shape.Shape.TheVariants.{Slice, Zext, Sext}
+use Rattle.svex_shape.specs.Shapes.{width_of, width_at}
+use Rattle.svex_shape.specs.Values.{HasWidths, value_of, each_variable_of}
 use Rattle.svex_arena.specs.Arenas.{IsArena}
 use Rattle.svex_arena.proofs.Widths.{length-value_at}
 use Rattle.driver_resolve.specs.Drivers.{bitwise}

@@ -1,7 +1,7 @@
 -- What a typed expression's node says of the expression in the source.
 use Rattle.std.proofs.Common.{◌≡◌, ℕ, max, Bool, List, [], take, refl, sym, ap, ◌∙◌, IsTrue}
-use Rattle.svex_arena.specs.declared.shape.VarName.{VarName}
-use Rattle.svex_arena.specs.declared.shape.Shape.{Shape}
+use Rattle.svex_shape.specs.declared.shape.VarName.{VarName}
+use Rattle.svex_shape.specs.declared.shape.Shape.{Shape}
 use Rattle.sv_tree.specs.declared.exprs.Expr.{Expr}
 use Rattle.sv_meaning.specs.Layouts.{Read, Scope, Origin, of_wires, of_choice, of_samples}
 use Rattle.sv_meaning.specs.Meanings.{Meaning, assigned}

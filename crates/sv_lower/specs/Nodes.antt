@@ -3,10 +3,10 @@ use Rattle.std.specs.Prelude.{◌≡◌, ℕ, ◌<◌, ◌≤◌, ◌+◌, Bool,
 use Rattle.fourvec.specs.declared.Bit.{Bit}
 use Rattle.fourvec.specs.Bits.{all_x, slice_of}
 use Rattle.fourvec.specs.Spots.{window}
-use Rattle.svex_arena.specs.declared.shape.VarName.{VarName}
-use Rattle.svex_arena.specs.declared.shape.Shape.{Shape}
-use Rattle.svex_arena.specs.Shapes.{width_at, width_of}
-use Rattle.svex_arena.specs.Values.{Reading, value_at, value_of, each_variable, each_variable_of}
+use Rattle.svex_shape.specs.declared.shape.VarName.{VarName}
+use Rattle.svex_shape.specs.declared.shape.Shape.{Shape}
+use Rattle.svex_shape.specs.Shapes.{width_at, width_of}
+use Rattle.svex_shape.specs.Values.{Reading, value_at, value_of, each_variable, each_variable_of}
 use Rattle.driver_resolve.specs.Drivers.{bitwise}
 
 -- the bits of a node, where variables have such bits

@@ -3,9 +3,9 @@
 ghost use Rattle.std.specs.Prelude.{◌≡◌, ℕ, ◌<◌, ◌≤◌, max, Bool, ◌&&◌, length, take, IfOk, IsTrue};
 ghost use Rattle.std.specs.List.{All};
 ghost use Rattle.fourvec.specs.declared.Bit.{Bit};
-ghost use Rattle.svex_arena.specs.declared.shape.VarName.{VarName};
-ghost use Rattle.svex_arena.specs.Shapes.{width_at};
-ghost use Rattle.svex_arena.specs.Values.{value_at, each_variable};
+ghost use Rattle.svex_shape.specs.declared.shape.VarName.{VarName};
+ghost use Rattle.svex_shape.specs.Shapes.{width_at};
+ghost use Rattle.svex_shape.specs.Values.{value_at, each_variable};
 ghost use Rattle.svex_arena.specs.Arenas.{Extends};
 ghost use Rattle.driver_resolve.specs.Drivers.{bitwise};
 ghost use Rattle.sv_meaning.specs.Meanings.{nowhere};

@@ -2,8 +2,8 @@
 //! negation, or with the operands turned round.
 ghost use Rattle.std.specs.Prelude.{◌≡◌, ◌<◌, ◌≤◌, length, IfOk};
 ghost use Rattle.fourvec.specs.Bits.{truth_of, cond_of, not_of, or_of};
-ghost use Rattle.svex_arena.specs.Shapes.{FitsPair, unary_width, binary_width, width_at};
-ghost use Rattle.svex_arena.specs.Values.{unary_value, binary_value};
+ghost use Rattle.svex_shape.specs.Shapes.{FitsPair, unary_width, binary_width, width_at};
+ghost use Rattle.svex_shape.specs.Values.{unary_value, binary_value};
 ghost use Rattle.svex_arena.specs.Arenas.{Extends};
 ghost use Rattle.sv_typed.specs.Ops.{turned, reduced, computed, moved, compared, combined, combined_truths};
 ghost use Rattle.sv_lower.specs.Nodes.{FromOne, FromTwo, FromThree};

@@ -3,7 +3,7 @@
 ghost use Rattle.std.specs.Prelude.{◌≡◌, ◌<◌, ◌≤◌, ◌+◌, ◌*◌, ◌++◌, length, IfOk};
 ghost use Rattle.fourvec.specs.Bits.{all_x, slice_of};
 ghost use Rattle.fourvec.specs.Spots.{window, reached};
-ghost use Rattle.svex_arena.specs.Shapes.{width_at};
+ghost use Rattle.svex_shape.specs.Shapes.{width_at};
 ghost use Rattle.svex_arena.specs.Arenas.{Extends};
 ghost use Rattle.sv_meaning.specs.Meanings.{copies};
 ghost use Rattle.sv_lower.specs.Nodes.{IsConstant, FromOne, FromTwo, IsSpan};
@@ -14,7 +14,7 @@ use std::alloc::{AllocError, Global};
 use svex_arena::{Arena, Bin, Node, Shape};
 
 /// The node of bits that are all X.
-#[tactic(auto, using(svex_arena::proofs::Readings::x_widened, fourvec::proofs::Basic::views))]
+#[tactic(auto, using(svex_shape::proofs::Readings::x_widened, fourvec::proofs::Basic::views))]
 pub fn unknown(alloc: Global, arena: &mut Arena, width: u8) -> Result<Node, AllocError>
     requires some { 0 < width }
     requires most { width ≤ 128 }

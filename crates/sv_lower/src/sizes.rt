@@ -1,6 +1,6 @@
 // Nodes at other widths (IEEE 1800-2017, 10.7, 11.8.4).
 ghost use Rattle.std.specs.Prelude.{◌≡◌, ◌<◌, ◌≤◌, length, IfOk};
-ghost use Rattle.svex_arena.specs.Shapes.{width_at};
+ghost use Rattle.svex_shape.specs.Shapes.{width_at};
 ghost use Rattle.svex_arena.specs.Arenas.{Extends};
 ghost use Rattle.sv_meaning.specs.Meanings.{extend, fitted};
 ghost use Rattle.sv_lower.specs.Nodes.{FromOne};

@@ -1,7 +1,7 @@
 // Nodes of one shape over others.
 ghost use Rattle.std.specs.Prelude.{◌≡◌, ◌<◌, ◌≤◌, length, IfOk};
-ghost use Rattle.svex_arena.specs.Shapes.{ChildrenBelow, FitsWidths, FitsPair, width_at, unary_width, binary_width};
-ghost use Rattle.svex_arena.specs.Values.{unary_value, binary_value};
+ghost use Rattle.svex_shape.specs.Shapes.{ChildrenBelow, FitsWidths, FitsPair, width_at, unary_width, binary_width};
+ghost use Rattle.svex_shape.specs.Values.{unary_value, binary_value};
 ghost use Rattle.svex_arena.specs.Arenas.{Extends};
 ghost use Rattle.sv_lower.specs.Nodes.{IsMade, IsConstant, FromOne, FromTwo};
 

@@ -16,7 +16,7 @@ use Rattle.sv_meaning.specs.Faults.{Faults, fault_if, twice, Judged, unknown_mod
 use Rattle.sv_meaning.specs.Layouts.{Name}
 use Rattle.sv_meaning.specs.Names.{has_name}
 use Rattle.sv_hierarchy.specs.Scopes.{Known, Library, module_named, all_used, unused, the_one, top_named, top_module, instantiated_by, design_start, unclear}
-use Rattle.sv_const.proofs.Lists.{in_first, in_second, in_fault, no_fault, then_clear, first_clear, second_clear}
+use Rattle.sv_typing.proofs.Lists.{in_first, in_second, in_fault, no_fault, then_clear, first_clear, second_clear}
 use Rattle.sv_loops.specs.Answers.{Answers, Gives}
 use Rattle.sv_modules.specs.Naming.{place_of}
 use Rattle.sv_hierarchy.specs.Libraries.{modules_in, repeated, IsLibraryOf}

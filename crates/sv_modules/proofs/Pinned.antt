@@ -24,7 +24,7 @@ use Rattle.sv_modules.specs.Naming.{Holds, Adds}
 use Rattle.sv_modules.specs.declared.name_set.NameSet.{NameSet}
 use Rattle.sv_modules.proofs.Turns.{drop_next, drop_none, map_next}
 use Rattle.sv_modules.proofs.Sets.{has_append, holds_more}
-use Rattle.sv_const.proofs.Lists.{in_left, in_first, in_second, in_fault, no_fault, then_clear}
+use Rattle.sv_typing.proofs.Lists.{in_left, in_first, in_second, in_fault, no_fault, then_clear}
 
 -- those so far, and the rest
 abbrev pub behind : List Connection → Judged (List Connection) → Judged (List Connection)

@@ -10,9 +10,9 @@ ghost use Rattle.sv_modules.specs.Connections.{joined_is, connection_is};
 
 use crate::name_set::NameSet;
 use std::alloc::{AllocError, Global};
-use sv_const::{refusal, start};
 use sv_outside::TextErr;
 use sv_tree::{Expr, NamedPin, Pin, Pins, Word};
+use sv_typing::{refusal, start};
 
 /// What stands behind a name.
 #[derive(Clone, Copy)]

@@ -1,7 +1,7 @@
 // The modules of a text.
 ghost use Rattle.std.specs.Prelude.{◌≡◌, ◌<◌, [], length, map, IfOk, IfErr, IfSome, option_map};
 ghost use Rattle.sv_hierarchy.specs.Scopes.{Library, module_named};
-ghost use Rattle.sv_const.specs.Judging.{IsCause};
+ghost use Rattle.sv_typing.specs.Judging.{IsCause};
 ghost use Rattle.sv_loops.specs.Answers.{Answers};
 ghost use Rattle.sv_modules.specs.Naming.{Indexes};
 ghost use Rattle.sv_hierarchy.specs.Libraries.{modules_in, repeated, IsLibraryOf};

@@ -7,10 +7,10 @@ ghost use Rattle.sv_walk.specs.Walks.{Finds, state_of};
 
 use items::Items;
 use std::alloc::Global;
-use sv_const::refusal;
 use sv_modules::NameSet;
 use sv_outside::TextErr;
 use sv_tree::{Module, SourcePart};
+use sv_typing::refusal;
 use sv_walk::{Open, Walker};
 
 /// The modules above a place of the file level: their names, and for each how many names of the file level are declared above it.

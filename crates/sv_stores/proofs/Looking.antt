@@ -6,20 +6,20 @@ use Rattle.std.proofs.lemmas.Option.{slice_get_within, slice_get-get_or, get_or_
 use Rattle.std.proofs.lemmas.Bool.Decides.{nat_tests}
 use Rattle.fourvec.specs.declared.Bit.{Bit}
 use Rattle.fourvec.specs.declared.Bit.TheVariants.{Unknown}
-use Rattle.svex_arena.specs.declared.shape.VarName.{VarName}
-use Rattle.svex_arena.specs.declared.shape.VarName.TheVariants.{Now, Prev}
-use Rattle.svex_arena.specs.declared.shape.Shape.{Shape}
-use Rattle.svex_arena.specs.Shapes.{width_at}
-use Rattle.svex_arena.specs.Values.{each_variable}
+use Rattle.svex_shape.specs.declared.shape.VarName.{VarName}
+use Rattle.svex_shape.specs.declared.shape.VarName.TheVariants.{Now, Prev}
+use Rattle.svex_shape.specs.declared.shape.Shape.{Shape}
+use Rattle.svex_shape.specs.Shapes.{width_at}
+use Rattle.svex_shape.specs.Values.{each_variable}
 use Rattle.svex_arena.specs.Substs.{entry_at, given_or}
 use Rattle.sv_meaning.specs.Layouts.{Read, Origin, of_wires, of_choice, of_samples, NamedSignal}
 use Rattle.sv_typed.specs.declared.tree.Typed.{Typed}
 use Rattle.sv_typed.specs.Typed.{worth, names_of}
-use Rattle.sv_stmt.specs.declared.look.Look.{Look}
-use Rattle.sv_stmt.specs.declared.look.Look.TheVariants.{Clocked, Placed}
-use Rattle.sv_stmt.specs.Nodes.{bits_at_node}
-use Rattle.sv_stmt.specs.Lowering.{node_in, node_of, wire_variable, look_read, look_test, each_signal, IsIn}
-use Rattle.sv_stmt.proofs.Naming.{look_holds}
+use Rattle.sv_lower.specs.declared.look.Look.{Look}
+use Rattle.sv_lower.specs.declared.look.Look.TheVariants.{Clocked, Placed}
+use Rattle.sv_lower.specs.Nodes.{bits_at_node}
+use Rattle.sv_lower.specs.Lowering.{node_in, node_of, wire_variable, look_read, look_test, each_signal, IsIn}
+use Rattle.sv_lower.proofs.Naming.{look_holds}
 use Rattle.sv_stores.specs.declared.scene.Scene.{Scene}
 use Rattle.sv_stores.specs.declared.scene.State.{State}
 use Rattle.sv_stores.specs.Scenes.{place_in, width_in, mark_at, is_written, is_whole, is_narrow, base, store_of, wire_bit, reads_in, wire_test, name_test, Allows, HoldsIn, Shows, AreNodes, AreSeen, SeenBy, IsScene, IsState, Yields}

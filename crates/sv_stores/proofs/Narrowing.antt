@@ -13,7 +13,7 @@ use Rattle.sv_typed.specs.declared.tree.Typed.{Typed}
 use Rattle.sv_typed.specs.declared.tree.TypedForm.{TypedForm, Literal, Named', Turned', Reduced', Computed', Moved', Compared', Combined', Chosen', Power', Concat', Repeat', Standing', Fitted', Row_of-Typed, end_of-Typed, more_of-Typed, Row_of-Pick, end_of-Pick, more_of-Pick}
 use Rattle.sv_typed.specs.Ops.{turned, reduced, computed, moved, compared, combined}
 use Rattle.sv_typed.specs.Typed.{form_worth, row_together, row_picked, place_in, root_bits, origin_is, spot_place, worth}
-use Rattle.sv_stmt.specs.Lowering.{each_root, each_form, each_row, each_pick_row, each_place, each_signal}
+use Rattle.sv_lower.specs.Lowering.{each_root, each_form, each_row, each_pick_row, each_place, each_signal}
 
 -- two readings that agree on each bit of the signals for which a test holds, each below its width
 abbrev pub SameWhere : (Origin → ℕ → ℕ → Bool) → Read → Read → Type 0

@@ -8,12 +8,12 @@ use Rattle.fourvec.specs.declared.Bit.{Bit}
 use Rattle.fourvec.specs.declared.Bit.TheVariants.{Unknown}
 use Rattle.fourvec.specs.Bits.{all_x, first, and_of, not_of, each, each_pair, and_bit, not_bit}
 use Rattle.fourvec.proofs.Order.{both}
-use Rattle.svex_arena.specs.declared.shape.VarName.{VarName}
-use Rattle.svex_arena.specs.declared.shape.VarName.TheVariants.{Now, Prev}
-use Rattle.svex_arena.specs.declared.shape.Shape.{Shape}
-use Rattle.svex_arena.specs.declared.shape.Shape.TheVariants.{Var}
-use Rattle.svex_arena.specs.Shapes.{width_at, width_of}
-use Rattle.svex_arena.specs.Values.{value_of, each_variable, each_variable_of}
+use Rattle.svex_shape.specs.declared.shape.VarName.{VarName}
+use Rattle.svex_shape.specs.declared.shape.VarName.TheVariants.{Now, Prev}
+use Rattle.svex_shape.specs.declared.shape.Shape.{Shape}
+use Rattle.svex_shape.specs.declared.shape.Shape.TheVariants.{Var}
+use Rattle.svex_shape.specs.Shapes.{width_at, width_of}
+use Rattle.svex_shape.specs.Values.{value_of, each_variable, each_variable_of}
 use Rattle.svex_arena.specs.Arenas.{Extends}
 use Rattle.svex_arena.proofs.Keeping.{extends_on}
 use Rattle.svex_arena.proofs.Steps.{value-extends, width-extends, variables-extends}
@@ -22,7 +22,7 @@ use Rattle.settling.specs.Settling.{Store}
 use Rattle.sv_tree.specs.declared.stmts.Edge.{Edge}
 use Rattle.sv_tree.specs.declared.stmts.Edge.TheVariants as edge
 use Rattle.sv_meaning.specs.Blocks.{trigger_bit}
-use Rattle.sv_stmt.specs.Nodes.{bits_at_node, IsMade, IsConstant, FromOne, FromTwo}
+use Rattle.sv_lower.specs.Nodes.{bits_at_node, IsMade, IsConstant, FromOne, FromTwo}
 use Rattle.sv_stores.specs.declared.scene.Scene.{Scene}
 use Rattle.sv_stores.specs.Scenes.{place_in, width_in, base, store_of, HoldsIn, AreNodes, IsScene}
 use Rattle.sv_stores.specs.Starting.{start_test, StartsAt, Starts, Triggers}

@@ -3,15 +3,15 @@ use Rattle.std.specs.Prelude.{◌≡◌, ℕ, zero, suc, ◌+◌, ◌*◌, ◌<�
 use Rattle.std.specs.List.{Contains}
 use Rattle.fourvec.specs.declared.Bit.{Bit}
 use Rattle.fourvec.specs.declared.Bit.TheVariants.{Unknown}
-use Rattle.svex_arena.specs.declared.shape.VarName.{VarName}
-use Rattle.svex_arena.specs.declared.shape.VarName.TheVariants.{Now, Prev, Chosen, Sampled}
-use Rattle.svex_arena.specs.declared.shape.Shape.{Shape}
-use Rattle.svex_arena.specs.Shapes.{width_at}
-use Rattle.svex_arena.specs.Values.{each_variable}
+use Rattle.svex_shape.specs.declared.shape.VarName.{VarName}
+use Rattle.svex_shape.specs.declared.shape.VarName.TheVariants.{Now, Prev, Chosen, Sampled}
+use Rattle.svex_shape.specs.declared.shape.Shape.{Shape}
+use Rattle.svex_shape.specs.Shapes.{width_at}
+use Rattle.svex_shape.specs.Values.{each_variable}
 use Rattle.svex_arena.specs.Substs.{entry_at, given_or}
 use Rattle.settling.specs.Settling.{Store}
 use Rattle.sv_meaning.specs.Layouts.{Read, Origin, of_wires, of_choice, of_samples, NamedSignal}
-use Rattle.sv_stmt.specs.Nodes.{bits_at_node}
+use Rattle.sv_lower.specs.Nodes.{bits_at_node}
 use Rattle.sv_stores.specs.declared.scene.Scene.{Scene}
 use Rattle.sv_stores.specs.declared.scene.State.{State}
 

@@ -7,7 +7,7 @@ ghost use Rattle.sv_stores.specs.Scenes.{Narrow, IsScene, IsState, Yields};
 
 use crate::{Scene, State};
 use std::alloc::{AllocError, Global};
-use sv_stmt::{Look, lower, unary};
+use sv_lower::{Look, lower, unary};
 use sv_typed::Typed;
 use svex_arena::{Arena, Node, Un};
 

@@ -7,7 +7,7 @@ ghost use Rattle.sv_stores.specs.Starting.{StartsAt, Starts, Triggers};
 use crate::Scene;
 use items::Items;
 use std::alloc::{AllocError, Global};
-use sv_stmt::{binary, make, unary, unknown};
+use sv_lower::{binary, make, unary, unknown};
 use sv_tree::Edge;
 use svex_arena::{Arena, Bin, Node, Shape, Un, VarName};
 

@@ -20,9 +20,9 @@ use Rattle.sv_meaning.specs.Meanings.{Meaning, fixed_faults}
 use Rattle.sv_meaning.specs.Values.{step}
 use Rattle.sv_meaning.specs.Targets.{target_of, target_faults, wide_target}
 use Rattle.sv_meaning.specs.Designs.{as_targets, all_as_targets, part_faults, all_part_faults}
-use Rattle.sv_const.specs.Judging.{IsCause}
-use Rattle.sv_const.proofs.OfRules.{cause_left}
-use Rattle.sv_const.proofs.Made.{steps_list}
+use Rattle.sv_typing.specs.Judging.{IsCause}
+use Rattle.sv_typing.proofs.OfRules.{cause_left}
+use Rattle.sv_typing.proofs.Made.{steps_list}
 use Rattle.sv_targets.specs.declared.targets.TypedTarget.{TypedTarget}
 use Rattle.sv_targets.specs.Targets.{AreTargets, JudgesTargets, actual_list_faults, actual_list_targets, no_target}
 use Rattle.sv_targets.proofs.Targeting.{targets_as}

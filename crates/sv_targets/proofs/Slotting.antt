@@ -20,8 +20,8 @@ use Rattle.sv_meaning.specs.Layouts as m
 use Rattle.sv_meaning.specs.Meanings.{Meaning}
 use Rattle.sv_meaning.specs.Targets.{Target, bit_names, flat, slot_at, slots_from, slots, with_place, chain_slots, are_fixed}
 use Rattle.sv_typed.specs.declared.tree.Pick.{Pick}
-use Rattle.sv_const.specs.Picks.{fixed_pick, picked_slots}
-use Rattle.sv_const.specs.Picks as picks
+use Rattle.sv_typing.specs.Picks.{fixed_pick, picked_slots}
+use Rattle.sv_typing.specs.Picks as picks
 use Rattle.sv_targets.specs.declared.targets.TypedTarget.{TypedTarget}
 use Rattle.sv_targets.specs.Targets.{StandsFor, TargetIsSound, JudgesTargets, AreNarrow, width_of_all}
 use Rattle.sv_targets.proofs.Targeting.{targets_ok, widths_are}

@@ -16,20 +16,20 @@ use Rattle.sv_tree.specs.declared.stmts.Lvalue.TheBlock.{shape-the_row-Lvalue-0,
 use Rattle.sv_meaning.specs.Faults.{Faults, or_then, bad_width}
 use Rattle.sv_meaning.specs.Layouts as m
 use Rattle.sv_meaning.specs.Meanings.{Meaning, Step, is_width, chain_layout, chain_faults}
-use Rattle.sv_const.specs.declared.layout.Layout.{Layout}
-use Rattle.sv_const.specs.declared.layout.What.{What}
-use Rattle.sv_const.specs.declared.layout.What.TheVariants.{Wire}
-use Rattle.sv_const.specs.Kinds.{layout_is, what_is}
+use Rattle.sv_names.specs.declared.layout.Layout.{Layout}
+use Rattle.sv_names.specs.declared.layout.What.{What}
+use Rattle.sv_names.specs.declared.layout.What.TheVariants.{Wire}
+use Rattle.sv_names.specs.Kinds.{layout_is, what_is}
 use Rattle.sv_meaning.specs.Values.{step}
 use Rattle.sv_meaning.specs.Targets.{Target, target_of, target_faults, targets, targets_of, widths, width_or_none, wide_target, lvalue_faults, all_lvalue_faults}
 use Rattle.sv_typed.specs.declared.tree.Pick.{Pick}
 use Rattle.sv_typed.specs.Typed.{PickIsSound, picked_width}
-use Rattle.sv_const.specs.declared.chain.Chain.{Chain}
-use Rattle.sv_const.specs.Judging.{IsCause}
-use Rattle.sv_const.specs.Picks.{Follows}
-use Rattle.sv_const.specs.Roots.{IsChain}
-use Rattle.sv_const.proofs.OfRules.{cause_left}
-use Rattle.sv_const.proofs.Lists.{in_second, in_fault, no_fault, both_clear, then_clear}
+use Rattle.sv_typing.specs.declared.chain.Chain.{Chain}
+use Rattle.sv_typing.specs.Judging.{IsCause}
+use Rattle.sv_typing.specs.Picks.{Follows}
+use Rattle.sv_typing.specs.Roots.{IsChain}
+use Rattle.sv_typing.proofs.OfRules.{cause_left}
+use Rattle.sv_typing.proofs.Lists.{in_second, in_fault, no_fault, both_clear, then_clear}
 use Rattle.sv_targets.specs.declared.targets.TypedTarget.{TypedTarget}
 use Rattle.sv_targets.specs.Targets.{StandsFor, IsTarget, JudgesTarget, AreTargets, JudgesTargets, width_of_all, all_faults, all_targets}
 

@@ -6,8 +6,8 @@ use Rattle.lhs_alias.specs.declared.segs.WireBit.{WireBit}
 use Rattle.lhs_alias.specs.Segs.{lhs_bits, AreSegs}
 use Rattle.sv_meaning.specs.Targets.{Target, slots, slots_from, widths, bit_names, are_fixed}
 use Rattle.sv_typed.specs.declared.tree.Pick.{Pick}
-use Rattle.sv_const.specs.Picks.{fixed_pick, picked_slots}
-use Rattle.sv_const.specs.Picks as picks
+use Rattle.sv_typing.specs.Picks.{fixed_pick, picked_slots}
+use Rattle.sv_typing.specs.Picks as picks
 use Rattle.sv_targets.specs.declared.places.Spotted.{Spotted}
 use Rattle.sv_targets.specs.declared.places.Spotted.TheVariants.{Moving, At, Far}
 use Rattle.sv_targets.specs.declared.targets.TypedTarget.{TypedTarget}
@@ -15,7 +15,7 @@ use Rattle.sv_targets.specs.declared.parts.Part.{Part}
 use Rattle.sv_targets.specs.declared.parts.Target as parts
 use Rattle.sv_outside.specs.declared.refusal.TextErr.{TextErr}
 use Rattle.sv_meaning.specs.Faults.{Faults}
-use Rattle.sv_const.specs.Judging.{IsCause}
+use Rattle.sv_typing.specs.Judging.{IsCause}
 
 -- ---- places
 

@@ -12,8 +12,8 @@ use Rattle.sv_meaning.specs.Layouts as m
 use Rattle.sv_meaning.specs.Meanings.{Meaning}
 use Rattle.sv_meaning.specs.Targets.{Target, lvalue_faults, targets}
 use Rattle.sv_typed.specs.Typed.{PickIsSound}
-use Rattle.sv_const.specs.Judging.{IsCause}
-use Rattle.sv_const.specs.Picks.{Follows}
+use Rattle.sv_typing.specs.Judging.{IsCause}
+use Rattle.sv_typing.specs.Picks.{Follows}
 use Rattle.sv_targets.specs.declared.targets.TypedTarget.{TypedTarget}
 
 -- A net or variable with picks for its selects, with nothing against them, each index being judged so.

@@ -1,6 +1,6 @@
 // Actuals of ports as targets (IEEE 1800-2017, 23.3.3).
 ghost use Rattle.std.specs.Prelude.{◌≡◌};
-ghost use Rattle.sv_const.specs.Names.{names_are};
+ghost use Rattle.sv_names.specs.Names.{names_are};
 ghost use Rattle.sv_meaning.specs.Designs.{as_targets, actual_faults, part_faults};
 ghost use Rattle.sv_meaning.specs.Layouts as m;
 ghost use Rattle.sv_meaning.specs.Meanings.{fixed_faults};
@@ -9,9 +9,10 @@ ghost use Rattle.sv_targets.specs.Targets.{JudgesTargets, AreNarrow, actual_list
 use crate::targets::{TypedTarget, appended, braced, named_target, one_target};
 use items::Items;
 use std::alloc::Global;
-use sv_const::{IndexRule, Names, refusal, start};
+use sv_names::Names;
 use sv_outside::{Place, TextErr};
 use sv_tree::Expr;
+use sv_typing::{IndexRule, refusal, start};
 
 // What is no name with selects and no concatenation, in an actual that begins at a place: E19 there.
 fn not_assignable(begin: Place) -> TextErr

@@ -1,7 +1,7 @@
 // Targets whose indices are constant and known (IEEE 1800-2017, 11.5.1).
 ghost use Rattle.std.specs.Prelude.{◌≡◌, All, is_some};
 ghost use Rattle.sv_typed.specs.Typed.{PickIsSound};
-ghost use Rattle.sv_const.specs.Picks as p;
+ghost use Rattle.sv_typing.specs.Picks as p;
 ghost use Rattle.sv_targets.specs.Targets.{TargetIsSound};
 ghost use Rattle.sv_targets.specs.Slots.{all_fixed};
 

@@ -1,6 +1,6 @@
 // Targets whose selects are constant as parts of wires (IEEE 1800-2017, 10.3.2 and 23.3.3).
 ghost use Rattle.std.specs.Prelude.{◌≡◌, ◌≤◌, ◌<◌, All, IfOk, List, [], length, slice_index_or, ◌+◌};
-ghost use Rattle.sv_const.specs.Names.{names_are};
+ghost use Rattle.sv_names.specs.Names.{names_are};
 ghost use Rattle.lhs_alias.specs.Segs.{lhs_bits, AreSegs};
 ghost use Rattle.sv_meaning.specs.Designs.{as_targets, actual_faults};
 ghost use Rattle.sv_meaning.specs.Faults.{Faults};
@@ -16,9 +16,10 @@ use crate::targets::{TypedTarget, typed_targets, width_of_all};
 use items::Items;
 use lhs_alias::{Lhs, Seg, WireBit};
 use std::alloc::{AllocError, Global};
-use sv_const::{IndexRule, Names};
+use sv_names::Names;
 use sv_outside::TextErr;
 use sv_tree::{Expr, Lvalue};
+use sv_typing::IndexRule;
 
 /// Bits of a target that are there, and the place of the lowest of them in the target.
 pub struct Part {

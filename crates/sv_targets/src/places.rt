@@ -2,7 +2,7 @@
 ghost use Rattle.std.specs.Prelude.{◌≡◌, ◌<◌, ◌≤◌, ◌^◌, ◌-◌, IsTrue, IfSome, IfNone, length, unsigned_abs};
 ghost use Rattle.fourvec.specs.Bits.{is_known, is_negative, number, signed};
 ghost use Rattle.fourvec.specs.Spots.{place_of, reached};
-ghost use Rattle.sv_const.specs.Picks.{fixed_pick};
+ghost use Rattle.sv_typing.specs.Picks.{fixed_pick};
 ghost use Rattle.sv_typed.specs.Typed.{PickIsSound, spot_place};
 ghost use Rattle.sv_targets.specs.Slots.{IsSpotted};
 
@@ -35,7 +35,7 @@ fn is_negative(a: &Four) -> bool
 }
 
 // The whole number of a known vector.
-#[tactic(auto, using(sv_const::proofs::Vectors::number_is))]
+#[tactic(auto, using(sv_typing::proofs::Vectors::number_is))]
 fn value(a: &Four) -> u128
     requires { IsTrue (is_known a.now) }
     ensures is { result ≡ number a.now }

@@ -1,10 +1,10 @@
 // Targets of assignments (IEEE 1800-2017, 10.3.2, 10.4 and 11.5.1).
 ghost use Rattle.std.specs.Prelude.{◌≡◌, Some, List, [], ◌∷◌, ◌++◌, map, min, Ok};
 ghost use Rattle.std.specs.Option.{option_copied};
-ghost use Rattle.sv_const.specs.Kinds.{layout_is, what_is, IsSound, WhatIsSound};
-ghost use Rattle.sv_const.specs.Names.{names_are};
-ghost use Rattle.sv_const.specs.Picks.{rule_faults};
-ghost use Rattle.sv_const.specs.Roots.{JudgesChain};
+ghost use Rattle.sv_names.specs.Kinds.{layout_is, what_is, IsSound, WhatIsSound};
+ghost use Rattle.sv_names.specs.Names.{names_are};
+ghost use Rattle.sv_typing.specs.Picks.{rule_faults};
+ghost use Rattle.sv_typing.specs.Roots.{JudgesChain};
 ghost use Rattle.sv_meaning.specs.Faults.{Faults, or_then};
 ghost use Rattle.sv_meaning.specs.Layouts as m;
 ghost use Rattle.sv_meaning.specs.Meanings.{Meaning, Step, chain_faults};
@@ -14,10 +14,12 @@ ghost use Rattle.sv_targets.specs.Targets.{JudgesTarget, JudgesTargets, AreNarro
 
 use items::Items;
 use std::alloc::Global;
-use sv_const::{Chain, IndexRule, Layout, Names, What, refusal, select_chain};
+use sv_const::select_chain;
+use sv_names::{Layout, Names, What};
 use sv_outside::{Place, TextErr};
 use sv_tree::{Lvalue, Select, Word};
 use sv_typed::Pick;
+use sv_typing::{Chain, IndexRule, refusal};
 
 /// A net or variable with its selects as parts of its bits.
 pub struct TypedTarget {

@@ -2,9 +2,9 @@
 use Rattle.std.proofs.Common.{◌≡◌, List, [], ◌∷◌, ◌++◌, map, refl, sym, ap, ◌∙◌, append_assoc}
 use Rattle.std.proofs.lemmas.List.{map-append, append-nil}
 use Rattle.sv_meaning.specs.Forms.{entries_of}
-use Rattle.sv_const.specs.declared.names.Names.{Names}
-use Rattle.sv_const.specs.Kinds.{Entry, entry_is, scope_is}
-use Rattle.sv_const.specs.Names.{frames_of, loops_of, names_are}
+use Rattle.sv_names.specs.declared.names.Names.{Names}
+use Rattle.sv_names.specs.Kinds.{Entry, entry_is, scope_is}
+use Rattle.sv_names.specs.Names.{frames_of, loops_of, names_are}
 use Rattle.sv_types.specs.declared.enumerators.Enumerator.{Enumerator}
 use Rattle.sv_types.specs.Types.{IsAbove, Left, all_declared, pushed}
 

@@ -1,12 +1,12 @@
 -- Sizes of layouts, which copying goes down.
 use Rattle.std.proofs.Common.{◌≡◌, ℕ, zero, suc, ◌+◌, ◌<◌, List, [], ◌∷◌, length, get_or, refl, sym, ap, subst, arith, ℤ, All}
 use mathlib.Core.Former.{Count}
-use Rattle.sv_const.specs.declared.layout.Layout.{Layout}
-use Rattle.sv_const.specs.declared.layout.Field.{Field}
-use Rattle.sv_const.specs.declared.layout.Form.{Form, Scalar, Dim', Members', Row_of-Field, end_of-Field, more_of-Field, end_of-Layout, more_of-Layout}
-use Rattle.sv_const.specs.declared.layout.Form.TheVariants as f
-use Rattle.sv_const.specs.declared.layout.Form.TheBlock.{shape-the_row-Layout-0, hidden-the_row-Layout-0, shape-the_row-Field-1, hidden-the_row-Field-1}
-use Rattle.sv_const.specs.Kinds.{IsSound, FieldIsSound}
+use Rattle.sv_names.specs.declared.layout.Layout.{Layout}
+use Rattle.sv_names.specs.declared.layout.Field.{Field}
+use Rattle.sv_names.specs.declared.layout.Form.{Form, Scalar, Dim', Members', Row_of-Field, end_of-Field, more_of-Field, end_of-Layout, more_of-Layout}
+use Rattle.sv_names.specs.declared.layout.Form.TheVariants as f
+use Rattle.sv_names.specs.declared.layout.Form.TheBlock.{shape-the_row-Layout-0, hidden-the_row-Layout-0, shape-the_row-Field-1, hidden-the_row-Field-1}
+use Rattle.sv_names.specs.Kinds.{IsSound, FieldIsSound}
 
 unfoldable mutual
   pub form_size : Form → ℕ

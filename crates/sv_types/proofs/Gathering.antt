@@ -10,10 +10,10 @@ use Rattle.sv_tree.specs.declared.forms.Member.TheVariants as member
 use Rattle.sv_meaning.specs.Faults.{Judged, provided, ◌>>=◌}
 use Rattle.sv_meaning.specs.Layouts as m
 use Rattle.sv_meaning.specs.Forms as f
-use Rattle.sv_const.specs.declared.layout.Layout.{Layout}
-use Rattle.sv_const.specs.declared.layout.Field.{Field}
-use Rattle.sv_const.specs.declared.names.Names.{Names}
-use Rattle.sv_const.specs.Kinds.{layout_is, members_of}
+use Rattle.sv_names.specs.declared.layout.Layout.{Layout}
+use Rattle.sv_names.specs.declared.layout.Field.{Field}
+use Rattle.sv_names.specs.declared.names.Names.{Names}
+use Rattle.sv_names.specs.Kinds.{layout_is, members_of}
 use Rattle.sv_types.specs.declared.enumerators.Enumerator.{Enumerator}
 use Rattle.sv_types.specs.declared.forms.Listed.{Listed}
 use Rattle.sv_types.specs.Types.{Refused, declared_is, all_declared, field_names, fields_of, forms_of, joined_form, IsListed, IsJoined}

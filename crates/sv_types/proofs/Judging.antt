@@ -5,8 +5,8 @@ use Rattle.sv_outside.specs.declared.refusal.TextErr.{TextErr}
 use Rattle.sv_outside.specs.declared.refusal.TextErr.TheVariants.{No, Memory}
 use Rattle.sv_meaning.specs.Faults.{Faults, Judged, faults_of, provided, both, ◌>>=◌}
 use Rattle.sv_meaning.specs.Meanings.{is_width}
-use Rattle.sv_const.specs.Judging.{IsCause}
-use Rattle.sv_const.proofs.Lists.{in_left, in_right, none_in}
+use Rattle.sv_typing.specs.Judging.{IsCause}
+use Rattle.sv_typing.proofs.Lists.{in_left, in_right, none_in}
 use Rattle.sv_types.specs.Types.{Refused}
 
 pub both_ok : {A B : Type 0} (j : Judged A) (k : Judged B) (x : A) (y : B) → j ≡ Ok x → k ≡ Ok y → both j k ≡ Ok (x, y)

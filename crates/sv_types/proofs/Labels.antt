@@ -12,10 +12,10 @@ use Rattle.sv_meaning.specs.Faults.{Faults, Judged, ◌>>=◌, fault_if, or_then
 use Rattle.sv_meaning.specs.Layouts as m
 use Rattle.sv_meaning.specs.Meanings.{Meaning, whole, constant_at, fixed_faults_at}
 use Rattle.sv_meaning.specs.Forms.{Declared, entry_of, entries_of, can_hold, label_value, label_number, label_entry, labels}
-use Rattle.sv_const.specs.declared.layout.Known.{Known}
-use Rattle.sv_const.specs.declared.names.Names.{Names}
+use Rattle.sv_names.specs.declared.layout.Known.{Known}
+use Rattle.sv_names.specs.declared.names.Names.{Names}
 use Rattle.sv_const.specs.Sizes.{IsConstant, JudgesConstant}
-use Rattle.sv_const.proofs.Lists.{in_fault, no_fault}
+use Rattle.sv_typing.proofs.Lists.{in_fault, no_fault}
 use Rattle.sv_types.specs.declared.enumerators.Enumerator.{Enumerator}
 use Rattle.sv_types.specs.declared.whole.Whole.{Whole}
 use Rattle.sv_types.specs.Types.{Refused, whole_is, JudgesWhole, JudgesEntry, declared_is, all_declared, pushed, IsAbove}

@@ -10,12 +10,12 @@ use Rattle.sv_meaning.specs.Faults.{Faults, fault_if, or_then, twice, bad_width}
 use Rattle.sv_meaning.specs.Layouts as m
 use Rattle.sv_meaning.specs.Names.{has_name}
 use Rattle.sv_meaning.specs.Forms as f
-use Rattle.sv_const.specs.declared.layout.Layout.{Layout}
-use Rattle.sv_const.specs.declared.layout.Field.{Field}
-use Rattle.sv_const.specs.Judging.{IsCause}
-use Rattle.sv_const.specs.Kinds.{layout_is, IsSound, members_of}
-use Rattle.sv_const.proofs.Lists.{in_left, in_right, in_first, in_fault, no_fault, both_clear, then_clear, none_in}
-use Rattle.sv_const.proofs.Sound.{sound_is}
+use Rattle.sv_names.specs.declared.layout.Layout.{Layout}
+use Rattle.sv_names.specs.declared.layout.Field.{Field}
+use Rattle.sv_typing.specs.Judging.{IsCause}
+use Rattle.sv_names.specs.Kinds.{layout_is, IsSound, members_of}
+use Rattle.sv_typing.proofs.Lists.{in_left, in_right, in_first, in_fault, no_fault, both_clear, then_clear, none_in}
+use Rattle.sv_names.proofs.Sound.{sound_is}
 use Rattle.sv_types.specs.Types.{field_names, field_of, fields_of, IsField, JudgesField, AreFields, JudgesFields}
 
 -- ---- lists of names that have the same names

@@ -1,12 +1,12 @@
 -- How deep layouts are nested.
 use Rattle.std.proofs.Common.{◌≡◌, ℕ, suc, ◌-◌, ◌<◌, ◌≤◌, max, Bool, true, false, List, length, get_or, drop, sym, ap, ◌∙◌, arith, ℤ, nat_eq, nat_lt}
 use Rattle.std.proofs.lemmas.Bool.Decides.{nat_tests}
-use Rattle.sv_const.specs.declared.layout.Layout.{Layout}
-use Rattle.sv_const.specs.declared.layout.Field.{Field}
-use Rattle.sv_const.specs.declared.layout.Form.TheVariants as f
-use Rattle.sv_const.specs.Kinds.{layout_is, members_of}
-use Rattle.sv_const.proofs.Sound.{row_of, fields_of, scalar_of}
-use Rattle.sv_const.proofs.Lookups.{members_from, drop_all}
+use Rattle.sv_names.specs.declared.layout.Layout.{Layout}
+use Rattle.sv_names.specs.declared.layout.Field.{Field}
+use Rattle.sv_names.specs.declared.layout.Form.TheVariants as f
+use Rattle.sv_names.specs.Kinds.{layout_is, members_of}
+use Rattle.sv_names.proofs.Sound.{row_of, fields_of, scalar_of}
+use Rattle.sv_names.proofs.Lookups.{members_from, drop_all}
 use Rattle.sv_types.specs.Depths.{depth, deepest}
 
 at_none : (most d : ℕ) → most ≡ 0 → nat_eq most 0 ≡ nat_lt most (suc d)

@@ -10,17 +10,17 @@ use Rattle.sv_meaning.specs.Faults.{Judged, provided, both, ◌>>=◌, fault_if,
 use Rattle.sv_meaning.specs.Layouts as m
 use Rattle.sv_meaning.specs.Meanings.{Meaning, number_of, is_bound, is_width, whole, fixed_faults, constant_of}
 use Rattle.sv_meaning.specs.Forms.{bound_faults, bounds, ranged_layout, over_ranges, vector_layout, option_to_list}
-use Rattle.sv_const.specs.declared.layout.Layout.{Layout}
-use Rattle.sv_const.specs.declared.layout.Form.TheVariants as form
-use Rattle.sv_const.specs.declared.layout.Form.TheBlock.{shape-the_row-Layout-0, hidden-the_row-Layout-0}
-use Rattle.sv_const.specs.declared.fixed.Fixed.{Fixed}
-use Rattle.sv_const.specs.Judging.{IsCause, IsFixed}
-use Rattle.sv_const.specs.Kinds.{layout_is, form_is, IsSound, FormIsSound}
-use Rattle.sv_const.proofs.Sound.{sound_is, sound_some, sound_most, same_bound}
+use Rattle.sv_names.specs.declared.layout.Layout.{Layout}
+use Rattle.sv_names.specs.declared.layout.Form.TheVariants as form
+use Rattle.sv_names.specs.declared.layout.Form.TheBlock.{shape-the_row-Layout-0, hidden-the_row-Layout-0}
+use Rattle.sv_typing.specs.declared.position.Fixed.{Fixed}
+use Rattle.sv_typing.specs.Judging.{IsCause, IsFixed}
+use Rattle.sv_names.specs.Kinds.{layout_is, form_is, IsSound, FormIsSound}
+use Rattle.sv_names.proofs.Sound.{sound_is, sound_some, sound_most, same_bound}
 use mir.Syntax.{w64}
 use mir.Val.{to_z, of_z}
-use Rattle.sv_const.proofs.Lists.{in_second, in_fault, no_fault, then_clear}
-use Rattle.sv_const.proofs.OfRules.{cause_first}
+use Rattle.sv_typing.proofs.Lists.{in_second, in_fault, no_fault, then_clear}
+use Rattle.sv_typing.proofs.OfRules.{cause_first}
 use Rattle.sv_types.specs.declared.bounds.Bounds.{Bounds}
 use Rattle.sv_types.specs.Types.{Refused, IsBound, JudgesBound, JudgesBounds, IsLayout, JudgesLayout, ranged_form}
 use Rattle.sv_types.proofs.Judging.{both_ok, both_left, both_right, then_ok, then_err, then_in, provided_ok, provided_err, wide_enough, too_wide, above}

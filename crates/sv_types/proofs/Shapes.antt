@@ -15,15 +15,15 @@ use Rattle.sv_tree.specs.declared.forms.Member.{Member}
 use Rattle.sv_meaning.specs.Faults.{Judged, provided, ◌>>=◌}
 use Rattle.sv_meaning.specs.Layouts as m
 use Rattle.sv_meaning.specs.Forms as f
-use Rattle.sv_const.specs.declared.layout.Layout.{Layout}
-use Rattle.sv_const.specs.declared.layout.Field.{Field}
-use Rattle.sv_const.specs.declared.layout.Form.TheVariants as form
-use Rattle.sv_const.specs.declared.layout.Form.TheBlock.{shape-the_row-Field-1, hidden-the_row-Field-1}
-use Rattle.sv_const.specs.declared.names.Names.{Names}
-use Rattle.sv_const.specs.Kinds.{layout_is, form_is, members_of, IsSound, FormIsSound, FieldIsSound, MembersAreSound}
-use Rattle.sv_const.specs.Judging.{IsCause}
-use Rattle.sv_const.specs.Names.{names_are}
-use Rattle.sv_const.proofs.Sound.{sound_is, row_members}
+use Rattle.sv_names.specs.declared.layout.Layout.{Layout}
+use Rattle.sv_names.specs.declared.layout.Field.{Field}
+use Rattle.sv_names.specs.declared.layout.Form.TheVariants as form
+use Rattle.sv_names.specs.declared.layout.Form.TheBlock.{shape-the_row-Field-1, hidden-the_row-Field-1}
+use Rattle.sv_names.specs.declared.names.Names.{Names}
+use Rattle.sv_names.specs.Kinds.{layout_is, form_is, members_of, IsSound, FormIsSound, FieldIsSound, MembersAreSound}
+use Rattle.sv_typing.specs.Judging.{IsCause}
+use Rattle.sv_names.specs.Names.{names_are}
+use Rattle.sv_names.proofs.Sound.{sound_is, row_members}
 use Rattle.sv_types.specs.declared.enumerators.Enumerator.{Enumerator}
 use Rattle.sv_types.specs.declared.forms.Formed.{Formed}
 use Rattle.sv_types.specs.declared.forms.Listed.{Listed}

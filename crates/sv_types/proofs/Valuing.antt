@@ -18,11 +18,11 @@ use Rattle.sv_tree.specs.declared.design.ParamType.{ParamType}
 use Rattle.sv_tree.specs.declared.design.ParamType.TheVariants as param_type
 use Rattle.sv_typed.specs.declared.tree.Typed.{Typed}
 use Rattle.sv_typed.specs.Typed.{worth}
-use Rattle.sv_const.specs.declared.fixed.Fixed.{Fixed}
-use Rattle.sv_const.specs.declared.layout.Known.{Known}
-use Rattle.sv_const.specs.Judging.{IsCause, IsTyped, IsFixed}
-use Rattle.sv_const.proofs.Lists.{in_second, in_fault, no_fault, then_clear}
-use Rattle.sv_const.proofs.OfRules.{cause_first}
+use Rattle.sv_typing.specs.declared.position.Fixed.{Fixed}
+use Rattle.sv_names.specs.declared.layout.Known.{Known}
+use Rattle.sv_typing.specs.Judging.{IsCause, IsTyped, IsFixed}
+use Rattle.sv_typing.proofs.Lists.{in_second, in_fault, no_fault, then_clear}
+use Rattle.sv_typing.proofs.OfRules.{cause_first}
 use Rattle.sv_const.proofs.Valued.{value_is}
 use Rattle.sv_types.specs.Types.{Refused}
 use Rattle.sv_types.specs.Values.{JudgesValue, IsWidth, JudgesWidth, converted_in}

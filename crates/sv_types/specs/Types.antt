@@ -11,13 +11,13 @@ use Rattle.sv_meaning.specs.Faults.{Judged, faults_of, provided, both, ◌>>=◌
 use Rattle.sv_meaning.specs.Layouts as m
 use Rattle.sv_meaning.specs.Meanings.{is_bound}
 use Rattle.sv_meaning.specs.Forms as f
-use Rattle.sv_const.specs.declared.layout.Layout.{Layout}
-use Rattle.sv_const.specs.declared.layout.Field.{Field}
-use Rattle.sv_const.specs.declared.layout.What.TheVariants.{Number}
-use Rattle.sv_const.specs.declared.names.Names.{Names}
-use Rattle.sv_const.specs.Judging.{IsCause}
-use Rattle.sv_const.specs.Kinds.{Entry, layout_is, IsSound, FieldIsSound, members_of}
-use Rattle.sv_const.specs.Names.{frames_of, loops_of}
+use Rattle.sv_names.specs.declared.layout.Layout.{Layout}
+use Rattle.sv_names.specs.declared.layout.Field.{Field}
+use Rattle.sv_names.specs.declared.layout.What.TheVariants.{Number}
+use Rattle.sv_names.specs.declared.names.Names.{Names}
+use Rattle.sv_typing.specs.Judging.{IsCause}
+use Rattle.sv_names.specs.Kinds.{Entry, layout_is, IsSound, FieldIsSound, members_of}
+use Rattle.sv_names.specs.Names.{frames_of, loops_of}
 use Rattle.sv_types.specs.declared.bounds.Bounds.{Bounds}
 use Rattle.sv_types.specs.declared.whole.Whole.{Whole}
 use Rattle.sv_types.specs.declared.whole.Whole.TheVariants as whole

@@ -6,7 +6,7 @@ use Rattle.sv_meaning.specs.Faults.{Judged, provided, ◌>>=◌, fault_if, bad_w
 use Rattle.sv_meaning.specs.Layouts as m
 use Rattle.sv_meaning.specs.Meanings.{Meaning}
 use Rattle.sv_meaning.specs.Params.{is_plain_range, typed}
-use Rattle.sv_const.specs.declared.layout.Known.{Known}
+use Rattle.sv_names.specs.declared.layout.Known.{Known}
 use Rattle.sv_types.specs.Types.{Refused}
 
 abbrev pub JudgesValue : Judged m.What → Result Known TextErr → Type 0

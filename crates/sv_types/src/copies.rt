@@ -1,10 +1,10 @@
 // Copies of layouts.
 ghost use Rattle.std.specs.Prelude.{◌≡◌, IfOk, All};
-ghost use Rattle.sv_const.specs.Kinds.{IsSound, FieldIsSound};
+ghost use Rattle.sv_names.specs.Kinds.{IsSound, FieldIsSound};
 
 use items::{Boxed, Items};
 use std::alloc::{AllocError, Global};
-use sv_const::{Field, Form, Layout};
+use sv_names::{Field, Form, Layout};
 
 /// The same layout again, in memory of its own. It fails only for want of memory. The call is nested as deep as the layout,
 /// and no layout that this crate makes is nested more than 1,000 deep.

@@ -1,9 +1,9 @@
 // How deep layouts are nested. They are copied and dropped on the stack, by their depth.
 ghost use Rattle.std.specs.Prelude.{◌≡◌, ◌+◌, nat_lt};
-ghost use Rattle.sv_const.specs.Kinds.{layout_is, members_of};
+ghost use Rattle.sv_names.specs.Kinds.{layout_is, members_of};
 ghost use Rattle.sv_types.specs.Depths.{depth, deepest};
 
-use sv_const::{Field, Form, Layout};
+use sv_names::{Field, Form, Layout};
 
 // How deep a layout may be nested.
 const MOST: usize = 1000;

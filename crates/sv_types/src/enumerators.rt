@@ -2,7 +2,7 @@
 ghost use Rattle.std.specs.Prelude.{◌≡◌, ◌≤◌, ℕ, pos, IsTrue, IfOk, OnOk, OnErr, [], ◌∷◌, ◌++◌};
 ghost use Rattle.std.specs.Option.{option_copied};
 ghost use Rattle.fourvec.specs.Bits.{is_known};
-ghost use Rattle.sv_const.specs.Names.{names_are};
+ghost use Rattle.sv_names.specs.Names.{names_are};
 ghost use Rattle.sv_const.specs.Sizes.{JudgesConstant};
 ghost use Rattle.sv_meaning.specs.Forms.{can_hold, label_value, label_number, label_entry, labels};
 ghost use Rattle.sv_meaning.specs.Meanings.{Meaning};
@@ -11,9 +11,11 @@ ghost use Rattle.sv_types.specs.Types.{whole_is, JudgesWhole, JudgesEntry, Judge
 use crate::whole::Whole;
 use items::Items;
 use std::alloc::{AllocError, Global};
-use sv_const::{Known, Names, eval_const, refusal};
+use sv_const::eval_const;
+use sv_names::{Known, Names};
 use sv_outside::{Name, Place, TextErr};
 use sv_tree::{EnumLabel, Expr, Word};
+use sv_typing::refusal;
 
 /// A constant that an enumeration declares: its name, where that stands, and its value, of the base's length and sign.
 #[derive(Drop)]

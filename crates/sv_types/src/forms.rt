@@ -1,9 +1,9 @@
 // Layouts of types, with the constants that they declare (IEEE 1800-2017, 6.19, 7.2 and 7.4).
 ghost use Rattle.std.specs.Prelude.{◌≡◌, ◌≤◌, true, List, [], Ok, IfOk, All, map};
 ghost use Rattle.std.specs.Option.{option_copied};
-ghost use Rattle.sv_const.specs.Kinds.{layout_is, IsSound, FieldIsSound, members_of};
-ghost use Rattle.sv_const.specs.Names.{names_are, frames_of, loops_of};
-ghost use Rattle.sv_const.specs.declared.names.Names.{Names};
+ghost use Rattle.sv_names.specs.Kinds.{layout_is, IsSound, FieldIsSound, members_of};
+ghost use Rattle.sv_names.specs.Names.{names_are, frames_of, loops_of};
+ghost use Rattle.sv_names.specs.declared.names.Names.{Names};
 ghost use Rattle.sv_meaning.specs.Faults.{Judged};
 ghost use Rattle.sv_meaning.specs.Forms as m_forms;
 ghost use Rattle.sv_meaning.specs.Forms.{form, has_sign, named_layout, struct_layout};
@@ -18,9 +18,10 @@ use crate::members::add_fields;
 use crate::ranges::{base_layout, dim, over_ranges, scalar, vector_layout};
 use items::Items;
 use std::alloc::Global;
-use sv_const::{Field, Form, Layout, Names, layout_under, refusal};
+use sv_names::{Field, Form, Layout, Names};
 use sv_outside::TextErr;
 use sv_tree::{EnumLabel, Member, Range, Sign, TypeTree, Word};
+use sv_typing::{layout_under, refusal};
 
 /// The layout of a type, and the constants that it declares, in order.
 #[derive(Drop)]

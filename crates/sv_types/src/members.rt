@@ -1,6 +1,6 @@
 // The members of structures (IEEE 1800-2017, 7.2).
 ghost use Rattle.std.specs.Prelude.{◌≡◌, ◌≤◌, IfOk, All, map};
-ghost use Rattle.sv_const.specs.Kinds.{IsSound, FieldIsSound, members_of};
+ghost use Rattle.sv_names.specs.Kinds.{IsSound, FieldIsSound, members_of};
 ghost use Rattle.sv_meaning.specs.Forms.{member_faults};
 ghost use Rattle.sv_meaning.specs.Layouts.{width_all};
 ghost use Rattle.sv_meaning.specs.Names.{has_name};
@@ -9,9 +9,10 @@ ghost use Rattle.sv_types.specs.Types.{field_names, JudgesField, JudgesFields};
 use crate::copies::copy;
 use items::Items;
 use std::alloc::Global;
-use sv_const::{Field, Layout, refusal};
+use sv_names::{Field, Layout};
 use sv_outside::TextErr;
 use sv_tree::Word;
+use sv_typing::refusal;
 
 // Whether a member has the name.
 fn has_field(fields: &[Field], name: &[u8]) -> bool

@@ -1,8 +1,8 @@
 // The values of parameters (IEEE 1800-2017, 6.20.2).
 ghost use Rattle.std.specs.Prelude.{◌≡◌, ◌≤◌, true, Some, IfOk, ℤ};
 ghost use Rattle.std.specs.Option.{option_copied};
-ghost use Rattle.sv_const.specs.Judging.{Judges, Fixes};
-ghost use Rattle.sv_const.specs.Names.{names_are};
+ghost use Rattle.sv_typing.specs.Judging.{Judges, Fixes};
+ghost use Rattle.sv_names.specs.Names.{names_are};
 ghost use Rattle.sv_meaning.specs.Faults.{Judged};
 ghost use Rattle.sv_meaning.specs.Forms.{has_sign};
 ghost use Rattle.sv_meaning.specs.Meanings.{Meaning};
@@ -17,10 +17,12 @@ use crate::bounds::Bounds;
 use crate::forms::has_sign;
 use crate::ranges::bounds;
 use std::alloc::Global;
-use sv_const::{Fixed, Known, Names, eval_fixed, is_signed, refusal, start, typed};
+use sv_const::eval_fixed;
+use sv_names::{Known, Names};
 use sv_outside::{Place, TextErr};
 use sv_tree::{Expr, ParamBits, ParamType, Range, Sign};
 use sv_typed::Typed;
+use sv_typing::{Fixed, is_signed, refusal, start, typed};
 
 // A whole number is signed where `unsigned` is not written.
 fn is_signed_whole(sign: Option<Sign>) -> bool

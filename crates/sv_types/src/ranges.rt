@@ -1,9 +1,9 @@
 // Layouts of packed ranges (IEEE 1800-2017, 7.4.1).
 ghost use Rattle.std.specs.Prelude.{◌≡◌, ◌≤◌, ◌*◌, ◌&&◌, ◌==◌, IsTrue, IfOk, ℤ, nat_le, false, List, [], ◌∷◌};
 ghost use Rattle.std.specs.Option.{option_copied};
-ghost use Rattle.sv_const.specs.Judging.{Fixes};
-ghost use Rattle.sv_const.specs.Kinds.{layout_is, IsSound};
-ghost use Rattle.sv_const.specs.Names.{names_are};
+ghost use Rattle.sv_typing.specs.Judging.{Fixes};
+ghost use Rattle.sv_names.specs.Kinds.{layout_is, IsSound};
+ghost use Rattle.sv_names.specs.Names.{names_are};
 ghost use Rattle.sv_meaning.specs.Faults.{Judged, provided};
 ghost use Rattle.sv_meaning.specs.Forms.{bound_faults, bound, bounds, over_ranges, vector_layout, option_to_list};
 ghost use Rattle.sv_meaning.specs.Layouts as m;
@@ -14,9 +14,11 @@ use crate::bounds::Bounds;
 use crate::depth::are_ranges_too_deep;
 use items::Boxed;
 use std::alloc::{AllocError, Global};
-use sv_const::{Fixed, Form, Layout, Names, eval_fixed, refusal, small};
+use sv_const::eval_fixed;
+use sv_names::{Form, Layout, Names};
 use sv_outside::{Place, TextErr};
 use sv_tree::{Expr, Range};
+use sv_typing::{Fixed, refusal, small};
 
 /// One bit.
 pub(crate) fn scalar(signed: bool) -> Layout
@@ -58,7 +60,7 @@ pub(crate) fn bounds(alloc: Global, range: &Range, names: &Names<'_>) -> Result<
 }
 
 // Whether so many elements have no more than 128 bits.
-#[tactic(auto, using(sv_const::proofs::Counts::fits))]
+#[tactic(auto, using(sv_typing::proofs::Counts::fits))]
 fn fits(count: u64, each: u8) -> bool
     requires { 1 ≤ each }
     ensures { result ≡ nat_le (count * each) 128 }

@@ -6,7 +6,7 @@ ghost use Rattle.sv_meaning.specs.Forms.{can_hold};
 ghost use Rattle.sv_types.specs.Types.{whole_is};
 
 use fourvec::{Bit, Four};
-use sv_const::Known;
+use sv_names::Known;
 
 /// A whole number.
 #[derive(Clone, Copy, PartialEq, Eq, Debug)]

@@ -8,9 +8,9 @@ use Rattle.sv_tree.specs.declared.word.Word.{Word}
 use Rattle.sv_meaning.specs.Faults.{Judged, ◌>>=◌}
 use Rattle.sv_meaning.specs.Layouts as layouts
 use Rattle.sv_meaning.specs.Layouts.{Name}
-use Rattle.sv_const.specs.declared.layout.What.{What}
-use Rattle.sv_const.specs.Kinds.{entry_is, what_is}
-use Rattle.sv_const.proofs.Lists.{none_in}
+use Rattle.sv_names.specs.declared.layout.What.{What}
+use Rattle.sv_names.specs.Kinds.{entry_is, what_is}
+use Rattle.sv_typing.proofs.Lists.{none_in}
 use Rattle.sv_types.specs.Types.{Refused}
 use Rattle.sv_loops.specs.Answers.{Answers}
 use Rattle.sv_modules.proofs.Turns.{drop_next, drop_none}

@@ -12,7 +12,7 @@ use Rattle.sv_meaning.specs.Layouts as layouts
 use Rattle.sv_meaning.specs.Layouts.{Name, Scope}
 use Rattle.sv_meaning.specs.Params.{param_value}
 use Rattle.sv_meaning.specs.Values.{mean}
-use Rattle.sv_const.specs.declared.layout.Known.{Known}
+use Rattle.sv_names.specs.declared.layout.Known.{Known}
 use Rattle.sv_types.specs.Types.{Refused}
 use Rattle.sv_types.specs.Values.{JudgesValue}
 use Rattle.sv_modules.proofs.Turns.{drop_next, drop_none}

@@ -11,10 +11,10 @@ use Rattle.sv_meaning.specs.Faults.{Faults, Judged, provided, ◌>>=◌}
 use Rattle.sv_meaning.specs.Forms.{Declared, form}
 use Rattle.sv_meaning.specs.Layouts as layouts
 use Rattle.sv_meaning.specs.Layouts.{Name}
-use Rattle.sv_const.specs.declared.layout.Layout.{Layout}
-use Rattle.sv_const.specs.declared.layout.What.TheVariants.{Wire}
-use Rattle.sv_const.specs.Kinds.{IsSound, entry_is, layout_is}
-use Rattle.sv_const.proofs.Sound.{sound_is}
+use Rattle.sv_names.specs.declared.layout.Layout.{Layout}
+use Rattle.sv_names.specs.declared.layout.What.TheVariants.{Wire}
+use Rattle.sv_names.specs.Kinds.{IsSound, entry_is, layout_is}
+use Rattle.sv_names.proofs.Sound.{sound_is}
 use Rattle.sv_types.specs.Types.{Refused}
 use Rattle.sv_loops.specs.Answers.{Answers}
 use Rattle.sv_hierarchy.specs.Scopes as m

@@ -4,14 +4,14 @@ use Rattle.std.specs.Result.{IsErrAnd}
 use Rattle.std.specs.Option.{unwrap_or}
 use Rattle.sv_outside.specs.declared.refusal.TextErr.{TextErr}
 use Rattle.sv_tree.specs.declared.forms.TypeTree.{TypeTree}
-use Rattle.sv_const.specs.declared.layout.Layout.{Layout as Coded}
+use Rattle.sv_names.specs.declared.layout.Layout.{Layout as Coded}
 use Rattle.sv_loops.specs.Answers.{Answers}
 use Rattle.std.proofs.lemmas.List.{append-nil}
 use Rattle.sv_tree.specs.declared.word.Word.{Word}
 use Rattle.sv_tree.specs.declared.design.Port.{Port}
 use Rattle.sv_tree.specs.declared.design.NetWord.{NetWord as PortKind}
 use Rattle.sv_tree.specs.declared.design.Way.{Way}
-use Rattle.sv_const.specs.Kinds.{layout_is}
+use Rattle.sv_names.specs.Kinds.{layout_is}
 use Rattle.sv_meaning.specs.Faults.{Judged, ◌>>=◌}
 use Rattle.sv_meaning.specs.Layouts.{Name, Layout, scalar}
 use Rattle.sv_modules.proofs.Turns.{drop_next, drop_none}

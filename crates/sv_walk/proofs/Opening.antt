@@ -20,7 +20,7 @@ use Rattle.sv_hierarchy.specs.Scopes.{walk_all, child}
 use Rattle.sv_loops.specs.Answers.{Answers}
 use Rattle.sv_modules.specs.Connections.{connection_is}
 use Rattle.sv_modules.specs.Naming.{holds}
-use Rattle.sv_const.specs.Kinds.{scope_is}
+use Rattle.sv_names.specs.Kinds.{scope_is}
 use Rattle.sv_levels.specs.Levels.{front_is, level_is, levels_are}
 use Rattle.sv_levels.specs.declared.library.Wiring.{Wiring}
 use Rattle.sv_levels.proofs.Wired.{passed_on, refused_first}

@@ -1,7 +1,7 @@
 // Generate blocks are begun (IEEE 1800-2017, 27).
 ghost use Rattle.std.specs.Prelude.{◌≡◌, IfOk};
 ghost use Rattle.std.specs.Option.{option_copied};
-ghost use Rattle.sv_const.specs.Kinds.{scope_is};
+ghost use Rattle.sv_names.specs.Kinds.{scope_is};
 ghost use Rattle.sv_loops.specs.Answers.{Answers};
 ghost use Rattle.sv_hierarchy.specs.Scopes.{count_turn, inner, under};
 ghost use Rattle.sv_tree.specs.declared.design.Item.{Item as Tree};
@@ -15,8 +15,8 @@ use crate::walker::{Open, Walker};
 use fourvec::Four;
 use items::Items;
 use std::alloc::AllocError;
-use sv_const::Scope;
 use sv_levels::{Level, Overrides, Turns, block_name, block_place, index_scope, turn_name};
+use sv_names::Scope;
 use sv_outside::{Place, TextErr};
 use sv_tree::{Expr, Gen, Step, Word};
 

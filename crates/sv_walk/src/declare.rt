@@ -1,7 +1,7 @@
 // Declarations of constants, types, nets and variables (IEEE 1800-2017, 6.5, 6.18, 6.19).
 ghost use Rattle.std.specs.Prelude.{◌≡◌, ◌+◌, false, IfOk, OnOk};
 ghost use Rattle.std.specs.Option.{option_copied};
-ghost use Rattle.sv_const.specs.Kinds.{IsSound, WhatIsSound, layout_is, what_is};
+ghost use Rattle.sv_names.specs.Kinds.{IsSound, WhatIsSound, layout_is, what_is};
 ghost use Rattle.sv_types.specs.Types.{JudgesForm, all_declared, declared_is};
 ghost use Rattle.sv_meaning.specs.Forms.{form};
 ghost use Rattle.sv_meaning.specs.Layouts as layouts;
@@ -12,8 +12,8 @@ ghost use Rattle.sv_walk.specs.Walks.{Finds, Walks, state_of};
 use crate::held::let_go;
 use crate::walker::{Open, Walker};
 use std::alloc::AllocError;
-use sv_const::{Form, Layout, What};
 use sv_levels::Tally;
+use sv_names::{Form, Layout, What};
 use sv_outside::{Name, Place, Signal, TextErr};
 use sv_tree::{TypeTree, Typedef, Word};
 use sv_types::{Enumerator, Formed, copy, form_of};

@@ -1,7 +1,7 @@
 // The ports of a module's header (IEEE 1800-2017, 23.2.2).
 ghost use Rattle.std.specs.Prelude.{◌≡◌, false, map, IfOk};
 ghost use Rattle.sv_tree.specs.declared.design.Way.TheVariants as way;
-ghost use Rattle.sv_const.specs.Kinds.{IsSound, layout_is};
+ghost use Rattle.sv_names.specs.Kinds.{IsSound, layout_is};
 ghost use Rattle.sv_meaning.specs.Layouts as layouts;
 ghost use Rattle.sv_hierarchy.specs.Scopes.{header_ports, is_bare, port_form};
 ghost use Rattle.sv_levels.specs.Ports.{PortsAreSound, one_port, port_is};
@@ -9,8 +9,8 @@ ghost use Rattle.sv_walk.specs.Walks.{Finds};
 
 use crate::declare::scalar;
 use crate::walker::{Open, Walker};
-use sv_const::Layout;
 use sv_levels::{OpenPort, is_bare, is_read};
+use sv_names::Layout;
 use sv_outside::TextErr;
 use sv_tree::{Port, Way};
 use sv_types::copy;

@@ -14,14 +14,15 @@ use crate::walker::{Open, Walker};
 use items::Items;
 use std::alloc::AllocError;
 use std::mem;
-use sv_const::{Scope, refusal};
 use sv_levels::{
     Child, Front, Given, Known, Level, Library, Overrides, add_port_works, given_by, ports_of,
     wiring_of,
 };
 use sv_modules::Connection;
+use sv_names::Scope;
 use sv_outside::{Name, TextErr};
 use sv_tree::Module;
+use sv_typing::refusal;
 
 impl<'a> Walker<'a> {
     /// An instance of a module is begun.

@@ -10,11 +10,11 @@ use crate::held::let_go;
 use crate::walker::{Open, Walker};
 use fourvec::Four;
 use items::Items;
-use sv_const::refusal;
 use sv_levels::is_loop_variable;
 use sv_loops::{condition, turns};
 use sv_outside::{Place, TextErr};
 use sv_tree::{Expr, Step, Word};
+use sv_typing::refusal;
 
 impl<'a> Walker<'a> {
     /// The values of the variable in all turns of a loop. E12 where the variable is not declared in the header and is none of

@@ -10,8 +10,8 @@ ghost use Rattle.sv_walk.specs.Walks.{Walks, state_of};
 
 use crate::held::let_go;
 use crate::walker::{Open, Walker};
-use sv_const::{Known, What};
 use sv_levels::{Actual, Given, entry_type, entry_word, given_to, value_of};
+use sv_names::{Known, What};
 use sv_outside::TextErr;
 use sv_tree::{Expr, ParPort, Param, ParamType, ParamWord, Word};
 

@@ -11,10 +11,11 @@ ghost use Rattle.sv_walk.specs.Walks.{IsNothing, Walks, state_of};
 
 use items::Items;
 use std::alloc::{AllocError, Global};
-use sv_const::{Scope, refusal};
 use sv_levels::{Child, Front, Level, Levels, Overrides, Tally, Task, Work};
 use sv_modules::NameSet;
+use sv_names::Scope;
 use sv_outside::{Name, Place, Signal, TextErr};
+use sv_typing::refusal;
 
 /// All that was found so far.
 #[derive(Drop)]

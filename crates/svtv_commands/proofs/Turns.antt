@@ -12,7 +12,7 @@ use Rattle.sv_meaning.specs.Designs.{Design}
 use Rattle.sv_outside.specs.declared.refusal.TextErr.{TextErr}
 use Rattle.sv_outside.specs.declared.refusal.TextErr.TheVariants as e
 use Rattle.sv_outside.specs.declared.text.Signal.{Signal}
-use Rattle.svex_arena.specs.declared.shape.Shape.{Shape}
+use Rattle.svex_shape.specs.declared.shape.Shape.{Shape}
 use Rattle.svtv_choices.specs.Choices.{bits_of}
 use Rattle.svtv_choices.specs.Rooms.{room_faults}
 use Rattle.svtv_choices.proofs.Values.{values_choice}

@@ -6,7 +6,7 @@ use Rattle.goal_text.specs.Nodes.{IsGoal}
 use Rattle.goal_tree.specs.declared.tree.GoalTree.{GoalTree}
 use Rattle.sv_elab.specs.Elaborated.{IsElaborated}
 use Rattle.sv_meaning.specs.Designs.{Design}
-use Rattle.svex_arena.specs.declared.shape.Shape.{Shape}
+use Rattle.svex_shape.specs.declared.shape.Shape.{Shape}
 use Rattle.svtv_files.specs.Files.{Text, Told, AreGoalsFile}
 use Rattle.svtv_files.specs.Refusals.{IsSetup}
 use Rattle.svtv_table.specs.Binding.{bound_of}

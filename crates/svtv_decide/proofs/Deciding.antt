@@ -10,7 +10,7 @@ use Rattle.goal_text.specs.Scopes.{variables_of, claims_scope, is_of_vars, is_of
 use Rattle.goal_tree.specs.declared.tree.GoalTree.{GoalTree}
 use Rattle.sv_meaning.specs.Designs.{Design}
 use Rattle.sv_tree.specs.declared.exprs.Expr.{Expr}
-use Rattle.svex_arena.specs.declared.shape.Shape.{Shape}
+use Rattle.svex_shape.specs.declared.shape.Shape.{Shape}
 use Rattle.svex_arena.specs.Arenas.{IsArena}
 use Rattle.svtv_choices.specs.Choices.{bits_of, choice_of}
 use Rattle.svtv_choices.proofs.Numbers.{all_numbered}

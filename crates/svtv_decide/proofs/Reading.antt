@@ -17,11 +17,11 @@ use Rattle.sv_meaning.specs.Layouts.{Scope, Origin, of_wires, of_choice, of_samp
 use Rattle.sv_meaning.specs.Meanings.{truth}
 use Rattle.sv_meaning.specs.Values.{mean}
 use Rattle.sv_tree.specs.declared.exprs.Expr.{Expr}
-use Rattle.svex_arena.specs.declared.shape.Shape.{Shape}
-use Rattle.svex_arena.specs.declared.shape.VarName.{VarName}
-use Rattle.svex_arena.specs.declared.shape.VarName.TheVariants.{Now, Prev, Stim, Chosen, Sampled}
+use Rattle.svex_shape.specs.declared.shape.Shape.{Shape}
+use Rattle.svex_shape.specs.declared.shape.VarName.{VarName}
+use Rattle.svex_shape.specs.declared.shape.VarName.TheVariants.{Now, Prev, Stim, Chosen, Sampled}
 use Rattle.svex_arena.specs.Arenas.{IsArena}
-use Rattle.svex_arena.specs.Values.{Vector, Rows, fitted, read, AgreesWhere}
+use Rattle.svex_shape.specs.Values.{Vector, Rows, fitted, read, AgreesWhere}
 use Rattle.svex_arena.proofs.Lifted.{values_alike}
 use Rattle.svtv_choices.specs.Choices.{choice_of}
 use Rattle.svtv_choices.proofs.Numbers.{widths_are}

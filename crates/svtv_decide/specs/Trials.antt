@@ -8,8 +8,8 @@ use Rattle.flat_net.specs.declared.flat.Flat.{Flat}
 use Rattle.goal_text.specs.declared.goal.Goal.{Goal}
 use Rattle.sv_elab.specs.Elaborated.{IsElaborated}
 use Rattle.sv_meaning.specs.Designs.{Design}
-use Rattle.svex_arena.specs.declared.shape.Shape.{Shape}
-use Rattle.svex_arena.specs.Values.{Rows, read, value_at}
+use Rattle.svex_shape.specs.declared.shape.Shape.{Shape}
+use Rattle.svex_shape.specs.Values.{Rows, read, value_at}
 use Rattle.svtv_choices.specs.Choices.{choice_of}
 use Rattle.svtv_least.specs.Running.{sample_widths}
 use Rattle.svtv_runs.specs.Runs.{Asked, AreApart, Run, IsLeastRun}

@@ -9,7 +9,7 @@ use Rattle.fourvec.specs.declared.Bit.TheVariants.{Unknown}
 use Rattle.settling.specs.Settling.{Store, Link}
 use Rattle.settling.specs.Least.{IsLeast, Giving}
 use Rattle.settling.proofs.Rounds.{no_value}
-use Rattle.svex_arena.specs.Values.{Vector}
+use Rattle.svex_shape.specs.Values.{Vector}
 use Rattle.event_sim.specs.Sims.{store_of}
 use Rattle.flat_net.specs.declared.flat.Flat.{Flat}
 use Rattle.flat_net.specs.Flats as f

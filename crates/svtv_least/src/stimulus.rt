@@ -18,7 +18,7 @@ use sv_outside::Signal;
 use svtv_table::Drive;
 
 /// X at every bit.
-#[tactic(auto, using(svex_arena::proofs::Readings::x_widened))]
+#[tactic(auto, using(svex_shape::proofs::Readings::x_widened))]
 pub(crate) fn unknown(width: u8) -> Four
     requires some { 0 < width }
     requires most { width ≤ 128 }

@@ -6,7 +6,7 @@ use Rattle.goal_text.specs.declared.goal.Goal.{Goal}
 use Rattle.goal_text.specs.Nodes.{IsGoal, IsTruth}
 use Rattle.goal_text.specs.Scopes.{variables_of, claims_scope, is_of_vars, is_of_table}
 use Rattle.goal_tree.specs.declared.tree.GoalTree.{GoalTree}
-use Rattle.svex_arena.specs.declared.shape.Shape.{Shape}
+use Rattle.svex_shape.specs.declared.shape.Shape.{Shape}
 use Rattle.svtv_table.specs.declared.bound.Sample.{Sample}
 use Rattle.svtv_table.specs.declared.bound.VarDecl.{VarDecl}
 use Rattle.svtv_verdicts.specs.Benches.{Bench}

@@ -7,7 +7,7 @@ use Rattle.lhs_alias.specs.Pairs.{HaveOwnChildren}
 use Rattle.lhs_alias.specs.Joined.{Stands}
 use Rattle.flat_net.specs.declared.flat.Join.{Join}
 use Rattle.flat_net.specs.Flats.{IsJoin, links_of}
-use Rattle.event_sim.proofs.Laying.{links-more}
+use Rattle.event_nets.proofs.Laying.{links-more}
 use Rattle.event_rows.proofs.sound.are_joins.Goals as goal
 
 pub loop-join-init : goal.loop-join-init

@@ -6,7 +6,7 @@ use Rattle.driver_resolve.specs.Drivers.{widths_of, IsDriver}
 use Rattle.flat_net.specs.declared.flat.Join.{Join}
 use Rattle.flat_net.specs.Flats.{IsSignal, IsJoin, links_of}
 use Rattle.lhs_alias.specs.Pairs.{HaveOwnChildren}
-use Rattle.event_sim.proofs.Making.{wires-narrow}
+use Rattle.event_nets.proofs.Making.{wires-narrow}
 use Rattle.event_rows.proofs.sound.is_sound.Goals as goal
 
 pub are_joins-requires : goal.are_joins-requires

@@ -1,6 +1,6 @@
 use Rattle.std.proofs.Common.{◌<◌, false, length, get_or, ap, ◌∙◌, arith, length-set}
-use Rattle.svex_arena.specs.Shapes.{shape_at}
-use Rattle.svex_arena.specs.Values.{each_variable_of}
+use Rattle.svex_shape.specs.Shapes.{shape_at}
+use Rattle.svex_shape.specs.Values.{each_variable_of}
 use Rattle.driver_resolve.specs.Drivers.{is_of_wires}
 use Rattle.event_rows.proofs.Naming.{named-is, named-more}
 use Rattle.event_rows.proofs.sound.name_all.Goals as goal

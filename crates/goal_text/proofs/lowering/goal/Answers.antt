@@ -1,6 +1,6 @@
 use Rattle.std.proofs.Common.{List, subst}
 use Rattle.std.specs.List.{AllZip}
-use Rattle.sv_const.specs.Names.{names_are}
+use Rattle.sv_names.specs.Names.{names_are}
 use Rattle.sv_tree.specs.declared.exprs.Expr.{Expr}
 use Rattle.goal_text.specs.Nodes.{HasTruth}
 use Rattle.goal_text.proofs.Truths.{truths_kept}

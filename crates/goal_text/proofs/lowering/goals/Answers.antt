@@ -1,6 +1,6 @@
 use Rattle.std.proofs.Common.{[], arith}
-use Rattle.sv_const.specs.Judging.{IsCause}
-use Rattle.sv_const.specs.Names.{names_are}
+use Rattle.sv_typing.specs.Judging.{IsCause}
+use Rattle.sv_names.specs.Names.{names_are}
 use Rattle.svex_arena.proofs.Keeping.{extends_on}
 use Rattle.goal_text.specs.Faults.{goals_faults}
 use Rattle.goal_text.specs.Nodes.{IsLowered}

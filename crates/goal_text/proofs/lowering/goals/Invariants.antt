@@ -1,6 +1,6 @@
 use Rattle.std.proofs.Common.{◌≡◌, [], drop, take}
 use Rattle.std.specs.List.{AllZip}
-use Rattle.sv_const.specs.Names.{names_are}
+use Rattle.sv_names.specs.Names.{names_are}
 use Rattle.sv_modules.specs.Naming.{Holds}
 use Rattle.svex_arena.specs.Arenas.{Extends}
 use Rattle.goal_text.specs.Faults.{goals_faults}

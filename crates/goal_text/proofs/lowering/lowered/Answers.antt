@@ -1,5 +1,5 @@
 use Rattle.std.proofs.Common.{◌++◌, ◌∙◌}
-use Rattle.sv_const.specs.Names.{names_are}
+use Rattle.sv_names.specs.Names.{names_are}
 use Rattle.goal_text.specs.Nodes.{IsGoal, IsLowered}
 use Rattle.goal_text.proofs.Declared.{hyps_hold, claims_hold}
 use Rattle.goal_text.proofs.Truths.{goal_is, zip_weaker}

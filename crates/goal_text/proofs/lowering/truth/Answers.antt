@@ -1,4 +1,4 @@
-use Rattle.sv_const.specs.Names.{names_are}
+use Rattle.sv_names.specs.Names.{names_are}
 use Rattle.goal_text.proofs.Truths.{truth_stands}
 use Rattle.goal_text.proofs.lowering.truth.Goals as goal
 

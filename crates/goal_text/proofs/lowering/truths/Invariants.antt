@@ -1,6 +1,6 @@
 use Rattle.std.proofs.Common.{◌≡◌, drop, take}
 use Rattle.std.specs.List.{AllZip}
-use Rattle.sv_const.specs.Names.{names_are}
+use Rattle.sv_names.specs.Names.{names_are}
 use Rattle.svex_arena.specs.Arenas.{Extends}
 use Rattle.goal_text.specs.Faults.{exprs_faults}
 use Rattle.goal_text.specs.Nodes.{HasTruth}

@@ -1,5 +1,5 @@
 use Rattle.std.proofs.Common.{◌≡◌, ◌++◌, drop, map}
-use Rattle.sv_const.specs.Kinds.{scope_is}
+use Rattle.sv_names.specs.Kinds.{scope_is}
 use Rattle.sv_meaning.specs.Layouts.{of_samples}
 use Rattle.goal_text.specs.Scopes.{sample_vector, samples_of, vectors_from}
 use Rattle.goal_text.proofs.scopes.sampled.Given as goal

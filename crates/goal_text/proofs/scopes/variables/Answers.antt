@@ -1,5 +1,5 @@
 use Rattle.std.proofs.Common.{arith}
-use Rattle.sv_const.specs.declared.layout.What.TheVariants as what
+use Rattle.sv_names.specs.declared.layout.What.TheVariants as what
 use Rattle.sv_meaning.specs.Layouts.{of_choice, signal_is}
 use Rattle.goal_text.specs.Scopes.{var_vector, variables_of}
 use Rattle.goal_text.proofs.Scoped.{vectors_next, vectors_end}

@@ -1,5 +1,5 @@
 use Rattle.std.proofs.Common.{◌≡◌, ◌++◌, drop, map}
-use Rattle.sv_const.specs.Kinds.{scope_is}
+use Rattle.sv_names.specs.Kinds.{scope_is}
 use Rattle.sv_meaning.specs.Layouts.{of_choice}
 use Rattle.goal_text.specs.Scopes.{var_vector, variables_of, vectors_from}
 use Rattle.goal_text.proofs.scopes.variables.Given as goal

@@ -1,8 +1,8 @@
 use Rattle.std.proofs.Common.{false, refl, arith}
 use Rattle.std.proofs.lemmas.Result.{err_from_is_err_and}
 use Rattle.sv_meaning.specs.Values.{mean}
-use Rattle.sv_const.specs.Names.{names_are}
-use Rattle.sv_const.proofs.Judged.{typed_ok, typed_err}
+use Rattle.sv_names.specs.Names.{names_are}
+use Rattle.sv_typing.proofs.Judged.{typed_ok, typed_err}
 use Rattle.sv_actions.proofs.Casing.{labels_none, labels_next, labels_end, labels_cause}
 use Rattle.sv_actions.proofs.labels.typed_labels.Goals as goal
 

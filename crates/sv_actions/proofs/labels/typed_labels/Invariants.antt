@@ -1,6 +1,6 @@
 use Rattle.std.proofs.Common.{map, take}
 use Rattle.sv_meaning.specs.Values.{mean}
-use Rattle.sv_const.specs.Names.{names_are}
+use Rattle.sv_names.specs.Names.{names_are}
 use Rattle.sv_actions.specs.Listing.{AreLabels}
 use Rattle.sv_actions.proofs.labels.typed_labels.Given as goal
 

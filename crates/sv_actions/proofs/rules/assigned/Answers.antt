@@ -3,7 +3,7 @@ use Rattle.std.specs.Result.{IfOk}
 use Rattle.std.proofs.lemmas.Result.{err_from_is_err_and, IfOk-from_err}
 use Rattle.sv_meaning.specs.Meanings.{free_faults}
 use Rattle.sv_meaning.specs.Deeds.{assign}
-use Rattle.sv_const.proofs.Judged.{typed_ok, typed_err}
+use Rattle.sv_typing.proofs.Judged.{typed_ok, typed_err}
 use Rattle.sv_targets.specs.Targets.{AreNarrow, width_of_all}
 use Rattle.sv_targets.proofs.Targeting.{targets_ok, targets_err}
 use Rattle.sv_actions.specs.declared.action.Action.TheVariants as act

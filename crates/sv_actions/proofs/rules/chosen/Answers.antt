@@ -3,7 +3,7 @@ use Rattle.std.proofs.lemmas.Result.{err_from_is_err_and, IfOk-from_err}
 use Rattle.sv_meaning.specs.Faults.{or_then}
 use Rattle.sv_meaning.specs.Meanings.{free_faults}
 use Rattle.sv_meaning.specs.Deeds.{if_else}
-use Rattle.sv_const.proofs.Judged.{typed_ok, typed_err}
+use Rattle.sv_typing.proofs.Judged.{typed_ok, typed_err}
 use Rattle.sv_actions.specs.declared.action.Action.TheVariants as act
 use Rattle.sv_actions.specs.Typing.{JudgesDeed}
 use Rattle.sv_actions.specs.Listing.{made_behind}

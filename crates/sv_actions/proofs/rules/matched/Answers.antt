@@ -1,7 +1,7 @@
 use Rattle.std.proofs.Common.{false, subst}
 use Rattle.std.proofs.lemmas.Result.{err_from_is_err_and, IfOk-from_err}
 use Rattle.sv_meaning.specs.Deeds.{case_of}
-use Rattle.sv_const.proofs.Judged.{typed_ok, typed_err}
+use Rattle.sv_typing.proofs.Judged.{typed_ok, typed_err}
 use Rattle.sv_actions.specs.declared.action.Action.TheVariants as act
 use Rattle.sv_actions.specs.Typing.{JudgesDeed}
 use Rattle.sv_actions.specs.Listing.{arms_behind}

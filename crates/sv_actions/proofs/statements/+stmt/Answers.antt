@@ -6,7 +6,7 @@ use Rattle.sv_meaning.specs.Meanings.{free_faults}
 use Rattle.sv_meaning.specs.Values.{mean}
 use Rattle.sv_meaning.specs.Targets.{targets, lvalue_faults}
 use Rattle.sv_meaning.specs.Deeds.{deed, turns, with_index}
-use Rattle.sv_const.specs.Names.{names_are, loops_of}
+use Rattle.sv_names.specs.Names.{names_are, loops_of}
 use Rattle.sv_loops.specs.Answers.{Gives}
 use Rattle.sv_loops.specs.Steps.{index_is}
 use Rattle.sv_loops.proofs.Frames.{entered}

@@ -1,6 +1,6 @@
 use Rattle.std.proofs.Common.{◌≡◌, List, take, drop}
 use Rattle.sv_meaning.specs.Layouts.{NamedSignal}
-use Rattle.sv_const.specs.Names.{names_are, frames_of, loops_of}
+use Rattle.sv_names.specs.Names.{names_are, frames_of, loops_of}
 use Rattle.sv_actions.specs.Texts.{target_signals, arm_signals, of_each}
 use Rattle.sv_actions.specs.Typing.{IsActed}
 use Rattle.sv_actions.specs.Listing.{AreArms, in_order, all_deeds, turn_deed, all_arms, rest_of, Within, ActedAims, ArmsAim}

@@ -1,6 +1,6 @@
 use Rattle.std.proofs.Common.{◌≡◌, ◌<◌, length, get_or, sym, ap, ◌∙◌, subst, All, arith, rules}
 use Rattle.std.proofs.lemmas.List.{get_or_read}
-use Rattle.svex_arena.specs.Shapes.{width_at}
+use Rattle.svex_shape.specs.Shapes.{width_at}
 use Rattle.sv_stores.proofs.Stores.{state_kept, inside}
 use Rattle.sv_blocks.specs.Fitting.{PickSits}
 use Rattle.sv_blocks.proofs.Writing.{target_wide, wrote}

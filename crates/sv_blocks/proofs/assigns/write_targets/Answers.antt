@@ -1,6 +1,6 @@
 use Rattle.std.proofs.Common.{refl, ◌∙◌}
 use Rattle.svex_arena.proofs.Keeping.{extends_self, extends_on}
-use Rattle.sv_stmt.proofs.Lowered.{element}
+use Rattle.sv_lower.proofs.Lowered.{element}
 use Rattle.sv_actions.specs.Doing.{TargetFits}
 use Rattle.sv_stores.proofs.Stores.{state_kept}
 use Rattle.sv_blocks.specs.Fitting.{TargetSits}

@@ -1,5 +1,5 @@
 use Rattle.std.proofs.Common.{◌≡◌, ◌<◌, ◌∙◌, ◌++◌, subst, suc, refl, sym, ap, arith, All}
-use Rattle.sv_stmt.proofs.Lowered.{element}
+use Rattle.sv_lower.proofs.Lowered.{element}
 use Rattle.sv_meaning.specs.Targets.{present}
 use Rattle.sv_targets.specs.Slots.{slots_of}
 use Rattle.sv_actions.specs.Doing.{Fits, writes, writes_all}

@@ -1,9 +1,9 @@
 use Rattle.std.proofs.Common.{ℕ, List, [], ◌∷◌, ◌++◌, ◌≡◌, ◌<◌, ◌≤◌, ◌+◌, length, get_or, sym, ap, ◌∙◌, subst, arith, rules}
 use Rattle.std.proofs.lemmas.List.{get_or_read, get_or_default}
-use Rattle.svex_arena.specs.Shapes.{width_at}
+use Rattle.svex_shape.specs.Shapes.{width_at}
 use Rattle.fourvec.specs.Bits.{slice_of}
 use Rattle.lhs_alias.specs.declared.segs.Seg.{Seg}
-use Rattle.sv_stmt.specs.Nodes.{FromOne}
+use Rattle.sv_lower.specs.Nodes.{FromOne}
 use Rattle.sv_blocks.specs.Driving.{run_seg}
 use Rattle.sv_stores.proofs.Stores.{inside}
 use Rattle.sv_blocks.proofs.Driving.{drives}

@@ -1,5 +1,5 @@
 use Rattle.std.proofs.Common.{◌≡◌, refl, subst, length, IfSome}
-use Rattle.svex_arena.specs.Shapes.{width_at}
+use Rattle.svex_shape.specs.Shapes.{width_at}
 use Rattle.sv_blocks.proofs.Labeling.{fits_mask, fits_other, fits_both, equal_some}
 use Rattle.sv_blocks.proofs.labels.equal.Goals as goal
 

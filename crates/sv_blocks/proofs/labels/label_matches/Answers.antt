@@ -1,6 +1,6 @@
 use Rattle.std.proofs.Common.{◌≡◌, ◌+◌, ◌-◌, ◌<◌, length, refl, arith}
 use Rattle.svex_arena.proofs.Keeping.{extends_on}
-use Rattle.sv_stmt.proofs.Lowered.{element}
+use Rattle.sv_lower.proofs.Lowered.{element}
 use Rattle.sv_blocks.specs.Fitting.{LabelSits}
 use Rattle.sv_stores.proofs.Stores.{state_kept}
 use Rattle.sv_blocks.proofs.Labeling.{labels_none, labels_more, ones_fit}

@@ -1,5 +1,5 @@
 use Rattle.std.proofs.Common.{subst, sym}
-use Rattle.svex_arena.specs.Shapes.{width_at}
+use Rattle.svex_shape.specs.Shapes.{width_at}
 use Rattle.sv_blocks.specs.Parts.{SpotIsWide}
 use Rattle.sv_blocks.proofs.Parting.{puts_moving}
 use Rattle.sv_blocks.proofs.parts.put_part.Goals as goal

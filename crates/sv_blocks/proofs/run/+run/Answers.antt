@@ -1,7 +1,7 @@
 use Rattle.std.proofs.Common.{◌≡◌, ◌+◌, ◌-◌, ◌<◌, length, refl, sym, ap, ◌∙◌, subst, arith, All}
 use Rattle.svex_arena.proofs.Keeping.{extends_self, extends_on}
 use Rattle.svex_arena.proofs.Steps.{width-extends}
-use Rattle.sv_stmt.proofs.Lowered.{element}
+use Rattle.sv_lower.proofs.Lowered.{element}
 use Rattle.sv_actions.specs.Doing.{Fits, LabelFits}
 use Rattle.sv_blocks.specs.Running.{ArmFits}
 use Rattle.sv_blocks.specs.Fitting.{LabelSits, Sits, ArmSits}

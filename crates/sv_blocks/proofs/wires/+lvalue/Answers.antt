@@ -1,5 +1,5 @@
 use Rattle.std.proofs.Common.{◌≡◌, arith}
-use Rattle.sv_const.specs.Names.{names_are}
+use Rattle.sv_names.specs.Names.{names_are}
 use Rattle.sv_actions.specs.Texts.{root_signals}
 use Rattle.sv_blocks.specs.Declaring.{wires_are}
 use Rattle.sv_actions.proofs.Rooting.{ok_tail, root_name, root_concat, each_begin, each_more, each_end}

@@ -1,5 +1,5 @@
 use Rattle.std.proofs.Common.{◌≡◌, ◌++◌, All, take}
-use Rattle.sv_const.specs.Names.{names_are}
+use Rattle.sv_names.specs.Names.{names_are}
 use Rattle.sv_actions.specs.Texts.{root_signals, of_each}
 use Rattle.sv_blocks.specs.Declaring.{HasBits, wires_are}
 use Rattle.sv_blocks.proofs.wires.+lvalue.Given as goal

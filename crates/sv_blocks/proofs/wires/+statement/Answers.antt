@@ -1,5 +1,5 @@
 use Rattle.std.proofs.Common.{◌≡◌, arith}
-use Rattle.sv_const.specs.Names.{names_are}
+use Rattle.sv_names.specs.Names.{names_are}
 use Rattle.sv_actions.specs.Texts.{target_signals, arm_signals}
 use Rattle.sv_blocks.specs.Declaring.{wires_are}
 use Rattle.sv_actions.proofs.Rooting.{ok_tail, of_empty, of_block, of_if, of_case, of_for, of_assign, of_other, of_no_other, of_labels, of_default, each_begin, each_more, each_end}

@@ -5,7 +5,7 @@ use Rattle.std.proofs.lemmas.Bool.Decides.{nat_tests}
 use Rattle.svex_arena.proofs.Keeping.{extends_on}
 use Rattle.sv_typed.specs.Typed.{PickIsSound}
 use Rattle.sv_typed.proofs.Below as below
-use Rattle.sv_stmt.proofs.Lowered.{element}
+use Rattle.sv_lower.proofs.Lowered.{element}
 use Rattle.sv_blocks.specs.Fitting.{PickSits}
 use Rattle.sv_blocks.specs.Parts.{IsWritten, SpotIsWide}
 use Rattle.sv_stores.proofs.Stores.{state_kept}

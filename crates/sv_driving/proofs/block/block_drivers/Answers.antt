@@ -1,8 +1,8 @@
 use Rattle.std.proofs.Common.{◌≡◌, List, [], ◌++◌, All, sym, ap, ◌∙◌, subst}
 use Rattle.std.proofs.lemmas.Result.{err_from_is_err_and}
-use Rattle.sv_const.specs.Kinds.{scope_is}
-use Rattle.sv_const.specs.Judging.{IsCause}
-use Rattle.sv_const.specs.Names.{names_are}
+use Rattle.sv_names.specs.Kinds.{scope_is}
+use Rattle.sv_typing.specs.Judging.{IsCause}
+use Rattle.sv_names.specs.Names.{names_are}
 use Rattle.sv_meaning.specs.Layouts.{Scope}
 use Rattle.sv_meaning.specs.Deeds.{deed}
 use Rattle.sv_meaning.specs.Blocks.{event_faults, marks, is_clocked, manner}

@@ -2,8 +2,8 @@ use Rattle.std.proofs.Common.{◌≡◌, false, Err, sym, subst}
 use Rattle.std.specs.List.{Contains}
 use Rattle.sv_tree.specs.declared.design.Way.{Way}
 use Rattle.sv_tree.specs.declared.design.Way.TheVariants as ways
-use Rattle.sv_const.specs.Names.{names_are}
-use Rattle.sv_const.specs.Judging.{IsCause}
+use Rattle.sv_names.specs.Names.{names_are}
+use Rattle.sv_typing.specs.Judging.{IsCause}
 use Rattle.sv_meaning.specs.Designs as d
 use Rattle.sv_meaning.specs.Designs.{actual_faults, as_targets, is_joined}
 use Rattle.sv_targets.specs.Slots.{JudgesParts}

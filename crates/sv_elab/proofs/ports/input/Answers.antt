@@ -1,7 +1,7 @@
 use Rattle.std.proofs.Common.{List, [], ◌∷◌, ◌++◌, sym, subst}
 use Rattle.driver_resolve.specs.declared.driver.Driver.{Driver}
 use Rattle.sv_tree.specs.declared.design.Way.TheVariants as ways
-use Rattle.sv_const.specs.Names.{names_are}
+use Rattle.sv_names.specs.Names.{names_are}
 use Rattle.sv_meaning.specs.Values.{mean}
 use Rattle.sv_meaning.specs.Designs.{port_gives, wires_named}
 use Rattle.sv_elab.specs.Working.{Supplies}

@@ -4,7 +4,7 @@ use Rattle.lhs_alias.specs.Lies.{LieIn}
 use Rattle.driver_resolve.specs.declared.driver.Driver.{Driver}
 use Rattle.sv_tree.specs.declared.design.Way.{Way}
 use Rattle.sv_tree.specs.declared.design.Way.TheVariants as ways
-use Rattle.sv_const.specs.Names.{names_are}
+use Rattle.sv_names.specs.Names.{names_are}
 use Rattle.sv_meaning.specs.Designs as d
 use Rattle.sv_meaning.specs.Designs.{actual_faults, as_targets, is_joined}
 use Rattle.sv_targets.specs.declared.parts.Part.{Part}

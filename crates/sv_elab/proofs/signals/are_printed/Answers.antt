@@ -2,7 +2,7 @@ use Rattle.std.proofs.Common.{ℕ, take, get_or, All, IsTrue, sym, ◌∙◌, su
 use Rattle.std.proofs.lemmas.List.{get_or_default, take_all}
 use Rattle.std.proofs.lemmas.List.Elements.{All-push}
 use Rattle.flat_net.specs.Flats.{is_path_byte}
-use Rattle.sv_stmt.proofs.Trees.{taken_more}
+use Rattle.sv_lower.proofs.Trees.{taken_more}
 use Rattle.sv_elab.proofs.signals.are_printed.Goals as goal
 
 pub bytes-preserved : goal.bytes-preserved

@@ -1,14 +1,14 @@
 use Rattle.std.proofs.Common.{ℕ, List, All, refl, sym, subst}
 use Rattle.driver_resolve.specs.Drivers.{widths_of}
 use Rattle.flat_net.specs.Flats as f
-use Rattle.sv_const.specs.Names.{names_are}
+use Rattle.sv_names.specs.Names.{names_are}
 use Rattle.sv_meaning.specs.Layouts.{Scope}
 use Rattle.sv_meaning.specs.Designs.{Work}
 use Rattle.sv_hierarchy.specs.Scopes.{work_of, work_at}
 use Rattle.sv_scope.specs.Scoped.{levels_of, wires_of}
-use Rattle.sv_scope.specs.Levels.{front_is}
-use Rattle.sv_scope.specs.Walks.{task_is, work_is}
-use Rattle.sv_blocks.specs.Blocks.{AreWires}
+use Rattle.sv_levels.specs.Levels.{front_is}
+use Rattle.sv_levels.specs.Tasks.{task_is, work_is}
+use Rattle.sv_driving.specs.Blocks.{AreWires}
 use Rattle.sv_elab.specs.declared.whole.Making.{Making}
 use Rattle.sv_elab.specs.Working.{join_list, IsWorked, TaskStandsAbove}
 use Rattle.sv_elab.proofs.Making.{made_more}

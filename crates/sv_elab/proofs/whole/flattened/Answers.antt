@@ -4,7 +4,7 @@ use Rattle.std.specs.List.{Contains}
 use Rattle.driver_resolve.specs.Drivers.{widths_of}
 use Rattle.sv_hierarchy.specs.Scopes as h
 use Rattle.sv_scope.specs.Scoped.{design_is, turns_of}
-use Rattle.sv_scope.specs.Walks.{task_is, work_is}
+use Rattle.sv_levels.specs.Tasks.{task_is, work_is}
 use Rattle.sv_elab.specs.Working.{AreSizes, TaskFits}
 use Rattle.sv_elab.proofs.Lists.{contains_map}
 use Rattle.sv_elab.proofs.Wholes.{work_here, fit_signals, walk_more, walk_end, walk_cause, elaborated}

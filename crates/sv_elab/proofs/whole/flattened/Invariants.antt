@@ -1,7 +1,7 @@
 use Rattle.std.proofs.Common.{map, take}
 use Rattle.sv_hierarchy.specs.Scopes.{work_at}
 use Rattle.sv_scope.specs.Scoped.{levels_of, wires_of, turns_of}
-use Rattle.sv_scope.specs.Walks.{work_is}
+use Rattle.sv_levels.specs.Tasks.{work_is}
 use Rattle.sv_elab.specs.Working.{IsMade}
 use Rattle.sv_elab.proofs.whole.flattened.Given as goal
 

@@ -1,11 +1,11 @@
 use Rattle.std.proofs.Common.{sym, subst}
 use Rattle.sv_tree.specs.declared.exprs.Expr.{Expr}
-use Rattle.sv_const.specs.Names.{names_are}
-use Rattle.sv_const.specs.Kinds.{layout_is}
-use Rattle.sv_const.proofs.Sound.{sign_is}
+use Rattle.sv_names.specs.Names.{names_are}
+use Rattle.sv_names.specs.Kinds.{layout_is}
+use Rattle.sv_names.proofs.Sound.{sign_is}
 use Rattle.sv_meaning.specs.Designs as d
-use Rattle.sv_scope.specs.declared.walker.Actual.{Actual}
-use Rattle.sv_scope.specs.Walks.{actual_is}
+use Rattle.sv_levels.specs.declared.tasks.Actual.{Actual}
+use Rattle.sv_levels.specs.Tasks.{actual_is}
 use Rattle.sv_elab.specs.Working.{JudgesWork}
 use Rattle.sv_elab.proofs.works.port_parts.Goals as goal
 

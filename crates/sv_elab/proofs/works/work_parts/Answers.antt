@@ -1,9 +1,9 @@
 use Rattle.std.proofs.Common.{None, sym, subst}
 use Rattle.driver_resolve.specs.Drivers.{widths_of}
-use Rattle.sv_const.specs.Names.{names_are}
+use Rattle.sv_names.specs.Names.{names_are}
 use Rattle.sv_hierarchy.specs.Scopes.{work_of}
-use Rattle.sv_scope.specs.declared.walker.Task.{Task}
-use Rattle.sv_scope.specs.Walks.{task_is}
+use Rattle.sv_levels.specs.declared.tasks.Task.{Task}
+use Rattle.sv_levels.specs.Tasks.{task_is}
 use Rattle.sv_driving.specs.Blocks.{AreWires}
 use Rattle.sv_driving.proofs.Placing.{one_width}
 use Rattle.sv_elab.specs.Working.{IsWorked, JudgesWork, TaskStandsAbove}

@@ -1,5 +1,5 @@
 use Rattle.std.proofs.Common.{◌≡◌, ◌++◌, take, refl}
-use Rattle.sv_const.specs.Names.{frames_of}
+use Rattle.sv_names.specs.Names.{frames_of}
 use Rattle.sv_levels.proofs.LevelsHeld.{got, not_got, done_as}
 use Rattle.sv_levels.proofs.LevelsSeen.{entered, not_entered}
 use Rattle.sv_levels.proofs.levels.enter.Goals as goal

@@ -1,6 +1,6 @@
 use Rattle.std.proofs.Common.{◌∙◌, map, get_or, arith}
-use Rattle.sv_const.specs.Kinds.{scope_is}
-use Rattle.sv_const.specs.Names.{frames_of}
+use Rattle.sv_names.specs.Kinds.{scope_is}
+use Rattle.sv_names.specs.Names.{frames_of}
 use Rattle.sv_levels.specs.declared.levels.Front.{Front}
 use Rattle.sv_levels.specs.Levels.{level_is}
 use Rattle.sv_levels.proofs.LevelsHeld.{same_front}

@@ -1,6 +1,6 @@
 use Rattle.std.proofs.Common.{◌≡◌, [], map, take}
-use Rattle.sv_const.specs.Kinds.{scope_is}
-use Rattle.sv_const.specs.Names.{loops_of, frames_of}
+use Rattle.sv_names.specs.Kinds.{scope_is}
+use Rattle.sv_names.specs.Names.{loops_of, frames_of}
 use Rattle.sv_levels.specs.Levels.{level_is, live_frames}
 use Rattle.sv_levels.proofs.levels.live_along.Given as goal
 

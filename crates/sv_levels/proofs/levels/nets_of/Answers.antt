@@ -1,6 +1,6 @@
 use Rattle.std.proofs.Common.{◌∙◌, sym, ap, length, refl}
 use Rattle.std.proofs.lemmas.List.{length-map}
-use Rattle.sv_const.specs.Kinds.{entry_is}
+use Rattle.sv_names.specs.Kinds.{entry_is}
 use Rattle.sv_hierarchy.specs.Scopes as m
 use Rattle.sv_levels.proofs.LevelsHeld.{got, not_got, level_found, level_past}
 use Rattle.sv_levels.proofs.levels.nets_of.Goals as goal

@@ -1,6 +1,6 @@
 use Rattle.std.proofs.Common.{◌∙◌, ◌∷◌, ◌++◌, [], true, ap}
-use Rattle.sv_const.specs.declared.layout.What.TheVariants.{Number}
-use Rattle.sv_const.specs.Kinds.{scope_is}
+use Rattle.sv_names.specs.declared.layout.What.TheVariants.{Number}
+use Rattle.sv_names.specs.Kinds.{scope_is}
 use Rattle.sv_levels.proofs.loops.index_scope.Goals as goal
 
 pub returns : goal.returns

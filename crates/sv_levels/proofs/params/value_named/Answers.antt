@@ -1,5 +1,5 @@
 use Rattle.std.specs.Option.{option_copied}
-use Rattle.sv_const.specs.Names.{names_are}
+use Rattle.sv_names.specs.Names.{names_are}
 use Rattle.sv_levels.proofs.Giving.{value_alone}
 use Rattle.sv_levels.proofs.params.value_named.Goals as goal
 

@@ -3,7 +3,7 @@ use Rattle.fourvec.proofs.Widths.{length-slice_of}
 use Rattle.sv_meaning.specs.Meanings.{nowhere}
 use Rattle.sv_meaning.specs.Deeds.{index_value}
 use Rattle.sv_typed.specs.Typed.{worth}
-use Rattle.sv_const.proofs.Judged.{typed_ok}
+use Rattle.sv_typing.proofs.Judged.{typed_ok}
 use Rattle.sv_loops.specs.Answers.{Gives}
 use Rattle.sv_outside.specs.declared.refusal.TextErr.TheVariants.{No}
 use Rattle.sv_loops.proofs.Values.{index_ok, index_unknown}

@@ -1,7 +1,7 @@
 use Rattle.std.proofs.Common.{◌∙◌, true, sym, ap, subst, Err}
 use Rattle.fourvec.specs.Bits.{first, truth_of, is_known}
 use Rattle.sv_meaning.specs.Deeds.{fixed_truth, is_taken}
-use Rattle.sv_const.proofs.Judged.{typed_ok}
+use Rattle.sv_typing.proofs.Judged.{typed_ok}
 use Rattle.sv_loops.specs.Answers.{Gives}
 use Rattle.sv_outside.specs.declared.refusal.TextErr.TheVariants.{No}
 use Rattle.sv_loops.proofs.Values.{truth_ok, truth_unknown}

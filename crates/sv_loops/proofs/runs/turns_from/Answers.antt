@@ -3,7 +3,7 @@ use Rattle.std.proofs.lemmas.List.{length_push}
 use Rattle.std.proofs.lemmas.Result.{err_from_is_err_and}
 use Rattle.sv_meaning.specs.Layouts.{Scope}
 use Rattle.sv_meaning.specs.Deeds.{turns_from, most_turns, next_value, holds_at, with_index}
-use Rattle.sv_const.specs.Names.{names_are}
+use Rattle.sv_names.specs.Names.{names_are}
 use Rattle.sv_loops.specs.Answers.{Gives}
 use Rattle.sv_loops.proofs.Chains.{behind, if_taken, is_taken, turns_begin, turn_more, turn_refused, test_refused, too_long, all_taken}
 use Rattle.sv_outside.specs.declared.refusal.TextErr.TheVariants.{No}

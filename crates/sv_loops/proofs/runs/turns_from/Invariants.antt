@@ -1,6 +1,6 @@
 use Rattle.std.proofs.Common.{◌≡◌, ◌≤◌, ◌-◌, length}
 use Rattle.sv_meaning.specs.Deeds.{turns_from, most_turns}
-use Rattle.sv_const.specs.Names.{names_are, entries_of, frames_of}
+use Rattle.sv_names.specs.Names.{names_are, entries_of, frames_of}
 use Rattle.sv_loops.proofs.Chains.{behind, if_taken}
 use Rattle.sv_loops.proofs.runs.turns_from.Given as goal
 

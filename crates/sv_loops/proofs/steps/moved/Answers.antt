@@ -2,7 +2,7 @@ use Rattle.std.proofs.Common.{true, [], Some}
 use Rattle.std.proofs.lemmas.Result.{err_from_is_err_and}
 use Rattle.sv_meaning.specs.Layouts.{number_is}
 use Rattle.sv_meaning.specs.Meanings.{named}
-use Rattle.sv_const.proofs.Judged.{typed_ok, typed_err}
+use Rattle.sv_typing.proofs.Judged.{typed_ok, typed_err}
 use Rattle.sv_loops.proofs.Moves.{moved_ok, moved_cause}
 use Rattle.sv_loops.proofs.steps.moved.Goals as goal
 

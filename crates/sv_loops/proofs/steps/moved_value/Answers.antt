@@ -1,8 +1,8 @@
 use Rattle.std.proofs.Common.{true, []}
 use Rattle.sv_tree.specs.declared.word.Word.{Word}
 use Rattle.sv_meaning.specs.Values.{mean}
-use Rattle.sv_const.specs.Names.{names_are}
-use Rattle.sv_const.proofs.Arms.{sound_of_judged}
+use Rattle.sv_names.specs.Names.{names_are}
+use Rattle.sv_typing.proofs.Arms.{sound_of_judged}
 use Rattle.sv_loops.specs.Steps.{moved_by}
 use Rattle.sv_loops.proofs.steps.moved_value.Goals as goal
 

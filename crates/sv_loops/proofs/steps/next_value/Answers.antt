@@ -1,7 +1,7 @@
 use Rattle.std.proofs.Common.{◌∙◌, sym, ap, subst}
 use Rattle.sv_tree.specs.declared.stmts.Step.TheVariants as step
 use Rattle.sv_meaning.specs.Deeds.{next_value}
-use Rattle.sv_const.specs.Names.{names_are}
+use Rattle.sv_names.specs.Names.{names_are}
 use Rattle.sv_loops.specs.Answers.{Gives}
 use Rattle.sv_loops.proofs.steps.next_value.Goals as goal
 

@@ -1,6 +1,6 @@
 use Rattle.std.proofs.Common.{◌≡◌, ℕ, ◌+◌, ◌*◌, ◌<◌, ◌≤◌, arith}
 use Rattle.std.proofs.Math.Nat.{mul-le-mul_right}
-use Rattle.svex_arena.specs.Shapes.{width_at}
+use Rattle.svex_shape.specs.Shapes.{width_at}
 use Rattle.svex_arena.proofs.Keeping.{extends_self, extends_on}
 use Rattle.svex_arena.proofs.Steps.{width-extends}
 use Rattle.sv_lower.proofs.Pieces.{one_copy, copy_more}

@@ -1,5 +1,5 @@
 use Rattle.std.proofs.Common.{◌*◌}
-use Rattle.svex_arena.specs.Shapes.{width_at}
+use Rattle.svex_shape.specs.Shapes.{width_at}
 use Rattle.svex_arena.specs.Arenas.{Extends}
 use Rattle.sv_meaning.specs.Meanings.{copies}
 use Rattle.sv_lower.specs.Nodes.{FromOne}

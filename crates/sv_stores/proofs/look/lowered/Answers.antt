@@ -1,4 +1,4 @@
-use Rattle.sv_stmt.proofs.Naming.{each_holds}
+use Rattle.sv_lower.proofs.Naming.{each_holds}
 use Rattle.sv_stores.specs.Scenes.{is_narrow}
 use Rattle.sv_stores.proofs.Looking.{clocked_yields, comb_yields}
 use Rattle.sv_stores.proofs.look.lowered.Goals as goal

@@ -1,8 +1,8 @@
 use Rattle.std.proofs.Common.{◌≡◌, ℕ, List, get_or, refl, subst, sym, ap, ◌∙◌}
 use Rattle.std.proofs.lemmas.List.{get_or_read}
-use Rattle.svex_arena.specs.declared.shape.Shape.TheVariants.{Var}
-use Rattle.svex_arena.specs.declared.shape.VarName.TheVariants.{Prev}
-use Rattle.sv_stmt.specs.Nodes.{IsMade}
+use Rattle.svex_shape.specs.declared.shape.Shape.TheVariants.{Var}
+use Rattle.svex_shape.specs.declared.shape.VarName.TheVariants.{Prev}
+use Rattle.sv_lower.specs.Nodes.{IsMade}
 use Rattle.sv_stores.proofs.Starting.{start_comb, start_clocked}
 use Rattle.sv_stores.proofs.start.start_node.Goals as goal
 

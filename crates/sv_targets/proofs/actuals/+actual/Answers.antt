@@ -4,7 +4,7 @@ use Rattle.sv_meaning.specs.Layouts.{find}
 use Rattle.sv_meaning.specs.Meanings.{fixed_faults}
 use Rattle.sv_meaning.specs.Targets.{target_of, target_faults}
 use Rattle.sv_meaning.specs.Values.{step}
-use Rattle.sv_const.specs.Names.{names_are}
+use Rattle.sv_names.specs.Names.{names_are}
 use Rattle.sv_targets.specs.declared.targets.TypedTarget.{TypedTarget}
 use Rattle.sv_targets.specs.Targets.{AreTargets, actual_list_faults, actual_list_targets}
 use Rattle.sv_targets.proofs.Targeting.{targets_ok, targets_err}

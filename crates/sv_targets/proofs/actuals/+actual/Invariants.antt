@@ -1,5 +1,5 @@
 use Rattle.std.proofs.Common.{take}
-use Rattle.sv_const.specs.Names.{names_are}
+use Rattle.sv_names.specs.Names.{names_are}
 use Rattle.sv_meaning.specs.Meanings.{fixed_faults}
 use Rattle.sv_targets.specs.Targets.{AreTargets, actual_list_faults, actual_list_targets}
 use Rattle.sv_targets.proofs.actuals.+actual.Given as goal

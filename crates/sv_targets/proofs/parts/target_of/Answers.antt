@@ -1,6 +1,6 @@
 use Rattle.sv_meaning.specs.Meanings.{fixed_faults}
 use Rattle.sv_meaning.specs.Targets.{targets, lvalue_faults}
-use Rattle.sv_const.specs.Names.{names_are}
+use Rattle.sv_names.specs.Names.{names_are}
 use Rattle.sv_targets.proofs.Having.{targets_some}
 use Rattle.sv_targets.proofs.Slotting.{sound_targets}
 use Rattle.sv_targets.proofs.parts.target_of.Goals as goal

@@ -1,5 +1,5 @@
 use Rattle.std.proofs.Common.{◌∙◌, sym, subst}
-use Rattle.sv_const.specs.Picks.{fixed_pick}
+use Rattle.sv_typing.specs.Picks.{fixed_pick}
 use Rattle.sv_targets.specs.Slots.{IsSpotted}
 use Rattle.sv_targets.proofs.Slotting.{narrow_pick, far_none}
 use Rattle.sv_targets.proofs.slots.picked.Goals as goal

@@ -1,5 +1,5 @@
 use Rattle.std.proofs.Common.{◌≡◌, ◌≤◌, length, drop, All}
-use Rattle.sv_const.specs.Picks.{picked_slots}
+use Rattle.sv_typing.specs.Picks.{picked_slots}
 use Rattle.sv_targets.specs.Slots.{IsNear, target_slots}
 use Rattle.sv_targets.proofs.slots.target_slots.Given as goal
 

@@ -2,8 +2,8 @@ use Rattle.std.proofs.Common.{◌+◌, ◌++◌, [], List, map, take, sym, subst
 use Rattle.sv_meaning.specs.Layouts.{find}
 use Rattle.sv_meaning.specs.Targets.{target_of, target_faults, targets, lvalue_faults}
 use Rattle.sv_meaning.specs.Values.{step}
-use Rattle.sv_const.specs.Names.{names_are}
-use Rattle.sv_const.specs.Picks.{rule_faults}
+use Rattle.sv_names.specs.Names.{names_are}
+use Rattle.sv_typing.specs.Picks.{rule_faults}
 use Rattle.sv_targets.specs.declared.targets.TypedTarget.{TypedTarget}
 use Rattle.sv_targets.specs.Targets.{AreTargets, all_faults, all_targets}
 use Rattle.sv_targets.proofs.Targeting.{arm_name, arm_concat, targets_begin, targets_go, targets_cause, targets_ok, targets_err}

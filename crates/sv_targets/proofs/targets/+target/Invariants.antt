@@ -1,6 +1,6 @@
 use Rattle.std.proofs.Common.{take}
-use Rattle.sv_const.specs.Names.{names_are}
-use Rattle.sv_const.specs.Picks.{rule_faults}
+use Rattle.sv_names.specs.Names.{names_are}
+use Rattle.sv_typing.specs.Picks.{rule_faults}
 use Rattle.sv_targets.specs.Targets.{AreTargets, all_faults, all_targets}
 use Rattle.sv_targets.proofs.targets.+target.Given as goal
 

@@ -1,7 +1,7 @@
 use Rattle.std.proofs.Common.{map}
 use Rattle.sv_meaning.specs.Values.{step}
-use Rattle.sv_const.specs.Names.{names_are}
-use Rattle.sv_const.specs.Picks.{rule_faults}
+use Rattle.sv_names.specs.Names.{names_are}
+use Rattle.sv_typing.specs.Picks.{rule_faults}
 use Rattle.sv_targets.proofs.Targeting.{what_wire}
 use Rattle.sv_targets.proofs.targets.what_target.Goals as goal
 

@@ -1,7 +1,7 @@
 use Rattle.std.proofs.Common.{refl, sym, subst}
-use Rattle.sv_const.specs.Kinds.{layout_is}
-use Rattle.sv_const.specs.Roots.{JudgesChain}
-use Rattle.sv_const.proofs.Sound.{sound_is, sound_some, sound_most}
+use Rattle.sv_names.specs.Kinds.{layout_is}
+use Rattle.sv_typing.specs.Roots.{JudgesChain}
+use Rattle.sv_names.proofs.Sound.{sound_is, sound_some, sound_most}
 use Rattle.sv_targets.proofs.Targeting.{chain_stands}
 use Rattle.sv_targets.proofs.targets.wire_target.Goals as goal
 

@@ -1,6 +1,6 @@
 use Rattle.std.proofs.Common.{sym, subst, All}
-use Rattle.sv_const.specs.Kinds.{IsSound, FieldIsSound}
-use Rattle.sv_const.proofs.Sound.{row_each, fields_all}
+use Rattle.sv_names.specs.Kinds.{IsSound, FieldIsSound}
+use Rattle.sv_names.proofs.Sound.{row_each, fields_all}
 use Rattle.sv_types.proofs.Copying.{each_less, fields_less, field_less, sound_at}
 use Rattle.sv_types.proofs.copies.+copy.Goals as goal
 

@@ -1,5 +1,5 @@
 use Rattle.std.proofs.Common.{◌+◌, ◌<◌, nat_lt, arith}
-use Rattle.sv_const.specs.Kinds.{members_of}
+use Rattle.sv_names.specs.Kinds.{members_of}
 use Rattle.sv_types.specs.Depths.{deepest}
 use Rattle.sv_types.proofs.Nested.{scalar_depth, row_none, row_more, fields_none, fields_more, found_deeper, passed_member, no_deeper}
 use Rattle.sv_types.proofs.depth.+deeper.Goals as goal

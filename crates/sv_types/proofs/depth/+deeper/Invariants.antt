@@ -1,5 +1,5 @@
 use Rattle.std.proofs.Common.{◌≡◌, ◌+◌, drop, nat_lt}
-use Rattle.sv_const.specs.Kinds.{members_of}
+use Rattle.sv_names.specs.Kinds.{members_of}
 use Rattle.sv_types.specs.Depths.{deepest}
 use Rattle.sv_types.proofs.depth.+deeper.Given as goal
 

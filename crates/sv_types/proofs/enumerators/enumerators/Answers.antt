@@ -2,7 +2,7 @@ use Rattle.std.proofs.Common.{◌+◌, List, [], ◌∷◌, ◌++◌, map, drop,
 use Rattle.std.specs.Option.{option_copied}
 use Rattle.std.proofs.lemmas.Result.{err_from_is_err_and}
 use Rattle.sv_meaning.specs.Forms.{entries_of, label_entry}
-use Rattle.sv_const.specs.Names.{names_are}
+use Rattle.sv_names.specs.Names.{names_are}
 use Rattle.sv_types.specs.declared.enumerators.Enumerator.{Enumerator}
 use Rattle.sv_types.specs.Types.{whole_is, all_declared, pushed}
 use Rattle.sv_types.proofs.Above.{above_names}

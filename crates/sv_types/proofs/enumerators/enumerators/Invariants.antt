@@ -1,5 +1,5 @@
 use Rattle.std.proofs.Common.{map, drop}
-use Rattle.sv_const.specs.Names.{names_are}
+use Rattle.sv_names.specs.Names.{names_are}
 use Rattle.sv_types.specs.Types.{IsAbove, pushed, whole_is}
 use Rattle.sv_types.proofs.Labels.{Counts}
 use Rattle.sv_types.proofs.enumerators.enumerators.Given as goal

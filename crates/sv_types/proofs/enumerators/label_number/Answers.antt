@@ -2,7 +2,7 @@ use Rattle.std.proofs.Common.{sym, subst}
 use Rattle.std.specs.Option.{option_copied}
 use Rattle.sv_meaning.specs.Forms.{label_number}
 use Rattle.sv_meaning.specs.Values.{mean}
-use Rattle.sv_const.specs.Names.{names_are}
+use Rattle.sv_names.specs.Names.{names_are}
 use Rattle.sv_types.specs.Types.{whole_is, JudgesWhole}
 use Rattle.sv_types.proofs.enumerators.label_number.Goals as goal
 

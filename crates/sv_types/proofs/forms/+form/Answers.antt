@@ -3,8 +3,8 @@ use Rattle.std.specs.Option.{option_copied}
 use Rattle.sv_tree.specs.declared.forms.Member.TheVariants as member
 use Rattle.sv_meaning.specs.Forms.{form, entries_of}
 use Rattle.sv_meaning.specs.Layouts.{Scope, width_all}
-use Rattle.sv_const.specs.Kinds.{members_of, FieldIsSound}
-use Rattle.sv_const.specs.Names.{names_are}
+use Rattle.sv_names.specs.Kinds.{members_of, FieldIsSound}
+use Rattle.sv_names.specs.Names.{names_are}
 use Rattle.sv_types.specs.Types.{IsAbove, Forms, JudgesJoined, pushed, all_declared}
 use Rattle.sv_types.proofs.Above.{above_none, above_names}
 use Rattle.sv_types.proofs.Alone.{member_is}

@@ -1,5 +1,5 @@
 use Rattle.std.proofs.Common.{map, drop}
-use Rattle.sv_const.specs.Names.{names_are}
+use Rattle.sv_names.specs.Names.{names_are}
 use Rattle.sv_types.specs.Types.{IsAbove, IsListed, pushed}
 use Rattle.sv_types.proofs.Gathering.{Gathers}
 use Rattle.sv_types.proofs.forms.+form.Given as goal

@@ -1,8 +1,8 @@
 use Rattle.std.proofs.Common.{pos}
 use Rattle.std.specs.Option.{option_copied}
 use Rattle.sv_meaning.specs.Forms.{vector_layout, option_to_list, labels}
-use Rattle.sv_const.specs.Names.{names_are}
-use Rattle.sv_const.proofs.Sound.{sound_some, sound_most}
+use Rattle.sv_names.specs.Names.{names_are}
+use Rattle.sv_names.proofs.Sound.{sound_some, sound_most}
 use Rattle.sv_types.proofs.Ranging.{layout_ok}
 use Rattle.sv_types.proofs.Shapes.{enum_ok, enum_refused, labels_of_result, labels_refused}
 use Rattle.sv_types.proofs.forms.enum_form.Goals as goal

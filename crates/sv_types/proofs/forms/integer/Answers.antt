@@ -1,6 +1,6 @@
 use Rattle.std.proofs.Common.{◌≡◌, ◌*◌, ap, ◌∙◌, arith}
 use Rattle.sv_meaning.specs.Layouts as m
-use Rattle.sv_const.proofs.Sound.{sound_is}
+use Rattle.sv_names.proofs.Sound.{sound_is}
 use Rattle.sv_types.proofs.forms.integer.Goals as goal
 
 pub dim-requires-clause-most : goal.dim-requires-clause-most

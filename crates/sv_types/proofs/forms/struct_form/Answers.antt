@@ -1,7 +1,7 @@
 use Rattle.std.proofs.Common.{refl}
 use Rattle.sv_meaning.specs.Forms.{struct_layout}
-use Rattle.sv_const.specs.Kinds.{members_of}
-use Rattle.sv_const.specs.Names.{names_are}
+use Rattle.sv_names.specs.Kinds.{members_of}
+use Rattle.sv_names.specs.Names.{names_are}
 use Rattle.sv_types.proofs.Ranging.{layout_ok, layout_err}
 use Rattle.sv_types.proofs.Shapes.{struct_ok, struct_refused, members_of_result}
 use Rattle.sv_types.proofs.forms.struct_form.Goals as goal

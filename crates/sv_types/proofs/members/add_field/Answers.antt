@@ -3,7 +3,7 @@ use Rattle.std.specs.List.{Contains}
 use Rattle.sv_meaning.specs.Forms.{member_faults}
 use Rattle.sv_meaning.specs.Layouts.{width_all}
 use Rattle.sv_meaning.specs.Names.{has_name}
-use Rattle.sv_const.specs.Kinds.{members_of}
+use Rattle.sv_names.specs.Kinds.{members_of}
 use Rattle.sv_types.specs.Types.{field_names}
 use Rattle.sv_types.proofs.Membership.{name_twice, bits_above, field_ok}
 use Rattle.sv_types.proofs.members.add_field.Goals as goal

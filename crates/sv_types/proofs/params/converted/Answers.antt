@@ -4,7 +4,7 @@ use Rattle.sv_meaning.specs.Faults.{faults_of}
 use Rattle.sv_meaning.specs.Meanings.{nowhere}
 use Rattle.sv_meaning.specs.Params as params
 use Rattle.sv_typed.specs.Typed.{worth}
-use Rattle.sv_const.proofs.Judged as judged
+use Rattle.sv_typing.proofs.Judged as judged
 use Rattle.sv_types.proofs.Valuing.{typed_ok, typed_unknown}
 use Rattle.sv_types.proofs.params.converted.Goals as goal
 

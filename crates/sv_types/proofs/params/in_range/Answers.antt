@@ -1,6 +1,6 @@
 use Rattle.sv_meaning.specs.Forms.{bounds}
 use Rattle.sv_meaning.specs.Values.{mean}
-use Rattle.sv_const.specs.Names.{names_are}
+use Rattle.sv_names.specs.Names.{names_are}
 use Rattle.sv_types.specs.Values.{width_in}
 use Rattle.sv_types.proofs.Valuing.{width_of_result, width_refused, in_range, not_in_range}
 use Rattle.sv_types.proofs.params.in_range.Goals as goal

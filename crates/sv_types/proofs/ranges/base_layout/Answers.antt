@@ -2,7 +2,7 @@ use Rattle.std.proofs.Common.{Ok, ap, false}
 use Rattle.std.specs.Option.{option_copied}
 use Rattle.sv_meaning.specs.Forms.{bounds}
 use Rattle.sv_meaning.specs.Layouts as m
-use Rattle.sv_const.specs.Names.{names_are}
+use Rattle.sv_names.specs.Names.{names_are}
 use Rattle.sv_types.proofs.Ranging.{base_some, scalar_layout}
 use Rattle.sv_types.proofs.ranges.base_layout.Goals as goal
 

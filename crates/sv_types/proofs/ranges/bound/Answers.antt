@@ -1,5 +1,5 @@
 use Rattle.sv_meaning.specs.Values.{mean}
-use Rattle.sv_const.specs.Names.{names_are}
+use Rattle.sv_names.specs.Names.{names_are}
 use Rattle.sv_types.proofs.ranges.bound.Goals as goal
 
 pub returns : goal.returns

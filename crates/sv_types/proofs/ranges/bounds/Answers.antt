@@ -1,6 +1,6 @@
 use Rattle.std.proofs.lemmas.Result.{err_from_is_err_and}
 use Rattle.sv_meaning.specs.Forms.{bound}
-use Rattle.sv_const.specs.Names.{names_are}
+use Rattle.sv_names.specs.Names.{names_are}
 use Rattle.sv_types.proofs.Judging.{both_left}
 use Rattle.sv_types.proofs.Ranging.{bound_refused}
 use Rattle.sv_types.proofs.ranges.bounds.Goals as goal

@@ -1,6 +1,6 @@
 use Rattle.std.proofs.Common.{ℕ, ◌*◌, ◌≤◌, ap, sym, subst, arith}
-use Rattle.sv_const.proofs.Sound.{sound_some, some_bits}
-use Rattle.sv_const.proofs.Counts.{times_some}
+use Rattle.sv_names.proofs.Sound.{sound_some, some_bits}
+use Rattle.sv_typing.proofs.Counts.{times_some}
 use Rattle.sv_types.proofs.Ranging.{dim_made, dim_made_sound, count_some}
 use Rattle.sv_types.proofs.ranges.dim.Goals as goal
 

@@ -1,6 +1,6 @@
 use Rattle.std.proofs.Common.{◌-◌, ◌&&◌, ◌==◌, length, arith}
-use Rattle.sv_const.specs.Kinds.{layout_is}
-use Rattle.sv_const.specs.Names.{names_are}
+use Rattle.sv_names.specs.Kinds.{layout_is}
+use Rattle.sv_names.specs.Names.{names_are}
 use Rattle.sv_types.proofs.Ranging.{ranges_begin, ranges_go}
 use Rattle.sv_types.proofs.ranges.over_ranges.Goals as goal
 

@@ -1,7 +1,7 @@
 use Rattle.std.proofs.Common.{◌≤◌, ◌&&◌, ◌==◌, length, drop}
 use Rattle.sv_meaning.specs.Forms.{over_ranges}
-use Rattle.sv_const.specs.Kinds.{layout_is}
-use Rattle.sv_const.specs.Names.{names_are}
+use Rattle.sv_names.specs.Kinds.{layout_is}
+use Rattle.sv_names.specs.Names.{names_are}
 use Rattle.sv_types.specs.Types.{JudgesLayout}
 use Rattle.sv_types.proofs.ranges.over_ranges.Given as goal
 

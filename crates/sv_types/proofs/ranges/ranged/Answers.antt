@@ -2,7 +2,7 @@ use Rattle.std.proofs.Common.{ℕ, ◌*◌, nat_le, ap, ◌∙◌, sym, subst}
 use Rattle.std.specs.List.{Contains}
 use Rattle.std.proofs.lemmas.Result.{err_from_is_err_and}
 use Rattle.sv_meaning.specs.Faults.{faults_of}
-use Rattle.sv_const.proofs.Sound.{sound_some}
+use Rattle.sv_names.proofs.Sound.{sound_some}
 use Rattle.sv_types.specs.Types.{ranged_form}
 use Rattle.sv_types.proofs.Ranging.{sound_ok, bounds_ok, bounds_err, layout_ok, ranged_ok, ranged_wide, ranged_right}
 use Rattle.sv_types.proofs.ranges.ranged.Goals as goal

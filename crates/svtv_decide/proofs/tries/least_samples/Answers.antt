@@ -1,5 +1,5 @@
 use Rattle.std.proofs.Common.{◌≡◌, ◌∙◌, List, length, map, ap}
-use Rattle.svex_arena.specs.Values.{Vector}
+use Rattle.svex_shape.specs.Values.{Vector}
 use Rattle.event_sim.specs.Sims.{store_of}
 use Rattle.svtv_decide.proofs.tries.least_samples.Goals as goal
 

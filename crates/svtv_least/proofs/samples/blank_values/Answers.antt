@@ -1,7 +1,7 @@
 use Rattle.std.proofs.Common.{List, [], ◌∷◌, ◌++◌, length, ap, ◌∙◌}
 use Rattle.std.proofs.lemmas.List.{take_all}
 use Rattle.svtv_table.specs.declared.bound.Sample.{Sample}
-use Rattle.svex_arena.specs.Values.{Vector}
+use Rattle.svex_shape.specs.Values.{Vector}
 use Rattle.event_sim.specs.Sims.{store_of}
 use Rattle.svtv_least.specs.Running.{sample_widths}
 use Rattle.svtv_least.proofs.Setting.{all_x_long, lengths_more, pushed_unknown}

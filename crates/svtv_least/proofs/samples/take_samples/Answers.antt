@@ -1,6 +1,6 @@
 use Rattle.std.proofs.Common.{length, refl, ◌∙◌, subst, sym, arith}
 use Rattle.std.proofs.lemmas.List.{length-map}
-use Rattle.svex_arena.specs.Values.{Vector}
+use Rattle.svex_shape.specs.Values.{Vector}
 use Rattle.svtv_least.specs.Running.{IsOf}
 use Rattle.event_sim.specs.Sims.{store_of}
 use Rattle.svtv_least.proofs.Setting.{at_below, got_at, lengths, width_of_sample}

@@ -1,7 +1,7 @@
 use Rattle.std.proofs.Common.{List, [], length, ap, ◌∙◌}
 use Rattle.std.proofs.lemmas.List.{get_or_default}
 use Rattle.fourvec.specs.Bits.{not_bit}
-use Rattle.svex_arena.specs.Values.{Vector}
+use Rattle.svex_shape.specs.Values.{Vector}
 use Rattle.svtv_least.proofs.Setting.{each_long}
 use Rattle.svtv_least.proofs.stimulus.chosen.Goals as goal
 

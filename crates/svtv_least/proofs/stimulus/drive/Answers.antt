@@ -1,6 +1,6 @@
 use Rattle.std.proofs.Common.{◌≡◌, ℕ, ◌-◌, List, ◌∷◌, length, drop, refl, ap, ◌∙◌, subst, arith}
 use Rattle.std.proofs.lemmas.List.{length-map}
-use Rattle.svex_arena.specs.Values.{Vector}
+use Rattle.svex_shape.specs.Values.{Vector}
 use Rattle.svtv_table.specs.Stimuli.{values_of}
 use Rattle.svtv_table.specs.declared.bound.Drive.{Drive}
 use Rattle.event_sim.specs.Sims.{store_of}

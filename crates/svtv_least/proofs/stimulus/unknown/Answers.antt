@@ -1,5 +1,5 @@
 use Rattle.std.proofs.Common.{length, ap, arith}
-use Rattle.event_sim.proofs.Reading.{one-unknown}
+use Rattle.event_nets.proofs.Reading.{one-unknown}
 use Rattle.svtv_least.proofs.stimulus.unknown.Goals as goal
 
 pub sext-requires-clause-grows : goal.sext-requires-clause-grows

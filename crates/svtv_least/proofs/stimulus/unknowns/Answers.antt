@@ -2,7 +2,7 @@ use Rattle.std.proofs.Common.{List, [], ◌∷◌, ◌++◌, length, ap, ◌∙�
 use Rattle.std.proofs.lemmas.List.{take_all}
 use Rattle.sv_outside.specs.declared.text.Signal.{Signal}
 use Rattle.driver_resolve.specs.Drivers.{widths_of}
-use Rattle.svex_arena.specs.Values.{Vector}
+use Rattle.svex_shape.specs.Values.{Vector}
 use Rattle.event_sim.specs.Sims.{store_of}
 use Rattle.svtv_least.proofs.Setting.{all_x_long, lengths_more, pushed_unknown}
 use Rattle.svtv_least.proofs.stimulus.unknowns.Goals as goal

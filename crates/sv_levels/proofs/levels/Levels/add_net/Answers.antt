@@ -1,5 +1,5 @@
 use Rattle.std.proofs.Common.{◌≡◌, [], ◌∷◌, ◌++◌, refl}
-use Rattle.sv_const.specs.Kinds.{entry_is}
+use Rattle.sv_names.specs.Kinds.{entry_is}
 use Rattle.sv_hierarchy.specs.Scopes as m
 use Rattle.sv_levels.proofs.LevelsHeld.{got, not_got, done_as, net_added, level_missed}
 use Rattle.sv_levels.proofs.levels.Levels.add_net.Goals as goal

@@ -2,7 +2,7 @@ use Rattle.std.proofs.Common.{◌≡◌, ℕ, ◌-◌, ◌/◌, ◌^◌, length,
 use Rattle.fourvec.specs.Bits.{number}
 use Rattle.fourvec.proofs.Planes.{mask_is}
 use Rattle.fourvec.proofs.Basic.{low_plane-lt}
-use Rattle.sv_const.proofs.Vectors.{whole_negative, whole_positive, whole_unsigned, number_is}
+use Rattle.sv_typing.proofs.Vectors.{whole_negative, whole_positive, whole_unsigned, number_is}
 use Rattle.sv_types.proofs.whole.Whole.of.Goals.{else-known-via-then-known+else-is_negative, else-known-via-else-known}
 use Rattle.sv_types.proofs.whole.Whole.of.Goals as goal
 

@@ -1,5 +1,5 @@
-use Rattle.sv_const.specs.Kinds.{what_is}
-use Rattle.sv_const.specs.declared.layout.What.TheVariants.{Number}
+use Rattle.sv_names.specs.Kinds.{what_is}
+use Rattle.sv_names.specs.declared.layout.What.TheVariants.{Number}
 use Rattle.sv_walk.specs.Walks.{state_of}
 use Rattle.sv_walk.proofs.Declaring.{const_named}
 use Rattle.sv_walk.proofs.walker.Walker.add_enumerator.Goals as goal

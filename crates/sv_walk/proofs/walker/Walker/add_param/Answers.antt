@@ -1,8 +1,8 @@
 use Rattle.std.proofs.Common.{refl}
 use Rattle.std.specs.Option.{option_copied}
 use Rattle.sv_meaning.specs.Params.{param_value}
-use Rattle.sv_const.specs.Kinds.{what_is}
-use Rattle.sv_const.specs.declared.layout.What.TheVariants.{Number}
+use Rattle.sv_names.specs.Kinds.{what_is}
+use Rattle.sv_names.specs.declared.layout.What.TheVariants.{Number}
 use Rattle.sv_hierarchy.specs.Scopes as m
 use Rattle.sv_levels.specs.Levels.{levels_are}
 use Rattle.sv_walk.specs.Walks.{state_of}

@@ -1,5 +1,5 @@
 use Rattle.sv_meaning.specs.Layouts as layouts
-use Rattle.sv_const.specs.Kinds.{layout_is}
+use Rattle.sv_names.specs.Kinds.{layout_is}
 use Rattle.sv_hierarchy.specs.Scopes as m
 use Rattle.sv_walk.specs.Walks.{state_of}
 use Rattle.sv_walk.proofs.Declaring.{const_named}

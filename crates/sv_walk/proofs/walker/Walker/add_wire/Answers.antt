@@ -1,6 +1,6 @@
 use Rattle.std.proofs.Common.{◌∙◌, ℕ, ◌+◌, refl, sym, ap}
-use Rattle.sv_const.specs.Kinds.{layout_is}
-use Rattle.sv_const.proofs.Sound.{sound_is, sound_most}
+use Rattle.sv_names.specs.Kinds.{layout_is}
+use Rattle.sv_names.proofs.Sound.{sound_is, sound_most}
 use Rattle.sv_hierarchy.specs.Scopes as m
 use Rattle.sv_walk.specs.Walks.{state_of}
 use Rattle.sv_walk.proofs.Declaring.{handed}

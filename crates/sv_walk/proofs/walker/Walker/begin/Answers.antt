@@ -1,5 +1,5 @@
 use Rattle.std.proofs.Common.{◌∙◌, map, ap, refl}
-use Rattle.sv_const.specs.Kinds.{scope_is}
+use Rattle.sv_names.specs.Kinds.{scope_is}
 use Rattle.sv_hierarchy.specs.Scopes.{fronts_at}
 use Rattle.sv_levels.specs.Levels.{levels_are}
 use Rattle.sv_levels.specs.Tasks.{given_is}

@@ -1,5 +1,5 @@
 use Rattle.std.proofs.Common.{◌≡◌, ◌∙◌, ◌∷◌, [], Ok}
-use Rattle.sv_const.specs.Kinds.{scope_is}
+use Rattle.sv_names.specs.Kinds.{scope_is}
 use Rattle.sv_meaning.specs.Deeds.{index_entry}
 use Rattle.sv_hierarchy.specs.Scopes.{State, count_turn, inner, turn_name}
 use Rattle.sv_walk.specs.Items.{opened_turn}

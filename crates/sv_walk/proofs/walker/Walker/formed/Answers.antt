@@ -1,5 +1,5 @@
 use Rattle.std.proofs.Common.{◌∙◌, List, Ok, Err, refl, sym, ap}
-use Rattle.sv_const.specs.Kinds.{layout_is}
+use Rattle.sv_names.specs.Kinds.{layout_is}
 use Rattle.sv_types.specs.declared.enumerators.Enumerator.{Enumerator}
 use Rattle.sv_types.specs.Types.{all_declared}
 use Rattle.sv_walk.proofs.DeclaringWires.{formed_is, unformed, unlisted}

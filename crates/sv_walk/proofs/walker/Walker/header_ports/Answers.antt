@@ -3,8 +3,8 @@ use Rattle.std.specs.Global.{Vec}
 use Rattle.std.proofs.lemmas.List.{map-append}
 use Rattle.std.proofs.lemmas.List.Elements.{All-from_recursion, All-push}
 use Rattle.sv_tree.specs.declared.design.Way.TheVariants as way
-use Rattle.sv_const.specs.declared.layout.Layout.{Layout as Coded}
-use Rattle.sv_const.specs.Kinds.{IsSound, layout_is}
+use Rattle.sv_names.specs.declared.layout.Layout.{Layout as Coded}
+use Rattle.sv_names.specs.Kinds.{IsSound, layout_is}
 use Rattle.sv_meaning.specs.Layouts.{scalar}
 use Rattle.sv_hierarchy.specs.Scopes.{header_ports}
 use Rattle.sv_levels.specs.declared.ports.OpenPort.{OpenPort}

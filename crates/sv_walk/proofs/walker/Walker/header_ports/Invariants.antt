@@ -1,6 +1,6 @@
 use Rattle.std.proofs.Common.{◌≡◌, drop, map, false}
 use Rattle.sv_tree.specs.declared.design.Way.TheVariants as way
-use Rattle.sv_const.specs.Kinds.{IsSound, layout_is}
+use Rattle.sv_names.specs.Kinds.{IsSound, layout_is}
 use Rattle.sv_meaning.specs.Layouts as layouts
 use Rattle.sv_hierarchy.specs.Scopes.{header_ports}
 use Rattle.sv_levels.specs.Ports.{PortsAreSound, port_is}

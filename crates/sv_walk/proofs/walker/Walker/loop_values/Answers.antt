@@ -1,5 +1,5 @@
 use Rattle.std.proofs.Common.{◌∙◌, ap}
-use Rattle.sv_const.specs.Names.{names_are}
+use Rattle.sv_names.specs.Names.{names_are}
 use Rattle.sv_hierarchy.specs.Scopes.{seen_at}
 use Rattle.sv_levels.specs.Levels.{levels_are}
 use Rattle.sv_walk.specs.Walks.{state_of}

@@ -1,6 +1,6 @@
 use Rattle.std.proofs.Common.{◌≡◌, ◌∙◌, Ok, sym, subst}
-use Rattle.sv_const.specs.declared.layout.Layout.{Layout as Coded}
-use Rattle.sv_const.specs.Kinds.{IsSound, layout_is}
+use Rattle.sv_names.specs.declared.layout.Layout.{Layout as Coded}
+use Rattle.sv_names.specs.Kinds.{IsSound, layout_is}
 use Rattle.sv_meaning.specs.Faults.{Judged}
 use Rattle.sv_meaning.specs.Layouts.{Layout}
 use Rattle.sv_loops.specs.Answers.{Answers}

@@ -1,7 +1,7 @@
 use Rattle.std.proofs.Common.{◌≡◌, suc, ◌+◌, List, length, map, sym, ap, ◌∙◌, subst, arith}
 use Rattle.std.specs.Prelude.{slice_get}
 use Rattle.settling.specs.Settling.{Store}
-use Rattle.svex_arena.specs.Values.{Vector}
+use Rattle.svex_shape.specs.Values.{Vector}
 use Rattle.flat_net.specs.Flats.{IsLeastSettling}
 use Rattle.event_sim.specs.Sims.{store_of}
 use Rattle.sv_meaning.specs.Designs.{Design}
