@@ -26,7 +26,7 @@ use Rattle.sv_meaning.specs.Designs.{as_targets, all_as_targets, actual_faults, 
 use Rattle.sv_targets.specs.declared.parts.Part.{Part}
 use Rattle.sv_targets.specs.declared.parts.Target as lowered
 use Rattle.sv_targets.specs.Slots.{Slots, spread, AreParts, IsLowered}
-use Rattle.sv_driving.specs.Blocks.{AreWires}
+use Rattle.sv_stmt.specs.Blocks.{AreWires}
 use Rattle.sv_elab.specs.Working.{AreBelow, parts_bits, wire_seg}
 
 -- ---- what holds of the bits of slots

@@ -39,7 +39,7 @@ use Rattle.sv_lower.specs.Nodes.{bits_at_node}
 use Rattle.sv_lower.proofs.Sources.{assigned_worth, names_hold}
 use Rattle.sv_targets.specs.declared.parts.Target as lowered
 use Rattle.sv_targets.specs.Slots.{Slots, AreParts, IsLowered}
-use Rattle.sv_driving.specs.Blocks.{AreWires}
+use Rattle.sv_stmt.specs.Blocks.{AreWires}
 use Rattle.sv_elab.specs.Elaborated.{has_number, names_only}
 use Rattle.sv_elab.specs.Working.{Fills, Supplies, JudgesSupply, wire_seg}
 use Rattle.sv_elab.proofs.Wires.{seg_is, run_long}

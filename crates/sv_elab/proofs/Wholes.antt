@@ -29,7 +29,7 @@ use Rattle.sv_scope.specs.Scoped.{IsScoped, design_is, levels_of, wires_of, work
 use Rattle.scope_laws.specs.Wires.{IsWire}
 use Rattle.scope_laws.proofs.Seen.{seen_are_wires, ports_are_wires}
 use Rattle.scope_laws.proofs.Closing.{ports_stand_above}
-use Rattle.sv_driving.specs.Blocks.{AreWires}
+use Rattle.sv_stmt.specs.Blocks.{AreWires}
 use Rattle.sv_elab.specs.declared.whole.Making.{Making}
 use Rattle.sv_elab.specs.Elaborated.{IsElaborated, sound_design}
 use Rattle.sv_elab.specs.Working.{TaskFits, TaskStandsAbove, AreSound, IsMade}

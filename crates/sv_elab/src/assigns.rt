@@ -8,7 +8,7 @@ ghost use Rattle.sv_meaning.specs.Values.{mean};
 ghost use Rattle.sv_meaning.specs.Targets as t;
 ghost use Rattle.sv_meaning.specs.Designs.{assigned_to, wires_named};
 ghost use Rattle.sv_targets.specs.Slots.{IsLowered};
-ghost use Rattle.sv_driving.specs.Blocks.{AreWires};
+ghost use Rattle.sv_stmt.specs.Blocks.{AreWires};
 ghost use Rattle.sv_elab.specs.Working.{JudgesSupply};
 
 use crate::parts::part_drivers;

@@ -15,7 +15,7 @@ ghost use Rattle.sv_tree.specs.declared.design.Way.TheVariants as ways;
 ghost use Rattle.sv_outside.specs.declared.text.Signal.{Signal};
 ghost use Rattle.driver_resolve.specs.Drivers.{widths_of};
 ghost use Rattle.sv_targets.specs.Slots.{IsLowered};
-ghost use Rattle.sv_driving.specs.Blocks.{AreWires};
+ghost use Rattle.sv_stmt.specs.Blocks.{AreWires};
 ghost use Rattle.sv_typing.specs.Judging.{IsCause};
 ghost use Rattle.sv_elab.specs.Working.{AreBelow, JudgesSupply, Supplies, JudgesWork};
 

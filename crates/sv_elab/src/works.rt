@@ -11,7 +11,7 @@ ghost use Rattle.sv_meaning.specs.Params.{name_alone};
 ghost use Rattle.sv_meaning.specs.Designs as d;
 ghost use Rattle.sv_hierarchy.specs.Scopes.{work_of};
 ghost use Rattle.sv_levels.specs.Tasks.{task_is, actual_is};
-ghost use Rattle.sv_driving.specs.Blocks.{AreWires};
+ghost use Rattle.sv_stmt.specs.Blocks.{AreWires};
 ghost use Rattle.sv_elab.specs.Working.{AreBelow, AreSizes, JudgesWork, PortFits, TaskFits, TaskStandsAbove};
 
 use crate::assigns::assigned;
@@ -20,10 +20,10 @@ use driver_resolve::Driver;
 use flat_net::Join;
 use items::Items;
 use std::alloc::{AllocError, Global};
-use sv_driving::block_drivers;
 use sv_names::{Layout, Names};
 use sv_outside::TextErr;
 use sv_scope::{Actual, Task};
+use sv_stmt::block_drivers;
 use sv_tree::{Expr, Way, Word};
 use svex_arena::Arena;
 

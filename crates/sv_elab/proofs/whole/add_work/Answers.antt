@@ -8,7 +8,7 @@ use Rattle.sv_hierarchy.specs.Scopes.{work_of, work_at}
 use Rattle.sv_scope.specs.Scoped.{levels_of, wires_of}
 use Rattle.sv_levels.specs.Levels.{front_is}
 use Rattle.sv_levels.specs.Tasks.{task_is, work_is}
-use Rattle.sv_driving.specs.Blocks.{AreWires}
+use Rattle.sv_stmt.specs.Blocks.{AreWires}
 use Rattle.sv_elab.specs.declared.whole.Making.{Making}
 use Rattle.sv_elab.specs.Working.{join_list, IsWorked, TaskStandsAbove}
 use Rattle.sv_elab.proofs.Making.{made_more}

@@ -4,8 +4,8 @@ use Rattle.sv_names.specs.Names.{names_are}
 use Rattle.sv_hierarchy.specs.Scopes.{work_of}
 use Rattle.sv_levels.specs.declared.tasks.Task.{Task}
 use Rattle.sv_levels.specs.Tasks.{task_is}
-use Rattle.sv_driving.specs.Blocks.{AreWires}
-use Rattle.sv_driving.proofs.Placing.{one_width}
+use Rattle.sv_stmt.specs.Blocks.{AreWires}
+use Rattle.sv_stmt.proofs.Placing.{one_width}
 use Rattle.sv_elab.specs.Working.{IsWorked, JudgesWork, TaskStandsAbove}
 use Rattle.sv_elab.proofs.Working.{assignment_worked, block_worked}
 use Rattle.sv_elab.proofs.works.work_parts.Goals as goal

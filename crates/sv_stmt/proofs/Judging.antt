@@ -35,10 +35,10 @@ use Rattle.sv_actions.specs.Typing.{Does}
 use Rattle.sv_blocks.specs.declared.ends.Clock.{Clock}
 use Rattle.sv_actions.specs.Texts.{wire_signal, signal_of, target_signals, event_signals, signals_of}
 use Rattle.sv_blocks.specs.Driving.{given}
-use Rattle.sv_driving.specs.Blocks.{AreDeclared, AreWires, Reads, clock_manner, clock_signals, IsClock, block_end, now_names, named_in, Contributes}
-use Rattle.sv_driving.proofs.Rooted.{two_declared, targets_declared, event_declared}
-use Rattle.sv_driving.proofs.Contributing.{named_wire, filter_in}
-use Rattle.sv_driving.proofs.Naming.{deed_declared}
+use Rattle.sv_stmt.specs.Blocks.{AreDeclared, AreWires, Reads, clock_manner, clock_signals, IsClock, block_end, now_names, named_in, Contributes}
+use Rattle.sv_stmt.proofs.Rooted.{two_declared, targets_declared, event_declared}
+use Rattle.sv_stmt.proofs.Contributing.{named_wire, filter_in}
+use Rattle.sv_stmt.proofs.Naming.{deed_declared}
 
 -- ---- events
 

@@ -22,8 +22,8 @@ use Rattle.sv_blocks.specs.Declaring.{wire_is, wires_are, IsThere, SameWires, Is
 use Rattle.sv_blocks.specs.Fitting.{HasPlace, Sits}
 use Rattle.sv_blocks.proofs.Marking.{same_scene, same_place}
 use Rattle.sv_blocks.proofs.Sitting.{Placed, sit_all}
-use Rattle.sv_driving.specs.Blocks.{AreDeclared, AreThere, AreWires, OneWidth}
-use Rattle.sv_driving.proofs.Rooted.{targets_declared}
+use Rattle.sv_stmt.specs.Blocks.{AreDeclared, AreThere, AreWires, OneWidth}
+use Rattle.sv_stmt.proofs.Rooted.{targets_declared}
 
 -- where names are wires, all of one wire are of its width
 pub one_width : (at : Scope) (widths : List ℕ) → AreWires at widths → OneWidth at

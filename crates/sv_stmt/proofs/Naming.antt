@@ -19,7 +19,7 @@ use Rattle.sv_meaning.specs.Values.{mean, step}
 use Rattle.sv_meaning.specs.Targets.{Target, target_of, targets, targets_of}
 use Rattle.sv_meaning.specs.Deeds.{Deed, deed, deed_else, deeds, arms, with_index, in_turns, in_turn, turns, target_names, CaseArm, labels_of, all_names, case_chain, case_of, longest, all_signed, is_casez}
 use Rattle.sv_meaning.proofs.Declaring.{names-declared}
-use Rattle.sv_driving.specs.Blocks.{AreDeclared}
+use Rattle.sv_stmt.specs.Blocks.{AreDeclared}
 
 none : (at : Scope) → AreDeclared at []
 none at s h = absurd (omega (arith, h.1))

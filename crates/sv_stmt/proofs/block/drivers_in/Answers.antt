@@ -8,10 +8,10 @@ use Rattle.sv_blocks.specs.Fitting.{BitSits}
 use Rattle.sv_blocks.specs.Ending.{clock_wire, Finishes}
 use Rattle.sv_blocks.proofs.Marking.{same_scene}
 use Rattle.sv_blocks.proofs.Sitting.{bits_sit_all, distinct_sit_all}
-use Rattle.sv_driving.proofs.Having.{have_bits}
-use Rattle.sv_driving.proofs.Contributing.{contributes}
-use Rattle.sv_driving.proofs.Placing.{scene_sits, same_wires}
-use Rattle.sv_driving.proofs.block.drivers_in.Goals as goal
+use Rattle.sv_stmt.proofs.Having.{have_bits}
+use Rattle.sv_stmt.proofs.Contributing.{contributes}
+use Rattle.sv_stmt.proofs.Placing.{scene_sits, same_wires}
+use Rattle.sv_stmt.proofs.block.drivers_in.Goals as goal
 
 pub marked_in-requires-clause-sits : goal.marked_in-requires-clause-sits
 marked_in-requires-clause-sits c =

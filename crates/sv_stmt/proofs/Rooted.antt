@@ -26,7 +26,7 @@ use Rattle.sv_meaning.specs.Layouts.{Name as Text, Scope, What, signal_is, numbe
 use Rattle.std.specs.Prelude.{bytes_eq, OnOk}
 use Rattle.std.proofs.Common.{cond, true, false}
 use Rattle.sv_actions.specs.Texts.{wire_signal, signal_of, root_signals, all_root_signals, target_signals, else_signals, signals_in, arms_signals, event_signals, of_each, other_signals, arm_signals}
-use Rattle.sv_driving.specs.Blocks.{AreDeclared}
+use Rattle.sv_stmt.specs.Blocks.{AreDeclared}
 
 abbrev pub Signals : Type 0
 Signals = List NamedSignal

@@ -35,7 +35,7 @@ use Rattle.sv_actions.specs.Texts.{wire_signal}
 use Rattle.sv_blocks.specs.Declaring.{SceneAmong, SameWires, IsBegun, IsMarked}
 use Rattle.sv_blocks.specs.Driving.{given, SceneFits, IsPlaced}
 use Rattle.sv_blocks.specs.Ending.{clock_wire, end_store, EventHolds, Finishes}
-use Rattle.sv_driving.specs.Blocks.{AreDeclared, AreWires, Reads, clock_signals, block_end, now_names, named_in, Contributes}
+use Rattle.sv_stmt.specs.Blocks.{AreDeclared, AreWires, Reads, clock_signals, block_end, now_names, named_in, Contributes}
 use Rattle.sv_blocks.proofs.Marking.{same_scene}
 use Rattle.sv_stores.proofs.Stores.{written_at, written_none, reads_comb}
 

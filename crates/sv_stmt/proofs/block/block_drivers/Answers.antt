@@ -9,10 +9,10 @@ use Rattle.sv_meaning.specs.Blocks.{event_faults, marks, is_clocked, manner}
 use Rattle.sv_actions.specs.declared.action.Action.{Action}
 use Rattle.sv_actions.specs.Doing.{Aims, names_all}
 use Rattle.sv_actions.specs.Texts.{target_signals}
-use Rattle.sv_driving.specs.Blocks.{AreDeclared, OneWidth, Contributes}
-use Rattle.sv_driving.proofs.Judging.{cause_mark, mark_cause, block_sound, block_mentions}
-use Rattle.sv_driving.proofs.Naming.{deed_declared}
-use Rattle.sv_driving.proofs.block.block_drivers.Goals as goal
+use Rattle.sv_stmt.specs.Blocks.{AreDeclared, OneWidth, Contributes}
+use Rattle.sv_stmt.proofs.Judging.{cause_mark, mark_cause, block_sound, block_mentions}
+use Rattle.sv_stmt.proofs.Naming.{deed_declared}
+use Rattle.sv_stmt.proofs.block.block_drivers.Goals as goal
 
 pub returns-in_err-judge_marks-clause-cause : goal.returns-in_err-judge_marks-clause-cause
 returns-in_err-judge_marks-clause-cause c =

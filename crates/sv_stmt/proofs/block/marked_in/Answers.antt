@@ -3,8 +3,8 @@ use Rattle.lhs_alias.specs.declared.segs.WireBit.{WireBit}
 use Rattle.sv_actions.specs.Doing.{writes_all}
 use Rattle.sv_blocks.specs.Fitting.{BitSits}
 use Rattle.sv_blocks.proofs.Sitting.{bits_sit_all}
-use Rattle.sv_driving.proofs.Placing.{marked_by}
-use Rattle.sv_driving.proofs.block.marked_in.Goals as goal
+use Rattle.sv_stmt.proofs.Placing.{marked_by}
+use Rattle.sv_stmt.proofs.block.marked_in.Goals as goal
 
 pub mark_all-requires-clause-bits : goal.mark_all-requires-clause-bits
 mark_all-requires-clause-bits c =

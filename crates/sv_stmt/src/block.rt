@@ -18,7 +18,7 @@ ghost use Rattle.sv_stores.specs.Scenes.{is_written, IsScene};
 ghost use Rattle.sv_blocks.specs.Fitting.{Sits};
 ghost use Rattle.sv_blocks.specs.Declaring.{HasMarks, IsBegun, IsMarked};
 ghost use Rattle.sv_blocks.specs.Ending.{clock_wire};
-ghost use Rattle.sv_driving.specs.Blocks.{AreThere, AreDeclared, AreWires, OneWidth, Reads, JudgesClock, Contributes};
+ghost use Rattle.sv_stmt.specs.Blocks.{AreThere, AreDeclared, AreWires, OneWidth, Reads, JudgesClock, Contributes};
 
 use driver_resolve::Driver;
 use items::Items;

@@ -5,8 +5,8 @@ use Rattle.sv_stores.specs.declared.scene.Scene.{Scene}
 use Rattle.sv_blocks.specs.declared.wires.Wire.{Wire}
 use Rattle.sv_blocks.specs.Declaring.{IsAmong, wires_are}
 use Rattle.sv_blocks.proofs.Wiring.{among_all}
-use Rattle.sv_driving.proofs.Placing.{begun_by, there_by}
-use Rattle.sv_driving.proofs.block.scene_in.Goals as goal
+use Rattle.sv_stmt.proofs.Placing.{begun_by, there_by}
+use Rattle.sv_stmt.proofs.block.scene_in.Goals as goal
 
 pub returns-clause-begun : goal.returns-clause-begun
 returns-clause-begun c =

@@ -1,0 +1,8 @@
+//! What stands in a module as nodes and drivers, over the names of its place: expressions (`lower_expr`), and blocks, by what
+//! they contribute to the bits that they write (IEEE 1800-2017, 9.2.2).
+#![tactic(auto)]
+
+mod block;
+
+pub use block::block_drivers;
+pub use sv_lowered::lower_expr;
