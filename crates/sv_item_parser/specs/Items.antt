@@ -107,6 +107,15 @@ pair = made_pair <$> (lvalue ⊗ given)
 unfoldable pub assigns : Parser Item
 assigns = it.Assign <$> (keyword key.Assign ▸ (listed pair ◂ mark m.Semicolon))
 
+abbrev pub typedef_item : Parser Item
+typedef_item = it.Typedef <$> typedef
+
+abbrev pub param_item : Parser Item
+param_item = it.Param <$> param
+
+abbrev pub always_item : Parser Item
+always_item = it.Always <$> always
+
 -- ---- items that hold items
 
 abbrev pub place_of : Token → Option Place
@@ -158,11 +167,11 @@ module _ (loop cond item : Parser Item) where
   abbrev pub item_for : ItemOpener → Parser Item
   item_for item_by.Net = net
   item_for item_by.Type = variable
-  item_for item_by.Typedef = it.Typedef <$> typedef
-  item_for item_by.Param = it.Param <$> param
+  item_for item_by.Typedef = typedef_item
+  item_for item_by.Param = param_item
   item_for item_by.Genvar = genvar
   item_for item_by.Assign = assigns
-  item_for item_by.Always = it.Always <$> always
+  item_for item_by.Always = always_item
   item_for item_by.Name = named_item
   item_for item_by.For = loop
   item_for item_by.If = cond

@@ -2,13 +2,11 @@
 // proved by itself.
 ghost use Rattle.std.specs.Prelude.{◌≡◌, is_some};
 ghost use Rattle.sv_cursor.specs.Parsers as parser;
-ghost use Rattle.sv_cursor.specs.Parsers.{Reads, ◌<$>◌, ◌⊗◌, ◌▷◌, told};
+ghost use Rattle.sv_cursor.specs.Parsers.{Reads, ◌⊗◌, ◌▷◌, told};
 ghost use Rattle.sv_cursor.specs.Tests as test;
 ghost use Rattle.sv_word_parser.specs.Combined.{◌▸◌, ◌◂◌, listed, sort_test, word_test};
 ghost use Rattle.sv_instance_parser.specs.Instances as instances;
 ghost use Rattle.sv_item_parser.specs.Items as spec;
-ghost use Rattle.sv_type_parser.specs.Forms as forms;
-ghost use Rattle.sv_type_parser.specs.Params as params;
 ghost use Rattle.sv_type_parser.specs.Lists as list;
 ghost use Rattle.sv_type_parser.specs.Lists.{Nests};
 ghost use Rattle.sv_stmt_parser.specs.Loops as loops;
@@ -202,7 +200,7 @@ pub fn genvar(alloc: Global, tokens: &mut Cursor<'_>) -> Result<Item, ParseErr>
 
 /// A type that is given a name.
 pub fn typedef_item(alloc: Global, tokens: &mut Cursor<'_>) -> Result<Item, ParseErr>
-    ensures { Reads ((Item.Typedef <$> forms.typedef) tokens.old) result tokens.new }
+    ensures { Reads (spec.typedef_item tokens.old) result tokens.new }
 {
     let inner = typedef(alloc, tokens)?;
     Ok(Item::Typedef(inner))
@@ -210,7 +208,7 @@ pub fn typedef_item(alloc: Global, tokens: &mut Cursor<'_>) -> Result<Item, Pars
 
 /// Parameters.
 pub fn param_item(alloc: Global, tokens: &mut Cursor<'_>) -> Result<Item, ParseErr>
-    ensures { Reads ((Item.Param <$> params.param) tokens.old) result tokens.new }
+    ensures { Reads (spec.param_item tokens.old) result tokens.new }
 {
     let inner = param(alloc, tokens)?;
     Ok(Item::Param(inner))
@@ -218,7 +216,7 @@ pub fn param_item(alloc: Global, tokens: &mut Cursor<'_>) -> Result<Item, ParseE
 
 /// A block as an item.
 pub fn always_item(alloc: Global, tokens: &mut Cursor<'_>) -> Result<Item, ParseErr>
-    ensures { Reads ((Item.Always <$> spec.always) tokens.old) result tokens.new }
+    ensures { Reads (spec.always_item tokens.old) result tokens.new }
 {
     let inner = always(alloc, tokens)?;
     Ok(Item::Always(inner))
