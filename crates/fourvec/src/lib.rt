@@ -17,6 +17,7 @@ mod selects;
 mod shifts;
 
 pub use laws::{operators_are_monotone, order_of_contributions_is_free};
+pub use selects::Reach;
 
 /// One bit: 0, 1, X or Z.
 #[derive(Clone, Copy, PartialEq, Eq, Hash, Debug)]

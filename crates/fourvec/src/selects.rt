@@ -6,11 +6,11 @@ ghost use Rattle.fourvec.specs.Spots.{place_of, reached, window, dyn_slice_of, o
 
 use crate::{Bit, Four, Spot, mask};
 
-// A whole number: how far from 0 it is, and whether below.
+/// A whole number: how far from 0 it is, and whether below.
 #[derive(Clone, Copy)]
-struct Reach {
-    below: bool,
-    far: u128,
+pub struct Reach {
+    pub below: bool,
+    pub far: u128,
 }
 
 impl Four {
@@ -55,9 +55,9 @@ impl Four {
         }
     }
 
-    // Where a spot begins. None only where that is 128 or more from 0.
+    /// Where a spot begins, by this index. None only where that is 128 or more from 0.
     #[tactic(auto, using(crate::proofs::Places::places))]
-    fn place(&self, spot: &Spot) -> Option<Reach>
+    pub fn place(&self, spot: &Spot) -> Option<Reach>
         requires { IsTrue (is_known self.now) }
         ensures near { IfSome result (λ r. place_of spot.now self.now ≡ reached r.below r.far) }
         ensures far { IfNone result (128 ≤ unsigned_abs (place_of spot.now self.now)) }

@@ -34,7 +34,7 @@ use Rattle.sv_tree.specs.declared.design.Module.{Module}
 use Rattle.sv_tree.specs.declared.design.SourcePart.{SourcePart}
 use Rattle.sv_tree.specs.declared.design.SourcePart.TheVariants as source_part
 use Rattle.sv_tree.specs.declared.design.Source.{Source}
-use Rattle.sv_tree.specs.Nesting.{Depths, one, two, three, in_stmt, in_generate, in_type, if_given, each_depths, commas_depths, word_depths, label_depths, expr_depths, select_depths}
+use Rattle.sv_tree.specs.Nesting.{Depths, one, two, three, in_expr, in_stmt, in_generate, in_type, if_given, each_depths, commas_depths, word_depths, label_depths, expr_depths, select_depths}
 
 -- ---- types: each is one part
 
@@ -88,9 +88,10 @@ port_depths p = if_given word_depths p.way ++ if_given word_depths p.kind ++ if_
 -- ---- statements: each is one part
 
 unfoldable mutual
+  -- a target in braces is one part of the expressions, as a concatenation is (this project's rule)
   pub lvalue_depths : Lvalue → Depths
   lvalue_depths (Name w all) = one ++ each_depths select_depths all
-  lvalue_depths (Concat' p s all) = one ++ lvalues_depths all ++ one
+  lvalue_depths (Concat' p s all) = in_expr (one ++ lvalues_depths all ++ one)
 
   -- commas between them
   pub lvalues_depths : {m : Count} → Row_of-Lvalue m → Depths
@@ -155,7 +156,7 @@ kind_depths kind.StarParen = three ++ two
 abbrev pub block_depths : Block → Depths
 block_depths b = kind_depths b.kind ++ stmt_depths b.body
 
--- ---- items: each `for` and `if` of a module is one part
+-- ---- items: each `for`, `if` and `generate` of a module is one part (`generate` by this project's rule)
 
 abbrev pub pair_depths : AssignPair → Depths
 pair_depths p = lvalue_depths p.target ++ one ++ expr_depths p.value
@@ -194,7 +195,7 @@ unfoldable mutual
   item_depths (For' p header v start test next r (more_of-Gen x end_of-Gen)) =
       in_generate (two ++ if_true header ++ turns_depths (expr_depths start) (expr_depths test) next ++ gen_depths x)
   item_depths (If' p c r (more_of-Gen x end_of-Gen) other) = in_generate (two ++ expr_depths c ++ one ++ gen_depths x ++ other_depths other)
-  item_depths (Generate' s all) = one ++ items_depths all ++ one
+  item_depths (Generate' s all) = in_generate (one ++ items_depths all ++ one)
 
   pub gen_depths : Gen → Depths
   gen_depths (Block' p b s all e) = one ++ if_given label_depths b ++ items_depths all ++ one ++ if_given label_depths e
