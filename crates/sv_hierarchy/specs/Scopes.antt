@@ -32,11 +32,11 @@ use Rattle.sv_tree.specs.declared.design.Gen.{Gen, Block', Single'}
 use Rattle.sv_outside.specs.declared.refusal.Place.{Place}
 use Rattle.sv_outside.specs.declared.text.Signal.{Signal}
 use Rattle.sv_meaning.specs.Faults.{Faults, fault, fault_if, Judged, provided, faults_of, ◌>>=◌, unknown_module, unknown_name, twice, instance_deep, too_many_bits, top_unclear}
-use Rattle.sv_meaning.specs.Layouts.{Name, Layout, scalar, width, Scope, What, type_is, signal_is, genvar_is, of_wires, find}
+use Rattle.sv_meaning.specs.Layouts.{Name, Entry, Layout, scalar, width, Scope, scope_of, What, type_is, signal_is, genvar_is, of_wires, find}
 use Rattle.sv_meaning.specs.Names.{has_name}
 use Rattle.sv_meaning.specs.Meanings.{Meaning}
 use Rattle.sv_meaning.specs.Values.{mean}
-use Rattle.sv_meaning.specs.Forms.{Entry, Declared, entry_of, form}
+use Rattle.sv_meaning.specs.Forms.{Declared, entry_of, form}
 use Rattle.sv_meaning.specs.Deeds.{index_entry, turns, turn_faults, fixed_truth}
 use Rattle.sv_meaning.specs.Designs.{Work, assignment, block, port, Design, design_faults}
 use Rattle.sv_meaning.specs.Params.{param_value, Connection, connections, is_parameter}
@@ -79,23 +79,25 @@ with_level zero f (x ∷ more) = f x ∷ more
 with_level (suc n) f (x ∷ more) = x ∷ with_level n f more
 
 -- A constant expression sees what is declared above it. In one scope a name is declared once, and hides the variable of the loop.
-unfoldable pub seen_along : List Level → List Front → Scope
+unfoldable pub seen_along : List Level → List Front → List Entry
 seen_along all [] = []
 seen_along all (f ∷ more) = (take f.nets (level_at all f.level).nets ++ take f.consts (level_at all f.level).consts) ++ seen_along all more
 
 -- All else sees the constants and types declared above it, and all nets and variables of the scopes around it.
-unfoldable pub live_along : List Level → List Front → Scope
+unfoldable pub live_along : List Level → List Front → List Entry
 live_along all [] = []
 live_along all (f ∷ more) = ((level_at all f.level).nets ++ take f.consts (level_at all f.level).consts) ++ live_along all more
 
 abbrev pub fronts_at : List Level → Front → List Front
 fronts_at all f = (level_at all f.level).around ++ f ∷ []
 
+-- what a constant expression sees at a place
 abbrev pub seen_at : List Level → Front → Scope
-seen_at all f = seen_along all (fronts_at all f)
+seen_at all f = scope_of (seen_along all (fronts_at all f))
 
+-- what any expression sees there
 abbrev pub live_at : List Level → Front → Scope
-live_at all f = live_along all (fronts_at all f)
+live_at all f = record { all = live_along all (fronts_at all f); above = seen_along all (fronts_at all f) }
 
 -- ---- what is found
 

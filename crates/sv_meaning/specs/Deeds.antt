@@ -20,10 +20,9 @@ use Rattle.sv_outside.specs.declared.refusal.Place.{Place}
 use Rattle.sv_literal.specs.declared.meaning.Literal.{Literal}
 use Rattle.sv_tree.specs.declared.word.Word.{Word}
 use Rattle.sv_meaning.specs.Faults.{Faults, fault, fault_if, or_then, Judged, provided, ◌>>=◌, loop_long}
-use Rattle.sv_meaning.specs.Layouts.{Name, Scope, number_is, NamedSignal, Read}
+use Rattle.sv_meaning.specs.Layouts.{Name, Entry, Scope, constant_scope, with_names, number_is, NamedSignal, Read}
 use Rattle.sv_meaning.specs.Meanings.{Meaning, fixed_faults, free_faults, nowhere, assigned, truth, named, literal_value, all_indices}
 use Rattle.sv_meaning.specs.Values.{mean, binary_meaning}
-use Rattle.sv_meaning.specs.Forms.{Entry}
 use Rattle.sv_meaning.specs.Params.{converted_faults}
 use Rattle.lhs_alias.specs.declared.segs.WireBit.{WireBit}
 use Rattle.settling.specs.Settling.{Store}
@@ -62,7 +61,7 @@ abbrev pub fixed_truth : Meaning → Judged Bool
 fixed_truth m = provided (fixed_faults m) (is_taken (truth m nowhere))
 
 abbrev pub with_index : Scope → Name → List Bit → Scope
-with_index at name bits = at ++ index_entry name bits ∷ []
+with_index at name bits = with_names at (index_entry name bits ∷ [])
 
 abbrev pub holds_at : Scope → Name → Expr → List Bit → Judged Bool
 holds_at at name test bits = fixed_truth (mean (with_index at name bits) test)
@@ -234,6 +233,7 @@ is_casez case_word.Casez = true
 
 -- ---- statements
 
+-- The first value, the condition and the step of a loop are constant expressions, and an index of a target is none.
 unfoldable mutual
   pub deed : Stmt → Scope → Deed
   deed Empty at = idle
@@ -241,8 +241,8 @@ unfoldable mutual
   deed (If' u c r (more_of-Stmt x end_of-Stmt) other) at = if_else (mean at c) (deed x at) (deed_else other at)
   deed (Case' u word x s all) at = case_of (is_casez word) (mean at x) (arms all at)
   deed (For' p form name start test next r (more_of-Stmt body end_of-Stmt)) at =
-      in_turns p (λ bits. deed body (with_index at name.text bits)) (turns p at name.text start test next)
-  deed (Assign to mark p x) at = assign (targets at to) (lvalue_faults free_faults at to) (mean at x)
+      in_turns p (λ bits. deed body (with_index at name.text bits)) (turns p (constant_scope at) name.text start test next)
+  deed (Assign to mark p x) at = assign (targets at at to) (lvalue_faults free_faults at at to) (mean at x)
 
   pub deed_else : Held-Stmt-If-3 → Scope → Deed
   deed_else None' at = idle

@@ -11,14 +11,14 @@ use Rattle.sv_tree.specs.declared.word.Word.{Word}
 use Rattle.sv_outside.specs.declared.refusal.Place.{Place}
 use Rattle.sv_outside.specs.declared.text.Signal.{Signal}
 use Rattle.sv_meaning.specs.Faults.{Faults, fault, or_then, is_clear, bad_target}
-use Rattle.sv_meaning.specs.Layouts.{Layout, width, Scope, signal_is, of_wires, Origin, NamedSignal, find}
+use Rattle.sv_meaning.specs.Layouts.{Layout, width, Scope, constant_scope, signal_is, of_wires, Origin, NamedSignal, find}
 use Rattle.sv_meaning.specs.Meanings.{Meaning, fixed_faults, free_faults, assigned, named}
 use Rattle.sv_meaning.specs.Values.{mean, steps}
 use Rattle.lhs_alias.specs.declared.segs.WireBit.{WireBit}
 use Rattle.lhs_alias.specs.Segs.{bit}
 use Rattle.lhs_alias.specs.Pairs.{Linked}
 use Rattle.settling.specs.Settling.{Store, value_at, Link, Contribution, first_bit, SettlesBy}
-use Rattle.sv_meaning.specs.Targets.{Target, target_of, target_faults, wide_target, lvalue_faults, targets, widths, are_fixed, slots, bits_named}
+use Rattle.sv_meaning.specs.Targets.{Target, target_of, target_faults, wide_target, assigned_faults, assigned_targets, widths, are_fixed, slots, bits_named}
 use Rattle.sv_meaning.specs.Deeds.{Deed, deed}
 use Rattle.sv_meaning.specs.Blocks.{has_bit, distinct, reads, Manner, comb, clocked, no_manner, manner, block_value, block_faults}
 
@@ -39,31 +39,37 @@ pub record Design : Type 0 where
 
 -- ---- ports, IEEE 1800-2017 section 23.3.3
 
--- a net or variable with selects, or a concatenation of these
+-- a net or variable with selects, or a concatenation of these, the indices being read in a scope of their own
 unfoldable mutual
-  pub as_targets : Scope → Expr → List Target
-  as_targets at (Name' w s all) = target_of (find w.text at) (steps at all) ∷ []
-  as_targets at (Concat' p s all) = all_as_targets at all
-  as_targets at x = target_of None [] ∷ []
+  pub as_targets : Scope → Scope → Expr → List Target
+  as_targets index at (Name' w s all) = target_of (find w.text at) (steps index all) ∷ []
+  as_targets index at (Concat' p s all) = all_as_targets index at all
+  as_targets index at x = target_of None [] ∷ []
 
-  pub all_as_targets : {m : Count} → Scope → Row_of-Expr m → List Target
-  all_as_targets at end_of-Expr = []
-  all_as_targets at (more_of-Expr x all) = as_targets at x ++ all_as_targets at all
+  pub all_as_targets : {m : Count} → Scope → Scope → Row_of-Expr m → List Target
+  all_as_targets index at end_of-Expr = []
+  all_as_targets index at (more_of-Expr x all) = as_targets index at x ++ all_as_targets index at all
 
 -- what stands against a part of an actual as a target, where the actual begins at a place: that it is none, or that one of its names is none
 unfoldable mutual
-  pub part_faults : Place → Scope → Expr → Faults
-  part_faults start at (Name' w s all) = target_faults fixed_faults start w (find w.text at) (steps at all)
-  part_faults start at (Concat' p s all) = or_then (all_part_faults start at all) (wide_target p (all_as_targets at all))
-  part_faults start at x = fault bad_target start
+  pub part_faults : Place → Scope → Scope → Expr → Faults
+  part_faults start index at (Name' w s all) = target_faults fixed_faults start w (find w.text at) (steps index all)
+  part_faults start index at (Concat' p s all) = or_then (all_part_faults start index at all) (wide_target p (all_as_targets index at all))
+  part_faults start index at x = fault bad_target start
 
-  pub all_part_faults : {m : Count} → Place → Scope → Row_of-Expr m → Faults
-  all_part_faults start at end_of-Expr = []
-  all_part_faults start at (more_of-Expr x all) = part_faults start at x ++ all_part_faults start at all
+  pub all_part_faults : {m : Count} → Place → Scope → Scope → Row_of-Expr m → Faults
+  all_part_faults start index at end_of-Expr = []
+  all_part_faults start index at (more_of-Expr x all) = part_faults start index at x ++ all_part_faults start index at all
 
 -- what stands against the whole
-abbrev pub actual_faults : Scope → Expr → Faults
-actual_faults at x = part_faults (mean at x).start at x
+abbrev pub actual_faults : Scope → Scope → Expr → Faults
+actual_faults index at x = part_faults (mean at x).start index at x
+
+-- Where an index of an actual is read: that of an output or an inout is a constant expression, as in a continuous assignment; an input's
+-- actual is an expression.
+abbrev pub index_scope : Way → Scope → Scope
+index_scope way.Input at = at
+index_scope w at = constant_scope at
 
 unfoldable pub are_present : {A : Type 0} → List (Option A) → Bool
 are_present [] = true
@@ -71,10 +77,10 @@ are_present (None ∷ more) = false
 are_present (Some x ∷ more) = are_present more
 
 -- assignable, of the port's width, with all selects constant and in range
-abbrev pub is_joined : Scope → Layout → Expr → Bool
-is_joined at x actual =
-    is_clear (actual_faults at actual)
-    && (widths (as_targets at actual) == width x && (are_fixed (as_targets at actual) && are_present (slots (as_targets at actual))))
+abbrev pub is_joined : Scope → Scope → Layout → Expr → Bool
+is_joined index at x actual =
+    is_clear (actual_faults index at actual)
+    && (widths (as_targets index at actual) == width x && (are_fixed (as_targets index at actual) && are_present (slots (as_targets index at actual))))
 
 -- the bits of a wire
 unfoldable pub bits_of_wire : ℕ → ℕ → ℕ → List WireBit
@@ -86,7 +92,8 @@ pairs (x ∷ xs) (y ∷ ys) = (x, y) ∷ pairs xs ys
 pairs xs ys = []
 
 abbrev pub links_of_work : Work → List Link
-links_of_work (port at w n x actual) = if is_joined at x actual then pairs (bits_of_wire n 0 (width x)) (bits_named (as_targets at actual)) else []
+links_of_work (port at w n x actual) =
+    if is_joined (index_scope w at) at x actual then pairs (bits_of_wire n 0 (width x)) (bits_named (as_targets (index_scope w at) at actual)) else []
 links_of_work w = []
 
 unfoldable pub links_of : List Work → List Link
@@ -113,16 +120,16 @@ no_word = record { text = []; place = record { file = 0; line = 0; column = 0 } 
 
 abbrev pub port_gives : Way → Scope → ℕ → Layout → Expr → Store → List Contribution
 port_gives way.Input at n x actual now = driven (wire_slots n x) (assigned (mean at actual) (reads now) (width x))
-port_gives way.Output at n x actual now = assigned_to (as_targets at actual) (named no_word (Some (signal_is of_wires n x)) []) now
+port_gives way.Output at n x actual now = assigned_to (as_targets (constant_scope at) at actual) (named no_word (Some (signal_is of_wires n x)) []) now
 port_gives way.Inout at n x actual now = []
 
 abbrev pub block_gives : Deed → Store → List Contribution
 block_gives a end = map (λ b. (b, value_at end b)) (distinct a.targets)
 
 abbrev pub gives : Work → Store → Store → List Contribution
-gives (assignment at to x) prev now = assigned_to (targets at to) (mean at x) now
+gives (assignment at to x) prev now = assigned_to (assigned_targets at to) (mean at x) now
 gives (block at b) prev now = block_gives (deed b.body at) (block_value (manner at b.kind) (deed b.body at) prev now)
-gives (port at w n x actual) prev now = if is_joined at x actual then [] else port_gives w at n x actual now
+gives (port at w n x actual) prev now = if is_joined (index_scope w at) at x actual then [] else port_gives w at n x actual now
 
 unfoldable pub contributions_of : List Work → Store → Store → List Contribution
 contributions_of [] prev now = []
@@ -137,14 +144,14 @@ contributions d prev now = contributions_of d.works prev now
 -- of a port that is not joined; an inout is never assigned (this project's rule)
 abbrev pub port_faults : Way → Scope → Expr → Faults
 port_faults way.Input at actual = free_faults (mean at actual)
-port_faults way.Output at actual = actual_faults at actual
+port_faults way.Output at actual = actual_faults (constant_scope at) at actual
 port_faults way.Inout at actual = free_faults (mean at actual) ++ fault bad_target (mean at actual).start
 
 -- where so many turns of loops were made before
 abbrev pub work_faults : Work → ℕ → Faults
-work_faults (assignment at to x) made = lvalue_faults fixed_faults at to ++ free_faults (mean at x)
+work_faults (assignment at to x) made = assigned_faults at to ++ free_faults (mean at x)
 work_faults (block at b) made = block_faults at b made
-work_faults (port at w n x actual) made = if is_joined at x actual then [] else port_faults w at actual
+work_faults (port at w n x actual) made = if is_joined (index_scope w at) at x actual then [] else port_faults w at actual
 
 abbrev pub work_turns : Work → ℕ
 work_turns (block at b) = (deed b.body at).turns
@@ -210,18 +217,18 @@ port_names w at n actual = wires_named (mean at actual).names
 abbrev pub names_now : List Signal → Work → List ℕ
 names_now wires (assignment at to x) = wires_named (mean at x).names
 names_now wires (block at b) = block_names wires (manner at b.kind) (deed b.body at)
-names_now wires (port at w n x actual) = if is_joined at x actual then [] else port_names w at n actual
+names_now wires (port at w n x actual) = if is_joined (index_scope w at) at x actual then [] else port_names w at n actual
 
 -- the bits that it contributes to
 abbrev pub port_reaches : Way → Scope → ℕ → Layout → Expr → List WireBit
 port_reaches way.Input at n x actual = bits_of_wire n 0 (width x)
-port_reaches way.Output at n x actual = bits_named (as_targets at actual)
+port_reaches way.Output at n x actual = bits_named (as_targets (constant_scope at) at actual)
 port_reaches way.Inout at n x actual = []
 
 abbrev pub reaches : Work → List WireBit
-reaches (assignment at to x) = bits_named (targets at to)
+reaches (assignment at to x) = bits_named (assigned_targets at to)
 reaches (block at b) = distinct (deed b.body at).targets
-reaches (port at w n x actual) = if is_joined at x actual then [] else port_reaches w at n x actual
+reaches (port at w n x actual) = if is_joined (index_scope w at) at x actual then [] else port_reaches w at n x actual
 
 abbrev pub width_at : Design → ℕ → ℕ
 width_at d a = width_of_wire (slice_get d.wires a)

@@ -1,5 +1,5 @@
 -- The layout of a type, and the constants that it brings.
-use Rattle.std.specs.Prelude.{ℕ, ◌+◌, ◌-◌, ◌^◌, Bool, true, false, ◌&&◌, not, nat_lt, List, [], ◌∷◌, ◌++◌, map, Option, Some, None, Ok, Err, ℤ, pos, negsuc, ◌+ℤ◌, int_le, int_lt}
+use Rattle.std.specs.Prelude.{ℕ, ◌+◌, ◌-◌, ◌^◌, Bool, true, false, ◌&&◌, ◌||◌, not, nat_lt, nat_le, List, [], ◌∷◌, ◌++◌, map, Option, Some, None, Ok, Err, ℤ, pos, negsuc, ◌+ℤ◌, int_le, int_lt}
 use mathlib.Core.Former.{Count}
 use Rattle.fourvec.specs.Bits.{signed_vector}
 use Rattle.sv_outside.specs.declared.refusal.Place.{Place}
@@ -12,14 +12,10 @@ use Rattle.sv_tree.specs.declared.forms.EnumLabel.{EnumLabel}
 use Rattle.sv_tree.specs.declared.forms.TypeTree.{TypeTree, Vector, Integer, Struct', Enum, Named, Row_of-Member, end_of-Member, more_of-Member}
 use Rattle.sv_tree.specs.declared.forms.Member.{Of', end_of-TypeTree, more_of-TypeTree}
 use Rattle.sv_meaning.specs.Faults.{Faults, fault, fault_if, or_then, Judged, provided, both, ◌>>=◌, bad_width, twice, unknown_name}
-use Rattle.sv_meaning.specs.Layouts.{Name, Layout, scalar, dim, struct, Members, no_members, member, width, plain, Scope, What, number_is, type_is, find}
-use Rattle.sv_meaning.specs.Meanings.{Meaning, fixed_faults, fixed_faults_at, constant_at, number_of, is_bound, is_width, whole}
+use Rattle.sv_meaning.specs.Layouts.{Name, Entry, Layout, scalar, dim, struct, Members, no_members, member, width, width_all, depth, plain, Scope, with_names, What, number_is, type_is, find}
+use Rattle.sv_meaning.specs.Meanings.{Meaning, fixed_faults, fixed_faults_at, constant_at, number_of, is_bound, is_width, whole, nowhere_in_text}
 use Rattle.sv_meaning.specs.Values.{mean}
 use Rattle.sv_meaning.specs.Names.{has_name}
-
--- a name with what it is declared as
-abbrev pub Entry : Type 0
-Entry = Name × What
 
 -- the same, with the place of the name
 abbrev pub Declared : Type 0
@@ -47,8 +43,12 @@ bound at p x = provided (bound_faults p (mean at x)) (number_of (mean at x))
 abbrev pub bounds : Scope → Range → Judged (ℤ × ℤ)
 bounds at r = both (bound at r.place r.left) (bound at r.place r.right)
 
+-- how many ranges and structures may lie in one another (this project's bound)
+abbrev pub most_levels : ℕ
+most_levels = 1000
+
 abbrev pub sized : Place → Layout → Judged Layout
-sized p x = provided (fault_if (not (is_width (width x))) bad_width p) x
+sized p x = provided (fault_if (not (is_width (width x) && nat_le (depth x) most_levels)) bad_width p) x
 
 abbrev pub ranged_layout : Place → Bool → Layout × (ℤ × ℤ) → Judged Layout
 ranged_layout p s found = sized p (dim s found.1.0 found.1.1 found.0)
@@ -99,17 +99,22 @@ labels at w s next [] = Ok []
 labels at w s next (x ∷ more) = do
   n ← label_number at w next x.value
   e ← label_entry w s x.name n
-  rest ← labels (at ++ entry_of e ∷ []) w s (n +ℤ pos 1) more
+  rest ← labels (with_names at (entry_of e ∷ [])) w s (n +ℤ pos 1) more
   Ok (e ∷ rest)
 
 -- ---- structures, section 7.2
 
--- The names of members differ, and the bits of all members so far are no more than 128.
-unfoldable pub member_faults : List Name → ℕ → ℕ → List Word → Faults
-member_faults used bits w [] = []
-member_faults used bits w (n ∷ more) =
-    or_then (fault_if (has_name n.text used) twice n.place ++ fault_if (nat_lt 128 (bits + w)) bad_width n.place)
-    (member_faults (n.text ∷ used) (bits + w) w more)
+-- The names of members differ, the bits of all members so far are no more than 128, and none is nested so deep that the structure would
+-- be nested too deep.
+unfoldable pub member_faults : List Name → ℕ → Layout → List Word → Faults
+member_faults used bits x [] = []
+member_faults used bits x (n ∷ more) =
+    or_then (fault_if (has_name n.text used) twice n.place ++ fault_if (nat_lt 128 (bits + width x) || nat_le most_levels (depth x)) bad_width n.place)
+    (member_faults (n.text ∷ used) (bits + width x) x more)
+
+-- a structure has a member; no text spells one that has none
+abbrev pub some_member : Members → Faults
+some_member all = fault_if (not (nat_lt 0 (width_all all))) bad_width nowhere_in_text
 
 -- one layout for each of the names
 unfoldable pub members_of : List Word → Layout → Members → Members
@@ -142,8 +147,8 @@ unfoldable mutual
     found ← labels at (width base) (has_sign s) (pos 0) all
     Ok (base, found)
   form at (Struct' s r all ranges) = do
-    found ← forms at [] 0 all
-    x ← struct_layout (at ++ entries_of found.1) (has_sign s) ranges found.0
+    found ← forms at [] 0 all >>= λ all. provided (some_member all.0) all
+    x ← struct_layout (with_names at (entries_of found.1)) (has_sign s) ranges found.0
     Ok (x, found.1)
 
   -- the members behind those of such names and of so many bits
@@ -151,6 +156,6 @@ unfoldable mutual
   forms at used bits end_of-Member = Ok (no_members, [])
   forms at used bits (more_of-Member (Of' r (more_of-TypeTree t end_of-TypeTree) names) all) = do
     x ← form at t
-    y ← provided (member_faults used bits (width x.0) names) x
-    rest ← forms (at ++ entries_of y.1) (used ++ texts_of names) (bits + bits_of names (width y.0)) all
+    y ← provided (member_faults used bits x.0 names) x
+    rest ← forms (with_names at (entries_of y.1)) (used ++ texts_of names) (bits + bits_of names (width y.0)) all
     Ok (members_of names y.0 rest.0, y.1 ++ rest.1)

@@ -1,6 +1,6 @@
 -- The laws over the definitions.
 use Rattle.std.specs.Prelude.{◌≡◌, ◌≢◌, [], ◌∷◌, ◌++◌, Some}
-use Rattle.sv_meaning.specs.Layouts.{Name, Scope, What, find}
+use Rattle.sv_meaning.specs.Layouts.{Name, Scope, with_names, What, find}
 use Rattle.settling.specs.Settling.{Store}
 use Rattle.settling.specs.Least.{Under, More, IsLeast}
 use Rattle.sv_meaning.specs.Designs.{Design, contributions, links_of, given_in}
@@ -11,11 +11,11 @@ ContributionsRise = (d : Design) (prev now before later : Store) → Under prev 
 
 -- a name stands for what it was declared as last, whatever was declared before
 abbrev pub LastIsFound : Type 0
-LastIsFound = (n : Name) (at : Scope) (x : What) → find n (at ++ (n, x) ∷ []) ≡ Some x
+LastIsFound = (n : Name) (at : Scope) (x : What) → find n (with_names at ((n, x) ∷ [])) ≡ Some x
 
 -- a declaration changes no other name
 abbrev pub OthersStay : Type 0
-OthersStay = (n m : Name) (at : Scope) (x : What) → m ≢ n → find n (at ++ (m, x) ∷ []) ≡ find n at
+OthersStay = (n m : Name) (at : Scope) (x : What) → m ≢ n → find n (with_names at ((m, x) ∷ [])) ≡ find n at
 
 -- the least valuation that settles over a previous one and a stimulus
 abbrev pub IsLeastSettling : Design → Store → Store → Store → Type 0

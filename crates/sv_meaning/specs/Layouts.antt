@@ -1,5 +1,5 @@
 -- What names stand for: layouts of bits, constants, signals, and the scopes that hold them.
-use Rattle.std.specs.Prelude.{◌≡◌, ℕ, suc, ◌+◌, ◌-◌, ◌*◌, Bool, false, List, [], ◌∷◌, Option, Some, None, ℤ, pos, ◌-ℤ◌, ◌*ℤ◌, nat_abs, int_le, bytes_eq, if◌then◌else◌}
+use Rattle.std.specs.Prelude.{◌≡◌, ◌⊎◌, ℕ, suc, max, ◌+◌, ◌-◌, ◌*◌, Bool, false, List, [], ◌∷◌, ◌++◌, Option, Some, None, ℤ, pos, ◌-ℤ◌, ◌*ℤ◌, nat_abs, int_le, bytes_eq, if◌then◌else◌}
 use Rattle.std.specs.List.{Contains}
 use Rattle.fourvec.specs.declared.Bit.{Bit}
 
@@ -33,6 +33,17 @@ abbrev mutual
   pub width_all : Members → ℕ
   width_all no_members = 0
   width_all (member n x more) = width x + width_all more
+
+-- how deep a layout is nested: one level for each range, and one for each structure
+unfoldable mutual
+  pub depth : Layout → ℕ
+  depth (scalar s) = 0
+  depth (dim s l r each) = suc (depth each)
+  depth (struct s all) = suc (deepest all)
+
+  pub deepest : Members → ℕ
+  deepest no_members = 0
+  deepest (member n x more) = max (depth x) (deepest more)
 
 abbrev pub is_signed : Layout → Bool
 is_signed (scalar s) = s
@@ -78,24 +89,51 @@ pub data What : Type 0 where
   -- the variable of generate loops, outside of a turn
   genvar_is : What
 
--- The last entry of a name counts.
-abbrev pub Scope : Type 0
-Scope = List (Name × What)
+-- a name with what it is declared as
+abbrev pub Entry : Type 0
+Entry = Name × What
+
+-- The names that are seen at a place of a text.
+pub record Scope : Type 0 where
+  -- the constants and types that are declared above it, and all nets and variables of the scopes around it
+  pub all : List Entry
+  -- what is declared above it, which is what a constant expression sees: a net that is declared later hides no constant from it
+  pub above : List Entry
+
+-- what a constant expression sees at the place
+abbrev pub constant_scope : Scope → Scope
+constant_scope at = record { all = at.above; above = at.above }
+
+-- names that are all declared above
+abbrev pub scope_of : List Entry → Scope
+scope_of all = record { all = all; above = all }
+
+-- with more names, declared above
+abbrev pub with_names : Scope → List Entry → Scope
+with_names at more = record { all = at.all ++ more; above = at.above ++ more }
 
 abbrev pub or_else : {A : Type 0} → Option A → Option A → Option A
 or_else (Some x) other = Some x
 or_else None other = other
 
-unfoldable pub find : Name → Scope → Option What
-find n [] = None
-find n (e ∷ more) = or_else (find n more) (if bytes_eq e.0 n then Some e.1 else None)
+-- The last entry of a name counts.
+unfoldable pub last_of : Name → List Entry → Option What
+last_of n [] = None
+last_of n (e ∷ more) = or_else (last_of n more) (if bytes_eq e.0 n then Some e.1 else None)
+
+abbrev pub find : Name → Scope → Option What
+find n at = last_of n at.all
 
 -- An entry stands for this signal, by a layout of its width.
-pub record Declared (at : Scope) (s : NamedSignal) : Type 0 where
+pub record DeclaredIn (entries : List Entry) (s : NamedSignal) : Type 0 where
   pub name : Name
   pub layout : Layout
-  pub is_there : Contains at (name, signal_is s.owner s.number layout)
+  pub is_there : Contains entries (name, signal_is s.owner s.number layout)
   pub wide : width layout ≡ s.width
+
+-- the same of an entry that is seen at a place, or by a constant expression there
+abbrev pub Declared : Scope → NamedSignal → Type 0
+Declared at s = DeclaredIn at.all s ⊎ DeclaredIn at.above s
 
 -- a value for each bit of each signal
 abbrev pub Read : Type 0

@@ -9,8 +9,8 @@ use Rattle.sv_tree.specs.declared.stmts.Lvalue.{Lvalue, Name, Concat', Row_of-Lv
 use Rattle.sv_outside.specs.declared.refusal.Place.{Place}
 use Rattle.sv_tree.specs.declared.word.Word.{Word}
 use Rattle.sv_meaning.specs.Faults.{Faults, fault, fault_if, or_then, unknown_name, bad_width, bad_target}
-use Rattle.sv_meaning.specs.Layouts.{Layout, scalar, width, Scope, What, signal_is, of_wires, Read, find}
-use Rattle.sv_meaning.specs.Meanings.{Meaning, is_width, Step, Part, step_in, bits_at, with_part, chain_layout, chain_faults, indices, bits_from}
+use Rattle.sv_meaning.specs.Layouts.{Layout, scalar, width, Scope, constant_scope, What, signal_is, of_wires, Read, find}
+use Rattle.sv_meaning.specs.Meanings.{Meaning, fixed_faults, is_width, Step, Part, step_in, bits_at, with_part, chain_layout, chain_faults, indices, bits_from}
 use Rattle.lhs_alias.specs.declared.segs.WireBit.{WireBit}
 use Rattle.lhs_alias.specs.Segs.{bit}
 use Rattle.settling.specs.Settling.{Store}
@@ -33,15 +33,15 @@ target_faults judge p w (Some (signal_is of_wires n x)) all = chain_faults judge
 target_faults judge p w None all = fault unknown_name w.place
 target_faults judge p w x all = fault bad_target p
 
--- the parts of a target, the most significant first
+-- the parts of a target, the most significant first, its indices being read in a scope of their own
 unfoldable mutual
-  pub targets : Scope → Lvalue → List Target
-  targets at (Name w all) = target_of (find w.text at) (map (step at) all) ∷ []
-  targets at (Concat' p s all) = targets_of at all
+  pub targets : Scope → Scope → Lvalue → List Target
+  targets index at (Name w all) = target_of (find w.text at) (map (step index) all) ∷ []
+  targets index at (Concat' p s all) = targets_of index at all
 
-  pub targets_of : {m : Count} → Scope → Row_of-Lvalue m → List Target
-  targets_of at end_of-Lvalue = []
-  targets_of at (more_of-Lvalue x all) = targets at x ++ targets_of at all
+  pub targets_of : {m : Count} → Scope → Scope → Row_of-Lvalue m → List Target
+  targets_of index at end_of-Lvalue = []
+  targets_of index at (more_of-Lvalue x all) = targets index at x ++ targets_of index at all
 
 abbrev pub width_or_none : Option Layout → ℕ
 width_or_none None = 0
@@ -58,15 +58,22 @@ widths (t ∷ more) = target_width t + widths more
 abbrev pub wide_target : Place → List Target → Faults
 wide_target p all = fault_if (not (is_width (widths all))) bad_width p
 
--- what stands against a target, its indices being judged so
+-- what stands against a target, its indices being read in a scope of their own and judged so
 unfoldable mutual
-  pub lvalue_faults : (Meaning → Faults) → Scope → Lvalue → Faults
-  lvalue_faults judge at (Name w all) = target_faults judge w.place w (find w.text at) (map (step at) all)
-  lvalue_faults judge at (Concat' p s all) = or_then (all_lvalue_faults judge at all) (wide_target p (targets_of at all))
+  pub lvalue_faults : (Meaning → Faults) → Scope → Scope → Lvalue → Faults
+  lvalue_faults judge index at (Name w all) = target_faults judge w.place w (find w.text at) (map (step index) all)
+  lvalue_faults judge index at (Concat' p s all) = or_then (all_lvalue_faults judge index at all) (wide_target p (targets_of index at all))
 
-  pub all_lvalue_faults : {m : Count} → (Meaning → Faults) → Scope → Row_of-Lvalue m → Faults
-  all_lvalue_faults judge at end_of-Lvalue = []
-  all_lvalue_faults judge at (more_of-Lvalue x all) = lvalue_faults judge at x ++ all_lvalue_faults judge at all
+  pub all_lvalue_faults : {m : Count} → (Meaning → Faults) → Scope → Scope → Row_of-Lvalue m → Faults
+  all_lvalue_faults judge index at end_of-Lvalue = []
+  all_lvalue_faults judge index at (more_of-Lvalue x all) = lvalue_faults judge index at x ++ all_lvalue_faults judge index at all
+
+-- A continuous assignment, section 10.3.2: each index of its target is a constant expression.
+abbrev pub assigned_targets : Scope → Lvalue → List Target
+assigned_targets at to = targets (constant_scope at) at to
+
+abbrev pub assigned_faults : Scope → Lvalue → Faults
+assigned_faults at to = lvalue_faults fixed_faults (constant_scope at) at to
 
 -- ---- the bits that a target names, IEEE 1800-2017 section 11.5.1
 

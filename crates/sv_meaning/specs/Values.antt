@@ -5,6 +5,8 @@ use Rattle.fourvec.specs.declared.Bit.{Bit}
 use Rattle.fourvec.specs.Bits.{not_of, and_of, or_of, xor_of, red_and_of, red_or_of, red_xor_of, truth_of, add_of, sub_of, mul_of, div_of, rem_of, sdiv_of, srem_of, neg_of, eq_of, lt_of, slt_of, shl_of, shr_of, sar_of}
 use Rattle.sv_tree.specs.declared.exprs.Expr.{Expr, Literal, Name', Concat', Repeat', Row_of-Expr, end_of-Expr, more_of-Expr, Row_of-Select, end_of-Select, more_of-Select}
 use Rattle.sv_tree.specs.declared.exprs.Select.{Select, Member}
+use Rattle.sv_tree.specs.declared.exprs.RangeMark.{RangeMark}
+use Rattle.sv_tree.specs.declared.exprs.RangeMark.TheVariants as range_mark
 use Rattle.sv_tree.specs.declared.exprs.Sign.{Sign}
 use Rattle.sv_tree.specs.declared.exprs.Sign.TheVariants as sign
 use Rattle.sv_tree.specs.declared.exprs.SystemName.{SystemName}
@@ -15,7 +17,7 @@ use Rattle.sv_tree.specs.declared.exprs.BinaryOp.{BinaryOp}
 use Rattle.sv_tree.specs.declared.exprs.BinaryOp.TheVariants as two
 use Rattle.sv_meaning.specs.Patterns.{paren, cast_literal, cast_name, cast_paren, cast_sign, system, unary, binary, choose, index, range}
 use Rattle.sv_outside.specs.declared.refusal.Place.{Place}
-use Rattle.sv_meaning.specs.Layouts.{Scope, find}
+use Rattle.sv_meaning.specs.Layouts.{Scope, constant_scope, find}
 use Rattle.sv_meaning.specs.Meanings.{Meaning, context_one, context_two, shift, comparison, reduction, logical, chosen, power, from, concat, repeated, to_sign, sized_by, cast_to, log_up, Step, to_member, to_index, to_range, named, of_literal}
 
 abbrev pub is_signed_word : Sign → Bool
@@ -85,18 +87,30 @@ system_meaning system_name.Signed a = to_sign true a
 system_meaning system_name.Unsigned a = to_sign false a
 system_meaning system_name.Clog2 a = log_up a
 
+-- The operand of `$clog2` is a constant expression.
+abbrev pub operand_scope : SystemName → Scope → Scope
+operand_scope system_name.Clog2 at = constant_scope at
+operand_scope f at = at
+
+-- Both bounds of a range are constant expressions; where a width follows, that alone is one.
+abbrev pub left_scope : RangeMark → Scope → Scope
+left_scope range_mark.To at = constant_scope at
+left_scope m at = at
+
+-- A constant expression sees what is declared above it alone: counts, sizes and types of casts, bounds and widths of ranges, and
+-- operands of `$clog2`. All else sees all nets and variables.
 unfoldable mutual
   pub mean : Scope → Expr → Meaning
   mean at (Literal w) = of_literal w
   mean at (Name' w s all) = named w (find w.text at) (steps at all)
   mean at (paren p x) = from p (mean at x)
   mean at (Concat' p s all) = concat p (means at all)
-  mean at (Repeat' p r (more_of-Expr n end_of-Expr) s all) = repeated p (mean at n) (means at all)
+  mean at (Repeat' p r (more_of-Expr n end_of-Expr) s all) = repeated p (mean (constant_scope at) n) (means at all)
   mean at (cast_literal w x) = sized_by (of_literal w) (mean at x)
-  mean at (cast_name w x) = cast_to w (find w.text at) (mean at x)
-  mean at (cast_paren p n x) = sized_by (from p (mean at n)) (mean at x)
+  mean at (cast_name w x) = cast_to w (find w.text (constant_scope at)) (mean at x)
+  mean at (cast_paren p n x) = sized_by (from p (mean (constant_scope at) n)) (mean at x)
   mean at (cast_sign s p x) = from p (to_sign (is_signed_word s) (mean at x))
-  mean at (system f p x) = from p (system_meaning f (mean at x))
+  mean at (system f p x) = from p (system_meaning f (mean (operand_scope f at) x))
   mean at (unary op p x) = from p (unary_meaning op (mean at x))
   mean at (binary x op p y) = binary_meaning p op (mean at x) (mean at y)
   mean at (choose c x y) = chosen (mean at c) (mean at x) (mean at y)
@@ -108,7 +122,7 @@ unfoldable mutual
   pub step : Scope → Select → Step
   step at (Member p w) = to_member p w.text
   step at (index p x) = to_index p (mean at x)
-  step at (range p x m y) = to_range p (mean at x) m (mean at y)
+  step at (range p x m y) = to_range p (mean (left_scope m at) x) m (mean (constant_scope at) y)
 
   pub steps : {m : Count} → Scope → Row_of-Select m → List Step
   steps at end_of-Select = []

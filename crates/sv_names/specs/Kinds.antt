@@ -77,8 +77,8 @@ EntryIsSound e = WhatIsSound e.1
 abbrev pub entry_is : Entry → m.Name × m.What
 entry_is e = (e.0, what_is e.1)
 
-abbrev pub scope_is : List Entry → m.Scope
-scope_is all = map entry_is all
+abbrev pub entries_are : List Entry → List m.Entry
+entries_are all = map entry_is all
 
 abbrev pub names_of : List Entry → List (List ℕ)
 names_of all = map (λ (e : Entry). e.0) all

@@ -2,9 +2,9 @@
 //! behind its last place, along links from each entry to the one of the same name before it.
 ghost use Rattle.std.specs.Prelude.{◌≡◌, [], ◌∷◌, ◌++◌, length, take, OnOk, OnErr, All, option_map, ◌≤◌, IfSome, MatchOption};
 ghost use Rattle.std.specs.Option.{option_copied};
-ghost use Rattle.sv_names.specs.Kinds.{scope_is, what_is, names_of, WhatIsSound, EntryIsSound};
+ghost use Rattle.sv_names.specs.Kinds.{entries_are, what_is, names_of, WhatIsSound, EntryIsSound};
 ghost use Rattle.sv_names.specs.Linked.{IsLinked};
-ghost use Rattle.sv_meaning.specs.Layouts.{find};
+ghost use Rattle.sv_meaning.specs.Layouts.{last_of};
 
 use crate::What;
 use crate::links::Links;
@@ -99,7 +99,7 @@ impl Scope {
 
     /// The last declaration of a name among the first `before`.
     pub fn find(&self, name: &[u8], before: usize) -> Option<&What>
-        ensures is { option_map what_is (option_copied result) ≡ find name.now (scope_is (take before self.now)) }
+        ensures is { option_map what_is (option_copied result) ≡ last_of name.now (entries_are (take before self.now)) }
         ensures sound { IfSome result (λ what. WhatIsSound what.now) }
     {
         last_of(&self.list, &self.links, name, before.min(self.list.len()))
@@ -116,7 +116,7 @@ fn last_of<'a>(
     requires within { before ≤ length entries.now }
     requires sound { All EntryIsSound entries.now }
     requires linked { IsLinked links.now (names_of entries.now) }
-    ensures is { option_map what_is (option_copied result) ≡ find name.now (scope_is (take before entries.now)) }
+    ensures is { option_map what_is (option_copied result) ≡ last_of name.now (entries_are (take before entries.now)) }
     ensures sound { IfSome result (λ what. WhatIsSound what.now) }
 {
     let mut latest = links.latest(name);

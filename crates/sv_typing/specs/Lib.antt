@@ -4,3 +4,4 @@ pub mod Ranges
 pub mod Picks
 pub mod Roots
 pub mod Casts
+pub mod Positions

@@ -7,8 +7,6 @@ use Rattle.sv_typed.specs.declared.tree.Root.TheVariants.{Number, Signal}
 use Rattle.sv_typed.specs.Typed.{origin_is}
 use Rattle.sv_meaning.specs.Layouts.{Layout, width, plain, What, number_is, signal_is, Origin}
 use Rattle.sv_meaning.specs.Meanings.{Meaning, Step, named}
-use Rattle.sv_typing.specs.declared.chain.IndexRule.{IndexRule}
-use Rattle.sv_typing.specs.declared.chain.IndexRule.TheVariants.{Free, Constant}
 use Rattle.sv_typing.specs.declared.chain.Chain.{Chain}
 use Rattle.sv_names.specs.declared.cursor.Cursor.{Cursor}
 use Rattle.sv_names.specs.Cursors.{cursor_is, CursorIsSound}
@@ -31,10 +29,6 @@ RootIs x c at root = ⊥
 abbrev pub JudgesRoot : Word → Option What → Bool → Result (Cursor × Root) TextErr → Type 0
 JudgesRoot w what c (Ok t) = RootIs what c t.0 t.1 × CursorIsSound t.0
 JudgesRoot w what c (Err e) = (all : List Step) → IsCause ((named w what all).faults c) e
-
-abbrev pub rule_of : Bool → IndexRule
-rule_of true = Constant
-rule_of false = Free
 
 -- ---- chains of selects
 

@@ -19,7 +19,7 @@ mod typing;
 pub use begins::{is_signed, start};
 pub use chain::{Chain, IndexRule};
 pub use numbers::small;
-pub use position::Fixed;
+pub use position::{Fixed, Position};
 pub use refusals::refusal;
 pub use sides::layout_under;
 pub use typing::{chain_behind, fixed, typed};

@@ -13,25 +13,17 @@ ghost use Rattle.sv_names.specs.Cursors.{cursor_is};
 ghost use Rattle.sv_typing.specs.Judging.{Judges};
 ghost use Rattle.sv_typing.specs.Picks.{rule_faults};
 ghost use Rattle.sv_names.specs.Kinds.{what_is, WhatIsSound, layout_is, IsSound};
-ghost use Rattle.sv_typing.specs.Roots.{JudgesRoot, JudgesChain, RootIs, rule_of};
+ghost use Rattle.sv_typing.specs.Positions.{is_constant};
+ghost use Rattle.sv_typing.specs.declared.chain.IndexRule.TheVariants.{Read};
+ghost use Rattle.sv_typing.specs.declared.position.Position.{Position};
+ghost use Rattle.sv_typing.specs.Roots.{JudgesRoot, JudgesChain, RootIs};
 
-use crate::chain::{Chain, IndexRule};
+use crate::chain::Chain;
 use crate::refusals::refusal;
 use sv_names::{Cursor, Each, Layout, What};
 use sv_outside::{Place, TextErr};
 use sv_tree::Word;
 use sv_typed::{Origin, Root, Typed};
-
-// How the indices of a name are judged.
-pub(crate) fn rule_of(constant: bool) -> IndexRule
-    ensures { result ≡ rule_of constant }
-{
-    if constant {
-        IndexRule::Constant
-    } else {
-        IndexRule::Free
-    }
-}
 
 // A signal, which is no constant.
 #[tactic(auto, using(sv_names::proofs::Sound::sound_is, sv_names::proofs::Sound::sound_some, sv_names::proofs::Sound::sound_most, crate::proofs::Naming::signal_cause))]
@@ -116,7 +108,7 @@ pub(crate) fn root_of<'a>(
 
 /// A name with a chain of selects behind it.
 pub(crate) fn named_by(root: Root, chain: Result<Chain, TextErr>) -> Result<Typed, TextErr>
-    ensures { (w : Word) (what : Option meant.What) (c : Bool) (at : Cursor) (all : List meanings.Step) → RootIs what c at root → JudgesChain (rule_faults (rule_of c)) (cursor_is at) all chain → Judges (meanings.named w what all) c result }
+    ensures { (w : Word) (what : Option meant.What) (p : Position) (at : Cursor) (all : List meanings.Step) → RootIs what (is_constant p) at root → JudgesChain (rule_faults (Read p)) (cursor_is at) all chain → Judges (meanings.named w what all) (is_constant p) result }
 {
     let chain = chain?;
     Ok(Typed::named(root, chain.picks, chain.signed))
