@@ -32,7 +32,7 @@ use Rattle.sv_tree.specs.GrammarForms.{bits_key, sign_key, SpellsRange, given, S
 use Rattle.sv_tree.specs.GrammarStmts.{SpellsChain, SpellsLvalue, SpellsLvalues, MoreLvalues, SpellsStep, uniq_key, case_key, assign_text, block_name, colon_if, is_closed, defaults, SpellsStmt, SpellsElse, SpellsStmts, SpellsArms, MoreArms, SpellsArm}
 use Rattle.sv_tree.specs.Nesting.{Depths, one, two, three, in_stmt, in_type, if_given, each_depths, commas_depths, after_commas_depths, word_depths, label_depths, expr_depths, select_depths}
 use Rattle.sv_tree.specs.NestingDesign.{range_depths, given_depths, enum_label_depths, type_depths, members_depths, member_depths, lvalue_depths, lvalues_depths, more_lvalues_depths, step_depths, turns_depths, if_true, stmt_depths, else_depths, stmts_depths, arms_depths, arm_depths}
-use Rattle.sv_tree.proofs.Framed.{Framed, frame, frame_select}
+use Rattle.sv_tree.proofs.Framed.{Framed, frame, frame_select, length_in}
 
 -- so many tokens
 pub record Counted (P : Spelled) (n : ℕ) : Type 0 where
@@ -212,7 +212,7 @@ mutual
 
   pub counted_lvalue : (x : Lvalue) → Counted (SpellsLvalue x) (length (lvalue_depths x))
   counted_lvalue (Name w all) = counted_as _ (simp length-append (omega arith)) (counted_name w ⋈ counted_chain all)
-  counted_lvalue (Concat' p s all) = counted_as _ (simp length-append (omega arith)) (counted_mark_at (codes "{") p ⋈ counted_lvalues all ⋈ counted_mark (codes "}"))
+  counted_lvalue (Concat' p s all) = counted_as _ (simp (length_in, length-append) (omega arith)) (counted_mark_at (codes "{") p ⋈ counted_lvalues all ⋈ counted_mark (codes "}"))
 
   counted_lvalues : {m : _} (all : Row_of-Lvalue m) → Counted (SpellsLvalues all) (length (lvalues_depths all))
   counted_lvalues end_of-Lvalue = counted_never _

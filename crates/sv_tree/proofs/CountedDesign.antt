@@ -179,7 +179,7 @@ mutual
   counted_item (If' p c r (more_of-Gen x end_of-Gen) other) =
       counted_as _ (simp (length_in_generate, length-append) (omega arith))
       (counted_key_at (codes "if") p ⋈ counted_mark (codes "(") ⋈ counted_expr 0 c ⋈ counted_mark (codes ")") ⋈ counted_gen x ⋈ counted_other (is_closed_gen x) other)
-  counted_item (Generate' s all) = counted_as _ (simp length-append (omega arith)) (counted_key (codes "generate") ⋈ counted_items all ⋈ counted_key (codes "endgenerate"))
+  counted_item (Generate' s all) = counted_as _ (simp (length_in_generate, length-append) (omega arith)) (counted_key (codes "generate") ⋈ counted_items all ⋈ counted_key (codes "endgenerate"))
 
   pub counted_gen : (x : Gen) → Counted (SpellsGen x) (length (gen_depths x))
   counted_gen (Block' p b s all e) =

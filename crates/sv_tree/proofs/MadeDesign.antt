@@ -200,9 +200,9 @@ pub of_generate : (all : List Item) (i o : List Token) → SpellsItem (it.Genera
 unfolding shape-the_row-Item-0 hidden-the_row-Item-0 shape-the_row-Item-1 hidden-the_row-Item-1 shape-the_row-Gen-2 hidden-the_row-Gen-2 denote.Hole.Carrier.hidden
 of_generate all i o h = (h.0, h.1, (h.2.0, items_row all h.0 h.2.0 h.2.1, h.2.2))
 
-pub nests_generate : (all : List Item) → item_depths (it.Generate all) ≡ one ++ each_depths item_depths all ++ one
+pub nests_generate : (all : List Item) → item_depths (it.Generate all) ≡ in_generate (one ++ each_depths item_depths all ++ one)
 unfolding item_depths shape-the_row-Item-0 hidden-the_row-Item-0 shape-the_row-Item-1 hidden-the_row-Item-1 shape-the_row-Gen-2 hidden-the_row-Gen-2 denote.Hole.Carrier.hidden
-nests_generate all = ap (λ d. one ++ d ++ one) (nests_items all)
+nests_generate all = ap (λ d. in_generate (one ++ d ++ one)) (nests_items all)
 
 pub to_block : (p : Place) (b : Option Word) (all : List Item) (e : Option Word) (i o : List Token) → (key_at (codes "begin") p ⨟ maybe block_name b ⨟ each SpellsItem all ⨟ key (codes "end") ⨟ label_of b e) i o → SpellsGen (ge.Block p b all e) i o
 unfolding shape-the_row-Item-0 hidden-the_row-Item-0 shape-the_row-Item-1 hidden-the_row-Item-1 shape-the_row-Gen-2 hidden-the_row-Gen-2 denote.Hole.Carrier.hidden

@@ -22,7 +22,7 @@ use Rattle.sv_tree.specs.Spelling.{Spelled, nothing, never, ◌⨟◌, when, mar
 use Rattle.sv_tree.specs.GrammarExprs.{Spells}
 use Rattle.sv_tree.specs.GrammarForms.{whole_key}
 use Rattle.sv_tree.specs.GrammarStmts.{SpellsChain, SpellsLvalue, SpellsLvalues, MoreLvalues, SpellsStep, uniq_key, case_key, assign_text, block_name, colon_if, is_closed, is_closed_else, defaults, SpellsStmt, SpellsElse, SpellsStmts, SpellsArms, MoreArms, SpellsArm}
-use Rattle.sv_tree.specs.Nesting.{Depths, one, two, three, in_stmt, if_given, each_depths, commas_depths, after_commas_depths, word_depths, label_depths, expr_depths, select_depths}
+use Rattle.sv_tree.specs.Nesting.{Depths, one, two, three, in_expr, in_stmt, if_given, each_depths, commas_depths, after_commas_depths, word_depths, label_depths, expr_depths, select_depths}
 use Rattle.sv_tree.specs.NestingDesign.{lvalue_depths, lvalues_depths, more_lvalues_depths, step_depths, turns_depths, if_true, stmt_depths, else_depths, stmts_depths, arms_depths, arm_depths}
 
 -- at least one
@@ -80,9 +80,9 @@ pub of_targets : (p : Place) (all : List Lvalue) (i o : List Token) → SpellsLv
 unfolding shape-the_row-Lvalue-0 hidden-the_row-Lvalue-0 denote.Hole.Carrier.hidden
 of_targets p all i o h = (h.0, h.1, (h.2.0, lvalues_row all h.0 h.2.0 h.2.1, h.2.2))
 
-pub nests_targets : (p : Place) (all : List Lvalue) → lvalue_depths (lv.Concat p all) ≡ one ++ commas_depths lvalue_depths all ++ one
+pub nests_targets : (p : Place) (all : List Lvalue) → lvalue_depths (lv.Concat p all) ≡ in_expr (one ++ commas_depths lvalue_depths all ++ one)
 unfolding lvalue_depths shape-the_row-Lvalue-0 hidden-the_row-Lvalue-0 denote.Hole.Carrier.hidden
-nests_targets p all = ap (λ d. one ++ d ++ one) (nests_lvalues all)
+nests_targets p all = ap (λ d. in_expr (one ++ d ++ one)) (nests_lvalues all)
 
 pub by_cases_lvalue {ℓ} : (P : Lvalue → Type ℓ) → ((w : Word) (all : List Select) → P (lv.Name w all)) → ((p : Place) (all : List Lvalue) → P (lv.Concat p all)) → (x : Lvalue) → P x
 unfolding shown-the_row-Lvalue-0 denote.Hole.Carrier.shown shape-the_row-Lvalue-0 hidden-the_row-Lvalue-0 denote.Hole.Carrier.hidden
