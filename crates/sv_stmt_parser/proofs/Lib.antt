@@ -1,6 +1,5 @@
 pub mod Arms
 pub mod Begins
-pub mod Bracing
 pub mod Firsts
 pub mod Steps
 pub mod StmtLevel

@@ -1,4 +1,3 @@
-pub mod Braces
 pub mod Loops
 pub mod Stmts
 pub mod Targets

@@ -1,5 +1,5 @@
 -- Targets, the steps of loops, and labels on lists of tokens.
-use Rattle.std.specs.Prelude.{ℕ, zero, suc, if◌then◌else◌, List, length, Option, Some, None}
+use Rattle.std.specs.Prelude.{ℕ, zero, suc, if◌then◌else◌, List, Option, Some, None}
 use Rattle.std.specs.Str.{bytes_eq}
 use Rattle.sv_outside.specs.declared.refusal.Place.{Place}
 use Rattle.sv_outside.specs.declared.text.Token.{Token}
@@ -13,7 +13,7 @@ use Rattle.sv_tree.specs.declared.stmts.Step.TheVariants as step_of
 use Rattle.sv_tree.specs.declared.stmts.StepMark.{StepMark}
 use Rattle.sv_tree.specs.declared.stmts.StepSign.{StepSign}
 use Rattle.sv_cursor.specs.declared.sort.Mark.TheVariants as m
-use Rattle.sv_cursor.specs.Parsers.{Parser, ◌<$>◌, ◌⊗◌, pure, refuse, token, by_told, maybe_read}
+use Rattle.sv_cursor.specs.Parsers.{Parser, ◌<$>◌, ◌⊗◌, pure, refuse, too_deep, token, by_told, maybe_read, guarded}
 use Rattle.sv_cursor.specs.Tests.{mark_test, id_test, mark}
 use Rattle.sv_expr_reader.specs.Reading.{expr, selects}
 use Rattle.sv_word_parser.specs.declared.openers.TargetOpener.{TargetOpener}
@@ -31,31 +31,34 @@ use Rattle.sv_type_parser.specs.Forms.{expression}
 abbrev pub made_target : Word × List Select → Lvalue
 made_target c = lv.Name c.0 c.1
 
-unfoldable pub named_target : Parser Lvalue
-named_target = made_target <$> (token id_test ⊗ selects 201 (expr 201))
+-- Less than so many expressions may hold a token.
+unfoldable pub named_target : ℕ → Parser Lvalue
+named_target d = made_target <$> (token id_test ⊗ selects d (expr d))
 
 abbrev pub made_targets : Place × List Lvalue → Lvalue
 made_targets c = lv.Concat c.0 c.1
 
 -- A function value reads the targets in braces.
-module _ (lvalue : Parser Lvalue) where
-  unfoldable pub braced_targets : Parser Lvalue
-  braced_targets = made_targets <$> (mark m.LeftBrace ⊗ (listed lvalue ◂ mark m.RightBrace))
+unfoldable pub braced_targets : Parser Lvalue → Parser Lvalue
+braced_targets target = made_targets <$> (mark m.LeftBrace ⊗ (listed target ◂ mark m.RightBrace))
 
+-- Targets in braces are read by a function value. So many expressions may hold a token of this one.
+module _ (d : ℕ) (target : Parser Lvalue) where
+  -- the brace itself lies too deep where no expression more may hold a token
   abbrev pub target_for : TargetOpener → Parser Lvalue
-  target_for target_by.Name = named_target
-  target_for target_by.Brace = braced_targets
+  target_for target_by.Name = named_target (suc d)
+  target_for target_by.Brace = guarded d (braced_targets target)
 
   unfoldable pub target_level : Parser Lvalue
   target_level = by_told (sort_test target_by_sort) target_for refuse
 
--- targets that are in less than so many braces
-unfoldable pub lvalue_from : ℕ → Parser Lvalue
-lvalue_from zero = refuse
-lvalue_from (suc n) = target_level (lvalue_from n)
+-- targets, a token of which less than so many expressions hold
+unfoldable pub target : ℕ → Parser Lvalue
+target zero = too_deep
+target (suc d) = target_level d (target d)
 
 abbrev pub lvalue : Parser Lvalue
-lvalue = λ i. lvalue_from (length i) i
+lvalue = target 201
 
 -- ---- a name that repeats another
 

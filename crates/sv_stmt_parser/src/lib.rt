@@ -1,7 +1,7 @@
 //! Statements are read, and what stands in them: targets, labels and the steps of loops.
 //!
-//! A statement may hold statements to a depth, so the rules that hold statements take the reader of those as a parameter. Targets
-//! may lie in any number of braces, and those that are open stand in a list.
+//! A statement may hold statements to a depth, and a target in braces targets, so the rules that hold them take the reader of
+//! those as a parameter.
 #![tactic(auto)]
 
 mod labels;
@@ -10,6 +10,6 @@ mod statements;
 mod tails;
 
 pub use labels::{block_label, end_label, label_behind, step};
-pub use lvalues::{OpenBrace, lvalue};
+pub use lvalues::lvalue;
 pub use statements::{is_given, stmt};
 pub use tails::{BranchTail, StepTail};

@@ -1,33 +1,28 @@
-// Targets. They may lie in any number of braces, so those that are open stand in a list.
-ghost use Rattle.std.specs.Prelude.{◌≡◌, Some};
+// Targets. Those in braces are read as expressions in braces are: to a depth, by rules that take the reader of the
+// targets in them as a parameter, so that each is proved by itself.
+ghost use Rattle.std.specs.Prelude.{◌≡◌};
+ghost use Rattle.sv_cursor.specs.Parsers as parser;
 ghost use Rattle.sv_cursor.specs.Parsers.{Reads, told};
-ghost use Rattle.sv_word_parser.specs.Combined.{sort_test};
-ghost use Rattle.sv_stmt_parser.specs.Braces as brace;
+ghost use Rattle.sv_word_parser.specs.Combined.{listed, sort_test};
+ghost use Rattle.sv_type_parser.specs.Lists as list;
+ghost use Rattle.sv_type_parser.specs.Lists.{Nests};
 ghost use Rattle.sv_stmt_parser.specs.Targets as spec;
 ghost use Rattle.sv_word_parser.specs.Words as words;
 
-use items::Items;
+use items::{Items, both};
 use std::alloc::Global;
 use sv_cursor::{Cursor, Mark, ParseErr, Sort};
 use sv_expr_reader::selects;
-use sv_outside::Place;
 use sv_tree::Lvalue;
-use sv_type_parser::{MOST_NESTING, MOST_OPEN};
+use sv_type_parser::{MOST_NESTING, with_first};
 use sv_word_parser::{TargetOpener, sees};
 
-/// A brace that is open: its place, and the targets in it that are read.
-#[derive(Drop)]
-pub struct OpenBrace {
-    pub place: Place,
-    pub found: Items<Lvalue>,
-}
-
 #[tactic(auto, unfolding(crate::specs::Targets::named_target))]
-fn named_target(alloc: Global, tokens: &mut Cursor<'_>) -> Result<Lvalue, ParseErr>
-    ensures { Reads (spec.named_target tokens.old) result tokens.new }
+fn named_target(alloc: Global, tokens: &mut Cursor<'_>, depth: u8) -> Result<Lvalue, ParseErr>
+    ensures { Reads (spec.named_target depth tokens.old) result tokens.new }
 {
     let name = tokens.id(alloc)?;
-    let all = selects(alloc, tokens, MOST_NESTING + 1)?;
+    let all = selects(alloc, tokens, depth)?;
     Ok(Lvalue::Name(name, all))
 }
 
@@ -57,86 +52,107 @@ fn target_next(tokens: &Cursor<'_>) -> Option<TargetOpener>
     target_of(tokens.sort())
 }
 
-// Puts a target into the innermost brace, and closes those that end behind it: the whole, where none is open then,
-// and nothing where a comma stands before one more.
-fn close(
-    tokens: &mut Cursor<'_>,
-    stack: &mut Items<OpenBrace>,
-    target: Lvalue,
-) -> Result<Option<Lvalue>, ParseErr>
-    ensures { brace.Closes target stack.old tokens.old result stack.new tokens.new }
-{
-    let mut target = target;
-    for _turn in 0..stack.len() {
-        let Some(innermost) = stack.pop() else {
-            return Ok(Some(target));
-        };
-        let OpenBrace { place, mut found } = innermost;
-        found.push(target)?;
-        if sees(tokens, Mark::Comma) {
-            tokens.skip();
-            stack.push(OpenBrace { place, found })?;
-            return Ok(None);
-        }
-        tokens.mark(Mark::RightBrace)?;
-        target = Lvalue::Concat(place, found);
-    }
-    Ok(Some(target))
+/// The rules of targets in braces, over a reader of the targets in them.
+#[derive(Clone, Copy)]
+struct Braces<F> {
+    alloc: Global,
+    /// Fewer expressions may hold a token of a part.
+    depth: u8,
+    /// Reads a target to a depth.
+    target: F,
 }
 
-fn turn_for(
-    alloc: Global,
-    tokens: &mut Cursor<'_>,
-    stack: &mut Items<OpenBrace>,
-    opener: TargetOpener,
-) -> Result<Option<Lvalue>, ParseErr>
-    requires { told (sort_test words.target_by_sort) tokens.old ≡ Some opener }
-    ensures { brace.Turns stack.old tokens.old result stack.new tokens.new }
+impl<F: Fn(Global, &mut Cursor<'_>, u8) -> Result<Lvalue, ParseErr>> Braces<F> {
+    fn part(&self, tokens: &mut Cursor<'_>) -> Result<Lvalue, ParseErr>
+        requires { Nests (spec.target self.now.depth) self.now.depth (F.pre self.now.target) (F.post self.now.target) }
+        ensures { Reads (spec.target self.now.depth tokens.old) result tokens.new }
+    {
+        (self.target)(self.alloc, tokens, self.depth)
+    }
+
+    #[tactic(auto, unfolding(sv_type_parser::specs::Lists::behind_comma))]
+    fn comma_part(&self, tokens: &mut Cursor<'_>) -> Result<Lvalue, ParseErr>
+        requires { Nests (spec.target self.now.depth) self.now.depth (F.pre self.now.target) (F.post self.now.target) }
+        ensures { Reads (list.behind_comma (spec.target self.now.depth) tokens.old) result tokens.new }
+    {
+        tokens.mark(Mark::Comma)?;
+        self.part(tokens)
+    }
+
+    fn more_parts(&self, tokens: &mut Cursor<'_>) -> Result<Items<Lvalue>, ParseErr>
+        requires { Nests (spec.target self.now.depth) self.now.depth (F.pre self.now.target) (F.post self.now.target) }
+        ensures { Reads (list.more (spec.target self.now.depth) tokens.old) result tokens.new }
+    {
+        let mut found = Items::new(self.alloc);
+        for _turn in 0..tokens.left() {
+            if !sees(tokens, Mark::Comma) {
+                return Ok(found);
+            }
+            let part = self.comma_part(tokens)?;
+            found.push(part)?;
+        }
+        Ok(found)
+    }
+
+    #[tactic(auto, unfolding(sv_type_parser::specs::Lists::more, sv_type_parser::specs::Lists::behind_comma))]
+    fn parts(&self, tokens: &mut Cursor<'_>) -> Result<Items<Lvalue>, ParseErr>
+        requires { Nests (spec.target self.now.depth) self.now.depth (F.pre self.now.target) (F.post self.now.target) }
+        ensures { Reads (listed (spec.target self.now.depth) tokens.old) result tokens.new }
+    {
+        let first = self.part(tokens)?;
+        let (first, more) = both(first, self.more_parts(tokens))?;
+        let all = with_first(self.alloc, first, more)?;
+        Ok(all)
+    }
+
+    #[tactic(auto, unfolding(crate::specs::Targets::braced_targets))]
+    fn braced(&self, tokens: &mut Cursor<'_>) -> Result<Lvalue, ParseErr>
+        requires { Nests (spec.target self.now.depth) self.now.depth (F.pre self.now.target) (F.post self.now.target) }
+        ensures { Reads (spec.braced_targets (spec.target self.now.depth) tokens.old) result tokens.new }
+    {
+        let place = tokens.mark(Mark::LeftBrace)?;
+        let all = self.parts(tokens)?;
+        let (all, _) = both(all, tokens.mark(Mark::RightBrace))?;
+        Ok(Lvalue::Concat(place, all))
+    }
+
+    // The brace itself lies too deep where no expression more may hold a token.
+    fn guarded(&self, tokens: &mut Cursor<'_>) -> Result<Lvalue, ParseErr>
+        requires { Nests (spec.target self.now.depth) self.now.depth (F.pre self.now.target) (F.post self.now.target) }
+        ensures { Reads (parser.guarded self.now.depth (spec.braced_targets (spec.target self.now.depth)) tokens.old) result tokens.new }
+    {
+        if self.depth == 0 {
+            return Err(tokens.too_deep());
+        }
+        self.braced(tokens)
+    }
+}
+
+// A target, of which fewer than `depth` expressions hold a token.
+fn target(alloc: Global, tokens: &mut Cursor<'_>, depth: u8) -> Result<Lvalue, ParseErr>
+    ensures { Reads (spec.target depth tokens.old) result tokens.new }
 {
+    if depth == 0 {
+        return Err(tokens.too_deep());
+    }
+    let Some(opener) = target_next(tokens) else {
+        return Err(tokens.refuse());
+    };
     match opener {
-        TargetOpener::Name => {
-            let target = named_target(alloc, tokens)?;
-            close(tokens, stack, target)
+        TargetOpener::Name => named_target(alloc, tokens, depth),
+        TargetOpener::Brace => Braces {
+            alloc,
+            depth: depth - 1,
+            target,
         }
-        TargetOpener::Brace => {
-            let place = tokens.mark(Mark::LeftBrace)?;
-            let found = Items::new(alloc);
-            stack.push(OpenBrace { place, found })?;
-            Ok(None)
-        }
+        .guarded(tokens),
     }
 }
 
-// A target that is no brace, or a brace that opens: the whole, where none is open then, and nothing where one more
-// target has to come next.
-#[tactic(auto, using(crate::proofs::Bracing::none_turns))]
-fn turn(
-    alloc: Global,
-    tokens: &mut Cursor<'_>,
-    stack: &mut Items<OpenBrace>,
-) -> Result<Option<Lvalue>, ParseErr>
-    ensures { brace.Turns stack.old tokens.old result stack.new tokens.new }
-{
-    if stack.len() > MOST_OPEN {
-        return Err(ParseErr::Memory);
-    }
-    match target_next(tokens) {
-        Some(opener) => turn_for(alloc, tokens, stack, opener),
-        None => Err(tokens.refuse()),
-    }
-}
-
-/// A target (A.8.5, variable_lvalue and net_lvalue). The cursor stands behind it then. `Memory` also where over 1,000
-/// braces are open.
+/// A target (A.8.5, variable_lvalue and net_lvalue). Braces count as expressions: the cursor stands behind it then, or
+/// `TooDeep` names the brace, or the token of a select, that over 200 hold.
 pub fn lvalue(alloc: Global, tokens: &mut Cursor<'_>) -> Result<Lvalue, ParseErr>
     ensures { Reads (spec.lvalue tokens.old) result tokens.new }
 {
-    let mut stack = Items::new(alloc);
-    for _turn in 0..tokens.left() {
-        match turn(alloc, tokens, &mut stack)? {
-            Some(whole) => return Ok(whole),
-            None => {}
-        }
-    }
-    Err(tokens.refuse())
+    target(alloc, tokens, MOST_NESTING + 1)
 }

@@ -24,7 +24,7 @@ use Rattle.sv_type_parser.proofs.Rules.{Rule, rule_of, IsFirst, first_of_mark, n
 abbrev pub Over : ℕ → ℕ → ℕ → Nesting → Type 0
 Over s g t n = (201 ≤ n.exprs) ⊎ ((s ≤ n.stmts) ⊎ ((g ≤ n.generates) ⊎ (t ≤ n.types)))
 
-bad_weaker : (B C : Nesting → Type 0) → ((n : Nesting) → B n → C n) → (d : Depths) (k : ℕ) → BadAt B d k → BadAt C d k
+pub bad_weaker : (B C : Nesting → Type 0) → ((n : Nesting) → B n → C n) → (d : Depths) (k : ℕ) → BadAt B d k → BadAt C d k
 bad_weaker B C up [] k h = absurd h
 bad_weaker B C up (n ∷ d) zero h = up n h
 bad_weaker B C up (n ∷ d) (suc k) h = bad_weaker B C up d k h
