@@ -2,12 +2,15 @@
 //! token.
 //!
 //! Each function reads at most one token. The crates above read the rules that begin with it, and take from here the definitions
-//! of what a token tells, and of parts that stand one behind the other, in lists and in braces.
+//! of what a token tells, and of parts that stand one behind the other, in lists and in braces. What stands in the parentheses of a
+//! connection is told here too.
 #![tactic(auto)]
 
+mod connections;
 mod openers;
 mod told;
 
+pub use connections::given_pin;
 pub use openers::{
     AlwaysWord, ItemOpener, ParamOpener, PartOpener, StepOpener, StmtOpener, TailOpener,
     TargetOpener, TypeOpener,
