@@ -1,16 +1,16 @@
 -- Words whose bits are moved, and their numbers.
-use Rattle.std.proofs.Common.{◌≡◌, ℕ, zero, suc, ◌+◌, ◌-◌, ◌*◌, ◌/◌, ◌%◌, ◌^◌, ◌<◌, ◌≤◌, Bool, true, false, not, cond, ltb, List, [], ◌∷◌, ◌++◌, length, get_or, take, drop, replicate, refl, sym, ap, subst, ◌∙◌, arith, length-append}
+use Rattle.std.proofs.Common.{◌≡◌, ℕ, zero, suc, ◌+◌, ◌-◌, ◌*◌, ◌/◌, ◌%◌, ◌^◌, ◌<◌, ◌≤◌, Bool, true, false, cond, ltb, List, length, get_or, take, drop, replicate, refl, sym, ap, subst, ◌∙◌, arith, length-append}
 use Rattle.std.proofs.Math.Nat.{pow-suc, div-one, div-eq_of_lt, mod-eq_of_lt, mul-mod_left, pow-le-pow_right, div-le_self}
 use Rattle.std.proofs.lemmas.Nat.{pow_pos, pow-add, shr-shr, mul-mod_first}
 use Rattle.std.proofs.lemmas.Bool.{lt-ltb, le-ltb}
-use Rattle.std.proofs.lemmas.List.{length-take-le, length-replicate, length-drop, take_all}
+use Rattle.std.proofs.lemmas.List.{length-take-le, length-replicate, length-drop}
 use Rattle.aig.specs.declared.gate.Lit.{Lit}
 use Rattle.aig.specs.Graph.{holds, constant_lit}
 use Rattle.aig_words.specs.declared.lists.Way.{Way}
 use Rattle.aig_words.specs.declared.lists.Way.TheVariants.{Up, Down}
 use Rattle.aig_words.specs.Words.{weight, number, moved, moved_down_by, shifted}
 use Rattle.aig_words.proofs.Steps.{sum_mod, quotient_is}
-use Rattle.aig_words.proofs.Numbers.{number-append, number-zeros, number-split, number-take-below, number-below-at, number-more, number-cons}
+use Rattle.aig_words.proofs.Numbers.{number-append, number-zeros, number-split, number-take-below, number-below-at, number-more}
 
 -- ---- lists
 

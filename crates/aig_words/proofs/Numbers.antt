@@ -1,11 +1,10 @@
 -- The numbers that words stand for.
-use Rattle.std.proofs.Common.{◌≡◌, ℕ, zero, suc, ◌+◌, ◌-◌, ◌*◌, ◌/◌, ◌%◌, ◌^◌, ◌<◌, ◌≤◌, Bool, true, false, not, ◌&&◌, ◌||◌, cond, eqb, ltb, List, [], ◌∷◌, ◌++◌, length, get_or, take, drop, map, replicate, refl, sym, ap, subst, ◌∙◌, arith, length-append, add-one}
+use Rattle.std.proofs.Common.{◌≡◌, ℕ, zero, suc, ◌+◌, ◌-◌, ◌*◌, ◌^◌, ◌<◌, ◌≤◌, Bool, true, false, not, ◌&&◌, ◌||◌, cond, eqb, ltb, List, [], ◌∷◌, ◌++◌, length, get_or, take, drop, map, replicate, refl, sym, ap, subst, ◌∙◌, arith, add-one}
 use Rattle.std.proofs.Math.Nat.{pow-suc}
-use Rattle.std.proofs.lemmas.Nat.{pow_pos, pow-add}
-use Rattle.std.proofs.lemmas.List.{take_more, length-take-le, take-append-drop, length-replicate, length-drop, length_push, drop_more, take_all}
+use Rattle.std.proofs.lemmas.List.{take_more, length-take-le, take-append-drop, drop_more, take_all}
 use Rattle.aig.specs.declared.gate.Lit.{Lit}
 use Rattle.aig.specs.Graph.{holds, negation, constant_lit}
-use Rattle.aig_words.specs.Words.{weight, number, differ, less_column, same_column, signed}
+use Rattle.aig_words.specs.Words.{weight, number, less_column, same_column, signed}
 use Rattle.std.specs.Prelude.{ℤ, pos, negsuc, int_lt}
 use Rattle.aig_words.proofs.Steps.{pick_step, less_step, same_step, any_step, turn_by, divide_step, sign_step, signed_step, signed_order}
 use Rattle.aig_words.proofs.Tables.{holds-negation}

@@ -2,7 +2,7 @@
 use Rattle.std.proofs.Common.{◌≡◌, ℕ, ◌+◌, ◌*◌, Bool, true, false, not, ◌&&◌, ◌||◌, cond, refl, ap, ◌∙◌}
 use Rattle.aig.specs.declared.gate.Lit.{Lit}
 use Rattle.aig.specs.Graph.{holds, negation}
-use Rattle.aig_words.specs.Words.{weight, differ, same_column, less_column}
+use Rattle.aig_words.specs.Words.{weight, differ, less_column}
 
 not_twice : (n x : Bool) → cond (not n) (not x) x ≡ not (cond n (not x) x)
 not_twice true true = refl
@@ -65,3 +65,7 @@ or_true false = refl
 pub or_false : (b : Bool) → (b || false) ≡ b
 or_false true = refl
 or_false false = refl
+
+pub cond_same : (c : Bool) (n : ℕ) → n ≡ cond c n n
+cond_same true n = refl
+cond_same false n = refl

@@ -1,6 +1,6 @@
 use Rattle.std.proofs.Common.{ℕ, ◌-◌, ◌*◌, ◌<◌, Bool, drop, length}
 use Rattle.aig.specs.Graph.{Obeys, IsGraph}
-use Rattle.aig_words.specs.Words.{Grew, IsWord, IsDivided, number}
+use Rattle.aig_words.specs.Words.{Grew, IsWord, IsDivided}
 use Rattle.aig_words.proofs.divides.divide.Given as goal
 
 abbrev pub invariant-loop-i : goal.invariant-loop-i

@@ -1,13 +1,13 @@
-use Rattle.std.proofs.Common.{◌≡◌, ◌+◌, ◌*◌, ◌^◌, ◌≤◌, Bool, not, ◌&&◌, List, ◌∷◌, length, map, take, drop, cond, ltb, ap, subst, ◌∙◌, arith, sym, add-one, length-drop}
-use Rattle.std.proofs.lemmas.List.{take_rest}
-use Rattle.std.proofs.lemmas.List.Elements.{All-take}
+use Rattle.std.proofs.Common.{◌≡◌, ℕ, ◌<◌, ◌-◌, ◌+◌, ◌*◌, ◌^◌, ◌≤◌, Bool, not, ◌&&◌, List, ◌∷◌, length, map, take, drop, cond, ltb, ap, subst, ◌∙◌, arith, sym, add-one, length-drop}
+use Rattle.std.proofs.lemmas.List.{take_rest, length-map, length-take-le}
+use Rattle.std.proofs.lemmas.List.Elements.{All-cons, All-drop, All-take}
 use Rattle.aig.specs.declared.gate.Lit.{Lit}
 use Rattle.aig.specs.Graph.{holds, negation, IsIn}
-use Rattle.aig.proofs.Growth.{Obeys-older}
+use Rattle.aig.proofs.Growth.{Grows-trans, Obeys-older}
 use Rattle.aig.proofs.Values.{always_from}
-use Rattle.aig_words.specs.Words.{Grew, number, weight}
+use Rattle.aig_words.specs.Words.{Grew, IsWord, number, weight}
 use Rattle.std.proofs.lemmas.Result.{IfOk-from_err}
-use Rattle.aig_words.proofs.Grown.{Grew-refl, Grew-then, Grew-wider, turn_fits, negated_in}
+use Rattle.aig_words.proofs.Grown.{Grew-refl, Grew-then, Grew-wider, IsIn-later, All-later, turn_fits, negated_in}
 use Rattle.aig_words.proofs.Numbers.{turn_value}
 use Rattle.aig_words.proofs.Tables.{holds-negation}
 use Rattle.aig_words.proofs.divides.take_turn.Goals as goal
@@ -181,3 +181,75 @@ returns-in_err-left-clause-word c = IfOk-from_err _ _ c.from_residual-in_err-lef
 
 pub returns-in_err-left-clause-value : goal.returns-in_err-left-clause-value
 returns-in_err-left-clause-value c = IfOk-from_err _ _ c.from_residual-in_err-left.ensures.0
+
+-- ---- what the calls ask for
+
+pub sum_of-requires-clause-a_in : goal.sum_of-requires-clause-a_in
+sum_of-requires-clause-a_in c = rw (c.deref.ensures.value, c.in_ok-shifted.ensures) (All-cons (IsIn c.args.aig.now) c.args.bit c.args.rest.now c.requires.bit_in c.requires.rest_in)
+
+pub sum_of-requires-clause-carry_in : goal.sum_of-requires-clause-carry_in
+sum_of-requires-clause-carry_in c =
+    let some : 0 < length c.args.aig.now = omega (arith, c.requires.bit_in) in
+    subst (λ (l : Lit). l.node < length c.args.aig.now) (sym c.constant.ensures) some
+
+pub sum_of-requires-clause-same : goal.sum_of-requires-clause-same
+sum_of-requires-clause-same c =
+    let rest = c.args.rest.now in
+    let b = c.args.b.now in
+    let n = length rest + 1 in
+    let one : length c.deref.result.now ≡ length (c.args.bit ∷ rest) = ap (λ (xs : List Lit). length xs) (c.deref.ensures.value ∙ c.in_ok-shifted.ensures) in
+    let two : length c.deref-2.result.now ≡ n = ap (λ (xs : List Lit). length xs) (c.deref-2.ensures.value ∙ c.in_ok-complement.ensures) ∙ length-map (take n b) negation ∙ length-take-le n b (omega (arith, c.requires.short)) in
+    one ∙ sym (add-one (length rest)) ∙ sym two
+
+pub sum_of-requires-clause-some : goal.sum_of-requires-clause-some
+sum_of-requires-clause-some c =
+    let one : length c.deref.result.now ≡ length (c.args.bit ∷ c.args.rest.now) = ap (λ (xs : List Lit). length xs) (c.deref.ensures.value ∙ c.in_ok-shifted.ensures) in
+    omega (arith, one)
+
+pub any-requires-clause-some : goal.any-requires-clause-some
+any-requires-clause-some c = omega (arith, c.requires.bit_in, c.in_ok-word.ensures.grew.grows.longer)
+
+pub any-requires-clause-a_in : goal.any-requires-clause-a_in
+any-requires-clause-a_in c =
+    let b = c.args.b.now in
+    let n = length c.args.rest.now + 1 in
+    All-take (IsIn c.sum_of.new.aig) (length b - n) (drop n b) (All-drop (IsIn c.sum_of.new.aig) n b (All-later c.args.aig.now c.sum_of.new.aig b c.in_ok-word.ensures.grew.grows c.requires.b_in))
+
+pub and-requires-clause-a_in : goal.and-requires-clause-a_in
+and-requires-clause-a_in c = IsIn-later c.sum_of.new.aig c.any.new.aig c.in_ok-word.field-0.carry c.in_ok-larger.ensures.grew.grows c.in_ok-word.ensures.carry_out
+
+pub and-requires-clause-b_in : goal.and-requires-clause-b_in
+and-requires-clause-b_in c = subst (λ (l : Lit). l.node < length c.any.new.aig) (sym c.not.ensures) c.in_ok-larger.ensures.within
+
+pub mux-requires-clause-c_in : goal.mux-requires-clause-c_in
+mux-requires-clause-c_in c = c.in_ok-fits.ensures.within
+
+pub mux-requires-clause-a_in : goal.mux-requires-clause-a_in
+mux-requires-clause-a_in c =
+    let grows = Grows-trans c.sum_of.new.aig c.any.new.aig c.and.new.self c.in_ok-larger.ensures.grew.grows c.in_ok-fits.ensures.grows in
+    rw c.deref-3.ensures.value (All-later c.sum_of.new.aig c.and.new.self c.in_ok-word.field-0.word.items grows c.in_ok-word.ensures.word.inside)
+
+pub mux-requires-clause-b_in : goal.mux-requires-clause-b_in
+mux-requires-clause-b_in c =
+    let later = Grows-trans c.sum_of.new.aig c.any.new.aig c.and.new.self c.in_ok-larger.ensures.grew.grows c.in_ok-fits.ensures.grows in
+    let grows = Grows-trans c.args.aig.now c.sum_of.new.aig c.and.new.self c.in_ok-word.ensures.grew.grows later in
+    rw (c.deref-4.ensures.value, c.in_ok-shifted.ensures) (All-cons (IsIn c.and.new.self) c.args.bit c.args.rest.now
+    (IsIn-later c.args.aig.now c.and.new.self c.args.bit grows c.requires.bit_in) (All-later c.args.aig.now c.and.new.self c.args.rest.now grows c.requires.rest_in))
+
+pub mux-requires-clause-same : goal.mux-requires-clause-same
+mux-requires-clause-same c = ap (λ (xs : List Lit). length xs) c.deref-3.ensures.value ∙ c.in_ok-word.ensures.word.long ∙ ap (λ (xs : List Lit). length xs) (c.deref.ensures.value ∙ sym c.deref-4.ensures.value)
+
+pub mux-requires-clause-some : goal.mux-requires-clause-some
+mux-requires-clause-some c =
+    let long : length c.deref-3.result.now ≡ length (c.args.bit ∷ c.args.rest.now) =
+    ap (λ (xs : List Lit). length xs) c.deref-3.ensures.value ∙ c.in_ok-word.ensures.word.long ∙ ap (λ (xs : List Lit). length xs) (c.deref.ensures.value ∙ c.in_ok-shifted.ensures) in
+    omega (arith, long)
+
+pub returns-clause-bit_out : goal.returns-clause-bit_out
+returns-clause-bit_out c = IsIn-later c.and.new.self c.mux.new.aig c.in_ok-fits.fits c.in_ok-left.ensures.grew.grows c.in_ok-fits.ensures.within
+
+pub returns-clause-word : goal.returns-clause-word
+returns-clause-word c =
+    let long : length c.deref-3.result.now ≡ length c.args.rest.now + 1 =
+    ap (λ (xs : List Lit). length xs) c.deref-3.ensures.value ∙ c.in_ok-word.ensures.word.long ∙ ap (λ (xs : List Lit). length xs) (c.deref.ensures.value ∙ c.in_ok-shifted.ensures) ∙ sym (add-one (length c.args.rest.now)) in
+    subst (λ (n : ℕ). IsWord c.mux.new.aig n c.in_ok-left.left.items) long c.in_ok-left.ensures.word

@@ -1,11 +1,13 @@
-use Rattle.std.proofs.Common.{◌≤◌, ◌+◌, ◌*◌, List, length, take, cond, ap, ◌∙◌, arith}
+use Rattle.std.proofs.Common.{◌≡◌, ℕ, ◌+◌, ◌*◌, List, [], false, length, take, cond, ap, subst, ◌∙◌, arith, get_or}
+use Rattle.std.proofs.lemmas.Result.{IfOk-from_err}
 use Rattle.std.proofs.lemmas.List.{take_all}
 use Rattle.aig.specs.declared.gate.Lit.{Lit}
-use Rattle.aig.specs.Graph.{holds}
+use Rattle.aig.specs.Graph.{holds, constant_lit}
 use Rattle.aig.proofs.Growth.{Obeys-older}
 use Rattle.aig.proofs.Values.{always_from}
-use Rattle.aig_words.specs.Words.{number}
-use Rattle.aig_words.proofs.Grown.{Grew-then, IsWord-push}
+use Rattle.aig_words.specs.Words.{number, IsWord}
+use Rattle.aig_words.proofs.Grown.{Grew-refl, Grew-then, Grew-wider, IsIn-later, IsWord-nil, IsWord-push}
+use Rattle.aig_words.proofs.Tables.{cond_same}
 use Rattle.aig_words.proofs.Numbers.{mux_more}
 use Rattle.aig_words.proofs.picks.mux.Goals as goal
 
@@ -29,3 +31,48 @@ returns-clause-value c =
     always_from _ _ (c.loop-i.invariant.graph (omega (arith, c.requires.some))) (λ v o.
     c.loop-i.invariant.value v o ∙ ap (λ (xs : List Lit). cond (holds v c.args.c) (number v xs) (number v (take i b))) (take_all i a (omega arith)) ∙
     ap (λ (xs : List Lit). cond (holds v c.args.c) (number v a) (number v xs)) (take_all i b (omega (arith, c.requires.same))))
+
+pub loop-i-init : goal.loop-i-init
+loop-i-init c = rw c.new-word.ensures.items (record {
+  grew = Grew-refl _ c.args.aig.now;
+  word = IsWord-nil c.args.aig.now;
+  graph = λ some. absurd (omega arith);
+  value = λ v o. cond_same (holds v c.args.c) (number v []);
+})
+
+pub pick-requires-clause-a_in : goal.pick-requires-clause-a_in
+pick-requires-clause-a_in c = IsIn-later c.args.aig.now c.loop-i.aig (get_or c.args.a.now c.loop-i.i (constant_lit false)) c.loop-i.invariant.grew.grows (c.requires.a_in c.loop-i.i (constant_lit false) c.loop-i-test.true)
+
+pub pick-requires-clause-b_in : goal.pick-requires-clause-b_in
+pick-requires-clause-b_in c = IsIn-later c.args.aig.now c.loop-i.aig (get_or c.args.b.now c.loop-i.i (constant_lit false)) c.loop-i.invariant.grew.grows (c.requires.b_in c.loop-i.i (constant_lit false) (omega (arith, c.loop-i-test.true, c.requires.same)))
+
+pub pick-requires-clause-c_in : goal.pick-requires-clause-c_in
+pick-requires-clause-c_in c = IsIn-later c.args.aig.now c.loop-i.aig c.args.c c.loop-i.invariant.grew.grows c.requires.c_in
+
+pub returns-clause-grew : goal.returns-clause-grew
+returns-clause-grew c =
+    let end : c.loop-i.i ≡ length c.args.a.now = omega arith in
+    Grew-wider (3 * c.loop-i.i) (3 * length c.args.a.now) c.args.aig.now c.loop-i.aig (omega (arith, end)) c.loop-i.invariant.grew
+
+pub returns-clause-word : goal.returns-clause-word
+returns-clause-word c =
+    let end : c.loop-i.i ≡ length c.args.a.now = omega arith in
+    subst (λ (n : ℕ). IsWord c.loop-i.aig n c.loop-i.word.items) end c.loop-i.invariant.word
+
+pub returns-in_err-next-clause-grew : goal.returns-in_err-next-clause-grew
+returns-in_err-next-clause-grew c = Grew-then (3 * c.loop-i.i) 3 (3 * length c.args.a.now) c.args.aig.now c.loop-i.aig _ (omega (arith, c.loop-i-test.true)) c.loop-i.invariant.grew c.in_err-next.ensures.grew
+
+pub returns-in_err-push-clause-grew : goal.returns-in_err-push-clause-grew
+returns-in_err-push-clause-grew c = Grew-then (3 * c.loop-i.i) 3 (3 * length c.args.a.now) c.args.aig.now c.loop-i.aig _ (omega (arith, c.loop-i-test.true)) c.loop-i.invariant.grew c.in_ok-next.ensures.grew
+
+pub returns-in_err-next-clause-word : goal.returns-in_err-next-clause-word
+returns-in_err-next-clause-word c = IfOk-from_err _ _ c.from_residual.ensures.0
+
+pub returns-in_err-next-clause-value : goal.returns-in_err-next-clause-value
+returns-in_err-next-clause-value c = IfOk-from_err _ _ c.from_residual.ensures.0
+
+pub returns-in_err-push-clause-word : goal.returns-in_err-push-clause-word
+returns-in_err-push-clause-word c = IfOk-from_err _ _ c.from_residual-in_err-push.ensures.0
+
+pub returns-in_err-push-clause-value : goal.returns-in_err-push-clause-value
+returns-in_err-push-clause-value c = IfOk-from_err _ _ c.from_residual-in_err-push.ensures.0

@@ -1,6 +1,6 @@
 use Rattle.std.proofs.Common.{◌≡◌, ℕ, ◌+◌, ◌*◌, ◌%◌, ◌^◌, ◌<◌, ◌≤◌, Bool, false, List, length, get_or, take, cond, ap, sym, subst, ◌∙◌, arith}
 use Rattle.std.proofs.Math.Nat.{zero-mod}
-use Rattle.std.proofs.lemmas.List.{take_all}
+use Rattle.std.proofs.lemmas.List.{take_all, length-replicate}
 use Rattle.aig.specs.declared.gate.Lit.{Lit}
 use Rattle.aig.specs.Graph.{holds, constant_lit}
 use Rattle.aig.proofs.Values.{always_from}
@@ -8,7 +8,7 @@ use Rattle.aig_words.specs.declared.lists.Way.TheVariants.{Up}
 use Rattle.aig.proofs.Growth.{Obeys-older}
 use Rattle.aig_words.specs.Words.{number, Grew, IsWord, moved}
 use Rattle.std.proofs.lemmas.Result.{IfOk-from_err}
-use Rattle.aig_words.proofs.Grown.{Grew-refl, Grew-then, Grew-wider, IsWord-zeros, zeros_in, some_node}
+use Rattle.aig_words.proofs.Grown.{Grew-refl, Grew-then, Grew-wider, IsIn-later, All-later, IsWord-zeros, zeros_in, moved_in, some_node}
 use Rattle.aig_words.proofs.Numbers.{number-nil, number-zeros, number-more}
 use Rattle.aig_words.proofs.Moves.{number-moved, length-moved}
 use Rattle.aig_words.proofs.Steps.{mul_step, turns_fit}
@@ -136,3 +136,51 @@ returns-in_err-total-2-clause-word c = IfOk-from_err _ _ c.from_residual-in_err-
 
 pub returns-in_err-total-2-clause-value : goal.returns-in_err-total-2-clause-value
 returns-in_err-total-2-clause-value c = IfOk-from_err _ _ c.from_residual-in_err-total-2.ensures.0
+
+-- ---- what the calls ask for
+
+pub move_by-requires : goal.move_by-requires
+move_by-requires c = omega (arith, c.loop-i-test.true)
+
+pub mux-requires-clause-a_in : goal.mux-requires-clause-a_in
+mux-requires-clause-a_in c =
+    let a = c.args.a.now in
+    let grows = c.loop-i.invariant.grew.grows in
+    let node : 0 < length c.args.aig.now = some_node c.args.aig.now a c.requires.some c.requires.a_in in
+    rw (c.deref.ensures.value, c.in_ok-moved.ensures) (moved_in c.loop-i.aig Up c.loop-i.i a (omega (arith, node, grows.longer)) tt (All-later c.args.aig.now c.loop-i.aig a grows c.requires.a_in))
+
+pub mux-requires-clause-c_in : goal.mux-requires-clause-c_in
+mux-requires-clause-c_in c = IsIn-later c.args.aig.now c.loop-i.aig (get_or c.args.b.now c.loop-i.i (constant_lit false)) c.loop-i.invariant.grew.grows (c.requires.b_in c.loop-i.i (constant_lit false) (omega (arith, c.loop-i-test.true, c.requires.same)))
+
+pub mux-requires-clause-same : goal.mux-requires-clause-same
+mux-requires-clause-same c =
+    let a = c.args.a.now in
+    let moved : length c.deref.result.now ≡ length a = ap (λ (xs : List Lit). length xs) (c.deref.ensures.value ∙ c.in_ok-moved.ensures) ∙ length-moved Up c.loop-i.i a (omega (arith, c.loop-i-test.true)) in
+    moved ∙ sym (ap (λ (xs : List Lit). length xs) (c.deref-in-loop-i.ensures.value ∙ c.in_ok-none.ensures) ∙ length-replicate (length a) (constant_lit false))
+
+pub mux-requires-clause-some : goal.mux-requires-clause-some
+mux-requires-clause-some c =
+    let a = c.args.a.now in
+    let moved : length c.deref.result.now ≡ length a = ap (λ (xs : List Lit). length xs) (c.deref.ensures.value ∙ c.in_ok-moved.ensures) ∙ length-moved Up c.loop-i.i a (omega (arith, c.loop-i-test.true)) in
+    omega (arith, moved, c.requires.some)
+
+pub add-requires-clause-a_in : goal.add-requires-clause-a_in
+add-requires-clause-a_in c = rw c.deref-in-loop-i-2.ensures.value (All-later c.loop-i.aig c.mux.new.aig c.loop-i.total.items c.in_ok-row.ensures.grew.grows c.loop-i.invariant.word.inside)
+
+pub add-requires-clause-b_in : goal.add-requires-clause-b_in
+add-requires-clause-b_in c = rw c.deref-in-loop-i-3.ensures.value c.in_ok-row.ensures.word.inside
+
+pub add-requires-clause-same : goal.add-requires-clause-same
+add-requires-clause-same c =
+    let a = c.args.a.now in
+    let moved : length c.deref.result.now ≡ length a = ap (λ (xs : List Lit). length xs) (c.deref.ensures.value ∙ c.in_ok-moved.ensures) ∙ length-moved Up c.loop-i.i a (omega (arith, c.loop-i-test.true)) in
+    let total : length c.deref-in-loop-i-2.result.now ≡ length a = ap (λ (xs : List Lit). length xs) c.deref-in-loop-i-2.ensures.value ∙ c.loop-i.invariant.word.long in
+    total ∙ sym moved ∙ sym c.in_ok-row.ensures.word.long ∙ sym (ap (λ (xs : List Lit). length xs) c.deref-in-loop-i-3.ensures.value)
+
+pub add-requires-clause-some : goal.add-requires-clause-some
+add-requires-clause-some c =
+    let total : length c.deref-in-loop-i-2.result.now ≡ length c.args.a.now = ap (λ (xs : List Lit). length xs) c.deref-in-loop-i-2.ensures.value ∙ c.loop-i.invariant.word.long in
+    omega (arith, total, c.requires.some)
+
+pub returns-clause-word : goal.returns-clause-word
+returns-clause-word c = c.loop-i.invariant.word

@@ -1,14 +1,15 @@
-use Rattle.std.proofs.Common.{◌≡◌, ℕ, ◌+◌, ◌-◌, ◌*◌, ◌^◌, ◌<◌, ◌≤◌, Bool, false, List, length, get_or, take, drop, cond, ltb, ap, sym, subst, refl, ◌∙◌, arith, add-one, length-drop}
+use Rattle.std.proofs.Common.{◌≡◌, ℕ, ◌+◌, ◌-◌, ◌*◌, ◌^◌, ◌<◌, ◌≤◌, Bool, false, List, length, get_or, drop, cond, ltb, ap, sym, subst, refl, ◌∙◌, arith, add-one, length-drop}
 use Rattle.std.proofs.Math.Nat.{pow-suc}
 use Rattle.std.proofs.lemmas.List.{drop_all, take_rest}
+use Rattle.std.proofs.lemmas.List.Elements.{All-drop, All-take}
 use Rattle.aig.specs.declared.gate.Lit.{Lit}
-use Rattle.aig.specs.Graph.{holds, constant_lit}
-use Rattle.aig.proofs.Growth.{Obeys-older}
+use Rattle.aig.specs.Graph.{holds, constant_lit, IsIn}
+use Rattle.aig.proofs.Growth.{Grows-trans, Obeys-older}
 use Rattle.aig.proofs.Values.{always_from}
 use Rattle.aig_words.specs.Words.{number, Grew, IsWord, moved, shifted}
 use Rattle.std.proofs.lemmas.Result.{IfOk-from_err}
 use Rattle.aig_words.proofs.Steps.{stages_fit}
-use Rattle.aig_words.proofs.Grown.{Grew-refl, Grew-then, Grew-wider, Grew-stages, some_node, moved_in, fills_later}
+use Rattle.aig_words.proofs.Grown.{Grew-refl, Grew-then, Grew-wider, Grew-stages, IsIn-later, All-later, some_node, moved_in, fills_later}
 use Rattle.aig_words.proofs.Numbers.{number-nil, number-below}
 use Rattle.aig_words.proofs.Moves.{length-moved, number-moved, shifted_none, shift_more, shift_end}
 use Rattle.aig_words.proofs.shifts.shift.Goals as goal
@@ -182,3 +183,70 @@ returns-in_err-moved-2-clause-word c = IfOk-from_err _ _ c.from_residual-in_err-
 
 pub returns-in_err-moved-2-clause-value : goal.returns-in_err-moved-2-clause-value
 returns-in_err-moved-2-clause-value c = IfOk-from_err _ _ c.from_residual-in_err-moved-2.ensures.0
+
+-- ---- what the calls ask for
+
+pub move_by-requires : goal.move_by-requires
+move_by-requires c =
+    let long : length c.deref.result.now ≡ length c.args.a.now = ap (λ (xs : List Lit). length xs) c.deref.ensures.value ∙ c.loop-j.invariant.word.long in
+    omega (arith, long, c.if-k-a.true)
+
+pub mux-requires-clause-b_in : goal.mux-requires-clause-b_in
+mux-requires-clause-b_in c = rw c.deref-in-loop-j-2.ensures.value c.loop-j.invariant.word.inside
+
+pub mux-requires-clause-c_in : goal.mux-requires-clause-c_in
+mux-requires-clause-c_in c = IsIn-later c.args.aig.now c.loop-j.aig (get_or c.args.b.now c.loop-j.j (constant_lit false)) c.loop-j.invariant.grew.grows (c.requires.b_in c.loop-j.j (constant_lit false) c.loop-j-test.true)
+
+pub mux-requires-clause-same : goal.mux-requires-clause-same
+mux-requires-clause-same c =
+    let word = c.loop-j.word.items in
+    let k = c.loop-j.k in
+    let is_moved : c.deref-in-loop-j.result.now ≡ moved c.args.way k word = c.deref-in-loop-j.ensures.value ∙ c.in_ok-moved.ensures ∙ ap (λ (xs : List Lit). moved c.args.way k xs) c.deref.ensures.value in
+    ap (λ (xs : List Lit). length xs) is_moved ∙ length-moved c.args.way k word (omega (arith, c.if-k-a.true, c.loop-j.invariant.word.long)) ∙ sym (ap (λ (xs : List Lit). length xs) c.deref-in-loop-j-2.ensures.value)
+
+pub mux-requires-clause-some : goal.mux-requires-clause-some
+mux-requires-clause-some c =
+    let word = c.loop-j.word.items in
+    let k = c.loop-j.k in
+    let is_moved : c.deref-in-loop-j.result.now ≡ moved c.args.way k word = c.deref-in-loop-j.ensures.value ∙ c.in_ok-moved.ensures ∙ ap (λ (xs : List Lit). moved c.args.way k xs) c.deref.ensures.value in
+    let long : length c.deref-in-loop-j.result.now ≡ length word = ap (λ (xs : List Lit). length xs) is_moved ∙ length-moved c.args.way k word (omega (arith, c.if-k-a.true, c.loop-j.invariant.word.long)) in
+    omega (arith, long, c.loop-j.invariant.word.long, c.requires.some)
+
+pub any-requires-clause-a_in : goal.any-requires-clause-a_in
+any-requires-clause-a_in c =
+    let b = c.args.b.now in
+    let j = c.loop-j.j in
+    All-take (IsIn c.loop-j.aig) (length b - j) (drop j b) (All-drop (IsIn c.loop-j.aig) j b (All-later c.args.aig.now c.loop-j.aig b c.loop-j.invariant.grew.grows c.requires.b_in))
+
+pub mux-requires-2-clause-a_in : goal.mux-requires-2-clause-a_in
+mux-requires-2-clause-a_in c =
+    let a = c.args.a.now in
+    let way = c.args.way in
+    let grows = Grows-trans c.args.aig.now c.loop-j.aig c.any.new.aig c.loop-j.invariant.grew.grows c.in_ok-far.ensures.grew.grows in
+    let node : 0 < length c.args.aig.now = some_node c.args.aig.now a c.requires.some c.requires.a_in in
+    rw (c.deref-2.ensures.value, c.in_ok-away.ensures)
+    (moved_in c.any.new.aig way (length a) a (omega (arith, node, grows.longer)) (fills_later c.args.aig.now c.any.new.aig way grows c.requires.way_in) (All-later c.args.aig.now c.any.new.aig a grows c.requires.a_in))
+
+pub mux-requires-2-clause-b_in : goal.mux-requires-2-clause-b_in
+mux-requires-2-clause-b_in c = rw c.deref-3.ensures.value (All-later c.loop-j.aig c.any.new.aig c.loop-j.word.items c.in_ok-far.ensures.grew.grows c.loop-j.invariant.word.inside)
+
+pub mux-requires-2-clause-c_in : goal.mux-requires-2-clause-c_in
+mux-requires-2-clause-c_in c = c.in_ok-far.ensures.within
+
+pub mux-requires-2-clause-same : goal.mux-requires-2-clause-same
+mux-requires-2-clause-same c =
+    let a = c.args.a.now in
+    let away : length c.deref-2.result.now ≡ length a = ap (λ (xs : List Lit). length xs) (c.deref-2.ensures.value ∙ c.in_ok-away.ensures) ∙ length-moved c.args.way (length a) a (omega arith) in
+    away ∙ sym (ap (λ (xs : List Lit). length xs) c.deref-3.ensures.value ∙ c.loop-j.invariant.word.long)
+
+pub mux-requires-2-clause-some : goal.mux-requires-2-clause-some
+mux-requires-2-clause-some c =
+    let a = c.args.a.now in
+    let away : length c.deref-2.result.now ≡ length a = ap (λ (xs : List Lit). length xs) (c.deref-2.ensures.value ∙ c.in_ok-away.ensures) ∙ length-moved c.args.way (length a) a (omega arith) in
+    omega (arith, away, c.requires.some)
+
+pub returns-clause-word : goal.returns-clause-word
+returns-clause-word c =
+    let a = c.args.a.now in
+    let away : length c.deref-2.result.now ≡ length a = ap (λ (xs : List Lit). length xs) (c.deref-2.ensures.value ∙ c.in_ok-away.ensures) ∙ length-moved c.args.way (length a) a (omega arith) in
+    subst (λ (n : ℕ). IsWord c.mux-2.new.aig n c.in_ok-moved-2.moved.items) away c.in_ok-moved-2.ensures.word
