@@ -1,3 +1,4 @@
+use Rattle.std.proofs.lemmas.Result.{IfOk-from_err}
 use Rattle.std.proofs.Common.{◌≡◌, ◌+◌, ◌^◌, Bool, List, length, map, ap, sym, ◌∙◌, arith}
 use Rattle.aig.specs.declared.gate.Lit.{Lit}
 use Rattle.aig.specs.Graph.{holds, negation}
@@ -21,3 +22,15 @@ returns-clause-value c = always_from _ _ c.in_ok-word.ensures.value.graph (λ v 
     let m : number v (map negation b) + number v b + 1 ≡ 2 ^ length a = number-negated v b ∙ ap (λ t. 2 ^ t) (sym c.requires.same) in
     sub_mod (number v c.in_ok-word.field-0.word.items) (weight (holds v c.in_ok-word.field-0.carry)) (2 ^ length a) (number v a) (number v (map negation b)) (number v b)
     (number-below-at v c.in_ok-word.field-0.word.items (length a) c.in_ok-word.ensures.word.long) m (omega (arith, e, z, n)))
+
+pub returns-in_err-complement-clause-value : goal.returns-in_err-complement-clause-value
+returns-in_err-complement-clause-value c = IfOk-from_err _ _ c.from_residual.ensures.0
+
+pub returns-in_err-complement-clause-word : goal.returns-in_err-complement-clause-word
+returns-in_err-complement-clause-word c = IfOk-from_err _ _ c.from_residual.ensures.0
+
+pub returns-in_err-word-clause-value : goal.returns-in_err-word-clause-value
+returns-in_err-word-clause-value c = IfOk-from_err _ _ c.from_residual-in_err-word.ensures.0
+
+pub returns-in_err-word-clause-word : goal.returns-in_err-word-clause-word
+returns-in_err-word-clause-word c = IfOk-from_err _ _ c.from_residual-in_err-word.ensures.0
