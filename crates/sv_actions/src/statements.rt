@@ -3,7 +3,7 @@ ghost use Rattle.std.specs.Prelude.{◌≡◌, ℕ, ◌++◌, List, IfOk};
 ghost use Rattle.fourvec.specs.declared.Bit.{Bit};
 ghost use Rattle.sv_meaning.specs.Layouts.{NamedSignal};
 ghost use Rattle.sv_meaning.specs.Deeds.{CaseArm, deed, is_casez};
-ghost use Rattle.sv_names.specs.Names.{names_are, entries_of, stack_of, loops_of};
+ghost use Rattle.sv_names.specs.Names.{names_are, stack_of, loops_of};
 ghost use Rattle.sv_actions.specs.Texts.{target_signals, other_signals, arm_signals, of_each};
 ghost use Rattle.sv_actions.specs.Typing.{JudgesDeed};
 ghost use Rattle.sv_actions.specs.Listing.{AreArms, JudgesArms, in_order, all_deeds, else_deed, turn_deed, arm_of, all_arms, rest_of, Within, ActedAims, ArmsAim};
@@ -262,7 +262,7 @@ pub fn typed_body(
 ) -> Result<Acted, TextErr>
     ensures is { JudgesDeed (deed stmt.now (names_are names.old)) made result }
     ensures aims { (named : List NamedSignal) → Within (target_signals (names_are names.old) stmt.now) named → IfOk result (ActedAims named) }
-    ensures names { entries_of names.new ≡ entries_of names.old }
+    ensures names { names_are names.new ≡ names_are names.old }
 {
     typed_stmt(alloc, stmt, names, made)
 }
