@@ -5,8 +5,8 @@ ghost use Rattle.sv_meaning.specs.Values.{mean, step};
 ghost use Rattle.sv_typed.specs.Typed as typed_is;
 ghost use Rattle.sv_typing.specs.Judging.{Judges, Fixes};
 ghost use Rattle.sv_names.specs.Kinds.{layout_is, IsSound};
-ghost use Rattle.sv_names.specs.Names.{names_are};
-ghost use Rattle.sv_typing.specs.Picks.{rule_faults};
+ghost use Rattle.sv_names.specs.Names.{names_are, constants_are};
+ghost use Rattle.sv_typing.specs.Picks.{rule_faults, rule_scope};
 ghost use Rattle.sv_typing.specs.Roots.{JudgesChain};
 ghost use Rattle.sv_const.specs.Sizes.{JudgesConstant, JudgesSize};
 
@@ -15,7 +15,7 @@ use sv_names::{Cursor, Each, Known, Layout, Names, Size};
 use sv_outside::{Place, TextErr};
 use sv_tree::{Expr, Select};
 use sv_typed::Typed;
-use sv_typing::{Chain, Fixed, IndexRule, chain_behind, fixed, refusal, start, typed};
+use sv_typing::{Chain, Fixed, IndexRule, Position, chain_behind, fixed, refusal, start, typed};
 
 // The value of a typed constant at the larger of a width and its own length, or E15 where it begins.
 #[tactic(auto, using(sv_typed::proofs::Sound::most_bits))]
@@ -58,14 +58,18 @@ pub fn eval_const(
     width: u8,
 ) -> Result<Known, TextErr>
     requires { width ≤ 128 }
-    ensures { JudgesConstant width (mean (names_are names.now) expr.now) result }
+    ensures { JudgesConstant width (mean (constants_are names.now) expr.now) result }
 {
-    constant_of(start(expr), width, typed(alloc, expr, names, true))
+    constant_of(
+        start(expr),
+        width,
+        typed(alloc, expr, names, Position::Constant),
+    )
 }
 
 /// The value of a constant expression at its own length, wholly 0 and 1; or why it is refused, as for `eval_const`.
 pub fn eval_fixed(alloc: Global, expr: &Expr, names: &Names<'_>) -> Result<Fixed, TextErr>
-    ensures { Fixes (mean (names_are names.now) expr.now) result }
+    ensures { Fixes (mean (constants_are names.now) expr.now) result }
 {
     fixed(alloc, expr, names)
 }
@@ -75,7 +79,7 @@ pub fn eval_fixed(alloc: Global, expr: &Expr, names: &Names<'_>) -> Result<Fixed
 pub fn sized(alloc: Global, expr: &Expr, names: &Names<'_>) -> Result<Size, TextErr>
     ensures { JudgesSize (mean (names_are names.now) expr.now) result }
 {
-    size_of(typed(alloc, expr, names, false))
+    size_of(typed(alloc, expr, names, Position::Free))
 }
 
 /// The selects behind what has a layout as parts of its bits, where each index is judged so; or why they are refused:
@@ -88,7 +92,7 @@ pub fn select_chain(
     rule: IndexRule,
 ) -> Result<Chain, TextErr>
     requires { IsSound layout.now }
-    ensures { JudgesChain (rule_faults rule) (layout_is layout.now) (map (step (names_are names.now)) selects.now) result }
+    ensures { JudgesChain (rule_faults rule) (layout_is layout.now) (map (step (rule_scope rule (names_are names.now))) selects.now) result }
 {
     chain_behind(alloc, Cursor::Whole(Each::Of(layout)), selects, names, rule)
 }

@@ -6,7 +6,7 @@ ghost use Rattle.sv_meaning.specs.Meanings.{Meaning};
 ghost use Rattle.sv_meaning.specs.Values.{mean};
 ghost use Rattle.sv_meaning.specs.Deeds.{index_value, fixed_truth, is_taken};
 ghost use Rattle.sv_typing.specs.Judging.{Judges};
-ghost use Rattle.sv_names.specs.Names.{names_are};
+ghost use Rattle.sv_names.specs.Names.{constants_are};
 ghost use Rattle.sv_loops.specs.Answers.{Gives};
 
 use fourvec::{Bit, Four};
@@ -15,7 +15,7 @@ use sv_names::Names;
 use sv_outside::{Place, TextErr};
 use sv_tree::Expr;
 use sv_typed::Typed;
-use sv_typing::{refusal, start, typed};
+use sv_typing::{Position, refusal, start, typed};
 
 // The low 32 bits of a typed constant that begins at a place, wholly 0 and 1, or E15.
 #[tactic(auto, using(sv_typed::proofs::Sound::most_bits, fourvec::proofs::Widths::widths))]
@@ -62,17 +62,17 @@ fn truth_of(start: Place, x: Result<Typed, TextErr>) -> Result<bool, TextErr>
 /// E2, E12, E14, E15, E16, E23 or E25 (10.7, 12.7.1).
 #[tactic(auto, using(sv_typing::proofs::Arms::sound_of_judged))]
 pub fn index_value(alloc: Global, expr: &Expr, names: &Names<'_>) -> Result<Four, TextErr>
-    ensures is { Gives (index_value (mean (names_are names.now) expr.now)) result }
+    ensures is { Gives (index_value (mean (constants_are names.now) expr.now)) result }
     ensures width { IfOk result (λ bits. length bits ≡ 32) }
 {
-    low_bits(start(expr), typed(alloc, expr, names, true))
+    low_bits(start(expr), typed(alloc, expr, names, Position::Constant))
 }
 
 /// Whether the condition of a loop or of a generate conditional holds, which is constant and wholly 0 and 1; or why it is
 /// refused: E2, E12, E14, E15, E16, E23 or E25 (12.7.1, 27.4, 27.5).
 #[tactic(auto, using(sv_typing::proofs::Arms::sound_of_judged))]
 pub fn condition(alloc: Global, expr: &Expr, names: &Names<'_>) -> Result<bool, TextErr>
-    ensures { Gives (fixed_truth (mean (names_are names.now) expr.now)) result }
+    ensures { Gives (fixed_truth (mean (constants_are names.now) expr.now)) result }
 {
-    truth_of(start(expr), typed(alloc, expr, names, true))
+    truth_of(start(expr), typed(alloc, expr, names, Position::Constant))
 }

@@ -3,7 +3,7 @@ ghost use Rattle.std.specs.Prelude.{◌≡◌, ◌∷◌, [], ◌++◌, List, le
 ghost use Rattle.sv_outside.specs.declared.refusal.TextErr.TheVariants.{Memory};
 ghost use Rattle.sv_meaning.specs.Deeds.{turns, turns_from, holds_at, next_value, with_index, most_turns};
 ghost use Rattle.sv_names.specs.Kinds.{Entry};
-ghost use Rattle.sv_names.specs.Names.{names_are, entries_of, frames_of, loops_of};
+ghost use Rattle.sv_names.specs.Names.{constants_are, stack_of, loops_of};
 ghost use Rattle.sv_loops.specs.Answers.{Gives};
 ghost use Rattle.sv_loops.specs.Steps.{index_is};
 
@@ -22,9 +22,9 @@ const MOST_TURNS: usize = 4096;
 
 // Enters the loop, whose variable has these bits. Where memory is out, nothing changes.
 fn enter(names: &mut Names<'_>, variable: &Word, bits: Four) -> Result<(), TextErr>
-    ensures frames { frames_of names.new ≡ frames_of names.old }
+    ensures frames { stack_of names.new ≡ stack_of names.old }
     ensures loops { OnOk result (loops_of names.new ≡ loops_of names.old ++ index_is variable.now.text bits ∷ []) }
-    ensures err { OnErr result (entries_of names.new ≡ entries_of names.old) }
+    ensures err { OnErr result (loops_of names.new ≡ loops_of names.old) }
     ensures memory { IfErr result (λ why. why ≡ Memory) }
 {
     let name = variable.text.copy()?;
@@ -41,7 +41,7 @@ fn enter(names: &mut Names<'_>, variable: &Word, bits: Four) -> Result<(), TextE
 // Leaves the loop.
 #[tactic(auto, using(crate::proofs::Frames::last_off, crate::proofs::Frames::none_off))]
 fn leave(names: &mut Names<'_>)
-    ensures frames { frames_of names.new ≡ frames_of names.old }
+    ensures frames { stack_of names.new ≡ stack_of names.old }
     ensures loops { (all : List Entry) (last : Entry) → loops_of names.old ≡ all ++ last ∷ [] → loops_of names.new ≡ all }
 {
     names.pop_loop();
@@ -55,9 +55,9 @@ fn holds_at(
     bits: Four,
     test: &Expr,
 ) -> Result<bool, TextErr>
-    ensures is { Gives (holds_at (names_are names.old) variable.now.text test.now bits) result }
-    ensures names { entries_of names.new ≡ entries_of names.old }
-    ensures frames { frames_of names.new ≡ frames_of names.old }
+    ensures is { Gives (holds_at (constants_are names.old) variable.now.text test.now bits) result }
+    ensures loops { loops_of names.new ≡ loops_of names.old }
+    ensures frames { stack_of names.new ≡ stack_of names.old }
 {
     enter(names, variable, bits)?;
     let taken = condition(alloc, test, names);
@@ -74,9 +74,9 @@ fn following(
     next: &Step,
 ) -> Result<Four, TextErr>
     requires { length bits ≡ 32 }
-    ensures is { Gives (next_value (with_index (names_are names.old) variable.now.text bits) bits next.now) result }
-    ensures names { entries_of names.new ≡ entries_of names.old }
-    ensures frames { frames_of names.new ≡ frames_of names.old }
+    ensures is { Gives (next_value (with_index (constants_are names.old) variable.now.text bits) bits next.now) result }
+    ensures loops { loops_of names.new ≡ loops_of names.old }
+    ensures frames { stack_of names.new ≡ stack_of names.old }
     ensures width { IfOk result (λ value. length value ≡ 32) }
 {
     enter(names, variable, bits)?;
@@ -96,9 +96,9 @@ fn turns_from(
     next: &Step,
 ) -> Result<Items<Four>, TextErr>
     requires { length first ≡ 32 }
-    ensures is { Gives (turns_from most_turns place (names_are names.old) variable.now.text test.now next.now first) result }
-    ensures names { entries_of names.new ≡ entries_of names.old }
-    ensures frames { frames_of names.new ≡ frames_of names.old }
+    ensures is { Gives (turns_from most_turns place (constants_are names.old) variable.now.text test.now next.now first) result }
+    ensures loops { loops_of names.new ≡ loops_of names.old }
+    ensures frames { stack_of names.new ≡ stack_of names.old }
 {
     let mut values = Items::new(alloc);
     let mut bits = first;
@@ -127,9 +127,9 @@ pub fn turns(
     test: &Expr,
     next: &Step,
 ) -> Result<Items<Four>, TextErr>
-    ensures is { Gives (turns place (names_are names.old) variable.now.text start.now test.now next.now) result }
-    ensures names { entries_of names.new ≡ entries_of names.old }
-    ensures frames { frames_of names.new ≡ frames_of names.old }
+    ensures is { Gives (turns place (constants_are names.old) variable.now.text start.now test.now next.now) result }
+    ensures loops { loops_of names.new ≡ loops_of names.old }
+    ensures frames { stack_of names.new ≡ stack_of names.old }
 {
     let first = index_value(alloc, start, names)?;
     turns_from(alloc, place, names, variable, first, test, next)

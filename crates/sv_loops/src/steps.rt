@@ -6,7 +6,7 @@ ghost use Rattle.sv_meaning.specs.Meanings.{Meaning, named};
 ghost use Rattle.sv_meaning.specs.Values.{mean};
 ghost use Rattle.sv_meaning.specs.Deeds.{index_value, counted, next_value};
 ghost use Rattle.sv_typing.specs.Judging.{Judges, IsTyped};
-ghost use Rattle.sv_names.specs.Names.{names_are};
+ghost use Rattle.sv_names.specs.Names.{constants_are};
 ghost use Rattle.sv_loops.specs.Answers.{Gives};
 ghost use Rattle.sv_loops.specs.Steps.{moved_by};
 
@@ -18,7 +18,7 @@ use sv_names::Names;
 use sv_outside::TextErr;
 use sv_tree::{Expr, Step, StepMark, StepSign, Word};
 use sv_typed::{Arithmetic, Root, Typed};
-use sv_typing::{start, typed};
+use sv_typing::{Position, start, typed};
 
 // One more or one less, modulo 2 ^ 32.
 fn counted(mark: StepMark, bits: &Four) -> Four
@@ -64,12 +64,17 @@ fn moved_value(
     names: &Names<'_>,
 ) -> Result<Four, TextErr>
     requires { length bits.now ≡ 32 }
-    ensures is { (word : Word) → Gives (index_value (moved_by op word bits.now (mean (names_are names.now) expr.now))) result }
+    ensures is { (word : Word) → Gives (index_value (moved_by op word bits.now (mean (constants_are names.now) expr.now))) result }
     ensures width { IfOk result (λ next. length next ≡ 32) }
 {
     low_bits(
         start(expr),
-        moved(alloc, op, bits, typed(alloc, expr, names, true)),
+        moved(
+            alloc,
+            op,
+            bits,
+            typed(alloc, expr, names, Position::Constant),
+        ),
     )
 }
 
@@ -82,7 +87,7 @@ pub fn next_value(
     names: &Names<'_>,
 ) -> Result<Four, TextErr>
     requires { length bits.now ≡ 32 }
-    ensures is { Gives (next_value (names_are names.now) bits.now step.now) result }
+    ensures is { Gives (next_value (constants_are names.now) bits.now step.now) result }
     ensures width { IfOk result (λ next. length next ≡ 32) }
 {
     match step {

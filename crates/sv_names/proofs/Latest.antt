@@ -11,7 +11,7 @@ use Rattle.std.proofs.lemmas.Bool.{cases_Bool}
 use Rattle.std.proofs.Math.ListN.{get_or-append}
 use Rattle.std.proofs.lemmas.List.{get_or_default, get_or-map, length-map, take-append-le}
 use Rattle.sv_meaning.specs.Layouts as m
-use Rattle.sv_names.specs.Kinds.{Entry, scope_is, what_is, names_of}
+use Rattle.sv_names.specs.Kinds.{Entry, entries_are, what_is, names_of}
 use Rattle.sv_names.specs.Linked.{last_among, latest_of, IsLinked}
 use Rattle.sv_names.specs.declared.layout.What.TheVariants.{Genvar}
 use Rattle.sv_names.specs.declared.links.Links.{Links}
@@ -213,24 +213,24 @@ declared_by true d entries e k o p g h = ap (λ (x : Entry). Some (what_is x.1))
 declared_by false d entries e k o p g h = h
 
 found_among : (entries : List Entry) (d : Entry) (name : Name) (k : ℕ) → k ≤ length entries
-    → m.find name (scope_is (take k entries)) ≡ option_map (λ i. what_is (get_or entries i d).1) (last_among (names_of entries) name k)
-unfolding m.find last_among
+    → m.last_of name (entries_are (take k entries)) ≡ option_map (λ i. what_is (get_or entries i d).1) (last_among (names_of entries) name k)
+unfolding m.last_of last_among
 found_among entries d name zero h = refl
 found_among entries d name (suc k) h =
     let l : k < length entries = omega arith in
     let e = get_or entries k d in
     find_last name entries (suc k) k e l refl (get_or_default entries k d e l)
-    ∙ declared_by (bytes_eq e.0 name) d entries e k (m.find name (scope_is (take k entries))) (last_among (names_of entries) name k) refl (found_among entries d name k (omega arith))
+    ∙ declared_by (bytes_eq e.0 name) d entries e k (m.last_of name (entries_are (take k entries))) (last_among (names_of entries) name k) refl (found_among entries d name k (omega arith))
     ∙ ap (λ (x : Name). option_map (λ i. what_is (get_or entries i d).1) (if bytes_eq x name then Some k else last_among (names_of entries) name k)) (sym (get_or-map (λ (x : Entry). x.0) entries k d [] l))
 
 -- a place below the bound that is looked from, which holds the name's last entry below a higher bound
 pub found_here : (entries : List Entry) (name : Name) (bound before place : ℕ) (e : Entry) → last_among (names_of entries) name bound ≡ Some place → before ≤ bound → before ≤ length entries
-    → place < before → e ≡ get_or entries place e → Some (what_is e.1) ≡ m.find name (scope_is (take before entries))
+    → place < before → e ≡ get_or entries place e → Some (what_is e.1) ≡ m.last_of name (entries_are (take before entries))
 found_here entries name bound before place e h w l p g =
     ap (λ (x : Entry). Some (what_is x.1)) g ∙ ap (option_map (λ i. what_is (get_or entries i e).1)) (sym (last_within (names_of entries) name bound before place h p w)) ∙ sym (found_among entries e name before l)
 
 pub found_nowhere : (entries : List Entry) (name : Name) (bound before : ℕ) → last_among (names_of entries) name bound ≡ None → before ≤ bound → before ≤ length entries
-    → None ≡ m.find name (scope_is (take before entries))
+    → None ≡ m.last_of name (entries_are (take before entries))
 found_nowhere entries name bound before h w l =
     ap (option_map (λ i. what_is (get_or entries i ([], Genvar)).1)) (sym (none_within (names_of entries) name bound before h w)) ∙ sym (found_among entries ([], Genvar) name before l)
 

@@ -38,7 +38,6 @@ impl Drop for Names<'_> {
 
 impl<'a> Names<'a> {
     /// No names.
-    #[tactic(auto, using(crate::proofs::Lookups::no_fronts))]
     pub fn new(alloc: Global) -> Names<'a>
         ensures frames { stack_of result ≡ [] }
         ensures loops { loops_of result ≡ [] }
@@ -52,7 +51,12 @@ impl<'a> Names<'a> {
     /// Enters a scope, of which the first `len` names are seen, and the first `above` are declared above the place. Where memory is
     /// out, nothing changes.
     #[tactic(auto, using(crate::proofs::Lookups::one_frame, crate::proofs::Lookups::one_frame_above))]
-    pub fn push_scope(&mut self, scope: &'a Scope, len: usize, above: usize) -> Result<(), AllocError>
+    pub fn push_scope(
+        &mut self,
+        scope: &'a Scope,
+        len: usize,
+        above: usize,
+    ) -> Result<(), AllocError>
         ensures frames { OnOk result (frames_of self.new ≡ frames_of self.old ++ take len scope.now) }
         ensures above { OnOk result (above_of self.new ≡ above_of self.old ++ take above scope.now) }
         ensures loops { OnOk result (loops_of self.new ≡ loops_of self.old) }

@@ -18,9 +18,9 @@ use Rattle.sv_tree.specs.declared.exprs.Expr.TheVariants as e
 use Rattle.sv_tree.specs.declared.exprs.Select.{Select}
 use Rattle.sv_tree.specs.declared.exprs.Select.TheVariants as s
 use Rattle.sv_meaning.specs.Faults.{Faults}
-use Rattle.sv_meaning.specs.Layouts.{Layout, Scope, find, width, is_signed}
+use Rattle.sv_meaning.specs.Layouts.{Layout, Scope, constant_scope, find, width, is_signed}
 use Rattle.sv_meaning.specs.Meanings.{Meaning, from, chosen, concat, repeated, sized_by, cast_to, to_sign, of_literal, named, parts, Step, step_faults, chain_faults, to_member, to_index, to_range}
-use Rattle.sv_meaning.specs.Values.{mean, step, is_signed_word, system_meaning}
+use Rattle.sv_meaning.specs.Values.{mean, step, is_signed_word, system_meaning, operand_scope, left_scope}
 use Rattle.sv_typed.specs.declared.tree.Typed.{Typed}
 use Rattle.sv_typed.specs.declared.ops.Two.{Two}
 use Rattle.sv_typed.specs.declared.ops.One.TheVariants as one
@@ -94,27 +94,27 @@ judged_paren at x p y c r h j = judged_as _ _ c r (ap (mean at) h ∙ mean_paren
 pub judged_concat : (at : Scope) (x : Expr) (p : Place) (all : List Expr) (c : Bool) (r : Result Typed TextErr) → x ≡ e.Concat p all → Judges (concat p (map (mean at) all)) c r → Judges (mean at x) c r
 judged_concat at x p all c r h j = judged_as _ _ c r (ap (mean at) h ∙ mean_concat at p all) j
 
-pub judged_repeat : (at : Scope) (x : Expr) (p : Place) (n : Expr) (all : List Expr) (c : Bool) (r : Result Typed TextErr) → x ≡ e.Repeat p n all → Judges (repeated p (mean at n) (map (mean at) all)) c r → Judges (mean at x) c r
+pub judged_repeat : (at : Scope) (x : Expr) (p : Place) (n : Expr) (all : List Expr) (c : Bool) (r : Result Typed TextErr) → x ≡ e.Repeat p n all → Judges (repeated p (mean (constant_scope at) n) (map (mean at) all)) c r → Judges (mean at x) c r
 judged_repeat at x p n all c r h j = judged_as _ _ c r (ap (mean at) h ∙ mean_repeat at p n all) j
 
 pub judged_cast_literal : (at : Scope) (x : Expr) (w : Word) (y : Expr) (c : Bool) (r : Result Typed TextErr) → x ≡ e.CastLiteral w y → Judges (sized_by (of_literal w) (mean at y)) c r → Judges (mean at x) c r
 judged_cast_literal at x w y c r h j = judged_as _ _ c r (ap (mean at) h ∙ mean_cast_literal at w y) j
 
-pub judged_cast_name : (at : Scope) (x : Expr) (w : Word) (y : Expr) (c : Bool) (r : Result Typed TextErr) → x ≡ e.CastName w y → Judges (cast_to w (find w.text at) (mean at y)) c r → Judges (mean at x) c r
+pub judged_cast_name : (at : Scope) (x : Expr) (w : Word) (y : Expr) (c : Bool) (r : Result Typed TextErr) → x ≡ e.CastName w y → Judges (cast_to w (find w.text (constant_scope at)) (mean at y)) c r → Judges (mean at x) c r
 judged_cast_name at x w y c r h j = judged_as _ _ c r (ap (mean at) h ∙ mean_cast_name at w y) j
 
-pub judged_cast_paren : (at : Scope) (x : Expr) (p : Place) (n y : Expr) (c : Bool) (r : Result Typed TextErr) → x ≡ e.CastParen p n y → Judges (sized_by (from p (mean at n)) (mean at y)) c r → Judges (mean at x) c r
+pub judged_cast_paren : (at : Scope) (x : Expr) (p : Place) (n y : Expr) (c : Bool) (r : Result Typed TextErr) → x ≡ e.CastParen p n y → Judges (sized_by (from p (mean (constant_scope at) n)) (mean at y)) c r → Judges (mean at x) c r
 judged_cast_paren at x p n y c r h j = judged_as _ _ c r (ap (mean at) h ∙ mean_cast_paren at p n y) j
 
 pub judged_cast_sign : (at : Scope) (x : Expr) (s : Sign) (p : Place) (y : Expr) (b : Bool) (c : Bool) (r : Result Typed TextErr) → x ≡ e.CastSign s p y → b ≡ is_signed_word s → Judges (from p (to_sign b (mean at y))) c r → Judges (mean at x) c r
 judged_cast_sign at x s p y b c r h g j = judged_as _ _ c r (ap (mean at) h ∙ mean_cast_sign at s p y ∙ ap (λ z. from p (to_sign z (mean at y))) (sym g)) j
 
-pub judged_system : (at : Scope) (x : Expr) (f : SystemName) (p : Place) (y z : Expr) (c : Bool) (r : Result Typed TextErr) → x ≡ e.System f p y → z ≡ y → Judges (from p (system_meaning f (mean at z))) c r → Judges (mean at x) c r
-judged_system at x f p y z c r h g j = judged_as _ _ c r (ap (mean at) h ∙ mean_system at f p y ∙ ap (λ v. from p (system_meaning f (mean at v))) (sym g)) j
+pub judged_system : (at : Scope) (x : Expr) (f : SystemName) (p : Place) (y z : Expr) (c : Bool) (r : Result Typed TextErr) → x ≡ e.System f p y → z ≡ y → Judges (from p (system_meaning f (mean (operand_scope f at) z))) c r → Judges (mean at x) c r
+judged_system at x f p y z c r h g j = judged_as _ _ c r (ap (mean at) h ∙ mean_system at f p y ∙ ap (λ v. from p (system_meaning f (mean (operand_scope f at) v))) (sym g)) j
 
 -- the function of the system that a name says
-pub system_is : (f g : SystemName) (p : Place) (m : Meaning) (c : Bool) (r : Result Typed TextErr) → f ≡ g → Judges (from p (system_meaning g m)) c r → Judges (from p (system_meaning f m)) c r
-system_is f g p m c r h j = subst (λ v. Judges (from p (system_meaning v m)) c r) (sym h) j
+pub system_is : (at : Scope) (f g : SystemName) (p : Place) (x : Expr) (c : Bool) (r : Result Typed TextErr) → f ≡ g → Judges (from p (system_meaning g (mean (operand_scope g at) x))) c r → Judges (from p (system_meaning f (mean (operand_scope f at) x))) c r
+system_is at f g p x c r h j = subst (λ v. Judges (from p (system_meaning v (mean (operand_scope v at) x))) c r) (sym h) j
 
 pub judged_unary : (at : Scope) (x : Expr) (op : UnaryOp) (p : Place) (y : Expr) (c : Bool) (r : Result Typed TextErr) → x ≡ e.Unary op p y → Judges (from p (one_meaning (one_of op) (mean at y))) c r → Judges (mean at x) c r
 judged_unary at x op p y c r h j = judged_as _ _ c r (ap (mean at) h ∙ mean_unary at op p y ∙ ap (from p) (unary_is op (mean at y))) j
@@ -139,7 +139,7 @@ led_member at j x v p w r h k = leads_as j x _ _ r (ap (step at) h ∙ step_memb
 pub led_index : (at : Scope) (j : Meaning → Faults) (x : Layout) (v : Select) (p : Place) (i : Expr) (r : Result (Cursor × Pick) TextErr) → v ≡ s.Index p i → Leads j x (to_index p (mean at i)) r → Leads j x (step at v) r
 led_index at j x v p i r h k = leads_as j x _ _ r (ap (step at) h ∙ step_index at p i) k
 
-pub led_range : (at : Scope) (j : Meaning → Faults) (x : Layout) (v : Select) (p : Place) (a : Expr) (m : RangeMark) (b : Expr) (r : Result (Cursor × Pick) TextErr) → v ≡ s.Range p a m b → Leads j x (to_range p (mean at a) m (mean at b)) r → Leads j x (step at v) r
+pub led_range : (at : Scope) (j : Meaning → Faults) (x : Layout) (v : Select) (p : Place) (a : Expr) (m : RangeMark) (b : Expr) (r : Result (Cursor × Pick) TextErr) → v ≡ s.Range p a m b → Leads j x (to_range p (mean (left_scope m at) a) m (mean (constant_scope at) b)) r → Leads j x (step at v) r
 led_range at j x v p a m b r h k = leads_as j x _ _ r (ap (step at) h ∙ step_range at p a m b) k
 
 pub ruleset steps = (led_member, led_index, led_range)

@@ -12,9 +12,9 @@ use Rattle.sv_tree.specs.declared.exprs.Select.TheVariants as s
 use Rattle.sv_tree.specs.declared.exprs.UnaryOp.{UnaryOp}
 use Rattle.sv_tree.specs.declared.exprs.BinaryOp.{BinaryOp}
 use Rattle.sv_tree.specs.declared.exprs.RangeMark.{RangeMark}
-use Rattle.sv_meaning.specs.Layouts.{Scope, find}
+use Rattle.sv_meaning.specs.Layouts.{Scope, constant_scope, find}
 use Rattle.sv_meaning.specs.Meanings.{from, concat, repeated, chosen, named, sized_by, cast_to, to_sign, of_literal, to_member, to_index, to_range}
-use Rattle.sv_meaning.specs.Values.{mean, means, step, steps, unary_meaning, binary_meaning, system_meaning, is_signed_word}
+use Rattle.sv_meaning.specs.Values.{mean, means, step, steps, unary_meaning, binary_meaning, system_meaning, is_signed_word, operand_scope, left_scope}
 
 pub mean_literal : (at : Scope) (w : Word) → mean at (e.Literal w) ≡ of_literal w
 unfolding mean
@@ -36,7 +36,7 @@ pub mean_choose : (at : Scope) (c x y : Expr) → mean at (e.Choose c x y) ≡ c
 unfolding mean shape-the_row-Expr-1 hidden-the_row-Expr-1 denote.Hole.Carrier.hidden
 mean_choose at c x y = refl
 
-pub mean_system : (at : Scope) (f : SystemName) (p : Place) (x : Expr) → mean at (e.System f p x) ≡ from p (system_meaning f (mean at x))
+pub mean_system : (at : Scope) (f : SystemName) (p : Place) (x : Expr) → mean at (e.System f p x) ≡ from p (system_meaning f (mean (operand_scope f at) x))
 unfolding mean shape-the_row-Expr-1 hidden-the_row-Expr-1 denote.Hole.Carrier.hidden
 mean_system at f p x = refl
 
@@ -44,7 +44,7 @@ pub mean_cast_sign : (at : Scope) (s : Sign) (p : Place) (x : Expr) → mean at 
 unfolding mean shape-the_row-Expr-1 hidden-the_row-Expr-1 denote.Hole.Carrier.hidden
 mean_cast_sign at s p x = refl
 
-pub mean_cast_paren : (at : Scope) (p : Place) (n x : Expr) → mean at (e.CastParen p n x) ≡ sized_by (from p (mean at n)) (mean at x)
+pub mean_cast_paren : (at : Scope) (p : Place) (n x : Expr) → mean at (e.CastParen p n x) ≡ sized_by (from p (mean (constant_scope at) n)) (mean at x)
 unfolding mean shape-the_row-Expr-1 hidden-the_row-Expr-1 denote.Hole.Carrier.hidden
 mean_cast_paren at p n x = refl
 
@@ -52,7 +52,7 @@ pub mean_cast_literal : (at : Scope) (w : Word) (x : Expr) → mean at (e.CastLi
 unfolding mean shape-the_row-Expr-1 hidden-the_row-Expr-1 denote.Hole.Carrier.hidden
 mean_cast_literal at w x = refl
 
-pub mean_cast_name : (at : Scope) (w : Word) (x : Expr) → mean at (e.CastName w x) ≡ cast_to w (find w.text at) (mean at x)
+pub mean_cast_name : (at : Scope) (w : Word) (x : Expr) → mean at (e.CastName w x) ≡ cast_to w (find w.text (constant_scope at)) (mean at x)
 unfolding mean shape-the_row-Expr-1 hidden-the_row-Expr-1 denote.Hole.Carrier.hidden
 mean_cast_name at w x = refl
 
@@ -74,9 +74,9 @@ pub mean_name : (at : Scope) (w : Word) (all : List Select) → mean at (e.Name 
 unfolding mean shape-the_row-Select-0 hidden-the_row-Select-0 denote.Hole.Carrier.hidden
 mean_name at w all = ap (named w (find w.text at)) (steps_list at all)
 
-pub mean_repeat : (at : Scope) (p : Place) (n : Expr) (all : List Expr) → mean at (e.Repeat p n all) ≡ repeated p (mean at n) (map (mean at) all)
+pub mean_repeat : (at : Scope) (p : Place) (n : Expr) (all : List Expr) → mean at (e.Repeat p n all) ≡ repeated p (mean (constant_scope at) n) (map (mean at) all)
 unfolding mean shape-the_row-Expr-1 hidden-the_row-Expr-1 shape-the_row-Expr-2 hidden-the_row-Expr-2 denote.Hole.Carrier.hidden
-mean_repeat at p n all = ap (repeated p (mean at n)) (means_list at all)
+mean_repeat at p n all = ap (repeated p (mean (constant_scope at) n)) (means_list at all)
 
 pub step_index : (at : Scope) (p : Place) (x : Expr) → step at (s.Index p x) ≡ to_index p (mean at x)
 unfolding mean shape-the_row-Expr-1 hidden-the_row-Expr-1 denote.Hole.Carrier.hidden
@@ -86,6 +86,6 @@ pub step_member : (at : Scope) (p : Place) (w : Word) → step at (s.Member p w)
 unfolding mean
 step_member at p w = refl
 
-pub step_range : (at : Scope) (p : Place) (x : Expr) (m : RangeMark) (y : Expr) → step at (s.Range p x m y) ≡ to_range p (mean at x) m (mean at y)
+pub step_range : (at : Scope) (p : Place) (x : Expr) (m : RangeMark) (y : Expr) → step at (s.Range p x m y) ≡ to_range p (mean (left_scope m at) x) m (mean (constant_scope at) y)
 unfolding mean shape-the_row-Expr-1 hidden-the_row-Expr-1 denote.Hole.Carrier.hidden
 step_range at p x m y = refl

@@ -23,8 +23,8 @@ use Rattle.sv_names.specs.declared.cursor.Cursor.{Cursor}
 use Rattle.sv_typing.specs.declared.chain.Chain.{Chain}
 use Rattle.sv_names.specs.Cursors.{cursor_is}
 use Rattle.sv_typing.specs.Judging.{IsTyped, IsCause}
-use Rattle.sv_typing.specs.Picks.{Follows, rule_faults}
-use Rattle.sv_typing.specs.Roots.{RootIs, IsSignal, IsChain, rule_of}
+use Rattle.sv_typing.specs.Picks.{Follows}
+use Rattle.sv_typing.specs.Roots.{RootIs, IsSignal, IsChain}
 use Rattle.sv_typing.proofs.Lists.{contains_both}
 
 -- ---- why a name is refused
@@ -55,12 +55,12 @@ signal_cause w o n x all =
 some_bits : (n : ℕ) → 1 ≤ n → nat_lt 0 n ≡ true
 some_bits n h = grind (arith, nat_tests)
 
-rule_is : (c : Bool) (m : Meaning) → rule_faults (rule_of c) m ≡ m.faults c
-rule_is true m = refl
-rule_is false m = refl
+-- what stands against an index that is judged as its expression is
+abbrev pub index_faults_so : Bool → Meaning → Faults
+index_faults_so c m = m.faults c
 
 -- what stands against a name with selects
-pub named_faults : (w : Word) (what : Option What) (c : Bool) (at : Cursor) (root : Root) (all : List Step) → RootIs what c at root → (named w what all).faults c ≡ chain_faults (rule_faults (rule_of c)) (cursor_is at) all
+pub named_faults : (w : Word) (what : Option What) (c : Bool) (at : Cursor) (root : Root) (all : List Step) → RootIs what c at root → (named w what all).faults c ≡ chain_faults (index_faults_so c) (cursor_is at) all
 named_faults w None c at root all h = absurd h
 named_faults w (Some (type_is t)) c at root all h = absurd h
 named_faults w (Some genvar_is) c at root all h = absurd h
@@ -123,20 +123,20 @@ signal_at w o n x (Signal p m u) all chain j y h f g =
     name : (z : NamedSignal) → Contains (record { owner = origin_is p; number = m; width = u } ∷ []) z → Contains (record { owner = o; number = n; width = width x } ∷ []) z
     name z q = subst (λ t. Contains (t ∷ []) z) same q
 
-pub name_is : (w : Word) (what : Option What) (c : Bool) (at : Cursor) (root : Root) (all : List Step) (chain : Chain) → RootIs what c at root → IsChain (rule_faults (rule_of c)) (cursor_is at) all chain → IsNamed root chain.picks chain.signed (named w what all)
+pub name_is : (w : Word) (what : Option What) (c : Bool) (at : Cursor) (root : Root) (all : List Step) (chain : Chain) → RootIs what c at root → IsChain (index_faults_so c) (cursor_is at) all chain → IsNamed root chain.picks chain.signed (named w what all)
 name_is w None c at root all chain h k = absurd h
 name_is w (Some (type_is t)) c at root all chain h k = absurd h
 name_is w (Some genvar_is) c at root all chain h k = absurd h
-name_is w (Some (number_is v s)) c at root all chain h k = number_named w v s c at root all chain (rule_faults (rule_of c)) h k
+name_is w (Some (number_is v s)) c at root all chain h k = number_named w v s c at root all chain (index_faults_so c) h k
 name_is w (Some (signal_is o n x)) c at root all chain h k =
-    signal_at w o n x root all chain (rule_faults (rule_of c)) k.layout h.2 (subst (λ y. Follows (rule_faults (rule_of c)) y all chain.picks k.layout) h.1 k.follows) k.signed
+    signal_at w o n x root all chain (index_faults_so c) k.layout h.2 (subst (λ y. Follows (index_faults_so c) y all chain.picks k.layout) h.1 k.follows) k.signed
 
 -- ---- what code finds under a name
 
 pub what_at : (o : Option (Bor What')) (f : Bor What') (w : What') → o ≡ Some f → f.now ≡ w → option_map what_is (option_copied o) ≡ Some (what_is w)
 what_at o f w h k = ap (λ (z : Option (Bor What')). option_map what_is (option_copied z)) h ∙ ap (λ (z : What'). Some (what_is z)) k
 
-pub name_ok : (w : Word) (what : Option What) (c : Bool) (at : Cursor) (root : Root) (all : List Step) (chain : Chain) (t : Typed) → RootIs what c at root → IsChain (rule_faults (rule_of c)) (cursor_is at) all chain →
+pub name_ok : (w : Word) (what : Option What) (c : Bool) (at : Cursor) (root : Root) (all : List Step) (chain : Chain) (t : Typed) → RootIs what c at root → IsChain (index_faults_so c) (cursor_is at) all chain →
     ((m : Meaning) → IsNamed root chain.picks chain.signed m → Stands t m) → (RootIsSound root → All PickIsSound chain.picks → IsSound t) → IsTyped (named w what all) ((named w what all).faults c) t
 name_ok w what c at root all chain t h k s y = record {
   clear = named_faults w what c at root all h ∙ k.follows.clear;
@@ -152,5 +152,5 @@ name_ok w what c at root all chain t h k s y = record {
     root_sound (Some (signal_is o n x)) d u (Number v) i = absurd i.2
     root_sound (Some (signal_is o n x)) d u (Signal p m q) i = let e = i.2.2 in let f = i.3 in let g = i.4 in (omega arith, omega arith)
 
-pub name_cause : (w : Word) (what : Option What) (c : Bool) (at : Cursor) (root : Root) (all : List Step) (e : TextErr) → RootIs what c at root → IsCause (chain_faults (rule_faults (rule_of c)) (cursor_is at) all) e → IsCause ((named w what all).faults c) e
+pub name_cause : (w : Word) (what : Option What) (c : Bool) (at : Cursor) (root : Root) (all : List Step) (e : TextErr) → RootIs what c at root → IsCause (chain_faults (index_faults_so c) (cursor_is at) all) e → IsCause ((named w what all).faults c) e
 name_cause w what c at root all e h k = subst (λ f. IsCause f e) (sym (named_faults w what c at root all h)) k

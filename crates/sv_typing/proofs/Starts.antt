@@ -11,7 +11,7 @@ use Rattle.sv_tree.specs.declared.exprs.Expr.{Expr, Literal}
 use Rattle.sv_tree.specs.declared.exprs.Expr.TheVariants as e
 use Rattle.sv_tree.specs.declared.exprs.Select.{Select}
 use Rattle.sv_meaning.specs.Faults.{Faults}
-use Rattle.sv_meaning.specs.Layouts.{Layout, Scope, find, What, number_is, type_is, signal_is, genvar_is, NamedSignal, Read, plain}
+use Rattle.sv_meaning.specs.Layouts.{Layout, Scope, constant_scope, find, What, number_is, type_is, signal_is, genvar_is, NamedSignal, Read, plain}
 use Rattle.sv_meaning.specs.Meanings.{Meaning, Step, selected, constant_named, named, cast_to, chain_layout}
 use Rattle.sv_meaning.specs.Values.{mean, binary_meaning}
 use Rattle.sv_tree.specs.declared.exprs.BinaryOp.TheVariants as two
@@ -68,7 +68,7 @@ pub start_cast_literal : (at : Scope) (w : Word) (x : Expr) → (mean at (e.Cast
 start_cast_literal at w x = ap (λ (m : Meaning). m.start) (mean_cast_literal at w x)
 
 pub start_cast_name : (at : Scope) (w : Word) (x : Expr) → (mean at (e.CastName w x)).start ≡ w.place
-start_cast_name at w x = ap (λ (m : Meaning). m.start) (mean_cast_name at w x) ∙ cast_start w (find w.text at) (mean at x)
+start_cast_name at w x = ap (λ (m : Meaning). m.start) (mean_cast_name at w x) ∙ cast_start w (find w.text (constant_scope at)) (mean at x)
 
 pub start_cast_paren : (at : Scope) (p : Place) (n x : Expr) → (mean at (e.CastParen p n x)).start ≡ p
 start_cast_paren at p n x = ap (λ (m : Meaning). m.start) (mean_cast_paren at p n x)

@@ -5,7 +5,7 @@ use Rattle.fourvec.specs.declared.Bit.{Bit}
 use Rattle.fourvec.specs.declared.Spot.{Spot}
 use Rattle.lhs_alias.specs.declared.segs.WireBit.{WireBit}
 use Rattle.sv_meaning.specs.Faults.{Faults}
-use Rattle.sv_meaning.specs.Layouts.{Layout, Scope, constant_scope, width, goes_down, Read, NamedSignal}
+use Rattle.sv_meaning.specs.Layouts.{Entry, Layout, Scope, width, goes_down, Read, NamedSignal}
 use Rattle.sv_meaning.specs.Meanings.{Meaning, Step, Part, step_in, step_faults, indices, all_indices, bits_at, nowhere, chain_bits, chain_layout, chain_faults, fixed_faults}
 use Rattle.sv_meaning.specs.Targets.{with_place, slots_from, put_at, chain_slots, chain_fixed, put}
 use Rattle.sv_typed.specs.declared.tree.Pick.{Pick}
@@ -16,8 +16,8 @@ use Rattle.sv_names.specs.declared.cursor.Row.{Row}
 use Rattle.sv_names.specs.Cursors.{cursor_is, each_is, CursorIsSound}
 use Rattle.sv_typing.specs.Judging.{IsCause}
 use Rattle.sv_typing.specs.declared.chain.IndexRule.{IndexRule}
-use Rattle.sv_typing.specs.declared.chain.IndexRule.TheVariants.{Read, Fixed, Joined}
-use Rattle.sv_typing.specs.Positions.{is_constant, seen_in}
+use Rattle.sv_typing.specs.declared.chain.IndexRule.TheVariants as rule
+use Rattle.sv_typing.specs.Positions.{is_constant, names_seen}
 
 -- ---- what a list of picks does, as a chain of selects does it
 
@@ -43,15 +43,18 @@ are_fixed (p ∷ more) = with_place (fixed_pick p) false (λ i. are_fixed more)
 -- ---- how an index is judged
 
 abbrev pub rule_faults : IndexRule → Meaning → Faults
-rule_faults (Read p) m = m.faults (is_constant p)
-rule_faults Fixed m = fixed_faults m
-rule_faults Joined m = fixed_faults m
+rule_faults (rule.Read p) m = m.faults (is_constant p)
+rule_faults rule.Fixed m = fixed_faults m
+rule_faults rule.Joined m = fixed_faults m
 
 -- what it sees of the names of its place
+abbrev pub names_ruled : IndexRule → Scope → List Entry
+names_ruled (rule.Read p) at = names_seen p at
+names_ruled rule.Fixed at = at.above
+names_ruled rule.Joined at = at.all
+
 abbrev pub rule_scope : IndexRule → Scope → Scope
-rule_scope (Read p) at = seen_in p at
-rule_scope Fixed at = constant_scope at
-rule_scope Joined at = at
+rule_scope r at = record { all = names_ruled r at; above = at.above }
 
 -- ---- one select
 
