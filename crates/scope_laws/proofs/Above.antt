@@ -3,10 +3,9 @@ use Rattle.std.proofs.Common.{◌≡◌, ℕ, zero, suc, ◌+◌, ◌-◌, ◌<�
 use Rattle.std.specs.Prelude.{bytes_eq}
 use Rattle.sv_outside.specs.declared.text.Signal.{Signal}
 use Rattle.sv_tree.specs.declared.exprs.Expr.{Expr}
-use Rattle.sv_meaning.specs.Layouts.{Name, What, number_is, type_is, signal_is, genvar_is}
-use Rattle.sv_meaning.specs.Forms.{Entry}
+use Rattle.sv_meaning.specs.Layouts.{Name, Entry, Scope, What, number_is, type_is, signal_is, genvar_is}
 use Rattle.sv_meaning.specs.Params.{Connection}
-use Rattle.sv_hierarchy.specs.Scopes.{Level, Front, level_at, with_level, fronts_at, live_along, live_at, Task, assigning, running, connecting, Standing, Child, OpenPort, port_named, connected, port_works}
+use Rattle.sv_hierarchy.specs.Scopes.{Level, Front, level_at, with_level, fronts_at, seen_along, live_along, live_at, Task, assigning, running, connecting, Standing, Child, OpenPort, port_named, connected, port_works}
 use Rattle.scope_laws.proofs.Good.{IsGood, AreGood}
 
 -- ---- places in the first of so many scopes
@@ -91,6 +90,13 @@ along_kept old rest (f ∷ more) h =
     ap (λ (x : Level). (x.nets ++ take f.consts x.consts) ++ live_along (old ++ rest) more) (level_kept old rest f.level h.0)
     ∙ ap (λ (z : List Entry). ((level_at old f.level).nets ++ take f.consts (level_at old f.level).consts) ++ z) (along_kept old rest more h.1)
 
+seen_kept : (old rest : List Level) (fs : List Front) → AreNear (length old) fs → seen_along (old ++ rest) fs ≡ seen_along old fs
+unfolding seen_along AreNear
+seen_kept old rest [] h = refl
+seen_kept old rest (f ∷ more) h =
+    ap (λ (x : Level). (take f.nets x.nets ++ take f.consts x.consts) ++ seen_along (old ++ rest) more) (level_kept old rest f.level h.0)
+    ∙ ap (λ (z : List Entry). (take f.nets (level_at old f.level).nets ++ take f.consts (level_at old f.level).consts) ++ z) (seen_kept old rest more h.1)
+
 fronts_kept : (old rest : List Level) (at : Front) → at.level < length old → fronts_at (old ++ rest) at ≡ fronts_at old at
 fronts_kept old rest at h = ap (λ (x : Level). x.around ++ at ∷ []) (level_kept old rest at.level h)
 
@@ -101,8 +107,11 @@ pub record NearAt (old : List Level) (at : Front) : Type 0 where
 
 pub live_kept : (old now : List Level) (at : Front) → StartsWith old now → NearAt old at → live_at now at ≡ live_at old at
 live_kept old now at s n =
-    ap (λ (z : List Level). live_at z at) s.1 ∙ ap (live_along (old ++ s.0)) (fronts_kept old s.0 at n.level)
-    ∙ along_kept old s.0 (fronts_at old at) (near_last (length old) (level_at old at.level).around at n.around n.level)
+    let near = near_last (length old) (level_at old at.level).around at n.around n.level in
+    let fronts = fronts_kept old s.0 at n.level in
+    let all : live_along (old ++ s.0) (fronts_at (old ++ s.0) at) ≡ live_along old (fronts_at old at) = ap (live_along (old ++ s.0)) fronts ∙ along_kept old s.0 (fronts_at old at) near in
+    let above : seen_along (old ++ s.0) (fronts_at (old ++ s.0) at) ≡ seen_along old (fronts_at old at) = ap (seen_along (old ++ s.0)) fronts ∙ seen_kept old s.0 (fronts_at old at) near in
+    ap (λ (z : List Level). live_at z at) s.1 ∙ (λ i. record { all = all i; above = above i })
 
 near_at_on : (old now : List Level) (at : Front) → StartsWith old now → NearAt old at → NearAt now at
 near_at_on old now at s n =
@@ -149,10 +158,18 @@ below_wider m n (e ∷ more) h g = (still_below m n e.1 h g.0, below_wider m n m
 
 -- ---- works
 
+-- all of both lists
+pub record SeesBelow (n : ℕ) (at : Scope) : Type 0 where
+  pub all : AreBelow n at.all
+  pub above : AreBelow n at.above
+
+sees_wider : (m n : ℕ) (at : Scope) → m ≤ n → SeesBelow m at → SeesBelow n at
+sees_wider m n at h g = record { all = below_wider m n at.all h g.all; above = below_wider m n at.above h g.above }
+
 -- a wire of this number stands above all that a place sees
 pub record StandsAbove (base : List Level) (at : Front) (n : ℕ) : Type 0 where
   pub near : NearAt base at
-  pub below : AreBelow n (live_at base at)
+  pub below : SeesBelow n (live_at base at)
 
 abbrev pub TaskAbove : List Level → Front → Task → Type 0
 TaskAbove base at (assigning to x) = Unit {0}
@@ -167,7 +184,7 @@ task_on : (old now : List Level) (at : Front) (t : Task) → StartsWith old now 
 task_on old now at (assigning to x) s h = tt
 task_on old now at (running b) s h = tt
 task_on old now at (connecting w n x actual) s h =
-    let near = h.near in record { near = near_at_on old now at s near; below = subst (AreBelow n) (sym (live_kept old now at s near)) h.below }
+    let near = h.near in record { near = near_at_on old now at s near; below = subst (SeesBelow n) (sym (live_kept old now at s near)) h.below }
 
 pub works_on : (old now : List Level) (all : List Standing) → StartsWith old now → WorksAbove old all → WorksAbove now all
 unfolding WorksAbove
@@ -216,7 +233,7 @@ connected_above : (base : List Level) (at : Front) (k : ℕ) (o : Option OpenPor
 connected_above base at k None x s h = above_none base
 connected_above base at k (Some p) None s h = above_none base
 connected_above base at k (Some p) (Some x) s h =
-    above_one base (record { at = at; task = connecting p.way p.wire p.layout x }) (record { near = s.near; below = below_wider k p.wire (live_at base at) h s.below })
+    above_one base (record { at = at; task = connecting p.way p.wire p.layout x }) (record { near = s.near; below = sees_wider k p.wire (live_at base at) h s.below })
 
 pub port_works_above : (base : List Level) (at : Front) (k : ℕ) (pins : List Connection) (ports : List OpenPort) → StandsAbove base at k → PortsFrom k ports → WorksAbove base (port_works at pins ports)
 unfolding port_works

@@ -1,6 +1,6 @@
 -- The scopes that an instance stands in are complete where its ports are numbered: each step of a walk leaves the first scopes as they
 -- are, and what an instance is connected to is numbered below its ports.
-use Rattle.std.proofs.Common.{◌≡◌, ℕ, zero, suc, ◌+◌, ◌<◌, ◌≤◌, Bool, true, false, ◌&&◌, List, [], ◌∷◌, ◌++◌, length, Option, Some, None, Ok, refl, ap, ◌∙◌, subst, arith, length-append}
+use Rattle.std.proofs.Common.{◌≡◌, ℕ, zero, suc, ◌+◌, ◌<◌, ◌≤◌, Bool, true, false, ◌&&◌, List, [], ◌∷◌, ◌++◌, length, Option, Some, None, Ok, refl, ap, ◌∙◌, subst, arith, length-append, inl, inr}
 use mathlib.Core.Former.{Count}
 use Rattle.std.specs.List.{Contains}
 use Rattle.fourvec.specs.declared.Bit.{Bit}
@@ -28,16 +28,16 @@ use Rattle.sv_tree.specs.declared.design.SourcePart.TheVariants as source_part
 use Rattle.sv_tree.specs.declared.design.Item.{Item, Net, Variable, Typedef, Param, Genvar, Assign, Always, Inst, For', If', Generate', Row_of-Item, end_of-Item, more_of-Item, end_of-Gen, more_of-Gen, Held-Item-If-3, None', Some'}
 use Rattle.sv_tree.specs.declared.design.Gen.{Gen, Block', Single'}
 use Rattle.sv_meaning.specs.Faults.{Judged, provided, ◌>>=◌, fault_if, twice}
-use Rattle.sv_meaning.specs.Layouts.{Name, Layout, scalar, Scope, What, type_is, signal_is, genvar_is, of_wires, find, NamedSignal, Declared as DeclaredSignal}
-use Rattle.sv_meaning.specs.Forms.{Entry, Declared, Formed, entry_of, form}
+use Rattle.sv_meaning.specs.Layouts.{Name, Entry, Layout, scalar, Scope, What, type_is, signal_is, genvar_is, of_wires, find, NamedSignal, DeclaredIn, Declared as DeclaredSignal}
+use Rattle.sv_meaning.specs.Forms.{Declared, Formed, entry_of, form}
 use Rattle.sv_meaning.specs.Values.{mean}
 use Rattle.sv_meaning.specs.Deeds.{index_entry, turns, fixed_truth}
 use Rattle.sv_meaning.specs.Params.{Connection, connections, param_value}
-use Rattle.sv_hierarchy.specs.Scopes.{Level, Front, State, Walk, stay, then_walk, here, mine, Task, assigning, running, connecting, Standing, Child, seen_at, live_at, genvar_faults, open_params, port_texts, is_there, module_named, Given, walk_all, declare_at, declare, with_const, with_net, see_const, add_constant, add_constants, with_wire, add_wire, formed, with_form, with_form_or_bit, add_typedef, meant, given_to, seen, add_param, add_param_item, add_params, add_genvar, add_work, add_assignment, add_child, child_of, inner, enclosed, block_name, block_place, block_walk, turn_name, count_turn, turn_walk, Body, turns_walk, loop_walk, Act, Branch, act_of, chosen_branch, conditional, numbered, body_of, act, acts, under, under_else, Header, header_of, header_params, OpenPort, is_input, or_way, add_port, port_form, header_ports, ports_of, Known, Library, begun, port_works, instance_walk, given_by, module_of, count_instance, below, child, file_state, no_level, library, top_module, deepest, scopes}
+use Rattle.sv_hierarchy.specs.Scopes.{Level, Front, State, Walk, stay, then_walk, here, mine, Task, assigning, running, connecting, Standing, Child, fronts_at, seen_at, live_at, genvar_faults, open_params, port_texts, is_there, module_named, Given, walk_all, declare_at, declare, with_const, with_net, see_const, add_constant, add_constants, with_wire, add_wire, formed, with_form, with_form_or_bit, add_typedef, meant, given_to, seen, add_param, add_param_item, add_params, add_genvar, add_work, add_assignment, add_child, child_of, inner, enclosed, block_name, block_place, block_walk, turn_name, count_turn, turn_walk, Body, turns_walk, loop_walk, Act, Branch, act_of, chosen_branch, conditional, numbered, body_of, act, acts, under, under_else, Header, header_of, header_params, OpenPort, is_input, or_way, add_port, port_form, header_ports, ports_of, Known, Library, begun, port_works, instance_walk, given_by, module_of, count_instance, below, child, file_state, no_level, library, top_module, deepest, scopes}
 use Rattle.scope_laws.proofs.Plain.{same_ok, bind_ok, provided_ok}
 use Rattle.scope_laws.proofs.Keeping.{Inv, header_keeps, library_keeps, instance_keeps, begun_good, formed_wires, wire_added, file_good}
-use Rattle.scope_laws.proofs.Seen.{live_good}
-use Rattle.scope_laws.proofs.Above.{AreNear, near_last, LevelsNear, levels_near_wider, levels_near_push, level_near, starts_long, starts_on, NearAt, live_kept, IsBelow, AreBelow, good_below, StandsAbove, TaskAbove, WorksAbove, works_on, above_both, above_one, PortsFrom, ports_from_lower, port_works_above, ChildrenNear, children_wider, children_last, no_children, Shape, shape_with}
+use Rattle.scope_laws.proofs.Seen.{live_good, seen_good}
+use Rattle.scope_laws.proofs.Above.{AreNear, near_last, LevelsNear, levels_near_wider, levels_near_push, level_near, starts_long, starts_on, NearAt, live_kept, IsBelow, AreBelow, good_below, SeesBelow, StandsAbove, TaskAbove, WorksAbove, works_on, above_both, above_one, PortsFrom, ports_from_lower, port_works_above, ChildrenNear, children_wider, children_last, no_children, Shape, shape_with}
 
 abbrev Held : List Level → List Level → State → Type 0
 Held base old st = Shape old st.levels st.me st.children × WorksAbove base st.works
@@ -305,9 +305,13 @@ instance_holds top m at pins old st last i good near h =
     let b = bind_ok (header_ports top way.Input (scalar false) (ports_of m) a.0) _ last a.2 in
     let params = header_holds (param_word.Parameter, None) m.params old old st a.0 i a.1 in
     let found = ports_hold top way.Input (scalar false) (ports_of m) old old a.0 b.0 params b.1 in
-    let seen : AreBelow (length a.0.wires) (live_at a.0.levels at) = good_below a.0.wires (length a.0.wires) (live_at a.0.levels at) (omega arith) (live_good a.0.wires a.0.levels _ (header_keeps (param_word.Parameter, None) m.params st a.0 good a.1).0) in
+    let levels = (header_keeps (param_word.Parameter, None) m.params st a.0 good a.1).0 in
+    let seen : SeesBelow (length a.0.wires) (live_at a.0.levels at) = record {
+      all = good_below a.0.wires (length a.0.wires) (live_at a.0.levels at).all (omega arith) (live_good a.0.wires a.0.levels (fronts_at a.0.levels at) levels);
+      above = good_below a.0.wires (length a.0.wires) (live_at a.0.levels at).above (omega arith) (seen_good a.0.wires a.0.levels (fronts_at a.0.levels at) levels);
+    } in
     let shape = params.0 in
-    let stands : StandsAbove old at (length a.0.wires) = record { near = near; below = subst (AreBelow (length a.0.wires)) (live_kept old a.0.levels at shape.starts near) seen } in
+    let stands : StandsAbove old at (length a.0.wires) = record { near = near; below = subst (SeesBelow (length a.0.wires)) (live_kept old a.0.levels at shape.starts near) seen } in
     all_hold (λ x. (act x).item) m.items (λ x. (act_holds x).item) old old (record b.0.1 { works = b.0.1.works ++ port_works at pins b.0.0 }) last
     (found.0.0, above_both old b.0.1.works (port_works at pins b.0.0) found.0.1 (port_works_above old at (length a.0.wires) pins b.0.0 stands found.1)) b.2
 
@@ -410,8 +414,15 @@ work_above base [] w h (i, l, same) = absurd (omega arith)
 work_above base (x ∷ more) w h (zero, l, same) = subst (λ (y : Standing). TaskAbove base y.at y.task) same h.0
 work_above base (x ∷ more) w h (suc i, l, same) = work_above base more w h.1 (i, omega arith, same)
 
+declared_below : (n : ℕ) (all : List Entry) (s : NamedSignal) → AreBelow n all → DeclaredIn all s → s.number < n
+declared_below n all s h d = entry_below n all (d.name, signal_is s.owner s.number d.layout) h d.is_there
+
+sees_below : (n : ℕ) (at : Scope) (s : NamedSignal) → SeesBelow n at → DeclaredSignal at s → s.number < n
+sees_below n at s h (inl d) = declared_below n at.all s h.all d
+sees_below n at s h (inr d) = declared_below n at.above s h.above d
+
 pub ports_stand_above : (source : Source) (top : Option Name) (st : State) → scopes source top ≡ Ok st → (at : Front) (d : Way) (n : ℕ) (x : Layout) (actual : Expr) → Contains st.works (record { at = at; task = connecting d n x actual })
     → (s : NamedSignal) → DeclaredSignal (live_at st.levels at) s → s.number < n
 ports_stand_above source top st h at d n x actual i s named =
     let w = work_above st.levels st.works (record { at = at; task = connecting d n x actual }) (scopes_whole source top st h).3 i in
-    entry_below n (live_at st.levels at) (named.name, signal_is s.owner s.number named.layout) w.below named.is_there
+    sees_below n (live_at st.levels at) s w.below named

@@ -2,8 +2,7 @@
 use Rattle.std.proofs.Common.{◌≡◌, ℕ, zero, suc, ◌<◌, List, [], ◌∷◌, ◌++◌, length, take, get_or, refl, ap, ◌∙◌, arith, length-append}
 use Rattle.std.proofs.lemmas.List.{map-append, length-map, get_or_append_left, get_or_push}
 use Rattle.sv_outside.specs.declared.text.Signal.{Signal}
-use Rattle.sv_meaning.specs.Layouts.{Layout, width, What, number_is, type_is, signal_is, genvar_is, of_wires}
-use Rattle.sv_meaning.specs.Forms.{Entry}
+use Rattle.sv_meaning.specs.Layouts.{Entry, Layout, width, What, number_is, type_is, signal_is, genvar_is, of_wires}
 use Rattle.sv_tree.specs.declared.exprs.Expr.{Expr}
 use Rattle.sv_hierarchy.specs.Scopes.{Level, Front, with_level, Task, assigning, running, connecting, Standing, OpenPort, port_named, connected, port_works}
 use Rattle.sv_meaning.specs.Params.{Connection}

@@ -27,8 +27,8 @@ use Rattle.sv_tree.specs.declared.design.Item.{Item, Net, Variable, Typedef, Par
 use Rattle.sv_tree.specs.declared.design.Gen.{Gen, Block', Single'}
 use Rattle.sv_outside.specs.declared.text.Signal.{Signal}
 use Rattle.sv_meaning.specs.Faults.{Judged, provided, ◌>>=◌, fault_if, twice}
-use Rattle.sv_meaning.specs.Layouts.{Name, Layout, scalar, width, Scope, What, type_is, signal_is, genvar_is, of_wires, find}
-use Rattle.sv_meaning.specs.Forms.{Entry, Declared, Formed, entry_of, form}
+use Rattle.sv_meaning.specs.Layouts.{Name, Entry, Layout, scalar, width, Scope, What, type_is, signal_is, genvar_is, of_wires, find}
+use Rattle.sv_meaning.specs.Forms.{Declared, Formed, entry_of, form}
 use Rattle.sv_meaning.specs.Values.{mean}
 use Rattle.sv_meaning.specs.Deeds.{index_entry, turns, fixed_truth}
 use Rattle.sv_meaning.specs.Params.{Connection, connections, param_value}

@@ -10,9 +10,9 @@ use Rattle.sv_tree.specs.declared.forms.Member.{Of', end_of-TypeTree, more_of-Ty
 use Rattle.sv_tree.specs.declared.design.ParamType.{ParamType}
 use Rattle.sv_tree.specs.declared.design.ParamType.TheVariants as param_type
 use Rattle.sv_meaning.specs.Faults.{Faults, Judged, provided, ◌>>=◌}
-use Rattle.sv_meaning.specs.Layouts.{Name, Layout, width, Scope, What, number_is, find}
+use Rattle.sv_meaning.specs.Layouts.{Name, Layout, Members, width, Scope, with_names, What, number_is, find}
 use Rattle.sv_meaning.specs.Meanings.{Meaning}
-use Rattle.sv_meaning.specs.Forms.{Declared, Formed, entry_of, entries_of, has_sign, option_to_list, vector_layout, struct_layout, named_layout, label_number, label_entry, labels, texts_of, bits_of, member_faults, alone, form, forms}
+use Rattle.sv_meaning.specs.Forms.{Declared, Formed, entry_of, entries_of, has_sign, option_to_list, vector_layout, struct_layout, named_layout, label_number, label_entry, labels, texts_of, bits_of, member_faults, some_member, alone, form, forms}
 use Rattle.sv_meaning.specs.Params.{typed, range_width, param_value}
 use Rattle.scope_laws.proofs.Good.{IsGood}
 
@@ -59,14 +59,25 @@ labels_plain at w s next [] y h = subst ArePlain (same_ok [] y h) none_plain
 labels_plain at w s next (x ∷ more) y h =
     let a = bind_ok (label_number at w next x.value) _ y h in
     let b = bind_ok (label_entry w s x.name a.0) _ y a.2 in
-    let c = bind_ok (labels (at ++ entry_of b.0 ∷ []) w s (a.0 +ℤ pos 1) more) _ y b.2 in
+    let c = bind_ok (labels (with_names at (entry_of b.0 ∷ [])) w s (a.0 +ℤ pos 1) more) _ y b.2 in
     let e : (x.name, number_is (signed_vector w a.0) s) ≡ b.0 = provided_ok _ (x.name, number_is (signed_vector w a.0) s) b.0 b.1 in
     let p : IsPlain (number_is (signed_vector w a.0) s) = λ wires. tt in
     let q : IsPlain b.0.1 = subst (λ (d : Declared). IsPlain d.1) e p in
-    subst ArePlain (same_ok (b.0 ∷ c.0) y c.2) (q, labels_plain (at ++ entry_of b.0 ∷ []) w s (a.0 +ℤ pos 1) more c.0 c.1)
+    subst ArePlain (same_ok (b.0 ∷ c.0) y c.2) (q, labels_plain (with_names at (entry_of b.0 ∷ [])) w s (a.0 +ℤ pos 1) more c.0 c.1)
 
 no_names : (j : Judged Layout) (y : Formed) → (j >>= λ x. Ok (alone x)) ≡ Ok y → ArePlain y.1
 no_names j y h = let a = bind_ok j (λ x. Ok (alone x)) y h in subst (λ (z : Formed). ArePlain z.1) (same_ok (alone a.0) y a.2) none_plain
+
+abbrev Listed : Type 0
+Listed = Members × List Declared
+
+-- the members of a structure, which has some
+abbrev with_members : Judged Listed → Judged Listed
+with_members j = j >>= λ found. provided (some_member found.0) found
+
+members_plain : (j : Judged Listed) (y : Listed) → ((z : Listed) → j ≡ Ok z → ArePlain z.1) → with_members j ≡ Ok y → ArePlain y.1
+members_plain (Ok z) y f h = subst (λ (x : Listed). ArePlain x.1) (provided_ok (some_member z.0) z y h) (f z refl)
+members_plain (Err all) y f h = cc
 
 mutual
   unfolding form
@@ -80,19 +91,19 @@ mutual
       let b = bind_ok (labels at (width a.0) (has_sign s) (pos 0) all) _ y a.2 in
       subst (λ (z : Formed). ArePlain z.1) (same_ok (a.0, b.0) y b.2) (labels_plain at (width a.0) (has_sign s) (pos 0) all b.0 b.1)
   form_plain at (Struct' s r all ranges) y h =
-      let a = bind_ok (forms at [] 0 all) _ y h in
-      let b = bind_ok (struct_layout (at ++ entries_of a.0.1) (has_sign s) ranges a.0.0) _ y a.2 in
-      subst (λ (z : Formed). ArePlain z.1) (same_ok (b.0, a.0.1) y b.2) (forms_plain at [] 0 all a.0 a.1)
+      let a = bind_ok (with_members (forms at [] 0 all)) _ y h in
+      let b = bind_ok (struct_layout (with_names at (entries_of a.0.1)) (has_sign s) ranges a.0.0) _ y a.2 in
+      subst (λ (z : Formed). ArePlain z.1) (same_ok (b.0, a.0.1) y b.2) (members_plain (forms at [] 0 all) a.0 (forms_plain at [] 0 all) a.1)
 
   forms_plain : {m : Count} (at : Scope) (used : List Name) (bits : ℕ) (all : Row_of-Member m) (y : _) → forms at used bits all ≡ Ok y → ArePlain y.1
   forms_plain at used bits end_of-Member y h = subst (λ z. ArePlain z.1) (same_ok _ y h) none_plain
   forms_plain at used bits (more_of-Member (Of' r (more_of-TypeTree t end_of-TypeTree) names) all) y h =
       let a = bind_ok (form at t) _ y h in
-      let b = bind_ok (provided (member_faults used bits (width a.0.0) names) a.0) _ y a.2 in
-      let c = bind_ok (forms (at ++ entries_of b.0.1) (used ++ texts_of names) (bits + bits_of names (width b.0.0)) all) _ y b.2 in
-      let same : a.0 ≡ b.0 = provided_ok (member_faults used bits (width a.0.0) names) a.0 b.0 b.1 in
+      let b = bind_ok (provided (member_faults used bits a.0.0 names) a.0) _ y a.2 in
+      let c = bind_ok (forms (with_names at (entries_of b.0.1)) (used ++ texts_of names) (bits + bits_of names (width b.0.0)) all) _ y b.2 in
+      let same : a.0 ≡ b.0 = provided_ok (member_faults used bits a.0.0 names) a.0 b.0 b.1 in
       let own : ArePlain b.0.1 = subst (λ (z : Formed). ArePlain z.1) same (form_plain at t a.0 a.1) in
-      subst (λ z. ArePlain z.1) (same_ok _ y c.2) (both_plain b.0.1 c.0.1 own (forms_plain (at ++ entries_of b.0.1) (used ++ texts_of names) (bits + bits_of names (width b.0.0)) all c.0 c.1))
+      subst (λ z. ArePlain z.1) (same_ok _ y c.2) (both_plain b.0.1 c.0.1 own (forms_plain (with_names at (entries_of b.0.1)) (used ++ texts_of names) (bits + bits_of names (width b.0.0)) all c.0 c.1))
 
 -- ---- parameters
 

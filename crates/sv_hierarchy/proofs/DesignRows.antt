@@ -34,7 +34,7 @@ use Rattle.settling.specs.Settling.{Store, Contribution, given_to}
 use Rattle.sv_meaning.specs.Designs.{Design, contributions, links_of}
 use Rattle.sv_hierarchy.specs.Scopes.{State, Instance, scopes, instances, design, source_faults}
 use Rattle.sv_hierarchy.proofs.OnTrees.{designs_on_trees}
-use Rattle.sv_meaning.proofs.Trees.{at, word, lit, name, selected, span, two_of, op}
+use Rattle.sv_meaning.proofs.Trees.{at, word, lit, name, selected, span, times, two_of, op}
 
 -- ---- parts of designs
 
@@ -394,3 +394,64 @@ late_constant : source_faults (alone (output bit (codes "y") ∷ []) (assign 5 (
     ≡ fault unknown_name (at 7)
 unfolding designs_on_trees
 late_constant = refl
+
+-- ---- what a constant expression sees
+
+abbrev pair : TypeTree
+pair = Vector (Some bits_word.Logic) None (record { place = at 90; left = lit 91 (codes "1"); right = lit 92 (codes "0") } ∷ [])
+
+-- localparam P = v; module m(output logic [1:0] y); .. endmodule
+abbrev with_constant : List ℕ → List Item → Source
+with_constant v items = record {
+  parts =
+      source_part.Param (record { word = param_word.Localparam; form = None; list = record { name = word 50 (codes "P"); value = lit 51 v } ∷ [] })
+      ∷ source_part.Module (unit_of (codes "m") (output pair (codes "y") ∷ []) items) ∷ [];
+}
+
+-- logic P; and assign y[P] = 1'b1;
+abbrev net : Item
+net = Variable bit (word 60 (codes "P") ∷ [])
+
+abbrev assign_at_P : Item
+assign_at_P = Assign (record { target = Name (word 5 (codes "y")) (index (at 6) (name 7 (codes "P")) ∷ []); value = lit 9 (codes "1'b1") } ∷ [])
+
+-- the index is a constant expression and sees the constant, so bit 0 is driven, whatever is declared below
+abbrev indexed : Source
+indexed = with_constant (codes "0") (assign_at_P ∷ net ∷ [])
+
+indexed_legal : source_faults indexed None ≡ []
+unfolding designs_on_trees
+indexed_legal = refl
+
+indexed_gives : gives (the_source indexed) no_value no_value ≡ (wire_bit 0 0, One) ∷ []
+unfolding designs_on_trees
+indexed_gives = refl
+
+-- below the net the index is the net, which is no constant
+hidden_above : source_faults (with_constant (codes "0") (net ∷ assign_at_P ∷ [])) None ≡ fault not_constant (at 7)
+unfolding designs_on_trees
+hidden_above = refl
+
+-- assign y = P: the value is no constant expression, so P is the net below, which is 1 here
+abbrev read_below : Source
+read_below = with_constant (codes "0") (assign 5 (codes "y") (name 7 (codes "P")) ∷ net ∷ [])
+
+read_below_legal : source_faults read_below None ≡ []
+unfolding designs_on_trees
+read_below_legal = refl
+
+read_below_gives : gives (the_source read_below) all_one all_one ≡ (wire_bit 0 0, One) ∷ (wire_bit 0 1, Zero) ∷ []
+unfolding designs_on_trees
+read_below_gives = refl
+
+-- always_comb y = {P{1'b1}} has two copies where P is 2
+abbrev counted : Source
+counted = with_constant (codes "2") (comb (set 5 (codes "y") (times 7 (name 8 (codes "P")) (lit 9 (codes "1'b1")))) ∷ net ∷ [])
+
+counted_legal : source_faults counted None ≡ []
+unfolding designs_on_trees
+counted_legal = refl
+
+counted_gives : gives (the_source counted) no_value no_value ≡ (wire_bit 0 0, One) ∷ (wire_bit 0 1, One) ∷ []
+unfolding designs_on_trees
+counted_gives = refl

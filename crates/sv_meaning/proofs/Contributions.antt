@@ -11,16 +11,16 @@ use Rattle.sv_tree.specs.declared.stmts.Edge.{Edge}
 use Rattle.sv_tree.specs.declared.stmts.Edge.TheVariants as edge
 use Rattle.sv_tree.specs.declared.design.Way.{Way}
 use Rattle.sv_tree.specs.declared.design.Way.TheVariants as way
-use Rattle.sv_meaning.specs.Layouts.{Layout, width, Scope, of_wires, of_choice, of_samples, signal_is, Read}
+use Rattle.sv_meaning.specs.Layouts.{Layout, width, Scope, constant_scope, of_wires, of_choice, of_samples, signal_is, Read}
 use Rattle.sv_meaning.specs.Meanings.{Meaning, assigned}
 use Rattle.sv_meaning.specs.Values.{mean}
 use Rattle.lhs_alias.specs.declared.segs.WireBit.{WireBit}
 use Rattle.lhs_alias.specs.Segs.{bit}
 use Rattle.settling.specs.Settling.{Store, Contribution}
-use Rattle.sv_meaning.specs.Targets.{Target, targets, widths, slots}
+use Rattle.sv_meaning.specs.Targets.{Target, assigned_targets, widths, slots}
 use Rattle.sv_meaning.specs.Deeds.{Deed, deed}
 use Rattle.sv_meaning.specs.Blocks.{has_bit, distinct, reads, all_unknown, comb_look, comb_end, clocked_look, clocked_value, trigger_bit, Manner, comb, clocked, no_manner, manner, block_value}
-use Rattle.sv_meaning.specs.Designs.{driven, assigned_to, port_gives, gives, contributions_of, Work, assignment, block, port, is_joined, as_targets, wire_slots, no_word}
+use Rattle.sv_meaning.specs.Designs.{driven, assigned_to, port_gives, gives, contributions_of, Work, assignment, block, port, index_scope, is_joined, as_targets, wire_slots, no_word}
 use Rattle.settling.proofs.More.{more-append, more-store}
 use Rattle.settling.specs.Least.{Under, More}
 use Rattle.sv_meaning.specs.Laws.{ContributionsRise}
@@ -92,7 +92,7 @@ more-assigned to m g now later u = more-driven (slots to) _ _ (assigned-rises m 
 
 more-port : (w : Way) (at : Scope) (n : ℕ) (x : Layout) (actual : Expr) (now later : Store) → Under now later → More (port_gives w at n x actual now) (port_gives w at n x actual later)
 more-port way.Input at n x actual now later u = more-driven (wire_slots n x) _ _ (assigned-rises (mean at actual) (good at actual) (reads now) (reads later) (reads-rise now later u) (width x))
-more-port way.Output at n x actual now later u = more-assigned (as_targets at actual) _ (good-named no_word (Some (signal_is of_wires n x)) [] tt) now later u
+more-port way.Output at n x actual now later u = more-assigned (as_targets (constant_scope at) at actual) _ (good-named no_word (Some (signal_is of_wires n x)) [] tt) now later u
 more-port way.Inout at n x actual now later u = tt
 
 more-unless : (b : Bool) (a c : List Contribution) → More a c → More (cond b [] a) (cond b [] c)
@@ -100,10 +100,10 @@ more-unless true a c h = tt
 more-unless false a c h = h
 
 more-work : (w : Work) (prev now before later : Store) → Under prev before → Under now later → More (gives w prev now) (gives w before later)
-more-work (assignment at to x) prev now before later h u = more-assigned (targets at to) (mean at x) (good at x) now later u
+more-work (assignment at to x) prev now before later h u = more-assigned (assigned_targets at to) (mean at x) (good at x) now later u
 more-work (block at b) prev now before later h u =
     more-store (distinct (deed b.body at).targets) _ _ (block-rises (manner at b.kind) (deed b.body at) (good-deed b.body at) prev now before later h u)
-more-work (port at w n x actual) prev now before later h u = more-unless (is_joined at x actual) _ _ (more-port w at n x actual now later u)
+more-work (port at w n x actual) prev now before later h u = more-unless (is_joined (index_scope w at) at x actual) _ _ (more-port w at n x actual now later u)
 
 more-works : (all : List Work) (prev now before later : Store) → Under prev before → Under now later → More (contributions_of all prev now) (contributions_of all before later)
 unfolding contributions_of

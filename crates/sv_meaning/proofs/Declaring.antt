@@ -7,6 +7,8 @@ use mathlib.Core.Former.{Count}
 use Rattle.fourvec.specs.declared.Bit.{Bit}
 use Rattle.sv_outside.specs.declared.refusal.Place.{Place}
 use Rattle.sv_tree.specs.declared.word.Word.{Word}
+use Rattle.sv_tree.specs.declared.exprs.RangeMark.{RangeMark}
+use Rattle.sv_tree.specs.declared.exprs.RangeMark.TheVariants as range_mark
 use Rattle.sv_tree.specs.declared.exprs.SystemName.{SystemName}
 use Rattle.sv_tree.specs.declared.exprs.SystemName.TheVariants as system_name
 use Rattle.sv_tree.specs.declared.exprs.UnaryOp.{UnaryOp}
@@ -17,14 +19,14 @@ use Rattle.sv_tree.specs.declared.exprs.Expr.{Expr, Literal, Name', Concat', Rep
 use Rattle.sv_tree.specs.declared.exprs.Select.{Select, Member}
 use Rattle.sv_meaning.specs.Patterns.{paren, cast_literal, cast_name, cast_paren, cast_sign, system, unary, binary, choose, index, range}
 use Rattle.sv_meaning.specs.Faults.{Faults}
-use Rattle.sv_meaning.specs.Layouts.{Name, Layout, width, plain, What, number_is, type_is, signal_is, genvar_is, NamedSignal, Read, Scope, find, or_else, Declared}
+use Rattle.sv_meaning.specs.Layouts.{Name, Entry, Layout, width, plain, What, number_is, type_is, signal_is, genvar_is, NamedSignal, Read, Scope, constant_scope, find, last_of, or_else, DeclaredIn, Declared}
 use Rattle.sv_meaning.specs.Meanings.{Meaning, parts, Step, indices, all_indices, chain_layout, selected, constant_named, named, cast_to, bits_from}
-use Rattle.sv_meaning.specs.Values.{mean, means, step, steps, unary_meaning, binary_meaning, system_meaning}
+use Rattle.sv_meaning.specs.Values.{mean, means, step, steps, unary_meaning, binary_meaning, system_meaning, operand_scope, left_scope}
 
 -- ---- what a name stands for
 
 -- an entry of this name
-record Found (n : Name) (at : Scope) (x : What) : Type 0 where
+record Found (n : Name) (at : List Entry) (x : What) : Type 0 where
   pub name : Name
   pub is_there : Contains at (name, x)
 
@@ -35,10 +37,10 @@ chosen-entry : (b : Bool) (e x : What) → cond b (Some e) None ≡ Some x → e
 chosen-entry true e x h = cc
 chosen-entry false e x h = cc
 
-found : (n : Name) (at : Scope) (x : What) → find n at ≡ Some x → Found n at x
-unfolding find
+found : (n : Name) (at : List Entry) (x : What) → last_of n at ≡ Some x → Found n at x
+unfolding last_of
 found n [] x h = cc
-found n (e ∷ more) x h = go (find n more) (λ y k. found n more y k) h
+found n (e ∷ more) x h = go (last_of n more) (λ y k. found n more y k) h
   where
     go : (o : Option What) → ((y : What) → o ≡ Some y → Found n more y) → or_else o (cond (bytes_eq e.0 n) (Some e.1) None) ≡ Some x → Found n (e ∷ more) x
     go (Some y) f k = let g = f x k in record { name = g.name; is_there = behind e more (g.name, x) g.is_there }
@@ -134,12 +136,31 @@ declared-whole at s t h (suc i, k, e) = absurd (omega arith)
 declared-named : (at : Scope) (w : Word) (x : Option What) (all : List Step) → find w.text at ≡ x → NamesDeclared at (all_indices all) → NamesDeclared at (named w x all)
 declared-named at w (Some (number_is v s)) all e h = declared-constant at (nat_lt 0 (length v)) w v s all h
 declared-named at w (Some (signal_is o n x)) all e h =
-    let g = found w.text at (signal_is o n x) e in
-    let d : Declared at (record { owner = o; number = n; width = width x }) = record { name = g.name; layout = x; is_there = g.is_there; wide = refl } in
-    declared-selected at (chain_layout x all) false _ w.place _ all x (λ read. bits_from (read o n) 0 (width x)) (λ t. declared-whole at _ t d) h
+    let g = found w.text at.all (signal_is o n x) e in
+    let d : DeclaredIn at.all (record { owner = o; number = n; width = width x }) = record { name = g.name; layout = x; is_there = g.is_there; wide = refl } in
+    declared-selected at (chain_layout x all) false _ w.place _ all x (λ read. bits_from (read o n) 0 (width x)) (λ t. declared-whole at _ t (inl d)) h
 declared-named at w (Some (type_is t)) all e h = none-declared at
 declared-named at w (Some genvar_is) all e h = none-declared at
 declared-named at w None all e h = none-declared at
+
+-- ---- what is declared of a constant expression
+
+from-above : (at : Scope) (s : NamedSignal) → Declared (constant_scope at) s → Declared at s
+from-above at s (inl d) = inr d
+from-above at s (inr d) = inr d
+
+from-constant : (at : Scope) (m : Meaning) → NamesDeclared (constant_scope at) m → NamesDeclared at m
+from-constant at m h s k = from-above at s (h s k)
+
+from-operand : (at : Scope) (f : SystemName) (m : Meaning) → NamesDeclared (operand_scope f at) m → NamesDeclared at m
+from-operand at system_name.Signed m h = h
+from-operand at system_name.Unsigned m h = h
+from-operand at system_name.Clog2 m h = from-constant at m h
+
+from-left : (at : Scope) (mark : RangeMark) (m : Meaning) → NamesDeclared (left_scope mark at) m → NamesDeclared at m
+from-left at range_mark.To m h = from-constant at m h
+from-left at range_mark.Up m h = h
+from-left at range_mark.Down m h = h
 
 -- ---- all expressions
 
@@ -154,10 +175,10 @@ mutual
   names-declared at (Concat' p s all) = declared-parts at (means at all) (means-declared at all)
   names-declared at (Repeat' p r (more_of-Expr n end_of-Expr) s all) = declared-parts at (means at all) (means-declared at all)
   names-declared at (cast_literal w x) = names-declared at x
-  names-declared at (cast_name w x) = declared-cast at w (find w.text at) (mean at x) (names-declared at x)
+  names-declared at (cast_name w x) = declared-cast at w (find w.text (constant_scope at)) (mean at x) (names-declared at x)
   names-declared at (cast_paren p n x) = names-declared at x
   names-declared at (cast_sign s p x) = names-declared at x
-  names-declared at (system f p x) = declared-system at f (mean at x) (names-declared at x)
+  names-declared at (system f p x) = declared-system at f (mean (operand_scope f at) x) (from-operand at f (mean (operand_scope f at) x) (names-declared (operand_scope f at) x))
   names-declared at (unary op p x) = declared-unary at op (mean at x) (names-declared at x)
   names-declared at (binary x op p y) = declared-binary at p op (mean at x) (mean at y) (names-declared at x) (names-declared at y)
   names-declared at (choose c x y) =
@@ -172,7 +193,9 @@ mutual
   step-declared : (at : Scope) (x : Select) → NamesDeclared at (indices (step at x))
   step-declared at (Member p w) = none-declared at
   step-declared at (index p x) = names-declared at x
-  step-declared at (range p x m y) = both-declared at (mean at x).names (mean at y).names (names-declared at x) (names-declared at y)
+  step-declared at (range p x m y) =
+      both-declared at (mean (left_scope m at) x).names (mean (constant_scope at) y).names
+      (from-left at m (mean (left_scope m at) x) (names-declared (left_scope m at) x)) (from-constant at (mean (constant_scope at) y) (names-declared (constant_scope at) y))
 
   steps-declared : {m : Count} (at : Scope) (all : Row_of-Select m) → NamesDeclared at (all_indices (steps at all))
   steps-declared at end_of-Select = none-declared at

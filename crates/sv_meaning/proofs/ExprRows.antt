@@ -8,15 +8,17 @@ use Rattle.sv_tree.specs.declared.exprs.SystemName.TheVariants as system_name
 use Rattle.sv_tree.specs.declared.exprs.UnaryOp.TheVariants as one
 use Rattle.sv_tree.specs.declared.exprs.BinaryOp.TheVariants as two
 use Rattle.sv_tree.specs.declared.exprs.Select.{Member}
-use Rattle.sv_meaning.specs.Patterns.{paren, cast_literal, cast_name, system, unary, choose, index}
+use Rattle.sv_tree.specs.declared.exprs.RangeMark.TheVariants as range_mark
+use Rattle.sv_meaning.specs.Patterns.{paren, cast_literal, cast_name, cast_paren, system, unary, choose, index, range}
 use Rattle.sv_meaning.specs.Faults.{Faults, fault, unknown_name, bad_width, not_constant, literal_range, bad_select, out_of_scope}
+use Rattle.sv_meaning.specs.Layouts.{Entry, Scope, scalar, number_is, signal_is, of_wires}
 use Rattle.sv_meaning.specs.Meanings.{own, assigned, fixed_faults, free_faults}
 use Rattle.sv_meaning.specs.Values.{mean}
 use Rattle.sv_literal.specs.Meaning.{meaning_of}
 use Rattle.sv_meaning.specs.Deeds.{mask, matches}
 use Rattle.sv_meaning.specs.Deeds as deeds
 use Rattle.sv_meaning.proofs.OnTrees.{expressions}
-use Rattle.sv_meaning.proofs.Trees.{at, word, lit, name, selected, op, span, two_of, one_of, times, scope, values}
+use Rattle.sv_meaning.proofs.Trees.{at, word, lit, name, selected, op, span, two_of, one_of, times, entries, scope, values}
 
 -- its length, its sign, and its value where nothing stands against it
 abbrev Is : Expr → ℕ → Bool → List Bit → Type 0
@@ -260,3 +262,79 @@ no_member = refl
 no_size : Refused (cast_name (word 1 (codes "s")) (name 4 (codes "a"))) (fault not_constant (at 1))
 unfolding expressions
 no_size = refl
+
+-- ---- what a constant expression sees
+
+-- a net P of one bit, which is 0, that is declared below, where these names are declared above
+abbrev with_net_below : List Entry → Scope
+with_net_below above = record { all = above ++ (codes "P", signal_is of_wires 5 (scalar false)) ∷ []; above = above }
+
+-- with a constant P = 2 further out, and with none
+abbrev hidden : Scope
+hidden = with_net_below (entries ++ (codes "P", number_is (vector 32 2) true) ∷ [])
+
+abbrev late : Scope
+late = with_net_below entries
+
+abbrev MeansHidden : Expr → ℕ → Bool → List Bit → Type 0
+MeansHidden x size signed value =
+    ((mean hidden x).size ≡ size) × ((mean hidden x).sign ≡ signed) × (own (mean hidden x) values ≡ value) × (free_faults (mean hidden x) ≡ [])
+
+-- P itself is the net, as an operand and as an index: u[P] is the leftmost bit of u
+net_itself : MeansHidden (name 1 (codes "P")) 1 false (vector 1 0)
+unfolding expressions
+net_itself = (refl, refl, refl, refl)
+
+net_as_index : MeansHidden (selected 1 (codes "u") (index (at 2) (name 3 (codes "P")))) 1 false (vector 1 1)
+unfolding expressions
+net_as_index = (refl, refl, refl, refl)
+
+net_is_no_constant : fixed_faults (mean hidden (selected 1 (codes "u") (index (at 2) (name 3 (codes "P"))))) ≡ fault not_constant (at 1)
+unfolding expressions
+net_is_no_constant = refl
+
+-- {P{1'b1}} has two copies; with no constant further out P is none, at P
+abbrev copied : Expr
+copied = times 1 (name 2 (codes "P")) (lit 4 (codes "1'b1"))
+
+two_copies : MeansHidden copied 2 false (vector 2 3)
+unfolding expressions
+two_copies = (refl, refl, refl, refl)
+
+no_count : free_faults (mean late copied) ≡ fault not_constant (at 2)
+unfolding expressions
+no_count = refl
+
+-- P'(b) and (P)'(b) have two bits, `$clog2(P)` is 1
+size_by_name : MeansHidden (cast_name (word 1 (codes "P")) (name 4 (codes "b"))) 2 false (vector 2 1)
+unfolding expressions
+size_by_name = (refl, refl, refl, refl)
+
+size_in_parentheses : MeansHidden (cast_paren (at 1) (name 2 (codes "P")) (name 6 (codes "b"))) 2 false (vector 2 1)
+unfolding expressions
+size_in_parentheses = (refl, refl, refl, refl)
+
+log_of_constant : MeansHidden (system system_name.Clog2 (at 1) (name 8 (codes "P"))) 32 true (vector 32 1)
+unfolding expressions
+log_of_constant = (refl, refl, refl, refl)
+
+no_log : free_faults (mean late (system system_name.Clog2 (at 1) (name 8 (codes "P")))) ≡ fault not_constant (at 8)
+unfolding expressions
+no_log = refl
+
+-- u is 8'b10110001 and ascends: u[0:P] is u[0:2] and u[P:3] is u[2:3]; u[P +: P] is u[0 +: 2], as it begins at the net and its width is constant
+to_constant : MeansHidden (selected 1 (codes "u") (span 2 (lit 3 (codes "0")) (name 5 (codes "P")))) 3 false (vector 3 5)
+unfolding expressions
+to_constant = (refl, refl, refl, refl)
+
+from_constant : MeansHidden (selected 1 (codes "u") (span 2 (name 3 (codes "P")) (lit 5 (codes "3")))) 2 false (vector 2 3)
+unfolding expressions
+from_constant = (refl, refl, refl, refl)
+
+up_from_net : MeansHidden (selected 1 (codes "u") (range (at 2) (name 3 (codes "P")) range_mark.Up (name 6 (codes "P")))) 2 false (vector 2 2)
+unfolding expressions
+up_from_net = (refl, refl, refl, refl)
+
+no_bound : free_faults (mean late (selected 1 (codes "u") (span 2 (lit 3 (codes "0")) (name 5 (codes "P"))))) ≡ fault not_constant (at 5)
+unfolding expressions
+no_bound = refl

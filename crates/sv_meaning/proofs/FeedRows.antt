@@ -1,11 +1,14 @@
 -- What feeds what in a small design, worked out by hand.
-use Rattle.std.proofs.Common.{◌≡◌, ℕ, zero, suc, ◌<◌, false, List, [], ◌∷◌, All, Contains, refl, ap, subst, arith, codes, ◌⊎◌, inl, inr}
+use Rattle.std.proofs.Common.{◌≡◌, ℕ, zero, suc, ◌<◌, true, false, List, [], ◌∷◌, ◌++◌, All, Contains, refl, ap, subst, arith, codes, ◌⊎◌, inl, inr}
 use Rattle.std.specs.Bool.{⊤}
 use Rattle.std.proofs.lemmas.List.Elements.{All-nil, All-cons, All-contains, All-from_recursion}
+use Rattle.fourvec.specs.Bits.{vector}
+use Rattle.sv_tree.specs.declared.exprs.Expr.{Expr}
 use Rattle.sv_tree.specs.declared.stmts.Lvalue.{Name}
 use Rattle.sv_tree.specs.declared.design.Way.TheVariants as way
 use Rattle.sv_outside.specs.declared.text.Signal.{Signal}
-use Rattle.sv_meaning.specs.Layouts.{Scope, scalar, plain, signal_is, of_wires}
+use Rattle.sv_meaning.specs.Patterns.{index}
+use Rattle.sv_meaning.specs.Layouts.{Entry, Scope, scope_of, scalar, plain, number_is, signal_is, of_wires}
 use Rattle.lhs_alias.specs.declared.segs.WireBit.{WireBit}
 use Rattle.lhs_alias.specs.Segs.{bit}
 use Rattle.lhs_alias.specs.Pairs.{itself, up}
@@ -13,11 +16,11 @@ use Rattle.settling.specs.Settling.{first_bit}
 use Rattle.settling.specs.Settling as settling
 use Rattle.settling.proofs.Classes.{first-joined}
 use Rattle.sv_meaning.specs.Targets as targets
-use Rattle.sv_meaning.specs.Designs.{Design, Work, assignment, port, links_of, names_now, width_at, IsFirst, Feeds, Reaches, once, further}
+use Rattle.sv_meaning.specs.Designs.{Design, Work, assignment, port, index_scope, is_joined, links_of, links_of_work, names_now, reaches, work_faults, width_at, IsFirst, Feeds, Reaches, once, further}
 use Rattle.sv_meaning.specs.Designs as designs
 use Rattle.sv_meaning.specs.Blocks as blocks
 use Rattle.sv_meaning.proofs.OnTrees.{expressions}
-use Rattle.sv_meaning.proofs.Trees.{word, name}
+use Rattle.sv_meaning.proofs.Trees.{at, word, lit, name, selected}
 
 abbrev wire : List ℕ → ℕ → Signal
 wire n w = record { path = n; width = w; input = false }
@@ -25,10 +28,10 @@ wire n w = record { path = n; width = w; input = false }
 -- In a module above `logic a; logic [1:0] b; logic y; assign y = b; leaf u(a, b);`, and in leaf `assign q = p;`: the input p of one bit
 -- and the output q of two are joined to a and b.
 abbrev above : Scope
-above = (codes "a", signal_is of_wires 0 (scalar false)) ∷ (codes "b", signal_is of_wires 1 (plain 2 false)) ∷ (codes "y", signal_is of_wires 2 (scalar false)) ∷ []
+above = scope_of ((codes "a", signal_is of_wires 0 (scalar false)) ∷ (codes "b", signal_is of_wires 1 (plain 2 false)) ∷ (codes "y", signal_is of_wires 2 (scalar false)) ∷ [])
 
 abbrev below : Scope
-below = (codes "p", signal_is of_wires 3 (scalar false)) ∷ (codes "q", signal_is of_wires 4 (plain 2 false)) ∷ []
+below = scope_of ((codes "p", signal_is of_wires 3 (scalar false)) ∷ (codes "q", signal_is of_wires 4 (plain 2 false)) ∷ [])
 
 abbrev joined : Design
 joined = record {
@@ -41,7 +44,7 @@ joined = record {
 }
 
 unfoldable designs_by_hand : ⊤
-unfolding expressions settling.first_bit targets.targets targets.widths targets.bit_names targets.slots_from targets.chain_slots targets.slots targets.present targets.chain_fixed targets.are_fixed blocks.has_bit designs.as_targets designs.part_faults designs.are_present designs.bits_of_wire designs.pairs designs.links_of designs.wires_named
+unfolding expressions settling.first_bit targets.targets targets.widths targets.bit_names targets.slots_from targets.chain_slots targets.slots targets.present targets.chain_fixed targets.are_fixed targets.lvalue_faults blocks.has_bit designs.as_targets designs.part_faults designs.are_present designs.bits_of_wire designs.pairs designs.links_of designs.wires_named
 designs_by_hand = tt
 
 links : links_of joined.works ≡ (bit 3 0, bit 0 0) ∷ (bit 4 0, bit 1 0) ∷ (bit 4 1, bit 1 1) ∷ []
@@ -145,3 +148,50 @@ y_feeds_nothing b h =
 y_reaches_nothing : (b : ℕ) → Reaches joined 2 b → ⊥
 y_reaches_nothing b (once h) = y_feeds_nothing b h
 y_reaches_nothing b (further h more) = y_feeds_nothing _ h
+
+-- ---- an index that a net below hides from all but constant expressions
+
+-- `logic [1:0] y` above, `logic P` below, and a constant P = 1 further out
+abbrev seen_above : List Entry
+seen_above = (codes "P", number_is (vector 32 1) true) ∷ (codes "y", signal_is of_wires 0 (plain 2 false)) ∷ []
+
+abbrev hidden : Scope
+hidden = record { all = seen_above ++ (codes "P", signal_is of_wires 1 (scalar false)) ∷ []; above = seen_above }
+
+abbrev y_of_P : Expr
+y_of_P = selected 1 (codes "y") (index (at 2) (name 3 (codes "P")))
+
+-- An actual y[P] of an output or an inout is joined by the constant; of an input it is an expression, whose index is the net, and not joined.
+output_is_joined : is_joined (index_scope way.Output hidden) hidden (scalar false) y_of_P ≡ true
+unfolding designs_by_hand
+output_is_joined = refl
+
+output_links : links_of_work (port hidden way.Output 2 (scalar false) y_of_P) ≡ (bit 2 0, bit 0 1) ∷ []
+unfolding designs_by_hand
+output_links = refl
+
+inout_links : links_of_work (port hidden way.Inout 2 (scalar false) y_of_P) ≡ (bit 2 0, bit 0 1) ∷ []
+unfolding designs_by_hand
+inout_links = refl
+
+input_is_not_joined : is_joined (index_scope way.Input hidden) hidden (scalar false) y_of_P ≡ false
+unfolding designs_by_hand
+input_is_not_joined = refl
+
+input_names : names_now [] (port hidden way.Input 2 (scalar false) y_of_P) ≡ 0 ∷ 1 ∷ []
+unfolding designs_by_hand
+input_names = refl
+
+-- assign y[P] drives the bit of the constant
+assigned_bit : reaches (assignment hidden (Name (word 1 (codes "y")) (index (at 2) (name 3 (codes "P")) ∷ [])) (lit 4 (codes "1'b1"))) ≡ bit 0 1 ∷ []
+unfolding designs_by_hand
+assigned_bit = refl
+
+assigned_legal : work_faults (assignment hidden (Name (word 1 (codes "y")) (index (at 2) (name 3 (codes "P")) ∷ [])) (lit 4 (codes "1'b1"))) 0 ≡ []
+unfolding designs_by_hand
+assigned_legal = refl
+
+-- in a statement the index is the net, so that each bit may be written
+written_bits : targets.bits_named (targets.targets hidden hidden (Name (word 1 (codes "y")) (index (at 2) (name 3 (codes "P")) ∷ []))) ≡ bit 0 0 ∷ bit 0 1 ∷ []
+unfolding designs_by_hand
+written_bits = refl

@@ -1,5 +1,5 @@
 -- Layouts of small types and values of parameters, worked out by hand.
-use Rattle.std.proofs.Common.{◌≡◌, ℕ, true, false, pos, List, [], ◌∷◌, refl, codes, Some, None, Ok}
+use Rattle.std.proofs.Common.{◌≡◌, ℕ, zero, suc, ◌*◌, true, false, pos, List, [], ◌∷◌, refl, ap, codes, Some, None, Ok, Err}
 use Rattle.fourvec.specs.Bits.{vector}
 use Rattle.sv_tree.specs.declared.exprs.Sign.TheVariants as sign
 use Rattle.sv_tree.specs.declared.exprs.BinaryOp.TheVariants as two
@@ -13,9 +13,9 @@ use Rattle.sv_tree.specs.declared.design.ParamBits.TheVariants as param_bits
 use Rattle.sv_tree.specs.declared.design.ParamType.TheVariants as param_type
 use Rattle.sv_tree.specs.declared.word.Word.{Word}
 use Rattle.sv_meaning.specs.Faults.{Faults, fault, faults_of, twice, bad_width, not_constant, unknown_name}
-use Rattle.sv_meaning.specs.Layouts.{Layout, scalar, dim, struct, member, no_members, number_is, plain}
+use Rattle.sv_meaning.specs.Layouts.{Layout, scalar, dim, struct, member, no_members, width, depth, number_is, plain}
 use Rattle.sv_meaning.specs.Values.{mean}
-use Rattle.sv_meaning.specs.Forms.{form}
+use Rattle.sv_meaning.specs.Forms.{sized, member_faults, form}
 use Rattle.sv_meaning.specs.Params.{param_value}
 use Rattle.sv_meaning.proofs.OnTrees.{expressions}
 use Rattle.sv_meaning.proofs.Trees.{at, word, lit, name, op, scope}
@@ -68,6 +68,44 @@ same_members = refl
 wide_struct : Refused (Struct' None (tt ∷ tt ∷ []) (more_of-Member (member_of (logic (range 1 (codes "127") (codes "0") ∷ [])) (word 2 (codes "x") ∷ [])) (more_of-Member (member_of (logic []) (word 3 (codes "y") ∷ [])) end_of-Member)) []) (fault bad_width (at 3))
 unfolding expressions
 wide_struct = refl
+
+-- a structure with no members
+empty_struct : Refused (Struct' None [] end_of-Member []) (fault bad_width (record { file = 0; line = 0; column = 0 }))
+unfolding expressions
+empty_struct = refl
+
+-- ---- nesting: [0:0] so many times, which has one bit
+
+unfoldable nested : ℕ → Layout
+nested zero = scalar false
+nested (suc n) = dim false (pos 0) (pos 0) (nested n)
+
+depth_nested : (n : ℕ) → depth (nested n) ≡ n
+unfolding nested depth
+depth_nested zero = refl
+depth_nested (suc n) = ap suc (depth_nested n)
+
+width_nested : (n : ℕ) → width (nested n) ≡ 1
+unfolding nested
+width_nested zero = refl
+width_nested (suc n) = ap (λ w. 1 * w) (width_nested n)
+
+-- 1,000 are the most, and a member has one less than its structure
+deepest_array : sized (at 1) (nested 1000) ≡ Ok (nested 1000)
+deepest_array = rw (width_nested 1000, depth_nested 1000) refl
+
+deep_array : sized (at 1) (nested 1001) ≡ Err (fault bad_width (at 1))
+deep_array = rw (width_nested 1001, depth_nested 1001) refl
+
+deepest_member : member_faults [] 0 (nested 999) (word 2 (codes "x") ∷ []) ≡ []
+unfolding expressions
+deepest_member = rw (width_nested 999, depth_nested 999) refl
+
+deep_member : member_faults [] 0 (nested 1000) (word 2 (codes "x") ∷ word 3 (codes "y") ∷ []) ≡ fault bad_width (at 2)
+unfolding expressions
+deep_member = rw (width_nested 1000, depth_nested 1000) refl
+
+-- ---- enumerations
 
 -- enum logic [2:0] {A, B = 3, C}: 0, 3, 4
 abbrev label : ℕ → List ℕ → EnumLabel

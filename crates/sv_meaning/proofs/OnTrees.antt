@@ -15,5 +15,5 @@ unfolding bits.each bits.each_pair bits.over bits.some_one bits.all_zero bits.tr
 vectors = tt
 
 unfoldable pub expressions : ⊤
-unfolding vectors layouts.member_in layouts.find names.has_name meanings.all_loose meanings.parts meanings.copies meanings.log_from meanings.chain_bits meanings.chain_layout meanings.chain_faults meanings.all_indices meanings.bits_from values.mean forms.over_ranges forms.labels forms.member_faults forms.members_of forms.bits_of forms.form
+unfolding vectors layouts.member_in layouts.depth layouts.last_of names.has_name meanings.all_loose meanings.parts meanings.copies meanings.log_from meanings.chain_bits meanings.chain_layout meanings.chain_faults meanings.all_indices meanings.bits_from values.mean forms.over_ranges forms.labels forms.member_faults forms.members_of forms.bits_of forms.form
 expressions = tt

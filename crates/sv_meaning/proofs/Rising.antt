@@ -18,14 +18,14 @@ use Rattle.sv_tree.specs.declared.exprs.RangeMark.TheVariants as mark
 use Rattle.sv_tree.specs.declared.exprs.Expr.{Expr, Literal, Name', Concat', Repeat', Row_of-Expr, end_of-Expr, more_of-Expr, Row_of-Select, end_of-Select, more_of-Select}
 use Rattle.sv_tree.specs.declared.exprs.Select.{Select, Member}
 use Rattle.sv_meaning.specs.Patterns.{paren, cast_literal, cast_name, cast_paren, cast_sign, system, unary, binary, choose, index, range}
-use Rattle.sv_meaning.specs.Layouts.{Layout, scalar, dim, struct, width, is_signed, plain, place_of, goes_down, count_between, What, number_is, type_is, signal_is, NamedSignal, Read, Scope, find, member_in}
+use Rattle.sv_meaning.specs.Layouts.{Layout, scalar, dim, struct, width, is_signed, plain, place_of, goes_down, count_between, What, number_is, type_is, signal_is, NamedSignal, Read, Scope, constant_scope, find, member_in}
 use Rattle.sv_literal.specs.declared.meaning.Literal.{Literal as LiteralValue}
 use Rattle.sv_outside.specs.declared.refusal.Place.{Place}
 use Rattle.sv_tree.specs.declared.word.Word.{Word}
 use Rattle.sv_meaning.specs.Faults.{Faults}
 use Rattle.sv_meaning.specs.Layouts.{genvar_is}
 use Rattle.sv_meaning.specs.Meanings.{Meaning, own, standing, joined, from, extend, fitted, constant_of, number_of, empty, beside, parts, concat, copies, repeated, to_sign, sized_by, cast_to, log_from, log_up, Step, to_member, to_index, to_range, Part, known_place, part_if, ranged, member_part, step_in, bits_at, with_part, chain_bits, chain_layout, all_indices, bits_from, selected, constant_named, named, literal_meaning, top_goes_on, of_literal, whole}
-use Rattle.sv_meaning.specs.Values.{mean, means, step, steps, system_meaning, is_signed_word}
+use Rattle.sv_meaning.specs.Values.{mean, means, step, steps, system_meaning, operand_scope, left_scope, is_signed_word}
 use Rattle.sv_meaning.proofs.Good.{Rises, Good, own_long, own_rises, length-extend, extend-rises, good-standing, good-needs, good-from, good-none, good-chosen, good-unary, good-binary}
 
 -- ---- concatenations
@@ -269,12 +269,12 @@ mutual
   good at (Name' w s all) = good-named w (find w.text at) (steps at all) (good-steps at all)
   good at (paren p x) = good-from p _ (good at x)
   good at (Concat' p s all) = good-concat p (means at all) (good-means at all)
-  good at (Repeat' p r (more_of-Expr n end_of-Expr) s all) = good-repeated p (mean at n) (means at all) (good-means at all)
+  good at (Repeat' p r (more_of-Expr n end_of-Expr) s all) = good-repeated p (mean (constant_scope at) n) (means at all) (good-means at all)
   good at (cast_literal w x) = good-sized_by (of_literal w) (mean at x) (good at x)
-  good at (cast_name w x) = good-cast w (find w.text at) (mean at x) (good at x)
-  good at (cast_paren p n x) = good-sized_by (from p (mean at n)) (mean at x) (good at x)
+  good at (cast_name w x) = good-cast w (find w.text (constant_scope at)) (mean at x) (good at x)
+  good at (cast_paren p n x) = good-sized_by (from p (mean (constant_scope at) n)) (mean at x) (good at x)
   good at (cast_sign s p x) = good-from p _ (good-to_sign (is_signed_word s) (mean at x) (good at x))
-  good at (system f p x) = good-from p _ (good-system f (mean at x) (good at x))
+  good at (system f p x) = good-from p _ (good-system f (mean (operand_scope f at) x) (good (operand_scope f at) x))
   good at (unary op p x) = good-from p _ (good-unary op (mean at x) (good at x))
   good at (binary x op p y) = good-binary p op (mean at x) (mean at y) (good at x) (good at y)
   good at (choose c x y) = good-chosen (mean at c) (mean at x) (mean at y) (good at c) (good at x) (good at y)
@@ -286,7 +286,7 @@ mutual
   pub good-step : (at : Scope) (x : Select) → GoodStep (step at x)
   good-step at (Member p w) = tt
   good-step at (index p x) = good at x
-  good-step at (range p x m y) = (good at x, good at y)
+  good-step at (range p x m y) = (good (left_scope m at) x, good (constant_scope at) y)
 
   pub good-steps : {m : Count} (at : Scope) (all : Row_of-Select m) → GoodSteps (steps at all)
   good-steps at end_of-Select = tt

@@ -13,7 +13,7 @@ use Rattle.sv_tree.specs.declared.exprs.Select.{Select}
 use Rattle.sv_tree.specs.declared.stmts.Lvalue.{Lvalue, Name, Concat', Row_of-Lvalue, end_of-Lvalue, more_of-Lvalue}
 use Rattle.sv_tree.specs.declared.stmts.Stmt.{Stmt, Empty, Block', If', Case', For', Assign, Row_of-Stmt, end_of-Stmt, more_of-Stmt, Row_of-Arm, end_of-Arm, more_of-Arm, Held-Stmt-If-3, None', Some'}
 use Rattle.sv_tree.specs.declared.stmts.Arm.{Labels', Default'}
-use Rattle.sv_meaning.specs.Layouts.{Layout, width, Scope, What, number_is, type_is, signal_is, genvar_is, of_wires, of_choice, of_samples, Read, find}
+use Rattle.sv_meaning.specs.Layouts.{Layout, width, Scope, constant_scope, What, number_is, type_is, signal_is, genvar_is, of_wires, of_choice, of_samples, Read, find}
 use Rattle.sv_literal.specs.declared.meaning.Literal.{Literal}
 use Rattle.sv_outside.specs.declared.refusal.Place.{Place}
 use Rattle.sv_meaning.specs.Faults.{Faults, Judged}
@@ -95,13 +95,13 @@ good-both (t ∷ more) b g h = (g.0, good-both more b g.1 h)
 mutual
   unfolding targets
 
-  good-targets : (at : Scope) (x : Lvalue) → GoodTargets (targets at x)
-  good-targets at (Name w all) = (good-target (find w.text at) (map (step at) all) (good-steps-list at all), tt)
-  good-targets at (Concat' p s all) = good-targets_of at all
+  good-targets : (index at : Scope) (x : Lvalue) → GoodTargets (targets index at x)
+  good-targets index at (Name w all) = (good-target (find w.text at) (map (step index) all) (good-steps-list index all), tt)
+  good-targets index at (Concat' p s all) = good-targets_of index at all
 
-  good-targets_of : {m : Count} (at : Scope) (all : Row_of-Lvalue m) → GoodTargets (targets_of at all)
-  good-targets_of at end_of-Lvalue = tt
-  good-targets_of at (more_of-Lvalue x all) = good-both (targets at x) (targets_of at all) (good-targets at x) (good-targets_of at all)
+  good-targets_of : {m : Count} (index at : Scope) (all : Row_of-Lvalue m) → GoodTargets (targets_of index at all)
+  good-targets_of index at end_of-Lvalue = tt
+  good-targets_of index at (more_of-Lvalue x all) = good-both (targets index at x) (targets_of index at all) (good-targets index at x) (good-targets_of index at all)
 
 -- ---- statements
 
@@ -241,8 +241,8 @@ mutual
       good-either (truth (mean at c)) (deed x at) (deed_else other at) (truth-rises (mean at c) (good at c)) (good-deed x at) (good-deed_else other at)
   good-deed (Case' u word x s all) at = good-case (is_casez word) (mean at x) (arms all at).0 (arms all at).1 (good at x) (good-arms all at).0 (good-arms all at).1
   good-deed (For' p form name start test next r (more_of-Stmt body end_of-Stmt)) at =
-      good-in_turns p (λ bits. deed body (with_index at name.text bits)) (λ bits. good-deed body (with_index at name.text bits)) (turns p at name.text start test next)
-  good-deed (Assign to mark p x) at = good-assign (targets at to) (lvalue_faults free_faults at to) (mean at x) (good-targets at to) (good at x)
+      good-in_turns p (λ bits. deed body (with_index at name.text bits)) (λ bits. good-deed body (with_index at name.text bits)) (turns p (constant_scope at) name.text start test next)
+  good-deed (Assign to mark p x) at = good-assign (targets at at to) (lvalue_faults free_faults at at to) (mean at x) (good-targets at at to) (good at x)
 
   pub good-deed_else : (x : Held-Stmt-If-3) (at : Scope) → GoodDeed (deed_else x at)
   good-deed_else None' at = λ f e l s t u. u

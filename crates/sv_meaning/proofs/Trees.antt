@@ -9,7 +9,7 @@ use Rattle.sv_tree.specs.declared.exprs.Select.{Select}
 use Rattle.sv_tree.specs.declared.exprs.BinaryOp.{BinaryOp}
 use Rattle.sv_tree.specs.declared.exprs.RangeMark.TheVariants as mark
 use Rattle.sv_meaning.specs.Patterns.{binary, range}
-use Rattle.sv_meaning.specs.Layouts.{scalar, dim, struct, no_members, member, plain, Scope, number_is, type_is, signal_is, of_wires, Read}
+use Rattle.sv_meaning.specs.Layouts.{scalar, dim, struct, no_members, member, plain, Entry, Scope, scope_of, number_is, type_is, signal_is, of_wires, Read}
 
 -- a place in the first line
 abbrev pub at : ℕ → Place
@@ -48,12 +48,15 @@ abbrev pub times : ℕ → Expr → Expr → Expr
 times k n x = Repeat' (at k) tt (more_of-Expr n end_of-Expr) (tt ∷ []) (more_of-Expr x end_of-Expr)
 
 -- `logic [3:0] a`, `logic [5:0] b`, `logic signed [7:0] s`, `logic [0:7] u`, a structure `p` of `hi[3:0]` and `lo`, and `parameter N = 5`
-abbrev pub scope : Scope
-scope =
+abbrev pub entries : List Entry
+entries =
     (codes "a", signal_is of_wires 0 (plain 4 false)) ∷ (codes "b", signal_is of_wires 1 (plain 6 false)) ∷ (codes "s", signal_is of_wires 2 (plain 8 true))
     ∷ (codes "u", signal_is of_wires 3 (dim false (pos 0) (pos 7) (scalar false)))
     ∷ (codes "p", signal_is of_wires 4 (struct false (member (codes "hi") (plain 4 false) (member (codes "lo") (scalar false) no_members))))
     ∷ (codes "N", number_is (vector 32 5) true) ∷ (codes "t", type_is (plain 3 true)) ∷ []
+
+abbrev pub scope : Scope
+scope = scope_of entries
 
 -- a is 15, b is 1, s is -7, u is 8'b10110001, p is {4'd9, 1'b0}
 abbrev pub values : Read

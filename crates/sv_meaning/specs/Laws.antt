@@ -1,5 +1,5 @@
 -- The laws over the definitions.
-use Rattle.std.specs.Prelude.{◌≡◌, ◌≢◌, [], ◌∷◌, ◌++◌, Some}
+use Rattle.std.specs.Prelude.{◌≡◌, ◌≢◌, [], ◌∷◌, Some}
 use Rattle.sv_meaning.specs.Layouts.{Name, Scope, with_names, What, find}
 use Rattle.settling.specs.Settling.{Store}
 use Rattle.settling.specs.Least.{Under, More, IsLeast}

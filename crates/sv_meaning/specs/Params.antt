@@ -1,5 +1,5 @@
 -- The values of parameters, and the pins of instances.
-use Rattle.std.specs.Prelude.{ℕ, suc, Bool, true, false, ◌&&◌, not, List, [], ◌∷◌, bytes_eq, Option, Some, None, Ok, Err, ℤ, pos, int_le, nat_abs, if◌then◌else◌}
+use Rattle.std.specs.Prelude.{ℕ, suc, Bool, true, false, ◌&&◌, not, List, [], ◌∷◌, Option, Some, None, Ok, Err, ℤ, pos, int_le, nat_abs}
 use Rattle.fourvec.specs.Bits.{is_known}
 use Rattle.sv_tree.specs.declared.word.Word.{Word}
 use Rattle.sv_tree.specs.declared.exprs.Expr.{Expr, Name', end_of-Select}
