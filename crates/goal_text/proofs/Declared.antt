@@ -6,13 +6,13 @@ use Rattle.std.proofs.lemmas.List.Elements.{All-get_or, All-map, Contains-append
 use Rattle.std.proofs.lemmas.Bool.Decides.{nat_tests}
 use Rattle.fourvec.proofs.Order.{both}
 use Rattle.driver_resolve.specs.Drivers.{is_wire}
-use Rattle.sv_meaning.specs.Layouts.{Name, Origin, of_choice, of_samples, What, Layout, NamedSignal, Declared, plain, signal_is, width}
+use Rattle.sv_meaning.specs.Layouts.{Name, Origin, of_choice, of_samples, What, Layout, NamedSignal, DeclaredIn, plain, signal_is, width}
 use Rattle.sv_lower.specs.Lowering.{look_test, HoldsOfDeclared}
 use Rattle.sv_lower.specs.declared.look.Look.TheVariants.{Present}
 use Rattle.svtv_table.specs.Binding.{HasWidth}
 use Rattle.svtv_table.specs.declared.bound.Sample.{Sample}
 use Rattle.svtv_table.specs.declared.bound.VarDecl.{VarDecl}
-use Rattle.goal_text.specs.Scopes.{Vector, vars_of, sampled_of, var_vector, sample_vector, vectors_from, variables_of, samples_of, claims_scope, widths_in, is_of_vars, is_of_table}
+use Rattle.goal_text.specs.Scopes.{Vector, vars_of, sampled_of, var_vector, sample_vector, vectors_from, variable_entries, sample_entries, variables_of, claims_scope, widths_in, is_of_vars, is_of_table}
 use Rattle.goal_text.proofs.Scoped.{plain_width}
 
 -- the entry of a number
@@ -46,7 +46,7 @@ layout_in _ d = d
 is_wire_at : (widths : List ℕ) (j n w : ℕ) → j < length widths → n ≡ j → w ≡ get_or widths j 0 → IsTrue (is_wire widths n w)
 is_wire_at widths j n w lt e f = subst (λ k. IsTrue (is_wire widths k w)) (sym e) (subst (λ v. IsTrue (is_wire widths j v)) (sym f) (let a : nat_lt j (length widths) ≡ true = grind (arith, nat_tests) in let b : (get_or widths j 0 == get_or widths j 0) ≡ true = grind (arith, nat_tests) in both _ _ a b))
 
-vector_declared : (o : Origin) (all : List Vector) → All HasWidth (widths_in all) → (s : NamedSignal) → Declared (vectors_from o 0 all) s → IsVector o all s
+vector_declared : (o : Origin) (all : List Vector) → All HasWidth (widths_in all) → (s : NamedSignal) → DeclaredIn (vectors_from o 0 all) s → IsVector o all s
 vector_declared o all wide s d =
     let i = d.is_there in
     let g = entry_at o 0 i.0 all (d.name, signal_is s.owner s.number d.layout) i.1 in
@@ -72,7 +72,8 @@ unfolding look_test
 vars_test vars o n w e h = subst (λ o. IsTrue (look_test Present [] (is_of_vars vars) o n w)) (sym e) h
 
 pub hyps_hold : (vars : List VarDecl) → All (λ var. HasWidth var.width) vars → HoldsOfDeclared (variables_of vars) (is_of_vars vars)
-hyps_hold vars wide s d = let v = vector_declared of_choice (vars_of vars) (widths_of_vars vars wide) s d in vars_test vars s.owner s.number s.width v.owner v.wire
+hyps_hold vars wide s (inl d) = let v = vector_declared of_choice (vars_of vars) (widths_of_vars vars wide) s d in vars_test vars s.owner s.number s.width v.owner v.wire
+hyps_hold vars wide s (inr d) = let v = vector_declared of_choice (vars_of vars) (widths_of_vars vars wide) s d in vars_test vars s.owner s.number s.width v.owner v.wire
 
 module _ (vars : List VarDecl) (samples : List Sample) where
   chosen_test : (o : Origin) (n w : ℕ) → o ≡ of_choice → IsTrue (is_wire (widths_in (vars_of vars)) n w) → IsTrue (look_test Present [] (is_of_table vars samples) o n w)
@@ -83,12 +84,17 @@ module _ (vars : List VarDecl) (samples : List Sample) where
   unfolding look_test
   sampled_test o n w e h = subst (λ o. IsTrue (look_test Present [] (is_of_table vars samples) o n w)) (sym e) h
 
-  pub claims_hold : All (λ var. HasWidth var.width) vars → All (λ sample. HasWidth sample.width) samples → HoldsOfDeclared (claims_scope vars samples) (is_of_table vars samples)
-  claims_hold wide broad s d = by_side (Contains-append_cases (variables_of vars) (samples_of samples) (d.name, signal_is s.owner s.number d.layout) d.is_there)
+  claim_holds : All (λ var. HasWidth var.width) vars → All (λ sample. HasWidth sample.width) samples → (s : NamedSignal) → DeclaredIn (variable_entries vars ++ sample_entries samples) s
+      → IsTrue (look_test Present [] (is_of_table vars samples) s.owner s.number s.width)
+  claim_holds wide broad s d = by_side (Contains-append_cases (variable_entries vars) (sample_entries samples) (d.name, signal_is s.owner s.number d.layout) d.is_there)
     where
-      by_side : Contains (variables_of vars) (d.name, signal_is s.owner s.number d.layout) ⊎ Contains (samples_of samples) (d.name, signal_is s.owner s.number d.layout)
+      by_side : Contains (variable_entries vars) (d.name, signal_is s.owner s.number d.layout) ⊎ Contains (sample_entries samples) (d.name, signal_is s.owner s.number d.layout)
           → IsTrue (look_test Present [] (is_of_table vars samples) s.owner s.number s.width)
       by_side (inl i) =
           let v = vector_declared of_choice (vars_of vars) (widths_of_vars vars wide) s (record { name = d.name; layout = d.layout; is_there = i; wide = d.wide }) in chosen_test s.owner s.number s.width v.owner v.wire
       by_side (inr i) =
           let v = vector_declared of_samples (sampled_of samples) (widths_of_samples samples broad) s (record { name = d.name; layout = d.layout; is_there = i; wide = d.wide }) in sampled_test s.owner s.number s.width v.owner v.wire
+
+  pub claims_hold : All (λ var. HasWidth var.width) vars → All (λ sample. HasWidth sample.width) samples → HoldsOfDeclared (claims_scope vars samples) (is_of_table vars samples)
+  claims_hold wide broad s (inl d) = claim_holds wide broad s d
+  claims_hold wide broad s (inr d) = claim_holds wide broad s d

@@ -7,13 +7,14 @@ use Rattle.fourvec.proofs.Order.{both}
 use mir.Syntax.{w64}
 use mir.Val.{to_z, of_z}
 use Rattle.sv_names.proofs.Sound.{same_bound}
-use Rattle.sv_names.specs.Kinds.{Entry, entry_is, scope_is, form_is, layout_is, FormIsSound, IsSound}
+use Rattle.sv_names.specs.Kinds.{Entry, entry_is, entries_are, form_is, layout_is, FormIsSound, IsSound}
 use Rattle.sv_names.specs.declared.layout.Layout.{Layout}
 use Rattle.sv_names.specs.declared.layout.Form.TheVariants as f
 use Rattle.sv_names.specs.declared.layout.Form.TheBlock.{shape-the_row-Layout-0, hidden-the_row-Layout-0}
-use Rattle.sv_names.specs.Names.{names_are, frames_of, loops_of}
+use Rattle.sv_names.specs.Names.{names_are, frames_of, above_of, loops_of}
 use Rattle.sv_names.specs.declared.names.Names.{Names}
-use Rattle.sv_meaning.specs.Layouts.{Origin, Scope, count_between, dim, plain, scalar, signal_is, width}
+use Rattle.sv_meaning.specs.Layouts as m
+use Rattle.sv_meaning.specs.Layouts.{Origin, scope_of, count_between, dim, plain, scalar, signal_is, width}
 use Rattle.sv_meaning.specs.Meanings.{is_bound}
 use Rattle.sv_modules.proofs.Turns.{drop_next, drop_none}
 use Rattle.goal_text.specs.Scopes.{Vector, vectors_from}
@@ -60,30 +61,42 @@ module _ (l r : ℤ) (each bit : Layout) (i : each ≡ bit) (e : layout_is bit �
 -- ---- one vector more
 
 module _ {A : Type 0} (made : A → Vector) (o : Origin) where
-  pub vectors_next : (whole : Scope) (all : List A) (i : ℕ) (x : A) (scope new : List Entry) (e : Entry) → i < length all → x ≡ get_or all i x
+  pub vectors_next : (whole : List m.Entry) (all : List A) (i : ℕ) (x : A) (scope new : List Entry) (e : Entry) → i < length all → x ≡ get_or all i x
       → entry_is e ≡ ((made x).0, signal_is o i (plain (made x).1 false)) → new ≡ scope ++ e ∷ []
-      → whole ≡ scope_is scope ++ vectors_from o i (map made (drop i all)) → whole ≡ scope_is new ++ vectors_from o (i + 1) (map made (drop (i + 1) all))
+      → whole ≡ entries_are scope ++ vectors_from o i (map made (drop i all)) → whole ≡ entries_are new ++ vectors_from o (i + 1) (map made (drop (i + 1) all))
   unfolding vectors_from
   vectors_next whole all i x scope new e lt is entry pushed h =
       let rest = vectors_from o (i + 1) (map made (drop (i + 1) all)) in
-      h ∙ ap (λ l. scope_is scope ++ vectors_from o i (map made l)) (drop_next all i x lt is)
-      ∙ ap (λ z. scope_is scope ++ z ∷ rest) (sym entry)
-      ∙ sym (append_assoc (scope_is scope) (entry_is e ∷ []) rest)
-      ∙ ap (λ z. z ++ rest) (sym (map-append entry_is scope (e ∷ [])) ∙ ap scope_is (sym pushed))
+      h ∙ ap (λ l. entries_are scope ++ vectors_from o i (map made l)) (drop_next all i x lt is)
+      ∙ ap (λ z. entries_are scope ++ z ∷ rest) (sym entry)
+      ∙ sym (append_assoc (entries_are scope) (entry_is e ∷ []) rest)
+      ∙ ap (λ z. z ++ rest) (sym (map-append entry_is scope (e ∷ [])) ∙ ap entries_are (sym pushed))
 
-  pub vectors_end : (whole : Scope) (all : List A) (i : ℕ) (scope : List Entry) → length all ≤ i
-      → whole ≡ scope_is scope ++ vectors_from o i (map made (drop i all)) → scope_is scope ≡ whole
+  pub vectors_end : (whole : List m.Entry) (all : List A) (i : ℕ) (scope : List Entry) → length all ≤ i
+      → whole ≡ entries_are scope ++ vectors_from o i (map made (drop i all)) → entries_are scope ≡ whole
   unfolding vectors_from
-  vectors_end whole all i scope le h = sym (h ∙ ap (λ l. scope_is scope ++ vectors_from o i (map made l)) (drop_none all i le) ∙ append-nil (scope_is scope))
+  vectors_end whole all i scope le h = sym (h ∙ ap (λ l. entries_are scope ++ vectors_from o i (map made l)) (drop_none all i le) ∙ append-nil (entries_are scope))
 
 -- ---- names over scopes
 
-pub one_scope : (names : Names) (scope : List Entry) (n : ℕ) → n ≡ length scope → frames_of names ≡ take n scope → loops_of names ≡ [] → names_are names ≡ scope_is scope
-one_scope names scope n len frames loops =
-    ap (λ l. scope_is (l ++ loops_of names)) (frames ∙ take_all n scope (omega arith)) ∙ ap (λ l. scope_is (scope ++ l)) loops ∙ ap scope_is (append-nil scope)
+entries_one : (loops front scope : List Entry) (n : ℕ) → n ≡ length scope → front ≡ take n scope → loops ≡ [] → entries_are (front ++ loops) ≡ entries_are scope
+entries_one loops front scope n len e none =
+    ap (λ l. entries_are (l ++ loops)) (e ∙ take_all n scope (omega arith)) ∙ ap (λ l. entries_are (scope ++ l)) none ∙ ap entries_are (append-nil scope)
 
-pub two_scopes : (names : Names) (a b : List Entry) (n m : ℕ) → n ≡ length a → m ≡ length b → frames_of names ≡ take n a ++ take m b → loops_of names ≡ []
-    → names_are names ≡ scope_is a ++ scope_is b
-two_scopes names a b n m len other frames loops =
-    ap (λ l. scope_is (l ++ loops_of names)) (frames ∙ ap (λ l. l ++ take m b) (take_all n a (omega arith)) ∙ ap (λ l. a ++ l) (take_all m b (omega arith)))
-    ∙ ap (λ l. scope_is ((a ++ b) ++ l)) loops ∙ ap scope_is (append-nil (a ++ b)) ∙ map-append entry_is a b
+pub one_scope : (names : Names) (scope : List Entry) (n : ℕ) → n ≡ length scope → frames_of names ≡ take n scope → above_of names ≡ take n scope → loops_of names ≡ [] → names_are names ≡ scope_of (entries_are scope)
+one_scope names scope n len frames above loops =
+    let all = entries_one (loops_of names) (frames_of names) scope n len frames loops in
+    let seen = entries_one (loops_of names) (above_of names) scope n len above loops in
+    λ i. record { all = all i; above = seen i }
+
+entries_two : (loops front a b : List Entry) (n m : ℕ) → n ≡ length a → m ≡ length b → front ≡ take n a ++ take m b → loops ≡ [] → entries_are (front ++ loops) ≡ entries_are a ++ entries_are b
+entries_two loops front a b n m len other e none =
+    ap (λ l. entries_are (l ++ loops)) (e ∙ ap (λ l. l ++ take m b) (take_all n a (omega arith)) ∙ ap (λ l. a ++ l) (take_all m b (omega arith)))
+    ∙ ap (λ l. entries_are ((a ++ b) ++ l)) none ∙ ap entries_are (append-nil (a ++ b)) ∙ map-append entry_is a b
+
+pub two_scopes : (names : Names) (a b : List Entry) (n m : ℕ) → n ≡ length a → m ≡ length b → frames_of names ≡ take n a ++ take m b → above_of names ≡ take n a ++ take m b → loops_of names ≡ []
+    → names_are names ≡ scope_of (entries_are a ++ entries_are b)
+two_scopes names a b n m len other frames above loops =
+    let all = entries_two (loops_of names) (frames_of names) a b n m len other frames loops in
+    let seen = entries_two (loops_of names) (above_of names) a b n m len other above loops in
+    λ i. record { all = all i; above = seen i }

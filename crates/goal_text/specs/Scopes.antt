@@ -2,7 +2,7 @@
 use Rattle.std.specs.Prelude.{ℕ, ◌+◌, Bool, false, List, [], ◌∷◌, ◌++◌, map}
 use Rattle.driver_resolve.specs.Drivers.{is_wire}
 use Rattle.fourvec.specs.declared.Bit.{Bit}
-use Rattle.sv_meaning.specs.Layouts.{Name, Read, Scope, Origin, of_wires, of_choice, of_samples, plain, signal_is}
+use Rattle.sv_meaning.specs.Layouts.{Name, Read, Entry, Scope, scope_of, Origin, of_wires, of_choice, of_samples, plain, signal_is}
 use Rattle.svex_shape.specs.declared.shape.VarName.{VarName}
 use Rattle.svex_shape.specs.declared.shape.VarName.TheVariants.{Now, Chosen, Sampled}
 use Rattle.svtv_table.specs.declared.bound.Sample.{Sample}
@@ -27,20 +27,23 @@ abbrev pub sampled_of : List Sample → List Vector
 sampled_of samples = map sample_vector samples
 
 -- vectors of an owner, numbered from that number on
-unfoldable pub vectors_from : Origin → ℕ → List Vector → Scope
+unfoldable pub vectors_from : Origin → ℕ → List Vector → List Entry
 vectors_from o k [] = []
 vectors_from o k (v ∷ more) = (v.0, signal_is o k (plain v.1 false)) ∷ vectors_from o (k + 1) more
 
+abbrev pub variable_entries : List VarDecl → List Entry
+variable_entries vars = vectors_from of_choice 0 (vars_of vars)
+
+abbrev pub sample_entries : List Sample → List Entry
+sample_entries samples = vectors_from of_samples 0 (sampled_of samples)
+
 -- what hypotheses name
 abbrev pub variables_of : List VarDecl → Scope
-variables_of vars = vectors_from of_choice 0 (vars_of vars)
-
-abbrev pub samples_of : List Sample → Scope
-samples_of samples = vectors_from of_samples 0 (sampled_of samples)
+variables_of vars = scope_of (variable_entries vars)
 
 -- what claims name
 abbrev pub claims_scope : List VarDecl → List Sample → Scope
-claims_scope vars samples = variables_of vars ++ samples_of samples
+claims_scope vars samples = scope_of (variable_entries vars ++ sample_entries samples)
 
 -- ---- what names read
 

@@ -25,7 +25,7 @@ use sv_names::Names;
 use sv_outside::TextErr;
 use sv_tree::{Expr, Word};
 use sv_typed::Typed;
-use sv_typing::{refusal, typed};
+use sv_typing::{Position, refusal, typed};
 use svex_arena::{Arena, Node, Shape, Un};
 use svtv_table::{Sample, VarDecl};
 
@@ -56,7 +56,7 @@ fn truth(alloc: Global, arena: &mut Arena, expr: &Expr, names: &Names<'_>) -> Re
     ensures truth { IfOk result (λ n. HasTruth (names_are names.now) arena.new expr.now n) }
     ensures cause { IfErr result (λ e. IsCause (free_faults (mean (names_are names.now) expr.now)) e) }
 {
-    match typed(alloc, expr, names, false) {
+    match typed(alloc, expr, names, Position::Free) {
         Ok(tree) => {
             let node = truth_of(alloc, arena, &tree)?;
             Ok(node)

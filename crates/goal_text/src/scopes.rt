@@ -1,9 +1,9 @@
 // The variables and samples of a table as names.
 ghost use Rattle.std.specs.Prelude.{◌≡◌, ◌++◌, ◌≤◌, All, IfOk, IsTrue, false};
-ghost use Rattle.goal_text.specs.Scopes.{variables_of, samples_of};
-ghost use Rattle.sv_names.specs.Kinds.{layout_is, scope_is, IsSound};
+ghost use Rattle.goal_text.specs.Scopes.{variable_entries, sample_entries};
+ghost use Rattle.sv_names.specs.Kinds.{layout_is, entries_are, IsSound};
 ghost use Rattle.sv_names.specs.Names.{names_are};
-ghost use Rattle.sv_meaning.specs.Layouts.{count_between, dim, plain, scalar};
+ghost use Rattle.sv_meaning.specs.Layouts.{count_between, dim, plain, scalar, scope_of};
 ghost use Rattle.sv_meaning.specs.Meanings.{is_bound};
 ghost use Rattle.svtv_table.specs.Binding.{HasWidth};
 
@@ -57,7 +57,7 @@ fn vector(alloc: Global, width: u8) -> Result<Layout, AllocError>
 /// The variables of a table.
 pub fn variables(alloc: Global, vars: &[VarDecl]) -> Result<Scope, AllocError>
     requires { All (λ var. HasWidth var.width) vars.now }
-    ensures { IfOk result (λ scope. scope_is scope ≡ variables_of vars.now) }
+    ensures { IfOk result (λ scope. entries_are scope ≡ variable_entries vars.now) }
 {
     let mut scope = Scope::new(alloc);
     'vars: for (number, var) in vars.iter().enumerate() {
@@ -71,7 +71,7 @@ pub fn variables(alloc: Global, vars: &[VarDecl]) -> Result<Scope, AllocError>
 /// The samples of a table.
 pub fn sampled(alloc: Global, samples: &[Sample]) -> Result<Scope, AllocError>
     requires { All (λ sample. HasWidth sample.width) samples.now }
-    ensures { IfOk result (λ scope. scope_is scope ≡ samples_of samples.now) }
+    ensures { IfOk result (λ scope. entries_are scope ≡ sample_entries samples.now) }
 {
     let mut scope = Scope::new(alloc);
     'samples: for (number, sample) in samples.iter().enumerate() {
@@ -85,10 +85,10 @@ pub fn sampled(alloc: Global, samples: &[Sample]) -> Result<Scope, AllocError>
 /// What hypotheses name: variables.
 #[tactic(auto, using(crate::proofs::Scoped::one_scope))]
 pub fn hyp_names<'a>(alloc: Global, variables: &'a Scope) -> Result<Names<'a>, AllocError>
-    ensures { IfOk result (λ names. names_are names ≡ scope_is variables.now) }
+    ensures { IfOk result (λ names. names_are names ≡ scope_of (entries_are variables.now)) }
 {
     let mut names = Names::new(alloc);
-    names.push_scope(variables, variables.len())?;
+    names.push_scope(variables, variables.len(), variables.len())?;
     Ok(names)
 }
 
@@ -99,10 +99,10 @@ pub fn claim_names<'a>(
     variables: &'a Scope,
     samples: &'a Scope,
 ) -> Result<Names<'a>, AllocError>
-    ensures { IfOk result (λ names. names_are names ≡ scope_is variables.now ++ scope_is samples.now) }
+    ensures { IfOk result (λ names. names_are names ≡ scope_of (entries_are variables.now ++ entries_are samples.now)) }
 {
     let mut names = Names::new(alloc);
-    names.push_scope(variables, variables.len())?;
-    names.push_scope(samples, samples.len())?;
+    names.push_scope(variables, variables.len(), variables.len())?;
+    names.push_scope(samples, samples.len(), samples.len())?;
     Ok(names)
 }

@@ -13,13 +13,13 @@ use Rattle.sv_tree.specs.declared.stmts.Lvalue.{Lvalue, Name, Concat', Row_of-Lv
 use Rattle.sv_tree.specs.declared.stmts.Stmt.{Stmt, Empty, Block', If', Case', For', Assign, Row_of-Stmt, end_of-Stmt, more_of-Stmt, Row_of-Arm, end_of-Arm, more_of-Arm, Held-Stmt-If-3, None', Some'}
 use Rattle.sv_tree.specs.declared.stmts.Arm.{Labels', Default'}
 use Rattle.sv_meaning.specs.Faults.{Faults}
-use Rattle.sv_meaning.specs.Layouts.{Scope, What, signal_is, number_is, type_is, genvar_is, of_wires, of_choice, of_samples, width, find, or_else, NamedSignal}
+use Rattle.sv_meaning.specs.Layouts.{Scope, What, signal_is, number_is, type_is, genvar_is, of_wires, of_choice, of_samples, width, find, last_of, or_else, NamedSignal}
 use Rattle.sv_meaning.specs.Layouts as m
 use Rattle.sv_meaning.specs.Meanings.{Meaning, Step}
 use Rattle.sv_meaning.specs.Targets.{Target, target_of, target_faults, targets, targets_of, lvalue_faults, all_lvalue_faults, wide_target}
 use Rattle.sv_meaning.specs.Deeds.{with_index}
 use Rattle.sv_names.specs.declared.names.Names.{Names}
-use Rattle.sv_names.specs.Names.{names_are, frames_of, loops_of}
+use Rattle.sv_names.specs.Names.{names_are, stack_of, loops_of}
 use Rattle.sv_typing.proofs.Lists.{left_clear, right_clear, first_clear}
 use Rattle.sv_targets.specs.declared.targets.TypedTarget.{TypedTarget}
 use Rattle.sv_targets.specs.Targets.{StandsFor, JudgesTargets}
@@ -41,7 +41,7 @@ Signals = List NamedSignal
 
 -- ---- one list within another
 
-pub within_at : (f : Scope → Signals) (a b : Names) (named : Signals) → frames_of b ≡ frames_of a → loops_of b ≡ loops_of a → Within (f (names_are a)) named → Within (f (names_are b)) named
+pub within_at : (f : Scope → Signals) (a b : Names) (named : Signals) → stack_of b ≡ stack_of a → loops_of b ≡ loops_of a → Within (f (names_are a)) named → Within (f (names_are b)) named
 within_at f a b named g l w = subst (λ (at : Scope). Within (f at) named) (sym (names_kept a b g l)) w
 
 pub within_as : (xs ys named : Signals) → ys ≡ xs → Within xs named → Within ys named
@@ -123,16 +123,16 @@ rooted_one judge named p w None all f h = cc
 mutual
   unfolding targets lvalue_faults root_signals
 
-  rooted : (judge : Meaning → Faults) (at : Scope) (named : Signals) (x : Lvalue) → lvalue_faults judge at x ≡ [] → Within (root_signals at x) named → Rooted named (targets at x)
-  rooted judge at named (Name w all) f h = rooted_one judge named _ w (find w.text at) _ f h
-  rooted judge at named (Concat' p s all) f h = all_rooted judge at named all (first_clear (all_lvalue_faults judge at all) (wide_target p (targets_of at all)) f) h
+  rooted : (judge : Meaning → Faults) (index at : Scope) (named : Signals) (x : Lvalue) → lvalue_faults judge index at x ≡ [] → Within (root_signals at x) named → Rooted named (targets index at x)
+  rooted judge index at named (Name w all) f h = rooted_one judge named _ w (find w.text at) _ f h
+  rooted judge index at named (Concat' p s all) f h = all_rooted judge index at named all (first_clear (all_lvalue_faults judge index at all) (wide_target p (targets_of index at all)) f) h
 
-  all_rooted : {k : Count} (judge : Meaning → Faults) (at : Scope) (named : Signals) (all : Row_of-Lvalue k) → all_lvalue_faults judge at all ≡ [] → Within (all_root_signals at all) named → Rooted named (targets_of at all)
-  all_rooted judge at named end_of-Lvalue f h = tt
-  all_rooted judge at named (more_of-Lvalue x all) f h =
-      rooted_more named (targets at x) (targets_of at all)
-      (rooted judge at named x (left_clear (lvalue_faults judge at x) (all_lvalue_faults judge at all) f) (within_left (root_signals at x) (all_root_signals at all) named h))
-      (all_rooted judge at named all (right_clear (lvalue_faults judge at x) (all_lvalue_faults judge at all) f) (within_right (root_signals at x) (all_root_signals at all) named h))
+  all_rooted : {k : Count} (judge : Meaning → Faults) (index at : Scope) (named : Signals) (all : Row_of-Lvalue k) → all_lvalue_faults judge index at all ≡ [] → Within (all_root_signals at all) named → Rooted named (targets_of index at all)
+  all_rooted judge index at named end_of-Lvalue f h = tt
+  all_rooted judge index at named (more_of-Lvalue x all) f h =
+      rooted_more named (targets index at x) (targets_of index at all)
+      (rooted judge index at named x (left_clear (lvalue_faults judge index at x) (all_lvalue_faults judge index at all) f) (within_left (root_signals at x) (all_root_signals at all) named h))
+      (all_rooted judge index at named all (right_clear (lvalue_faults judge index at x) (all_lvalue_faults judge index at all) f) (within_right (root_signals at x) (all_root_signals at all) named h))
 
 aimed : (judge : Meaning → Faults) (named : Signals) (xs : List TypedTarget) (ts : List Target) → AllZip (StandsFor judge) xs ts → Rooted named ts → AllByRecursion (IsAimed named) xs
 aimed judge named [] [] h r = tt
@@ -141,14 +141,14 @@ aimed judge named (x ∷ xs) [] h r = absurd h
 aimed judge named (x ∷ xs) (t ∷ ts) h r =
     (subst (λ n. Contains named (wire_signal n x.wire_width)) h.0.wire (subst (λ w. Contains named (wire_signal t.wire w)) h.0.whole r.0), aimed judge named xs ts h.1 r.1)
 
-pub targets_aim : (judge : Meaning → Faults) (at : Scope) (named : Signals) (x : Lvalue) (r : Result (List TypedTarget) TextErr) → JudgesTargets judge (lvalue_faults judge at x) (targets at x) r → Within (root_signals at x) named → IfOk r (λ all. All (IsAimed named) all)
-targets_aim judge at named x (Ok all) h w = All-from_recursion (IsAimed named) all (aimed judge named all (targets at x) h.stand (rooted judge at named x h.clear w))
-targets_aim judge at named x (Err e) h w = tt
+pub targets_aim : (judge : Meaning → Faults) (index at : Scope) (named : Signals) (x : Lvalue) (r : Result (List TypedTarget) TextErr) → JudgesTargets judge (lvalue_faults judge index at x) (targets index at x) r → Within (root_signals at x) named → IfOk r (λ all. All (IsAimed named) all)
+targets_aim judge index at named x (Ok all) h w = All-from_recursion (IsAimed named) all (aimed judge named all (targets index at x) h.stand (rooted judge index at named x h.clear w))
+targets_aim judge index at named x (Err e) h w = tt
 
 -- ---- the variable of a loop is no target
 
-found_in : (at : Scope) (name n : m.Name) (w : What) → (find n (at ++ (name, w) ∷ []) ≡ find n at) ⊎ (find n (at ++ (name, w) ∷ []) ≡ Some w)
-unfolding find
+found_in : (at : List m.Entry) (name n : m.Name) (w : What) → (last_of n (at ++ (name, w) ∷ []) ≡ last_of n at) ⊎ (last_of n (at ++ (name, w) ∷ []) ≡ Some w)
+unfolding last_of
 found_in [] name n w = here (bytes_eq name n)
   where
     here : (b : Bool) → (cond b (Some w) None ≡ None) ⊎ (cond b (Some w) None ≡ Some w)
@@ -160,7 +160,7 @@ found_in (e ∷ more) name n w = elim (found_in more name n w) [
 ]
 
 name_outer : (at : Scope) (name n : m.Name) (bits : List Bit) → Within (signal_of (find n (with_index at name bits))) (signal_of (find n at))
-name_outer at name n bits s h = elim (found_in at name n (number_is bits true)) [
+name_outer at name n bits s h = elim (found_in at.all name n (number_is bits true)) [
   | inl e ↦ subst (λ o. Contains (signal_of o) s) e h
   | inr e ↦ absurd (nothing (subst (λ o. Contains (signal_of o) s) e h))
 ]

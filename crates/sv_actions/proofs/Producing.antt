@@ -24,7 +24,7 @@ use Rattle.sv_tree.specs.declared.stmts.Arm.{Arm, Labels', Default'}
 use Rattle.sv_tree.specs.declared.stmts.Arm.TheVariants as ar
 use Rattle.sv_meaning.specs.Faults.{Faults, Judged, fault_if, or_then}
 use Rattle.sv_meaning.specs.Layouts as m
-use Rattle.sv_meaning.specs.Layouts.{Scope}
+use Rattle.sv_meaning.specs.Layouts.{Scope, constant_scope}
 use Rattle.sv_meaning.specs.Meanings.{Meaning, free_faults, is_width}
 use Rattle.sv_meaning.specs.Values.{mean}
 use Rattle.sv_meaning.specs.Targets.{Target, targets, targets_of, widths, wide_target, lvalue_faults, all_lvalue_faults}
@@ -32,8 +32,9 @@ use Rattle.sv_meaning.specs.Deeds.{Deed, CaseArm, deed, deeds, arms, idle, after
 use Rattle.sv_typed.specs.declared.tree.Pick.{Pick}
 use Rattle.sv_typed.specs.Typed.{PickIsSound, picked_width}
 use Rattle.sv_names.specs.declared.names.Names.{Names}
-use Rattle.sv_names.specs.Kinds.{Entry, scope_is}
-use Rattle.sv_names.specs.Names.{names_are, entries_of, frames_of, loops_of}
+use Rattle.sv_names.specs.Kinds.{entries_are}
+use Rattle.sv_names.specs.declared.names.Frame.{Frame}
+use Rattle.sv_names.specs.Names.{names_are, entries_of, stack_of, frames_of, fronts, fronts_above, loops_of}
 use Rattle.sv_typing.specs.Judging.{IsCause}
 use Rattle.sv_typing.proofs.Lists.{in_left, in_right, in_first, in_second, contains_both, then_clear, second_clear}
 use Rattle.sv_typing.proofs.Judged.{cause_from}
@@ -54,16 +55,16 @@ judged_as d e made r h j = subst (λ (x : Deed). JudgesDeed x made r) (sym h) j
 
 -- ---- names that are as before
 
-pub names_kept : (a b : Names) → frames_of b ≡ frames_of a → loops_of b ≡ loops_of a → names_are b ≡ names_are a
-names_kept a b f l = λ i. scope_is (f i ++ l i)
+pub names_kept : (a b : Names) → stack_of b ≡ stack_of a → loops_of b ≡ loops_of a → names_are b ≡ names_are a
+names_kept a b f l = λ i. record { all = entries_are (fronts (f i) ++ l i); above = entries_are (fronts_above (f i) ++ l i) }
 
-pub loops_kept : (a b : Names) → entries_of b ≡ entries_of a → frames_of b ≡ frames_of a → loops_of b ≡ loops_of a
-loops_kept a b e f = append_cancel_left (frames_of a) (loops_of b) (loops_of a) (ap (λ (x : List Entry). x ++ loops_of b) (sym f) ∙ e)
+pub loops_kept : (a b : Names) → entries_of b ≡ entries_of a → stack_of b ≡ stack_of a → loops_of b ≡ loops_of a
+loops_kept a b e f = append_cancel_left (frames_of a) (loops_of b) (loops_of a) (ap (λ (x : List Frame). fronts x ++ loops_of b) (sym f) ∙ e)
 
-pub at_names : (f : Scope → Deed) (a b : Names) (n made : ℕ) (r : Result Acted TextErr) → frames_of b ≡ frames_of a → loops_of b ≡ loops_of a → n ≡ made → JudgesDeed (f (names_are b)) n r → JudgesDeed (f (names_are a)) made r
+pub at_names : (f : Scope → Deed) (a b : Names) (n made : ℕ) (r : Result Acted TextErr) → stack_of b ≡ stack_of a → loops_of b ≡ loops_of a → n ≡ made → JudgesDeed (f (names_are b)) n r → JudgesDeed (f (names_are a)) made r
 at_names f a b n made r h l e j = subst (λ (at : Scope). JudgesDeed (f at) made r) (names_kept a b h l) (subst (λ (k : ℕ). JudgesDeed (f (names_are b)) k r) e j)
 
-pub arms_at : (front : List CaseArm) (x : Arm) (a b : Names) (made : ℕ) (r : Result ActedArms TextErr) → frames_of b ≡ frames_of a → loops_of b ≡ loops_of a → JudgesArms (front ++ arm_of (names_are b) x) made r → JudgesArms (front ++ arm_of (names_are a) x) made r
+pub arms_at : (front : List CaseArm) (x : Arm) (a b : Names) (made : ℕ) (r : Result ActedArms TextErr) → stack_of b ≡ stack_of a → loops_of b ≡ loops_of a → JudgesArms (front ++ arm_of (names_are b) x) made r → JudgesArms (front ++ arm_of (names_are a) x) made r
 arms_at front x a b made r h l j = subst (λ (at : Scope). JudgesArms (front ++ arm_of at x) made r) (names_kept a b h l) j
 
 -- ---- rows are lists
@@ -118,7 +119,7 @@ done_case at x u w v all one two z made r h f g e j =
     (ap (λ (y : Stmt). deed y at) h ∙ case_is at u w v all ∙ (λ i. case_of (sym e i) (mean at v) (all_arms at (sym f i), rest_of at (sym g i)))) j
 
 for_is : (at : Scope) (p : Place) (form : WholeWord) (v : Word) (start test : Expr) (next : Step) (body : Stmt) →
-    deed (st.For p form v start test next body) at ≡ in_turns p (λ bits. deed body (with_index at v.text bits)) (turns p at v.text start test next)
+    deed (st.For p form v start test next body) at ≡ in_turns p (λ bits. deed body (with_index at v.text bits)) (turns p (constant_scope at) v.text start test next)
 unfolding deed shape-the_row-Stmt-0 hidden-the_row-Stmt-0 shape-the_row-Stmt-1 hidden-the_row-Stmt-1 shape-the_row-Arm-2 hidden-the_row-Arm-2 denote.Hole.Carrier.hidden
 for_is at p form v start test next body = refl
 
@@ -132,10 +133,10 @@ gone p f (Ok x) all h = turns_is p f x ∙ ap (in_order (λ bits. one_turn p (f 
 gone p f (Err why) all h = absurd h
 
 pub done_for : (at : Scope) (x : Stmt) (p : Place) (form : WholeWord) (v : Word) (start test : Expr) (next : Step) (body given : Stmt) (values slice : List (List Bit)) (made : ℕ) (r : Result Acted TextErr) → x ≡ st.For p form v start test next body → given ≡ body → slice ≡ values →
-    Gives (turns p at v.text start test next) (Ok values) → JudgesDeed (in_order (turn_deed at p v.text given) slice) made r → JudgesDeed (deed x at) made r
+    Gives (turns p (constant_scope at) v.text start test next) (Ok values) → JudgesDeed (in_order (turn_deed at p v.text given) slice) made r → JudgesDeed (deed x at) made r
 done_for at x p form v start test next body given values slice made r h g s k j =
     judged_as (deed x at) (in_order (turn_deed at p v.text given) slice) made r
-    (ap (λ (y : Stmt). deed y at) h ∙ for_is at p form v start test next body ∙ gone p (λ bits. deed body (with_index at v.text bits)) (turns p at v.text start test next) values k
+    (ap (λ (y : Stmt). deed y at) h ∙ for_is at p form v start test next body ∙ gone p (λ bits. deed body (with_index at v.text bits)) (turns p (constant_scope at) v.text start test next) values k
     ∙ (λ i. in_order (turn_deed at p v.text (sym g i)) (sym s i))) j
 
 lost : (p : Place) (f : List Bit → Deed) (j : Judged (List (List Bit))) (made : ℕ) (e : TextErr) → Gives j (Err e) → JudgesDeed (in_turns p f j) made (Err e)
@@ -145,18 +146,18 @@ lost p f (Err all) made (No r) h = in_left all [] r h
 lost p f (Err all) made Memory h = tt
 
 pub for_refused : (at : Scope) (x : Stmt) (p : Place) (form : WholeWord) (v : Word) (start test : Expr) (next : Step) (body : Stmt) (made : ℕ) (e : TextErr) → x ≡ st.For p form v start test next body →
-    Gives (turns p at v.text start test next) (Err e) → JudgesDeed (deed x at) made (Err e)
+    Gives (turns p (constant_scope at) v.text start test next) (Err e) → JudgesDeed (deed x at) made (Err e)
 for_refused at x p form v start test next body made e h k =
-    judged_as (deed x at) (in_turns p (λ bits. deed body (with_index at v.text bits)) (turns p at v.text start test next)) made (Err e) (ap (λ (y : Stmt). deed y at) h ∙ for_is at p form v start test next body)
-    (lost p (λ bits. deed body (with_index at v.text bits)) (turns p at v.text start test next) made e k)
+    judged_as (deed x at) (in_turns p (λ bits. deed body (with_index at v.text bits)) (turns p (constant_scope at) v.text start test next)) made (Err e) (ap (λ (y : Stmt). deed y at) h ∙ for_is at p form v start test next body)
+    (lost p (λ bits. deed body (with_index at v.text bits)) (turns p (constant_scope at) v.text start test next) made e k)
 
-assign_is : (at : Scope) (to : Lvalue) (m : AssignMark) (p : Place) (v : Expr) → deed (st.Assign to m p v) at ≡ assign (targets at to) (lvalue_faults free_faults at to) (mean at v)
+assign_is : (at : Scope) (to : Lvalue) (m : AssignMark) (p : Place) (v : Expr) → deed (st.Assign to m p v) at ≡ assign (targets at at to) (lvalue_faults free_faults at at to) (mean at v)
 unfolding deed
 assign_is at to m p v = refl
 
 pub done_assign : (at : Scope) (x : Stmt) (to : Lvalue) (m : AssignMark) (p : Place) (v : Expr) (made : ℕ) (r : Result Acted TextErr) → x ≡ st.Assign to m p v →
-    JudgesDeed (assign (targets at to) (lvalue_faults free_faults at to) (mean at v)) made r → JudgesDeed (deed x at) made r
-done_assign at x to m p v made r h j = judged_as (deed x at) (assign (targets at to) (lvalue_faults free_faults at to) (mean at v)) made r (ap (λ (y : Stmt). deed y at) h ∙ assign_is at to m p v) j
+    JudgesDeed (assign (targets at at to) (lvalue_faults free_faults at at to) (mean at v)) made r → JudgesDeed (deed x at) made r
+done_assign at x to m p v made r h j = judged_as (deed x at) (assign (targets at at to) (lvalue_faults free_faults at at to) (mean at v)) made r (ap (λ (y : Stmt). deed y at) h ∙ assign_is at to m p v) j
 
 -- ---- arms
 
@@ -309,14 +310,14 @@ unfolding width_of_all
 one_width judge [] t h = absurd h
 one_width judge (x ∷ all) t h = let w = some_one judge x t h.0 in omega arith
 
-some_width : (judge : Meaning → Faults) (at : Scope) (x : Lvalue) (all : List TypedTarget) → AreTargets judge (lvalue_faults judge at x) (targets at x) all → 1 ≤ width_of_all all
+some_width : (judge : Meaning → Faults) (index at : Scope) (x : Lvalue) (all : List TypedTarget) → AreTargets judge (lvalue_faults judge index at x) (targets index at x) all → 1 ≤ width_of_all all
 unfolding targets lvalue_faults
-some_width judge at (LvName w steps) all h = one_width judge all _ h.stand
-some_width judge at (Concat' p s row) all h =
-    let c = second_clear (all_lvalue_faults judge at row) (wide_target p (targets_of at row)) h.clear in
-    let n = width_true (widths (targets_of at row)) (no_fault_then (is_width (widths (targets_of at row))) _ p c) in
-    subst (λ (k : ℕ). 1 ≤ k) (widths_are judge all (targets_of at row) h.stand) n
+some_width judge index at (LvName w steps) all h = one_width judge all _ h.stand
+some_width judge index at (Concat' p s row) all h =
+    let c = second_clear (all_lvalue_faults judge index at row) (wide_target p (targets_of index at row)) h.clear in
+    let n = width_true (widths (targets_of index at row)) (no_fault_then (is_width (widths (targets_of index at row))) _ p c) in
+    subst (λ (k : ℕ). 1 ≤ k) (widths_are judge all (targets_of index at row) h.stand) n
 
-pub targets_some : (judge : Meaning → Faults) (at : Scope) (x : Lvalue) (r : Result (List TypedTarget) TextErr) → JudgesTargets judge (lvalue_faults judge at x) (targets at x) r → IfOk r (λ all. 1 ≤ width_of_all all)
-targets_some judge at x (Ok all) h = some_width judge at x all h
-targets_some judge at x (Err e) h = tt
+pub targets_some : (judge : Meaning → Faults) (index at : Scope) (x : Lvalue) (r : Result (List TypedTarget) TextErr) → JudgesTargets judge (lvalue_faults judge index at x) (targets index at x) r → IfOk r (λ all. 1 ≤ width_of_all all)
+targets_some judge index at x (Ok all) h = some_width judge index at x all h
+targets_some judge index at x (Err e) h = tt

@@ -10,7 +10,7 @@ use sv_names::Names;
 use sv_outside::TextErr;
 use sv_tree::Expr;
 use sv_typed::Typed;
-use sv_typing::typed;
+use sv_typing::{Position, typed};
 
 /// The labels of an arm, with the largest of their sizes, and whether all are signed.
 #[derive(Drop)]
@@ -39,7 +39,7 @@ pub(crate) fn typed_labels(
     let mut width = 0u8;
     let mut signed = true;
     'labels: for label in labels {
-        let label = typed(alloc, label, names, false)?;
+        let label = typed(alloc, label, names, Position::Free)?;
         width = width.max(label.width);
         signed = both(signed, label.signed);
         all.push(label)?;

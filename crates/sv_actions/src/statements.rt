@@ -3,7 +3,7 @@ ghost use Rattle.std.specs.Prelude.{◌≡◌, ℕ, ◌++◌, List, IfOk};
 ghost use Rattle.fourvec.specs.declared.Bit.{Bit};
 ghost use Rattle.sv_meaning.specs.Layouts.{NamedSignal};
 ghost use Rattle.sv_meaning.specs.Deeds.{CaseArm, deed, is_casez};
-ghost use Rattle.sv_names.specs.Names.{names_are, entries_of, frames_of, loops_of};
+ghost use Rattle.sv_names.specs.Names.{names_are, stack_of, loops_of};
 ghost use Rattle.sv_actions.specs.Texts.{target_signals, other_signals, arm_signals, of_each};
 ghost use Rattle.sv_actions.specs.Typing.{JudgesDeed};
 ghost use Rattle.sv_actions.specs.Listing.{AreArms, JudgesArms, in_order, all_deeds, else_deed, turn_deed, arm_of, all_arms, rest_of, Within, ActedAims, ArmsAim};
@@ -21,7 +21,7 @@ use sv_names::Names;
 use sv_outside::{Place, TextErr};
 use sv_targets::typed_targets;
 use sv_tree::{Arm, CaseWord, Stmt, Word};
-use sv_typing::{IndexRule, typed};
+use sv_typing::{IndexRule, Position, typed};
 
 /// Actions, and how many turns of loops were made up to their end.
 #[derive(Drop)]
@@ -50,20 +50,20 @@ fn typed_stmt(
 ) -> Result<Acted, TextErr>
     ensures is { JudgesDeed (deed stmt.now (names_are names.old)) made result }
     ensures aims { (named : List NamedSignal) → Within (target_signals (names_are names.old) stmt.now) named → IfOk result (ActedAims named) }
-    ensures frames { frames_of names.new ≡ frames_of names.old }
+    ensures frames { stack_of names.new ≡ stack_of names.old }
     ensures loops { loops_of names.new ≡ loops_of names.old }
 {
     match stmt {
         Stmt::Empty => Ok(nothing(alloc, made)),
         Stmt::Block(_, _, all, _) => typed_all(alloc, all.as_slice(), names, made),
         Stmt::If(_, condition, body, other) => {
-            let condition = typed(alloc, condition, names, false);
+            let condition = typed(alloc, condition, names, Position::Free);
             let first = typed_stmt(alloc, body.get(), names, made);
             let second = typed_else(alloc, other, names, made_behind(&first));
             chosen(alloc, condition, first, second)
         }
         Stmt::Case(_, word, value, all) => {
-            let value = typed(alloc, value, names, false);
+            let value = typed(alloc, value, names, Position::Free);
             let arms = typed_arms(alloc, all.as_slice(), names, made);
             let rest = typed_rest(alloc, all.as_slice(), names, arms_behind(&arms));
             matched(alloc, is_masked(*word), value, arms, rest)
@@ -84,8 +84,8 @@ fn typed_stmt(
         }
         Stmt::Assign(target, _, _, value) => assigned(
             alloc,
-            typed_targets(alloc, target, names, IndexRule::Free),
-            typed(alloc, value, names, false),
+            typed_targets(alloc, target, names, IndexRule::Read(Position::Free)),
+            typed(alloc, value, names, Position::Free),
             made,
         ),
     }
@@ -101,7 +101,7 @@ fn typed_all(
 ) -> Result<Acted, TextErr>
     ensures is { JudgesDeed (all_deeds (names_are names.old) all.now) made result }
     ensures aims { (named : List NamedSignal) → Within (of_each (target_signals (names_are names.old)) all.now) named → IfOk result (ActedAims named) }
-    ensures frames { frames_of names.new ≡ frames_of names.old }
+    ensures frames { stack_of names.new ≡ stack_of names.old }
     ensures loops { loops_of names.new ≡ loops_of names.old }
 {
     let mut found = nothing(alloc, made);
@@ -125,7 +125,7 @@ fn typed_else(
 ) -> Result<Acted, TextErr>
     ensures is { JudgesDeed (else_deed (names_are names.old) other.now) made result }
     ensures aims { (named : List NamedSignal) → Within (other_signals (names_are names.old) other.now) named → IfOk result (ActedAims named) }
-    ensures frames { frames_of names.new ≡ frames_of names.old }
+    ensures frames { stack_of names.new ≡ stack_of names.old }
     ensures loops { loops_of names.new ≡ loops_of names.old }
 {
     match other {
@@ -144,7 +144,7 @@ fn typed_arms(
 ) -> Result<ActedArms, TextErr>
     ensures is { JudgesArms (all_arms (names_are names.old) all.now) made result }
     ensures aim { (named : List NamedSignal) → Within (of_each (arm_signals (names_are names.old)) all.now) named → IfOk result (ArmsAim named) }
-    ensures frames { frames_of names.new ≡ frames_of names.old }
+    ensures frames { stack_of names.new ≡ stack_of names.old }
     ensures loops { loops_of names.new ≡ loops_of names.old }
 {
     let mut found = no_arms(alloc, made);
@@ -167,7 +167,7 @@ fn typed_arm(
 ) -> Result<ActedArms, TextErr>
     ensures is { (arms : List CaseArm) (made : ℕ) → AreArms arms made found → JudgesArms (arms ++ arm_of (names_are names.old) arm.now) made result }
     ensures aim { (named : List NamedSignal) → ArmsAim named found → Within (arm_signals (names_are names.old) arm.now) named → IfOk result (ArmsAim named) }
-    ensures frames { frames_of names.new ≡ frames_of names.old }
+    ensures frames { stack_of names.new ≡ stack_of names.old }
     ensures loops { loops_of names.new ≡ loops_of names.old }
 {
     match arm {
@@ -190,7 +190,7 @@ fn typed_rest(
 ) -> Result<Acted, TextErr>
     ensures is { JudgesDeed (rest_of (names_are names.old) all.now) made result }
     ensures aims { (named : List NamedSignal) → Within (of_each (arm_signals (names_are names.old)) all.now) named → IfOk result (ActedAims named) }
-    ensures frames { frames_of names.new ≡ frames_of names.old }
+    ensures frames { stack_of names.new ≡ stack_of names.old }
     ensures loops { loops_of names.new ≡ loops_of names.old }
 {
     'arms: for arm in all {
@@ -215,7 +215,7 @@ fn typed_turns(
 ) -> Result<Acted, TextErr>
     ensures is { JudgesDeed (in_order (turn_deed (names_are names.old) place variable.now.text body.now) values.now) made result }
     ensures aims { (named : List NamedSignal) → Within (target_signals (names_are names.old) body.now) named → IfOk result (ActedAims named) }
-    ensures frames { frames_of names.new ≡ frames_of names.old }
+    ensures frames { stack_of names.new ≡ stack_of names.old }
     ensures loops { loops_of names.new ≡ loops_of names.old }
 {
     let mut found = nothing(alloc, made);
@@ -242,7 +242,7 @@ fn typed_turn(
 ) -> Result<Acted, TextErr>
     ensures is { JudgesDeed (turn_deed (names_are names.old) place variable.now.text body.now bits) made result }
     ensures aims { (named : List NamedSignal) → Within (target_signals (names_are names.old) body.now) named → IfOk result (ActedAims named) }
-    ensures frames { frames_of names.new ≡ frames_of names.old }
+    ensures frames { stack_of names.new ≡ stack_of names.old }
     ensures loops { loops_of names.new ≡ loops_of names.old }
 {
     one_more(place, made)?;
@@ -262,7 +262,7 @@ pub fn typed_body(
 ) -> Result<Acted, TextErr>
     ensures is { JudgesDeed (deed stmt.now (names_are names.old)) made result }
     ensures aims { (named : List NamedSignal) → Within (target_signals (names_are names.old) stmt.now) named → IfOk result (ActedAims named) }
-    ensures names { entries_of names.new ≡ entries_of names.old }
+    ensures names { names_are names.new ≡ names_are names.old }
 {
     typed_stmt(alloc, stmt, names, made)
 }

@@ -3,7 +3,7 @@ ghost use Rattle.std.specs.Prelude.{◌≡◌, [], ◌∷◌, ◌++◌, List, If
 ghost use Rattle.sv_outside.specs.declared.refusal.TextErr.TheVariants.{Memory};
 ghost use Rattle.sv_meaning.specs.Deeds.{turn_faults};
 ghost use Rattle.sv_names.specs.Kinds.{Entry};
-ghost use Rattle.sv_names.specs.Names.{frames_of, loops_of};
+ghost use Rattle.sv_names.specs.Names.{stack_of, loops_of};
 ghost use Rattle.sv_loops.specs.Steps.{index_is};
 ghost use Rattle.sv_actions.specs.Listing.{JudgesFaults, made_behind, arms_behind};
 
@@ -51,7 +51,7 @@ pub(crate) fn arms_behind(arms: &Result<ActedArms, TextErr>) -> u64
 
 /// Enters a loop, whose variable has these bits. Where memory is out, nothing changes.
 pub(crate) fn enter(names: &mut Names<'_>, variable: &Word, bits: Four) -> Result<(), TextErr>
-    ensures frames { frames_of names.new ≡ frames_of names.old }
+    ensures frames { stack_of names.new ≡ stack_of names.old }
     ensures loops { OnOk result (loops_of names.new ≡ loops_of names.old ++ index_is variable.now.text bits ∷ []) }
     ensures err { OnErr result (loops_of names.new ≡ loops_of names.old) }
     ensures memory { IfErr result (λ why. why ≡ Memory) }
@@ -70,7 +70,7 @@ pub(crate) fn enter(names: &mut Names<'_>, variable: &Word, bits: Four) -> Resul
 /// Leaves the innermost loop.
 #[tactic(auto, using(sv_loops::proofs::Frames::last_off, sv_loops::proofs::Frames::none_off))]
 pub(crate) fn leave(names: &mut Names<'_>)
-    ensures frames { frames_of names.new ≡ frames_of names.old }
+    ensures frames { stack_of names.new ≡ stack_of names.old }
     ensures loops { (all : List Entry) (last : Entry) → loops_of names.old ≡ all ++ last ∷ [] → loops_of names.new ≡ all }
 {
     names.pop_loop();

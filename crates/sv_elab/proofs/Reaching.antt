@@ -18,7 +18,7 @@ use Rattle.lhs_alias.specs.Pairs.{Falls, FallTo}
 use Rattle.driver_resolve.specs.Drivers.{is_wire}
 use Rattle.sv_meaning.specs.Patterns.{paren, cast_literal, cast_name, cast_paren, cast_sign, system, unary, binary, choose}
 use Rattle.sv_meaning.specs.Faults.{Faults, or_then}
-use Rattle.sv_meaning.specs.Layouts.{Name, Layout, width, Scope, What, signal_is, number_is, type_is, genvar_is, of_wires, of_choice, of_samples, find, or_else, NamedSignal, Declared}
+use Rattle.sv_meaning.specs.Layouts.{Name, Layout, width, Scope, What, signal_is, number_is, type_is, genvar_is, of_wires, of_choice, of_samples, find, last_of, or_else, NamedSignal, Declared, Entry}
 use Rattle.sv_meaning.specs.Meanings.{Step, Part as Stepped, step_in, with_part, fixed_faults}
 use Rattle.sv_meaning.specs.Values.{mean, steps}
 use Rattle.sv_meaning.specs.Targets.{Target, target_of, target_faults, wide_target, bit_names, flat, slot_at, slots_from, with_place, fixed_place, chain_slots, slots, present}
@@ -139,26 +139,26 @@ no_slots P = tt
 mutual
   unfolding as_targets part_faults
 
-  actual_there : (P : WireBit → Type 0) (q : Place) (at : Scope) (x : Expr) → OfNames P at → part_faults q at x ≡ [] → AllThere P (slots (as_targets at x))
-  actual_there P q at (Name' w s all) h c = name_there P at q w (steps at all) h (find w.text at) refl c
-  actual_there P q at (Concat' p s all) h c = actuals_there P q at all h (first_clear (all_part_faults q at all) (wide_target p (all_as_targets at all)) c)
-  actual_there P q at (Literal w) h c = cc
-  actual_there P q at (paren p x) h c = cc
-  actual_there P q at (Repeat' p r (more_of-Expr n end_of-Expr) s row) h c = cc
-  actual_there P q at (cast_literal w x) h c = cc
-  actual_there P q at (cast_name w x) h c = cc
-  actual_there P q at (cast_paren p n x) h c = cc
-  actual_there P q at (cast_sign s p x) h c = cc
-  actual_there P q at (system f p x) h c = cc
-  actual_there P q at (unary op p x) h c = cc
-  actual_there P q at (binary x op p y) h c = cc
-  actual_there P q at (choose t x y) h c = cc
+  actual_there : (P : WireBit → Type 0) (q : Place) (index at : Scope) (x : Expr) → OfNames P at → part_faults q index at x ≡ [] → AllThere P (slots (as_targets index at x))
+  actual_there P q index at (Name' w s all) h c = name_there P at q w (steps index all) h (find w.text at) refl c
+  actual_there P q index at (Concat' p s all) h c = actuals_there P q index at all h (first_clear (all_part_faults q index at all) (wide_target p (all_as_targets index at all)) c)
+  actual_there P q index at (Literal w) h c = cc
+  actual_there P q index at (paren p x) h c = cc
+  actual_there P q index at (Repeat' p r (more_of-Expr n end_of-Expr) s row) h c = cc
+  actual_there P q index at (cast_literal w x) h c = cc
+  actual_there P q index at (cast_name w x) h c = cc
+  actual_there P q index at (cast_paren p n x) h c = cc
+  actual_there P q index at (cast_sign s p x) h c = cc
+  actual_there P q index at (system f p x) h c = cc
+  actual_there P q index at (unary op p x) h c = cc
+  actual_there P q index at (binary x op p y) h c = cc
+  actual_there P q index at (choose t x y) h c = cc
 
-  actuals_there : {m : Count} (P : WireBit → Type 0) (q : Place) (at : Scope) (all : Row_of-Expr m) → OfNames P at → all_part_faults q at all ≡ [] → AllThere P (slots (all_as_targets at all))
-  actuals_there P q at end_of-Expr h c = no_slots P
-  actuals_there P q at (more_of-Expr x all) h c =
-      subst (AllThere P) (sym (slots_append (as_targets at x) (all_as_targets at all)))
-      (there_append P (slots (all_as_targets at all)) (slots (as_targets at x)) (actuals_there P q at all h (right_clear (part_faults q at x) (all_part_faults q at all) c)) (actual_there P q at x h (left_clear (part_faults q at x) (all_part_faults q at all) c)))
+  actuals_there : {m : Count} (P : WireBit → Type 0) (q : Place) (index at : Scope) (all : Row_of-Expr m) → OfNames P at → all_part_faults q index at all ≡ [] → AllThere P (slots (all_as_targets index at all))
+  actuals_there P q index at end_of-Expr h c = no_slots P
+  actuals_there P q index at (more_of-Expr x all) h c =
+      subst (AllThere P) (sym (slots_append (as_targets index at x) (all_as_targets index at all)))
+      (there_append P (slots (all_as_targets index at all)) (slots (as_targets index at x)) (actuals_there P q index at all h (right_clear (part_faults q index at x) (all_part_faults q index at all) c)) (actual_there P q index at x h (left_clear (part_faults q index at x) (all_part_faults q index at all) c)))
 
 -- ---- the bits of parts
 
@@ -240,20 +240,20 @@ chosen_entry : (b : Bool) (e x : What) → cond b (Some e) None ≡ Some x → e
 chosen_entry true e x h = cc
 chosen_entry false e x h = cc
 
-abbrev Entered : Scope → What → Type 0
+abbrev Entered : List Entry → What → Type 0
 Entered at x = (n : Name) × Contains at (n, x)
 
-entered : (n : Name) (at : Scope) (x : What) → find n at ≡ Some x → Entered at x
-unfolding find
+entered : (n : Name) (at : List Entry) (x : What) → last_of n at ≡ Some x → Entered at x
+unfolding last_of
 entered n [] x h = cc
-entered n (e ∷ more) x h = go (find n more) (λ y k. entered n more y k) h
+entered n (e ∷ more) x h = go (last_of n more) (λ y k. entered n more y k) h
   where
     go : (o : Option What) → ((y : What) → o ≡ Some y → Entered more y) → or_else o (cond (bytes_eq e.0 n) (Some e.1) None) ≡ Some x → Entered (e ∷ more) x
     go (Some y) f k = let g = f x k in (g.0, (suc g.1.0, (let l = g.1.1 in omega (arith, l)), g.1.2))
     go None f k = (e.0, (0, omega arith, ap (λ y. (e.0, y)) (chosen_entry (bytes_eq e.0 n) e.1 x k)))
 
 named_declared : (at : Scope) (name : Name) (n : ℕ) (x : Layout) → find name at ≡ Some (signal_is of_wires n x) → Declared at (record { owner = of_wires; number = n; width = width x })
-named_declared at name n x e = let g = entered name at (signal_is of_wires n x) e in record { name = g.0; layout = x; is_there = g.1; wide = refl }
+named_declared at name n x e = let g = entered name at.all (signal_is of_wires n x) e in inl (record { name = g.0; layout = x; is_there = g.1; wide = refl })
 
 named_bits : (at : Scope) (widths : List ℕ) → AreWires at widths → OfNames (IsBitOf widths) at
 named_bits at widths a name n x e j l =
@@ -265,15 +265,15 @@ named_below : (at : Scope) (top : ℕ) → AreBelow top at → OfNames (λ b. b.
 named_below at top a name n x e j l = a (record { owner = of_wires; number = n; width = width x }) (named_declared at name n x e)
 
 -- the parts of an actual lie in the wires, and their bits below a port
-pub actual_lies : (at : Scope) (x : Expr) (t : lowered.Target) (widths : List ℕ) → AreWires at widths → IsLowered (actual_faults at x) (as_targets at x) t → All (λ (p : Part). LieIn widths p.to) t.parts
-actual_lies at x t widths a h =
+pub actual_lies : (index at : Scope) (x : Expr) (t : lowered.Target) (widths : List ℕ) → AreWires at widths → IsLowered (actual_faults index at x) (as_targets index at x) t → All (λ (p : Part). LieIn widths p.to) t.parts
+actual_lies index at x t widths a h =
     let parts = h.parts in
-    parts_lie widths t.parts parts.segs (parts_are (IsBitOf widths) (slots (as_targets at x)) t.parts parts (actual_there (IsBitOf widths) (mean at x).start at x (named_bits at widths a) h.clear))
+    parts_lie widths t.parts parts.segs (parts_are (IsBitOf widths) (slots (as_targets index at x)) t.parts parts (actual_there (IsBitOf widths) (mean at x).start index at x (named_bits at widths a) h.clear))
 
-pub actual_below : (at : Scope) (x : Expr) (t : lowered.Target) (top : ℕ) → AreBelow top at → IsLowered (actual_faults at x) (as_targets at x) t → All (λ (b : WireBit). b.wire < top) (parts_bits t.parts)
-actual_below at x t top a h =
+pub actual_below : (index at : Scope) (x : Expr) (t : lowered.Target) (top : ℕ) → AreBelow top at → IsLowered (actual_faults index at x) (as_targets index at x) t → All (λ (b : WireBit). b.wire < top) (parts_bits t.parts)
+actual_below index at x t top a h =
     bits_are (λ (b : WireBit). b.wire < top) t.parts
-    (parts_are (λ (b : WireBit). b.wire < top) (slots (as_targets at x)) t.parts h.parts (actual_there (λ (b : WireBit). b.wire < top) (mean at x).start at x (named_below at top a) h.clear))
+    (parts_are (λ (b : WireBit). b.wire < top) (slots (as_targets index at x)) t.parts h.parts (actual_there (λ (b : WireBit). b.wire < top) (mean at x).start index at x (named_below at top a) h.clear))
 
 -- ---- a port above its actual
 

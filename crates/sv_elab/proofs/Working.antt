@@ -28,13 +28,12 @@ use Rattle.sv_tree.specs.declared.design.Way.{Way}
 use Rattle.sv_tree.specs.declared.design.Way.TheVariants as way
 use Rattle.sv_meaning.specs.Faults.{Faults, fault, bad_target, is_clear}
 use Rattle.sv_meaning.specs.Layouts.{Layout, width, Scope}
-use Rattle.sv_meaning.specs.Meanings.{fixed_faults}
 use Rattle.sv_meaning.specs.Values.{mean}
-use Rattle.sv_meaning.specs.Targets.{targets, lvalue_faults, widths, are_fixed, slots, bits_named}
+use Rattle.sv_meaning.specs.Targets.{assigned_targets, assigned_faults, widths, are_fixed, slots, bits_named}
 use Rattle.sv_meaning.specs.Deeds.{deed}
 use Rattle.sv_meaning.specs.Blocks.{manner, block_faults, block_value}
 use Rattle.sv_meaning.specs.Designs as d
-use Rattle.sv_meaning.specs.Designs.{Work, is_joined, are_present, as_targets, actual_faults, bits_of_wire, pairs, block_gives, block_names, port_gives, port_faults, port_names, assigned_to, no_word, wires_named, names_now, work_faults}
+use Rattle.sv_meaning.specs.Designs.{Work, is_joined, are_present, as_targets, actual_faults, index_scope, bits_of_wire, pairs, block_gives, block_names, port_gives, port_faults, port_names, assigned_to, no_word, wires_named, names_now, work_faults}
 use Rattle.sv_typing.specs.Judging.{IsCause}
 use Rattle.sv_targets.specs.declared.parts.Target as lowered
 use Rattle.sv_targets.specs.Slots.{IsLowered}
@@ -67,7 +66,7 @@ alone drivers made = record { drivers = drivers; join = None; made = made }
 
 pub assignment_worked : (at : Scope) (to : Lvalue) (x : Expr) (wires : List Signal) (ws : List ℕ) (made : ℕ) (shapes : List Shape) (r : Result (List Driver) TextErr) (answer : Result Parts TextErr) → widths_of wires ≡ ws
     → ((all : List Driver) → r ≡ Ok all → answer ≡ Ok (alone all made)) → ((e : TextErr) → r ≡ Err e → answer ≡ Err e)
-    → JudgesSupply ws (wires_named (mean at x).names) shapes (assigned_to (targets at to) (mean at x)) (lvalue_faults fixed_faults at to ++ (mean at x).faults false) r → JudgesWork wires (d.assignment at to x) made shapes answer
+    → JudgesSupply ws (wires_named (mean at x).names) shapes (assigned_to (assigned_targets at to) (mean at x)) (assigned_faults at to ++ (mean at x).faults false) r → JudgesWork wires (d.assignment at to x) made shapes answer
 assignment_worked at to x wires ws made shapes (Ok all) answer w ok err h = subst (JudgesWork wires (d.assignment at to x) made shapes) (sym (ok all refl)) (record {
   clear = h.0;
   made = let e : made ≡ made + 0 = omega arith in e;
@@ -104,15 +103,15 @@ record Apart (at : Scope) (way : Way) (n : ℕ) (x : Layout) (actual : Expr) (wi
   names : names_now wires (d.port at way n x actual) ≡ port_names way at n actual
   links : d.links_of_work (d.port at way n x actual) ≡ []
 
-apart_by : (at : Scope) (way : Way) (n : ℕ) (x : Layout) (actual : Expr) (wires : List Signal) → is_joined at x actual ≡ false → Apart at way n x actual wires
+apart_by : (at : Scope) (way : Way) (n : ℕ) (x : Layout) (actual : Expr) (wires : List Signal) → is_joined (index_scope way at) at x actual ≡ false → Apart at way n x actual wires
 apart_by at way n x actual wires e = record {
   faults = λ made. ap (λ b. cond b [] (port_faults way at actual)) e;
   gives = λ p. ap (λ b. cond b [] (port_gives way at n x actual p.present)) e;
   names = ap (λ b. cond b [] (port_names way at n actual)) e;
-  links = ap (λ b. cond b (pairs (bits_of_wire n 0 (width x)) (bits_named (as_targets at actual))) []) e;
+  links = ap (λ b. cond b (pairs (bits_of_wire n 0 (width x)) (bits_named (as_targets (index_scope way at) at actual))) []) e;
 }
 
-pub supplied_port : (at : Scope) (way : Way) (n : ℕ) (x : Layout) (actual : Expr) (wires : List Signal) (ws : List ℕ) (made : ℕ) (shapes : List Shape) (r : Result (List Driver) TextErr) (answer : Result Parts TextErr) → is_joined at x actual ≡ false
+pub supplied_port : (at : Scope) (way : Way) (n : ℕ) (x : Layout) (actual : Expr) (wires : List Signal) (ws : List ℕ) (made : ℕ) (shapes : List Shape) (r : Result (List Driver) TextErr) (answer : Result Parts TextErr) → is_joined (index_scope way at) at x actual ≡ false
     → widths_of wires ≡ ws → ((all : List Driver) → r ≡ Ok all → answer ≡ Ok (alone all made)) → ((e : TextErr) → r ≡ Err e → answer ≡ Err e)
     → JudgesSupply ws (port_names way at n actual) shapes (port_gives way at n x actual) (port_faults way at actual) r → JudgesWork wires (d.port at way n x actual) made shapes answer
 supplied_port at way n x actual wires ws made shapes (Ok all) answer j w ok err h =
@@ -132,24 +131,24 @@ supplied_port at way n x actual wires ws made shapes (Err e) answer j w ok err h
     let a = apart_by at way n x actual wires j in
     subst (JudgesWork wires (d.port at way n x actual) made shapes) (sym (err e refl)) (subst (λ (z : Faults). IsCause z e) (sym (a.faults made)) h)
 
-pub refused_port : (at : Scope) (way : Way) (n : ℕ) (x : Layout) (actual : Expr) (wires : List Signal) (made : ℕ) (shapes : List Shape) (e : TextErr) → is_joined at x actual ≡ false → IsCause (port_faults way at actual) e → JudgesWork wires (d.port at way n x actual) made shapes (Err e)
+pub refused_port : (at : Scope) (way : Way) (n : ℕ) (x : Layout) (actual : Expr) (wires : List Signal) (made : ℕ) (shapes : List Shape) (e : TextErr) → is_joined (index_scope way at) at x actual ≡ false → IsCause (port_faults way at actual) e → JudgesWork wires (d.port at way n x actual) made shapes (Err e)
 refused_port at way n x actual wires made shapes e j h = let a = apart_by at way n x actual wires j in subst (λ (z : Faults). IsCause z e) (sym (a.faults made)) h
 
 -- an actual that is no target is not joined
-pub no_target_apart : (at : Scope) (x : Layout) (actual : Expr) (why : Refusal) → Contains (actual_faults at actual) why → is_joined at x actual ≡ false
-no_target_apart at x actual why h = go (actual_faults at actual) h
+pub no_target_apart : (index at : Scope) (x : Layout) (actual : Expr) (why : Refusal) → Contains (actual_faults index at actual) why → is_joined index at x actual ≡ false
+no_target_apart index at x actual why h = go (actual_faults index at actual) h
   where
-    go : (all : Faults) → Contains all why → (is_clear all && (widths (as_targets at actual) == width x && (are_fixed (as_targets at actual) && are_present (slots (as_targets at actual))))) ≡ false
+    go : (all : Faults) → Contains all why → (is_clear all && (widths (as_targets index at actual) == width x && (are_fixed (as_targets index at actual) && are_present (slots (as_targets index at actual))))) ≡ false
     go [] (i, l, e) = absurd (omega arith)
     go (r ∷ all) g = refl
 
 -- whether a target is joined
-pub joined_by : (at : Scope) (x : Layout) (actual : Expr) (t : lowered.Target) (w : ℕ) (b : Bool) → IsLowered (actual_faults at actual) (as_targets at actual) t → width x ≡ w
-    → b ≡ (widths (as_targets at actual) == w && (are_fixed (as_targets at actual) && are_present (slots (as_targets at actual)))) → is_joined at x actual ≡ b
-joined_by at x actual t w b h e is =
-    let rest = widths (as_targets at actual) == w && (are_fixed (as_targets at actual) && are_present (slots (as_targets at actual))) in
-    ap (λ z. z && (widths (as_targets at actual) == width x && (are_fixed (as_targets at actual) && are_present (slots (as_targets at actual))))) (ap is_clear h.clear)
-    ∙ ap (λ k. widths (as_targets at actual) == k && (are_fixed (as_targets at actual) && are_present (slots (as_targets at actual)))) e
+pub joined_by : (index at : Scope) (x : Layout) (actual : Expr) (t : lowered.Target) (w : ℕ) (b : Bool) → IsLowered (actual_faults index at actual) (as_targets index at actual) t → width x ≡ w
+    → b ≡ (widths (as_targets index at actual) == w && (are_fixed (as_targets index at actual) && are_present (slots (as_targets index at actual)))) → is_joined index at x actual ≡ b
+joined_by index at x actual t w b h e is =
+    let rest = widths (as_targets index at actual) == w && (are_fixed (as_targets index at actual) && are_present (slots (as_targets index at actual))) in
+    ap (λ z. z && (widths (as_targets index at actual) == width x && (are_fixed (as_targets index at actual) && are_present (slots (as_targets index at actual))))) (ap is_clear h.clear)
+    ∙ ap (λ k. widths (as_targets index at actual) == k && (are_fixed (as_targets index at actual) && are_present (slots (as_targets index at actual)))) e
     ∙ sym is
 
 pub inout_cause : (at : Scope) (actual : Expr) (e : TextErr) → e ≡ No (record { number = 19; place = (mean at actual).start; count = 0 }) → IsCause (port_faults way.Inout at actual) e
@@ -163,8 +162,8 @@ inout_free at actual Memory h = tt
 
 -- ---- ports that are joined
 
-pub joined_port : (at : Scope) (way : Way) (n w : ℕ) (x : Layout) (actual : Expr) (t : lowered.Target) (wires : List Signal) (ws : List ℕ) (made : ℕ) (shapes : List Shape) (j : Join) → is_joined at x actual ≡ true → widths_of wires ≡ ws → width x ≡ w
-    → IsLowered (actual_faults at actual) (as_targets at actual) t → JoinsTo ws n w t.parts j → IsWorked wires (d.port at way n x actual) made shapes (record { drivers = []; join = Some j; made = made })
+pub joined_port : (at : Scope) (way : Way) (n w : ℕ) (x : Layout) (actual : Expr) (t : lowered.Target) (wires : List Signal) (ws : List ℕ) (made : ℕ) (shapes : List Shape) (j : Join) → is_joined (index_scope way at) at x actual ≡ true → widths_of wires ≡ ws → width x ≡ w
+    → IsLowered (actual_faults (index_scope way at) at actual) (as_targets (index_scope way at) at actual) t → JoinsTo ws n w t.parts j → IsWorked wires (d.port at way n x actual) made shapes (record { drivers = []; join = Some j; made = made })
 unfolding drivers_give f.links_of
 joined_port at way n w x actual t wires ws made shapes j e s k h g = record {
   clear = ap (λ b. cond b [] (port_faults way at actual)) e;
@@ -178,8 +177,8 @@ joined_port at way n w x actual t wires ws made shapes j e s k h g = record {
       append-nil (zip (lhs_bits j.child) (lhs_bits j.parent))
       ∙ ap (λ c. zip (lhs_bits c) (lhs_bits j.parent)) g.child
       ∙ ap (λ bs. zip bs (lhs_bits j.parent)) (seg_is n w ∙ ap (bits_of_wire n 0) (sym k))
-      ∙ ap (zip (bits_of_wire n 0 (width x))) (g.parent ∙ sym (present_are (slots (as_targets at actual)) t.parts h.parts))
-      ∙ sym (pairs_are (bits_of_wire n 0 (width x)) (bits_named (as_targets at actual)))
-      ∙ sym (ap (λ b. cond b (pairs (bits_of_wire n 0 (width x)) (bits_named (as_targets at actual))) []) e);
+      ∙ ap (zip (bits_of_wire n 0 (width x))) (g.parent ∙ sym (present_are (slots (as_targets (index_scope way at) at actual)) t.parts h.parts))
+      ∙ sym (pairs_are (bits_of_wire n 0 (width x)) (bits_named (as_targets (index_scope way at) at actual)))
+      ∙ sym (ap (λ b. cond b (pairs (bits_of_wire n 0 (width x)) (bits_named (as_targets (index_scope way at) at actual))) []) e);
   join_is = All-cons (f.IsJoin (widths_of wires)) j [] (subst (λ (z : List ℕ). f.IsJoin z j) (sym s) g.sound) (no_join (widths_of wires));
 }

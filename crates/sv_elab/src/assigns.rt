@@ -56,8 +56,8 @@ pub(crate) fn assigned(
     requires { AreWires (names_are names.now) widths.now }
     ensures stays { Extends arena.old arena.new }
     ensures is { JudgesSupply widths.now (wires_named (mean (names_are names.now) value.now).names) arena.new
-        (assigned_to (t.targets (names_are names.now) target.now) (mean (names_are names.now) value.now))
-        (t.lvalue_faults fixed_faults (names_are names.now) target.now ++ (mean (names_are names.now) value.now).faults false) result }
+        (assigned_to (t.assigned_targets (names_are names.now) target.now) (mean (names_are names.now) value.now))
+        (t.assigned_faults (names_are names.now) target.now ++ (mean (names_are names.now) value.now).faults false) result }
 {
     let _ = arena.len();
     let target = target_of(alloc, target, names)?;

@@ -10,7 +10,7 @@ ghost use Rattle.sv_meaning.specs.Meanings.{named};
 ghost use Rattle.sv_meaning.specs.Values.{mean};
 ghost use Rattle.sv_meaning.specs.Targets as t;
 ghost use Rattle.sv_meaning.specs.Designs as d;
-ghost use Rattle.sv_meaning.specs.Designs.{port_gives, port_faults, assigned_to, no_word, wires_named, as_targets, actual_faults};
+ghost use Rattle.sv_meaning.specs.Designs.{port_gives, port_faults, assigned_to, no_word, wires_named, as_targets, actual_faults, index_scope};
 ghost use Rattle.sv_tree.specs.declared.design.Way.TheVariants as ways;
 ghost use Rattle.sv_outside.specs.declared.text.Signal.{Signal};
 ghost use Rattle.driver_resolve.specs.Drivers.{widths_of};
@@ -32,7 +32,7 @@ use sv_outside::TextErr;
 use sv_targets::{Target, target_of_actual};
 use sv_tree::{Expr, Way};
 use sv_typed::{Origin, Root, Typed};
-use sv_typing::{refusal, start, typed};
+use sv_typing::{Position, refusal, start, typed};
 use svex_arena::Arena;
 
 /// A port: its direction, its wire, how many bits it has and whether it is signed.
@@ -103,7 +103,7 @@ fn output(
 fn not_joined(alloc: Global, actual: &Expr, names: &Names<'_>) -> TextErr
     ensures { IsCause (port_faults ways.Inout (names_are names.now) actual.now) result }
 {
-    if let Err(why) = typed(alloc, actual, names, false) {
+    if let Err(why) = typed(alloc, actual, names, Position::Free) {
         return why;
     }
     TextErr::No(refusal(19, start(actual)))
@@ -125,7 +125,7 @@ fn to_target(
     requires wire { IsTrue (is_wire widths.now port.wire port.width) }
     requires some { 1 ≤ port.width }
     requires most { port.width ≤ 128 }
-    requires target { IsLowered (actual_faults (names_are names.now) actual.now) (as_targets (names_are names.now) actual.now) target.now }
+    requires target { IsLowered (actual_faults (index_scope port.way (names_are names.now)) (names_are names.now) actual.now) (as_targets (index_scope port.way (names_are names.now)) (names_are names.now) actual.now) target.now }
     ensures stays { Extends arena.old arena.new }
     ensures is { (wires : List Signal) (x : Meant) → widths_of wires ≡ widths.now → m.width x ≡ port.width → m.is_signed x ≡ port.signed
         → JudgesWork wires (d.port (names_are names.now) port.way port.wire x actual.now) made arena.new result }
@@ -168,7 +168,7 @@ pub(crate) fn connected(
         → JudgesWork wires (d.port (names_are names.now) port.way port.wire x actual.now) made arena.new result }
 {
     let _ = arena.len();
-    match target_of_actual(alloc, actual, names) {
+    match target_of_actual(alloc, actual, names, port.way) {
         Ok(target) => to_target(alloc, arena, widths, port, &target, actual, names, made),
         Err(TextErr::Memory) => Err(TextErr::Memory),
         Err(TextErr::No(why)) => match port.way {

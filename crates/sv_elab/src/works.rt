@@ -5,7 +5,7 @@ ghost use Rattle.driver_resolve.specs.declared.driver.Driver.{Driver as Driving}
 ghost use Rattle.sv_outside.specs.declared.text.Signal.{Signal};
 ghost use Rattle.sv_outside.specs.declared.refusal.TextErr.{TextErr as Why};
 ghost use Rattle.svex_arena.specs.Arenas.{Extends};
-ghost use Rattle.sv_names.specs.Names.{names_are, entries_of};
+ghost use Rattle.sv_names.specs.Names.{names_are};
 ghost use Rattle.sv_names.specs.Kinds.{layout_is};
 ghost use Rattle.sv_meaning.specs.Params.{name_alone};
 ghost use Rattle.sv_meaning.specs.Designs as d;

@@ -14,6 +14,6 @@ mod steps;
 pub use constants::is_nameless;
 pub use expressions::{lower, lower_assigned};
 pub use look::Look;
-pub use parts::{Place, beside, place_at, sliced, unknown, windowed};
-pub use places::{part_at, place_of};
+pub use parts::{beside, place_at, sliced, unknown, windowed};
+pub use places::part_at;
 pub use steps::{binary, constant, make, unary};

@@ -9,7 +9,7 @@ ghost use Rattle.sv_meaning.specs.Meanings.{copies};
 ghost use Rattle.sv_lower.specs.Nodes.{IsConstant, FromOne, FromTwo, IsSpan};
 
 use crate::steps::{binary, constant, make};
-use fourvec::Four;
+use fourvec::{Four, Reach};
 use std::alloc::{AllocError, Global};
 use svex_arena::{Arena, Bin, Node, Shape};
 
@@ -86,19 +86,12 @@ struct Span {
     above: u8,
 }
 
-/// A place of a vector: how far from 0 it is, and whether below.
-#[derive(Clone, Copy)]
-pub struct Place {
-    pub below: bool,
-    pub far: u128,
-}
-
 /// The place with a number.
 #[tactic(auto, using(fourvec::proofs::Places::parts))]
-pub fn place_at(number: i64) -> Place
+pub fn place_at(number: i64) -> Reach
     ensures { reached result.below result.far ≡ number }
 {
-    Place {
+    Reach {
         below: number < 0,
         far: number.unsigned_abs() as u128,
     }
@@ -106,7 +99,7 @@ pub fn place_at(number: i64) -> Place
 
 // How the part of a width from a place on lies over a vector of a size.
 #[tactic(auto, using(crate::proofs::Windows::spans))]
-fn span_of(size: u8, place: Place, width: u8) -> Span
+fn span_of(size: u8, place: Reach, width: u8) -> Span
     ensures { IsSpan size (reached place.below place.far) width result.below result.lo result.inside result.above }
 {
     if place.below {
@@ -136,7 +129,7 @@ pub fn windowed(
     alloc: Global,
     arena: &mut Arena,
     a: Node,
-    place: Place,
+    place: Reach,
     width: u8,
 ) -> Result<Node, AllocError>
     requires a { a < length arena.old }

@@ -18,7 +18,7 @@ use sv_lower::{Look, lower_assigned};
 use sv_names::Names;
 use sv_outside::TextErr;
 use sv_tree::Expr;
-use sv_typing::typed;
+use sv_typing::{Position, typed};
 use svex_arena::{Arena, Node};
 
 /// The node of the right side of a continuous or port assignment to so many bits (1 to 128), over the names of its place; or why it
@@ -50,7 +50,7 @@ pub fn lower_expr(
         → HoldsOfNames (mean (names_are names.now) expr.now).names p → IsTrue (each_variable p arena.new n)) }
     ensures cause { IfErr result (λ e. IsCause ((mean (names_are names.now) expr.now).faults false) e) }
 {
-    match typed(alloc, expr, names, false) {
+    match typed(alloc, expr, names, Position::Free) {
         Ok(tree) => {
             let node = lower_assigned(alloc, arena, &tree, &Look::Present, width);
             drop(tree);

@@ -12,13 +12,14 @@ use Rattle.sv_tree.specs.declared.stmts.Arm.{Labels', Default'}
 use Rattle.sv_tree.specs.declared.stmts.Lvalue.{Lvalue, Name, Concat', Row_of-Lvalue, end_of-Lvalue, more_of-Lvalue}
 use Rattle.sv_outside.specs.declared.refusal.Place.{Place}
 use Rattle.sv_meaning.specs.Faults.{Judged}
-use Rattle.sv_meaning.specs.Layouts.{Scope, What, signal_is, number_is, type_is, genvar_is, of_wires, of_choice, of_samples, find, NamedSignal, Declared}
+use Rattle.sv_meaning.specs.Layouts.{Scope, What, signal_is, number_is, type_is, genvar_is, of_wires, of_choice, of_samples, find, NamedSignal, Declared, DeclaredIn, constant_scope}
 use Rattle.sv_meaning.specs.Layouts as m
 use Rattle.sv_meaning.specs.Meanings.{Meaning, all_indices, indices}
 use Rattle.sv_meaning.specs.Values.{mean, step}
 use Rattle.sv_meaning.specs.Targets.{Target, target_of, targets, targets_of}
 use Rattle.sv_meaning.specs.Deeds.{Deed, deed, deed_else, deeds, arms, with_index, in_turns, in_turn, turns, target_names, CaseArm, labels_of, all_names, case_chain, case_of, longest, all_signed, is_casez}
 use Rattle.sv_meaning.proofs.Declaring.{names-declared}
+use Rattle.sv_tree.specs.declared.exprs.RangeMark.TheVariants as mark
 use Rattle.sv_stmt.specs.Blocks.{AreDeclared}
 
 none : (at : Scope) → AreDeclared at []
@@ -29,8 +30,8 @@ two at a b f g s h = elim (Contains-append_cases a b s h) [ inl x ↦ f s x | in
 
 -- ---- an entry of a loop declares no signal
 
-index_only : (at : Scope) (name : m.Name) (bits : List Bit) (s : NamedSignal) → Declared (with_index at name bits) s → Declared at s
-index_only at name bits s d = elim (Contains-append_cases at ((name, number_is bits true) ∷ []) (d.name, signal_is s.owner s.number d.layout) d.is_there) [
+index_in : (at : List m.Entry) (name : m.Name) (bits : List Bit) (s : NamedSignal) → DeclaredIn (at ++ (name, number_is bits true) ∷ []) s → DeclaredIn at s
+index_in at name bits s d = elim (Contains-append_cases at ((name, number_is bits true) ∷ []) (d.name, signal_is s.owner s.number d.layout) d.is_there) [
   | inl x ↦ record { name = d.name; layout = d.layout; is_there = x; wide = d.wide }
   | inr y ↦ absurd (apart y)
 ]
@@ -39,13 +40,27 @@ index_only at name bits s d = elim (Contains-append_cases at ((name, number_is b
     apart (zero, k, e) = let g = ap (λ x. x.1) e in cc
     apart (suc i, k, e) = absurd (omega arith)
 
+index_only : (at : Scope) (name : m.Name) (bits : List Bit) (s : NamedSignal) → Declared (with_index at name bits) s → Declared at s
+index_only at name bits s (inl d) = inl (index_in at.all name bits s d)
+index_only at name bits s (inr d) = inr (index_in at.above name bits s d)
+
+-- what a constant expression sees is declared too
+seen_above : (at : Scope) (s : NamedSignal) → Declared (constant_scope at) s → Declared at s
+seen_above at s (inl d) = inr d
+seen_above at s (inr d) = inr d
+
+constants_declared : (at : Scope) (all : List NamedSignal) → AreDeclared (constant_scope at) all → AreDeclared at all
+constants_declared at all d s h = seen_above at s (d s h)
+
 -- ---- targets
 
 step_names : (at : Scope) (x : Select) → AreDeclared at (indices (step at x)).names
 unfolding mean
 step_names at (Member p w) = none at
 step_names at (index p x) = names-declared at x
-step_names at (range p x m y) = two at (mean at x).names (mean at y).names (names-declared at x) (names-declared at y)
+step_names at (range p x mark.To y) = two at (mean (constant_scope at) x).names (mean (constant_scope at) y).names (constants_declared at _ (names-declared (constant_scope at) x)) (constants_declared at _ (names-declared (constant_scope at) y))
+step_names at (range p x mark.Up y) = two at (mean at x).names (mean (constant_scope at) y).names (names-declared at x) (constants_declared at _ (names-declared (constant_scope at) y))
+step_names at (range p x mark.Down y) = two at (mean at x).names (mean (constant_scope at) y).names (names-declared at x) (constants_declared at _ (names-declared (constant_scope at) y))
 
 steps_names : (at : Scope) (all : List Select) → AreDeclared at (all_indices (map (step at) all)).names
 unfolding all_indices
@@ -70,15 +85,15 @@ names_append (t ∷ a) b = ap (λ n. (all_indices t.steps).names ++ n) (names_ap
 mutual
   unfolding targets target_names
 
-  lvalue_names : (at : Scope) (x : Lvalue) → AreDeclared at (target_names (targets at x))
+  lvalue_names : (at : Scope) (x : Lvalue) → AreDeclared at (target_names (targets at at x))
   lvalue_names at (Name w all) = two at (all_indices (target_of (find w.text at) (map (step at) all)).steps).names [] (one_names at (find w.text at) all) (none at)
   lvalue_names at (Concat' p s all) = lvalues_names at all
 
-  lvalues_names : {k : Count} (at : Scope) (all : Row_of-Lvalue k) → AreDeclared at (target_names (targets_of at all))
+  lvalues_names : {k : Count} (at : Scope) (all : Row_of-Lvalue k) → AreDeclared at (target_names (targets_of at at all))
   lvalues_names at end_of-Lvalue = none at
   lvalues_names at (more_of-Lvalue x all) =
-      subst (AreDeclared at) (sym (names_append (targets at x) (targets_of at all)))
-      (two at (target_names (targets at x)) (target_names (targets_of at all)) (lvalue_names at x) (lvalues_names at all))
+      subst (AreDeclared at) (sym (names_append (targets at at x) (targets_of at at all)))
+      (two at (target_names (targets at at x)) (target_names (targets_of at at all)) (lvalue_names at x) (lvalues_names at all))
 
 -- ---- labels and arms
 
@@ -143,7 +158,7 @@ mutual
       (chain_names at (is_casez word) _ _ (mean at x) (arms all at).0 (arms all at).1 each.0 each.1)
   deed_declared at (For' p form name start test next r (more_of-Stmt body end_of-Stmt)) =
       in_turns_names at p (λ bits. deed body (with_index at name.text bits)) (turns p at name.text start test next) (λ bits s h. index_only at name.text bits s (deed_declared (with_index at name.text bits) body s h))
-  deed_declared at (Assign to mark p x) = two at (mean at x).names (target_names (targets at to)) (names-declared at x) (lvalue_names at to)
+  deed_declared at (Assign to mark p x) = two at (mean at x).names (target_names (targets at at to)) (names-declared at x) (lvalue_names at to)
 
   else_declared : (at : Scope) (x : Held-Stmt-If-3) → AreDeclared at (deed_else x at).names
   else_declared at None' = none at

@@ -22,7 +22,7 @@ use Rattle.sv_tree.specs.declared.stmts.Arm.{Arm, Labels', Default'}
 use Rattle.sv_tree.specs.declared.stmts.Arm.TheVariants as ar
 use Rattle.sv_tree.specs.declared.stmts.BlockKind.{BlockKind}
 use Rattle.sv_tree.specs.declared.stmts.BlockKind.TheVariants as kind
-use Rattle.sv_meaning.specs.Layouts.{Name as Text, Scope, What, signal_is, number_is, type_is, genvar_is, of_wires, of_choice, of_samples, width, find, or_else, NamedSignal, Declared}
+use Rattle.sv_meaning.specs.Layouts.{Name as Text, Entry, Scope, What, signal_is, number_is, type_is, genvar_is, of_wires, of_choice, of_samples, width, find, last_of, or_else, NamedSignal, Declared}
 use Rattle.std.specs.Prelude.{bytes_eq, OnOk}
 use Rattle.std.proofs.Common.{cond, true, false}
 use Rattle.sv_actions.specs.Texts.{wire_signal, signal_of, root_signals, all_root_signals, target_signals, else_signals, signals_in, arms_signals, event_signals, of_each, other_signals, arm_signals}
@@ -40,7 +40,7 @@ pub two_declared : (at : Scope) (a b : Signals) → AreDeclared at a → AreDecl
 two_declared at a b f g s h = elim (Contains-append_cases a b s h) [ inl x ↦ f s x | inr y ↦ g s y ]
 
 -- an entry of this name
-record Found (n : Text) (at : Scope) (x : What) : Type 0 where
+record Found (n : Text) (at : List Entry) (x : What) : Type 0 where
   pub name : Text
   pub is_there : Contains at (name, x)
 
@@ -51,10 +51,10 @@ chosen_entry : (b : Bool) (e x : What) → cond b (Some e) None ≡ Some x → e
 chosen_entry true e x h = cc
 chosen_entry false e x h = cc
 
-found : (n : Text) (at : Scope) (x : What) → find n at ≡ Some x → Found n at x
-unfolding find
+found : (n : Text) (at : List Entry) (x : What) → last_of n at ≡ Some x → Found n at x
+unfolding last_of
 found n [] x h = cc
-found n (e ∷ more) x h = go (find n more) (λ y k. found n more y k) h
+found n (e ∷ more) x h = go (last_of n more) (λ y k. found n more y k) h
   where
     go : (o : Option What) → ((y : What) → o ≡ Some y → Found n more y) → or_else o (cond (bytes_eq e.0 n) (Some e.1) None) ≡ Some x → Found n (e ∷ more) x
     go (Some y) f k = let g = f x k in record { name = g.name; is_there = behind e more (g.name, x) g.is_there }
@@ -62,7 +62,7 @@ found n (e ∷ more) x h = go (find n more) (λ y k. found n more y k) h
 
 one_declared : (at : Scope) (n : Text) (o : Option What) → find n at ≡ o → AreDeclared at (signal_of o)
 one_declared at n (Some (signal_is of_wires k x)) e s (zero, l, same) =
-    let g = found n at (signal_is of_wires k x) e in subst (Declared at) same (record { name = g.name; layout = x; is_there = g.is_there; wide = refl })
+    let g = found n at.all (signal_is of_wires k x) e in subst (Declared at) same (inl (record { name = g.name; layout = x; is_there = g.is_there; wide = refl }))
 one_declared at n (Some (signal_is of_wires k x)) e s (suc i, l, same) = absurd (omega arith)
 one_declared at n (Some (signal_is of_choice k x)) e s h = none at s h
 one_declared at n (Some (signal_is of_samples k x)) e s h = none at s h

@@ -7,7 +7,7 @@ ghost use Rattle.svex_arena.specs.Arenas.{Extends};
 ghost use Rattle.driver_resolve.specs.Drivers.{Phase, IsDriver, widths_of, drivers_give};
 ghost use Rattle.sv_names.specs.Kinds.{what_is, WhatIsSound};
 ghost use Rattle.sv_typing.specs.Judging.{IsCause};
-ghost use Rattle.sv_names.specs.Names.{names_are, entries_of};
+ghost use Rattle.sv_names.specs.Names.{names_are};
 ghost use Rattle.sv_meaning.specs.Deeds.{deed};
 ghost use Rattle.sv_meaning.specs.Layouts.{Scope, find};
 ghost use Rattle.sv_meaning.specs.Blocks.{is_clocked, clock_faults, event_faults, event_manner, block_faults, block_value, manner};
@@ -146,7 +146,7 @@ pub fn block_drivers(
 ) -> Result<(Items<Driver>, u64), TextErr>
     requires { OneWidth (names_are names.old) }
     ensures stays { Extends arena.old arena.new }
-    ensures names { entries_of names.new ≡ entries_of names.old }
+    ensures names { names_are names.new ≡ names_are names.old }
 
     // Nothing stands against the block, and so many turns are made behind it.
     ensures clear { IfOk result (λ t. block_faults (names_are names.old) block.now made ≡ []) }

@@ -51,31 +51,31 @@ in_braces judge f g p ts all h e =
     let n = width_true (widths ts) (no_fault_then (is_width (widths ts)) _ p (second f (wide_target p ts) (sym e ∙ h.clear))) in
     subst (λ (k : ℕ). 1 ≤ k) (widths_are judge all ts h.stand) n
 
-target_width : (judge : Meaning → Faults) (at : Scope) (x : Lvalue) (all : List TypedTarget) → AreTargets judge (lvalue_faults judge at x) (targets at x) all → 1 ≤ width_of_all all
+target_width : (judge : Meaning → Faults) (index at : Scope) (x : Lvalue) (all : List TypedTarget) → AreTargets judge (lvalue_faults judge index at x) (targets index at x) all → 1 ≤ width_of_all all
 unfolding targets lvalue_faults
-target_width judge at (LvName w steps) all h = one_width judge all _ h.stand
-target_width judge at (LvConcat p s row) all h = in_braces judge (all_lvalue_faults judge at row) _ p (targets_of at row) all h refl
+target_width judge index at (LvName w steps) all h = one_width judge all _ h.stand
+target_width judge index at (LvConcat p s row) all h = in_braces judge (all_lvalue_faults judge index at row) _ p (targets_of index at row) all h refl
 
-actual_width : (q : Place) (at : Scope) (x : Expr) (all : List TypedTarget) → AreTargets fixed_faults (part_faults q at x) (as_targets at x) all → 1 ≤ width_of_all all
+actual_width : (q : Place) (index at : Scope) (x : Expr) (all : List TypedTarget) → AreTargets fixed_faults (part_faults q index at x) (as_targets index at x) all → 1 ≤ width_of_all all
 unfolding as_targets part_faults
-actual_width q at (Name' w s steps) all h = one_width fixed_faults all _ h.stand
-actual_width q at (Concat' p s row) all h = in_braces fixed_faults (all_part_faults q at row) _ p (all_as_targets at row) all h refl
-actual_width q at (Literal w) all h = let e = h.clear in cc
-actual_width q at (paren p x) all h = let e = h.clear in cc
-actual_width q at (Repeat' p r (more_of-Expr n end_of-Expr) s row) all h = let e = h.clear in cc
-actual_width q at (cast_literal w x) all h = let e = h.clear in cc
-actual_width q at (cast_name w x) all h = let e = h.clear in cc
-actual_width q at (cast_paren p n x) all h = let e = h.clear in cc
-actual_width q at (cast_sign s p x) all h = let e = h.clear in cc
-actual_width q at (system f p x) all h = let e = h.clear in cc
-actual_width q at (unary op p x) all h = let e = h.clear in cc
-actual_width q at (binary x op p y) all h = let e = h.clear in cc
-actual_width q at (choose c x y) all h = let e = h.clear in cc
+actual_width q index at (Name' w s steps) all h = one_width fixed_faults all _ h.stand
+actual_width q index at (Concat' p s row) all h = in_braces fixed_faults (all_part_faults q index at row) _ p (all_as_targets index at row) all h refl
+actual_width q index at (Literal w) all h = let e = h.clear in cc
+actual_width q index at (paren p x) all h = let e = h.clear in cc
+actual_width q index at (Repeat' p r (more_of-Expr n end_of-Expr) s row) all h = let e = h.clear in cc
+actual_width q index at (cast_literal w x) all h = let e = h.clear in cc
+actual_width q index at (cast_name w x) all h = let e = h.clear in cc
+actual_width q index at (cast_paren p n x) all h = let e = h.clear in cc
+actual_width q index at (cast_sign s p x) all h = let e = h.clear in cc
+actual_width q index at (system f p x) all h = let e = h.clear in cc
+actual_width q index at (unary op p x) all h = let e = h.clear in cc
+actual_width q index at (binary x op p y) all h = let e = h.clear in cc
+actual_width q index at (choose c x y) all h = let e = h.clear in cc
 
-pub targets_some : (judge : Meaning → Faults) (at : Scope) (x : Lvalue) (r : Result (List TypedTarget) TextErr) → JudgesTargets judge (lvalue_faults judge at x) (targets at x) r → IfOk r (λ all. 1 ≤ width_of_all all)
-targets_some judge at x (Ok all) h = target_width judge at x all h
-targets_some judge at x (Err e) h = tt
+pub targets_some : (judge : Meaning → Faults) (index at : Scope) (x : Lvalue) (r : Result (List TypedTarget) TextErr) → JudgesTargets judge (lvalue_faults judge index at x) (targets index at x) r → IfOk r (λ all. 1 ≤ width_of_all all)
+targets_some judge index at x (Ok all) h = target_width judge index at x all h
+targets_some judge index at x (Err e) h = tt
 
-pub actuals_some : (at : Scope) (x : Expr) (r : Result (List TypedTarget) TextErr) → JudgesTargets fixed_faults (actual_faults at x) (as_targets at x) r → IfOk r (λ all. 1 ≤ width_of_all all)
-actuals_some at x (Ok all) h = actual_width (mean at x).start at x all h
-actuals_some at x (Err e) h = tt
+pub actuals_some : (index at : Scope) (x : Expr) (r : Result (List TypedTarget) TextErr) → JudgesTargets fixed_faults (actual_faults index at x) (as_targets index at x) r → IfOk r (λ all. 1 ≤ width_of_all all)
+actuals_some index at x (Ok all) h = actual_width (mean at x).start index at x all h
+actuals_some index at x (Err e) h = tt

@@ -35,31 +35,31 @@ use Rattle.sv_targets.specs.Targets.{StandsFor, IsTarget, JudgesTarget, AreTarge
 
 -- ---- targets as code makes them
 
-pub targets_name : (at : m.Scope) (w : Word) (all : List Select) → targets at (lv.Name w all) ≡ target_of (m.find w.text at) (map (step at) all) ∷ []
+pub targets_name : (index at : m.Scope) (w : Word) (all : List Select) → targets index at (lv.Name w all) ≡ target_of (m.find w.text at) (map (step index) all) ∷ []
 unfolding targets
-targets_name at w all = refl
+targets_name index at w all = refl
 
-pub faults_name : (judge : Meaning → Faults) (at : m.Scope) (w : Word) (all : List Select) → lvalue_faults judge at (lv.Name w all) ≡ target_faults judge w.place w (m.find w.text at) (map (step at) all)
+pub faults_name : (judge : Meaning → Faults) (index at : m.Scope) (w : Word) (all : List Select) → lvalue_faults judge index at (lv.Name w all) ≡ target_faults judge w.place w (m.find w.text at) (map (step index) all)
 unfolding lvalue_faults
-faults_name judge at w all = refl
+faults_name judge index at w all = refl
 
-targets_row : (at : m.Scope) (all : List Lvalue) → targets_of at (hidden-the_row-Lvalue-0 all) ≡ all_targets at all
+targets_row : (index at : m.Scope) (all : List Lvalue) → targets_of index at (hidden-the_row-Lvalue-0 all) ≡ all_targets index at all
 unfolding targets all_targets shape-the_row-Lvalue-0 hidden-the_row-Lvalue-0 denote.Hole.Carrier.hidden
-targets_row at [] = refl
-targets_row at (x ∷ all) = ap (λ z. targets at x ++ z) (targets_row at all)
+targets_row index at [] = refl
+targets_row index at (x ∷ all) = ap (λ z. targets index at x ++ z) (targets_row index at all)
 
-faults_row : (judge : Meaning → Faults) (at : m.Scope) (all : List Lvalue) → all_lvalue_faults judge at (hidden-the_row-Lvalue-0 all) ≡ all_faults judge at all
+faults_row : (judge : Meaning → Faults) (index at : m.Scope) (all : List Lvalue) → all_lvalue_faults judge index at (hidden-the_row-Lvalue-0 all) ≡ all_faults judge index at all
 unfolding lvalue_faults all_faults shape-the_row-Lvalue-0 hidden-the_row-Lvalue-0 denote.Hole.Carrier.hidden
-faults_row judge at [] = refl
-faults_row judge at (x ∷ all) = ap (λ z. lvalue_faults judge at x ++ z) (faults_row judge at all)
+faults_row judge index at [] = refl
+faults_row judge index at (x ∷ all) = ap (λ z. lvalue_faults judge index at x ++ z) (faults_row judge index at all)
 
-pub targets_concat : (at : m.Scope) (p : Place) (all : List Lvalue) → targets at (lv.Concat p all) ≡ all_targets at all
+pub targets_concat : (index at : m.Scope) (p : Place) (all : List Lvalue) → targets index at (lv.Concat p all) ≡ all_targets index at all
 unfolding targets shape-the_row-Lvalue-0 hidden-the_row-Lvalue-0 denote.Hole.Carrier.hidden
-targets_concat at p all = targets_row at all
+targets_concat index at p all = targets_row index at all
 
-pub faults_concat : (judge : Meaning → Faults) (at : m.Scope) (p : Place) (all : List Lvalue) → lvalue_faults judge at (lv.Concat p all) ≡ or_then (all_faults judge at all) (wide_target p (all_targets at all))
+pub faults_concat : (judge : Meaning → Faults) (index at : m.Scope) (p : Place) (all : List Lvalue) → lvalue_faults judge index at (lv.Concat p all) ≡ or_then (all_faults judge index at all) (wide_target p (all_targets index at all))
 unfolding lvalue_faults shape-the_row-Lvalue-0 hidden-the_row-Lvalue-0 denote.Hole.Carrier.hidden
-faults_concat judge at p all = ap (λ z. or_then z (wide_target p (targets_of at (hidden-the_row-Lvalue-0 all)))) (faults_row judge at all) ∙ ap (λ z. or_then (all_faults judge at all) (wide_target p z)) (targets_row at all)
+faults_concat judge index at p all = ap (λ z. or_then z (wide_target p (targets_of index at (hidden-the_row-Lvalue-0 all)))) (faults_row judge index at all) ∙ ap (λ z. or_then (all_faults judge index at all) (wide_target p z)) (targets_row index at all)
 
 pub targets_as : (judge : Meaning → Faults) (f g : Faults) (xs ys : List Target) (r : Result (List TypedTarget) TextErr) → f ≡ g → xs ≡ ys → JudgesTargets judge g ys r → JudgesTargets judge f xs r
 targets_as judge f g xs ys r h k j = subst (λ z. JudgesTargets judge z xs r) (sym h) (subst (λ (z : List Target). JudgesTargets judge g z r) (sym k) j)
@@ -153,43 +153,43 @@ split_at [] i x h e = absurd (omega arith)
 split_at (y ∷ xs) zero x h e = ap (λ (z : Lvalue). z ∷ xs) (sym e)
 split_at (y ∷ xs) (suc i) x h e = ap (λ (z : List Lvalue). y ∷ z) (split_at xs i x (omega arith) e)
 
-faults_join : (judge : Meaning → Faults) (at : m.Scope) (a b : List Lvalue) → all_faults judge at (a ++ b) ≡ all_faults judge at a ++ all_faults judge at b
+faults_join : (judge : Meaning → Faults) (index at : m.Scope) (a b : List Lvalue) → all_faults judge index at (a ++ b) ≡ all_faults judge index at a ++ all_faults judge index at b
 unfolding all_faults
-faults_join judge at [] b = refl
-faults_join judge at (x ∷ a) b = ap (λ z. lvalue_faults judge at x ++ z) (faults_join judge at a b) ∙ sym (append_assoc (lvalue_faults judge at x) (all_faults judge at a) (all_faults judge at b))
+faults_join judge index at [] b = refl
+faults_join judge index at (x ∷ a) b = ap (λ z. lvalue_faults judge index at x ++ z) (faults_join judge index at a b) ∙ sym (append_assoc (lvalue_faults judge index at x) (all_faults judge index at a) (all_faults judge index at b))
 
-targets_join : (at : m.Scope) (a b : List Lvalue) → all_targets at (a ++ b) ≡ all_targets at a ++ all_targets at b
+targets_join : (index at : m.Scope) (a b : List Lvalue) → all_targets index at (a ++ b) ≡ all_targets index at a ++ all_targets index at b
 unfolding all_targets
-targets_join at [] b = refl
-targets_join at (x ∷ a) b = ap (λ z. targets at x ++ z) (targets_join at a b) ∙ sym (append_assoc (targets at x) (all_targets at a) (all_targets at b))
+targets_join index at [] b = refl
+targets_join index at (x ∷ a) b = ap (λ z. targets index at x ++ z) (targets_join index at a b) ∙ sym (append_assoc (targets index at x) (all_targets index at a) (all_targets index at b))
 
-faults_one : (judge : Meaning → Faults) (at : m.Scope) (x : Lvalue) → all_faults judge at (x ∷ []) ≡ lvalue_faults judge at x
+faults_one : (judge : Meaning → Faults) (index at : m.Scope) (x : Lvalue) → all_faults judge index at (x ∷ []) ≡ lvalue_faults judge index at x
 unfolding all_faults
-faults_one judge at x = append-nil (lvalue_faults judge at x)
+faults_one judge index at x = append-nil (lvalue_faults judge index at x)
 
-targets_one : (at : m.Scope) (x : Lvalue) → all_targets at (x ∷ []) ≡ targets at x
+targets_one : (index at : m.Scope) (x : Lvalue) → all_targets index at (x ∷ []) ≡ targets index at x
 unfolding all_targets
-targets_one at x = append-nil (targets at x)
+targets_one index at x = append-nil (targets index at x)
 
-pub targets_begin : (judge : Meaning → Faults) (at : m.Scope) → AreTargets judge (all_faults judge at []) (all_targets at []) []
+pub targets_begin : (judge : Meaning → Faults) (index at : m.Scope) → AreTargets judge (all_faults judge index at []) (all_targets index at []) []
 unfolding all_faults all_targets
-targets_begin judge at = record { clear = refl; stand = tt }
+targets_begin judge index at = record { clear = refl; stand = tt }
 
-pub targets_go : (judge : Meaning → Faults) (at : m.Scope) (all : List Lvalue) (i j : ℕ) (x : Lvalue) (r : Result (List TypedTarget) TextErr) → i < length all → j ≡ suc i → x ≡ get_or all i x →
-    JudgesTargets judge (all_faults judge at (take i all) ++ lvalue_faults judge at x) (all_targets at (take i all) ++ targets at x) r → JudgesTargets judge (all_faults judge at (take j all)) (all_targets at (take j all)) r
-targets_go judge at all i j x r lt ji e h =
+pub targets_go : (judge : Meaning → Faults) (index at : m.Scope) (all : List Lvalue) (i j : ℕ) (x : Lvalue) (r : Result (List TypedTarget) TextErr) → i < length all → j ≡ suc i → x ≡ get_or all i x →
+    JudgesTargets judge (all_faults judge index at (take i all) ++ lvalue_faults judge index at x) (all_targets index at (take i all) ++ targets index at x) r → JudgesTargets judge (all_faults judge index at (take j all)) (all_targets index at (take j all)) r
+targets_go judge index at all i j x r lt ji e h =
     targets_as judge _ _ _ _ r
-    (ap (all_faults judge at) (take_next all i j x lt ji e) ∙ faults_join judge at (take i all) (x ∷ []) ∙ ap (λ z. all_faults judge at (take i all) ++ z) (faults_one judge at x))
-    (ap (all_targets at) (take_next all i j x lt ji e) ∙ targets_join at (take i all) (x ∷ []) ∙ ap (λ z. all_targets at (take i all) ++ z) (targets_one at x)) h
+    (ap (all_faults judge index at) (take_next all i j x lt ji e) ∙ faults_join judge index at (take i all) (x ∷ []) ∙ ap (λ z. all_faults judge index at (take i all) ++ z) (faults_one judge index at x))
+    (ap (all_targets index at) (take_next all i j x lt ji e) ∙ targets_join index at (take i all) (x ∷ []) ∙ ap (λ z. all_targets index at (take i all) ++ z) (targets_one index at x)) h
 
-pub targets_cause : (judge : Meaning → Faults) (at : m.Scope) (all : List Lvalue) (i : ℕ) (x : Lvalue) (e : TextErr) → i < length all → x ≡ get_or all i x → IsCause (all_faults judge at (take i all) ++ lvalue_faults judge at x) e → IsCause (all_faults judge at all) e
+pub targets_cause : (judge : Meaning → Faults) (index at : m.Scope) (all : List Lvalue) (i : ℕ) (x : Lvalue) (e : TextErr) → i < length all → x ≡ get_or all i x → IsCause (all_faults judge index at (take i all) ++ lvalue_faults judge index at x) e → IsCause (all_faults judge index at all) e
 unfolding all_faults
-targets_cause judge at all i x e lt g h =
-    let s = ap (all_faults judge at) (split_at all i x lt g) ∙ faults_join judge at (take i all) (x ∷ drop (suc i) all) ∙ sym (append_assoc (all_faults judge at (take i all)) (lvalue_faults judge at x) (all_faults judge at (drop (suc i) all))) in
-    subst (λ (z : Faults). IsCause z e) (sym s) (cause_left (all_faults judge at (take i all) ++ lvalue_faults judge at x) (all_faults judge at (drop (suc i) all)) e h)
+targets_cause judge index at all i x e lt g h =
+    let s = ap (all_faults judge index at) (split_at all i x lt g) ∙ faults_join judge index at (take i all) (x ∷ drop (suc i) all) ∙ sym (append_assoc (all_faults judge index at (take i all)) (lvalue_faults judge index at x) (all_faults judge index at (drop (suc i) all))) in
+    subst (λ (z : Faults). IsCause z e) (sym s) (cause_left (all_faults judge index at (take i all) ++ lvalue_faults judge index at x) (all_faults judge index at (drop (suc i) all)) e h)
 
-pub targets_end : (judge : Meaning → Faults) (at : m.Scope) (all : List Lvalue) (i : ℕ) (found : List TypedTarget) → length all ≤ i → AreTargets judge (all_faults judge at (take i all)) (all_targets at (take i all)) found → AreTargets judge (all_faults judge at all) (all_targets at all) found
-targets_end judge at all i found lt h = subst (λ (z : List Lvalue). AreTargets judge (all_faults judge at z) (all_targets at z) found) (take_all i all lt) h
+pub targets_end : (judge : Meaning → Faults) (index at : m.Scope) (all : List Lvalue) (i : ℕ) (found : List TypedTarget) → length all ≤ i → AreTargets judge (all_faults judge index at (take i all)) (all_targets index at (take i all)) found → AreTargets judge (all_faults judge index at all) (all_targets index at all) found
+targets_end judge index at all i found lt h = subst (λ (z : List Lvalue). AreTargets judge (all_faults judge index at z) (all_targets index at z) found) (take_all i all lt) h
 
 -- ---- the bits of all
 
@@ -207,19 +207,19 @@ narrow_one x all now e h k = let w : width_of_all now ≡ x.width + 0 = ap width
 
 -- ---- productions
 
-pub arm_name : (judge : Meaning → Faults) (at : m.Scope) (tree : Lvalue) (w : Word) (all given : List Select) (r : Result (List TypedTarget) TextErr) → tree ≡ lv.Name w all → given ≡ all →
-    JudgesTargets judge (target_faults judge w.place w (m.find w.text at) (map (step at) given)) (target_of (m.find w.text at) (map (step at) given) ∷ []) r → JudgesTargets judge (lvalue_faults judge at tree) (targets at tree) r
-arm_name judge at tree w all given r e g h =
-    targets_as judge _ (target_faults judge w.place w (m.find w.text at) (map (step at) given)) _ (target_of (m.find w.text at) (map (step at) given) ∷ []) r
-    (ap (lvalue_faults judge at) e ∙ faults_name judge at w all ∙ ap (λ (z : List Select). target_faults judge w.place w (m.find w.text at) (map (step at) z)) (sym g))
-    (ap (targets at) e ∙ targets_name at w all ∙ ap (λ (z : List Select). target_of (m.find w.text at) (map (step at) z) ∷ []) (sym g)) h
+pub arm_name : (judge : Meaning → Faults) (index at : m.Scope) (tree : Lvalue) (w : Word) (all given : List Select) (r : Result (List TypedTarget) TextErr) → tree ≡ lv.Name w all → given ≡ all →
+    JudgesTargets judge (target_faults judge w.place w (m.find w.text at) (map (step index) given)) (target_of (m.find w.text at) (map (step index) given) ∷ []) r → JudgesTargets judge (lvalue_faults judge index at tree) (targets index at tree) r
+arm_name judge index at tree w all given r e g h =
+    targets_as judge _ (target_faults judge w.place w (m.find w.text at) (map (step index) given)) _ (target_of (m.find w.text at) (map (step index) given) ∷ []) r
+    (ap (lvalue_faults judge index at) e ∙ faults_name judge index at w all ∙ ap (λ (z : List Select). target_faults judge w.place w (m.find w.text at) (map (step index) z)) (sym g))
+    (ap (targets index at) e ∙ targets_name index at w all ∙ ap (λ (z : List Select). target_of (m.find w.text at) (map (step index) z) ∷ []) (sym g)) h
 
-pub arm_concat : (judge : Meaning → Faults) (at : m.Scope) (tree : Lvalue) (p : Place) (all given : List Lvalue) (r : Result (List TypedTarget) TextErr) → tree ≡ lv.Concat p all → given ≡ all →
-    JudgesTargets judge (or_then (all_faults judge at given) (wide_target p (all_targets at given))) (all_targets at given) r → JudgesTargets judge (lvalue_faults judge at tree) (targets at tree) r
-arm_concat judge at tree p all given r e g h =
-    targets_as judge _ (or_then (all_faults judge at given) (wide_target p (all_targets at given))) _ (all_targets at given) r
-    (ap (lvalue_faults judge at) e ∙ faults_concat judge at p all ∙ ap (λ (z : List Lvalue). or_then (all_faults judge at z) (wide_target p (all_targets at z))) (sym g))
-    (ap (targets at) e ∙ targets_concat at p all ∙ ap (all_targets at) (sym g)) h
+pub arm_concat : (judge : Meaning → Faults) (index at : m.Scope) (tree : Lvalue) (p : Place) (all given : List Lvalue) (r : Result (List TypedTarget) TextErr) → tree ≡ lv.Concat p all → given ≡ all →
+    JudgesTargets judge (or_then (all_faults judge index at given) (wide_target p (all_targets index at given))) (all_targets index at given) r → JudgesTargets judge (lvalue_faults judge index at tree) (targets index at tree) r
+arm_concat judge index at tree p all given r e g h =
+    targets_as judge _ (or_then (all_faults judge index at given) (wide_target p (all_targets index at given))) _ (all_targets index at given) r
+    (ap (lvalue_faults judge index at) e ∙ faults_concat judge index at p all ∙ ap (λ (z : List Lvalue). or_then (all_faults judge index at z) (wide_target p (all_targets index at z))) (sym g))
+    (ap (targets index at) e ∙ targets_concat index at p all ∙ ap (all_targets index at) (sym g)) h
 
 pub what_wire : (judge : Meaning → Faults) (p : Place) (w : Word) (what : What) (n : ℕ) (x : Layout) (steps : List Step) (r : Result TypedTarget TextErr) → what ≡ Wire n x →
     JudgesTarget judge (chain_faults judge (layout_is x) steps) (record { wire = n; layout = layout_is x; steps = steps }) r → JudgesTarget judge (target_faults judge p w (Some (what_is what)) steps) (target_of (Some (what_is what)) steps) r

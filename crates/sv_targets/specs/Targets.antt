@@ -60,23 +60,23 @@ pub record TargetIsSound (x : TypedTarget) : Type 0 where
 
 -- targets in braces as code lists them
 
-unfoldable pub all_faults : (Meaning → Faults) → m.Scope → List Lvalue → Faults
-all_faults judge at [] = []
-all_faults judge at (x ∷ more) = lvalue_faults judge at x ++ all_faults judge at more
+unfoldable pub all_faults : (Meaning → Faults) → m.Scope → m.Scope → List Lvalue → Faults
+all_faults judge index at [] = []
+all_faults judge index at (x ∷ more) = lvalue_faults judge index at x ++ all_faults judge index at more
 
-unfoldable pub all_targets : m.Scope → List Lvalue → List Target
-all_targets at [] = []
-all_targets at (x ∷ more) = targets at x ++ all_targets at more
+unfoldable pub all_targets : m.Scope → m.Scope → List Lvalue → List Target
+all_targets index at [] = []
+all_targets index at (x ∷ more) = targets index at x ++ all_targets index at more
 
 -- actuals in braces as code lists them
 
-unfoldable pub actual_list_faults : Place → m.Scope → List Expr → Faults
-actual_list_faults start at [] = []
-actual_list_faults start at (x ∷ more) = part_faults start at x ++ actual_list_faults start at more
+unfoldable pub actual_list_faults : Place → m.Scope → m.Scope → List Expr → Faults
+actual_list_faults start index at [] = []
+actual_list_faults start index at (x ∷ more) = part_faults start index at x ++ actual_list_faults start index at more
 
-unfoldable pub actual_list_targets : m.Scope → List Expr → List Target
-actual_list_targets at [] = []
-actual_list_targets at (x ∷ more) = as_targets at x ++ actual_list_targets at more
+unfoldable pub actual_list_targets : m.Scope → m.Scope → List Expr → List Target
+actual_list_targets index at [] = []
+actual_list_targets index at (x ∷ more) = as_targets index at x ++ actual_list_targets index at more
 
 -- the refusal of what is no target in an actual that begins at a place
 abbrev pub no_target : Place → TextErr

@@ -1,17 +1,19 @@
 // Actuals of ports as targets (IEEE 1800-2017, 23.3.3).
-ghost use Rattle.std.specs.Prelude.{◌≡◌};
+ghost use Rattle.std.specs.Prelude.{◌≡◌, map};
 ghost use Rattle.sv_names.specs.Names.{names_are};
-ghost use Rattle.sv_meaning.specs.Designs.{as_targets, actual_faults, part_faults};
+ghost use Rattle.sv_meaning.specs.Designs.{as_targets, actual_faults, part_faults, index_scope};
 ghost use Rattle.sv_meaning.specs.Layouts as m;
 ghost use Rattle.sv_meaning.specs.Meanings.{fixed_faults};
-ghost use Rattle.sv_targets.specs.Targets.{JudgesTargets, AreNarrow, actual_list_faults, actual_list_targets, no_target};
+ghost use Rattle.sv_meaning.specs.Targets as t;
+ghost use Rattle.sv_meaning.specs.Values.{step};
+ghost use Rattle.sv_targets.specs.Targets.{JudgesTarget, JudgesTargets, AreNarrow, actual_list_faults, actual_list_targets, no_target};
 
 use crate::targets::{TypedTarget, appended, braced, named_target, one_target};
 use items::Items;
 use std::alloc::Global;
 use sv_names::Names;
 use sv_outside::{Place, TextErr};
-use sv_tree::Expr;
+use sv_tree::{Expr, Select, Way, Word};
 use sv_typing::{IndexRule, refusal, start};
 
 // What is no name with selects and no concatenation, in an actual that begins at a place: E19 there.
@@ -21,6 +23,26 @@ fn not_assignable(begin: Place) -> TextErr
     TextErr::No(refusal(19, begin))
 }
 
+// A name with its selects in the actual of a port of this direction: an index of an input's is read among all names of its place, and
+// that of any other is a constant expression.
+fn name_in(
+    alloc: Global,
+    word: &Word,
+    selects: &[Select],
+    begin: Place,
+    names: &Names<'_>,
+    way: Way,
+) -> Result<TypedTarget, TextErr>
+    ensures { JudgesTarget fixed_faults (t.target_faults fixed_faults begin word.now (m.find word.now.text (names_are names.now)) (map (step (index_scope way (names_are names.now))) selects.now)) (t.target_of (m.find word.now.text (names_are names.now)) (map (step (index_scope way (names_are names.now))) selects.now)) result }
+{
+    match way {
+        Way::Input => named_target(alloc, begin, word, selects, names, IndexRule::Joined),
+        Way::Output | Way::Inout => {
+            named_target(alloc, begin, word, selects, names, IndexRule::Fixed)
+        }
+    }
+}
+
 // The parts of a part of an actual that begins at a place.
 #[cycle(actual)]
 fn part_in(
@@ -28,24 +50,18 @@ fn part_in(
     actual: &Expr,
     begin: Place,
     names: &Names<'_>,
+    way: Way,
 ) -> Result<Items<TypedTarget>, TextErr>
-    ensures is { JudgesTargets fixed_faults (part_faults begin (names_are names.now) actual.now) (as_targets (names_are names.now) actual.now) result }
+    ensures is { JudgesTargets fixed_faults (part_faults begin (index_scope way (names_are names.now)) (names_are names.now) actual.now) (as_targets (index_scope way (names_are names.now)) (names_are names.now) actual.now) result }
     ensures narrow { AreNarrow result }
 {
     match actual {
         Expr::Name(word, selects) => one_target(
             alloc,
-            named_target(
-                alloc,
-                begin,
-                word,
-                selects.as_slice(),
-                names,
-                IndexRule::Fixed,
-            ),
+            name_in(alloc, word, selects.as_slice(), begin, names, way),
         ),
         Expr::Concat(place, parts) => {
-            braced(*place, parts_in(alloc, parts.as_slice(), begin, names))
+            braced(*place, parts_in(alloc, parts.as_slice(), begin, names, way))
         }
         Expr::Literal(_) => Err(not_assignable(begin)),
         Expr::Paren(_, _) => Err(not_assignable(begin)),
@@ -67,12 +83,13 @@ fn parts_in(
     parts: &[Expr],
     begin: Place,
     names: &Names<'_>,
+    way: Way,
 ) -> Result<Items<TypedTarget>, TextErr>
-    ensures { JudgesTargets fixed_faults (actual_list_faults begin (names_are names.now) parts.now) (actual_list_targets (names_are names.now) parts.now) result }
+    ensures { JudgesTargets fixed_faults (actual_list_faults begin (index_scope way (names_are names.now)) (names_are names.now) parts.now) (actual_list_targets (index_scope way (names_are names.now)) (names_are names.now) parts.now) result }
 {
     let mut all = Items::new(alloc);
     'parts: for part in parts {
-        match appended(all, part_in(alloc, part, begin, names)) {
+        match appended(all, part_in(alloc, part, begin, names, way)) {
             Ok(more) => all = more,
             Err(why) => return Err(why),
         }
@@ -80,17 +97,18 @@ fn parts_in(
     Ok(all)
 }
 
-/// The parts of an actual that is a net or variable with selects or a concatenation of these, the most significant first,
-/// where each index is constant and wholly 0 and 1; or why it is refused: E19 where it begins, E12, E14 or E23, or what an
+/// The parts of the actual of a port of this direction that is a net or variable with selects or a concatenation of these, the most
+/// significant first, where each index is constant and wholly 0 and 1; or why it is refused: E19 where it begins, E12, E14 or E23, or what an
 /// index is refused for.
 pub fn typed_actual(
     alloc: Global,
     actual: &Expr,
     names: &Names<'_>,
+    way: Way,
 ) -> Result<Items<TypedTarget>, TextErr>
-    ensures is { JudgesTargets fixed_faults (actual_faults (names_are names.now) actual.now) (as_targets (names_are names.now) actual.now) result }
+    ensures is { JudgesTargets fixed_faults (actual_faults (index_scope way (names_are names.now)) (names_are names.now) actual.now) (as_targets (index_scope way (names_are names.now)) (names_are names.now) actual.now) result }
     ensures narrow { AreNarrow result }
 {
     let begin = start(actual);
-    part_in(alloc, actual, begin, names)
+    part_in(alloc, actual, begin, names, way)
 }

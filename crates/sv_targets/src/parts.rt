@@ -2,7 +2,7 @@
 ghost use Rattle.std.specs.Prelude.{◌≡◌, ◌≤◌, ◌<◌, All, IfOk, List, [], length, slice_index_or, ◌+◌};
 ghost use Rattle.sv_names.specs.Names.{names_are};
 ghost use Rattle.lhs_alias.specs.Segs.{lhs_bits, AreSegs};
-ghost use Rattle.sv_meaning.specs.Designs.{as_targets, actual_faults};
+ghost use Rattle.sv_meaning.specs.Designs.{as_targets, actual_faults, index_scope};
 ghost use Rattle.sv_meaning.specs.Faults.{Faults};
 ghost use Rattle.sv_meaning.specs.Meanings.{fixed_faults};
 ghost use Rattle.sv_meaning.specs.Targets as t;
@@ -18,7 +18,7 @@ use lhs_alias::{Lhs, Seg, WireBit};
 use std::alloc::{AllocError, Global};
 use sv_names::Names;
 use sv_outside::TextErr;
-use sv_tree::{Expr, Lvalue};
+use sv_tree::{Expr, Lvalue, Way};
 use sv_typing::IndexRule;
 
 /// Bits of a target that are there, and the place of the lowest of them in the target.
@@ -157,14 +157,19 @@ fn lowered(alloc: Global, targets: Result<Items<TypedTarget>, TextErr>) -> Resul
 
 /// A target whose indices are constant and wholly 0 and 1; or why it is refused: E12, E14, E15, E16, E19 or E23.
 pub fn target_of(alloc: Global, target: &Lvalue, names: &Names<'_>) -> Result<Target, TextErr>
-    ensures { JudgesParts (t.lvalue_faults fixed_faults (names_are names.now) target.now) (t.targets (names_are names.now) target.now) result }
+    ensures { JudgesParts (t.assigned_faults (names_are names.now) target.now) (t.assigned_targets (names_are names.now) target.now) result }
 {
     lowered(alloc, typed_targets(alloc, target, names, IndexRule::Fixed))
 }
 
-/// An actual of a port as a target, as `target_of` has it (23.3.3).
-pub fn target_of_actual(alloc: Global, actual: &Expr, names: &Names<'_>) -> Result<Target, TextErr>
-    ensures { JudgesParts (actual_faults (names_are names.now) actual.now) (as_targets (names_are names.now) actual.now) result }
+/// The actual of a port of this direction as a target, as `target_of` has it (23.3.3).
+pub fn target_of_actual(
+    alloc: Global,
+    actual: &Expr,
+    names: &Names<'_>,
+    way: Way,
+) -> Result<Target, TextErr>
+    ensures { JudgesParts (actual_faults (index_scope way (names_are names.now)) (names_are names.now) actual.now) (as_targets (index_scope way (names_are names.now)) (names_are names.now) actual.now) result }
 {
-    lowered(alloc, typed_actual(alloc, actual, names))
+    lowered(alloc, typed_actual(alloc, actual, names, way))
 }

@@ -6,15 +6,8 @@ ghost use Rattle.sv_typing.specs.Picks.{fixed_pick};
 ghost use Rattle.sv_typed.specs.Typed.{PickIsSound, spot_place};
 ghost use Rattle.sv_targets.specs.Slots.{IsSpotted};
 
-use fourvec::{Bit, Four, Spot};
+use fourvec::{Four, Reach, Spot};
 use sv_typed::{Pick, PickPlace};
-
-/// A whole number: how far from 0 it is, and whether below.
-#[derive(Clone, Copy)]
-pub(crate) struct Reach {
-    pub below: bool,
-    pub far: u128,
-}
 
 /// Where a pick begins.
 #[derive(Clone, Copy)]
@@ -24,85 +17,6 @@ pub(crate) enum Spotted {
     At(Reach),
     /// 128 or more from the least significant bit.
     Far,
-}
-
-// Whether the highest bit is 1.
-#[tactic(auto, using(fourvec::proofs::Signed::negative_read))]
-fn is_negative(a: &Four) -> bool
-    ensures { result ≡ is_negative a.now }
-{
-    a.bit(a.width() - 1) == Bit::One
-}
-
-// The whole number of a known vector.
-#[tactic(auto, using(sv_typing::proofs::Vectors::number_is))]
-fn value(a: &Four) -> u128
-    requires { IsTrue (is_known a.now) }
-    ensures is { result ≡ number a.now }
-    ensures below { result < 2 ^ length a.now }
-{
-    a.low()
-}
-
-// The number of which so many lowest bits are 1.
-#[tactic(auto, using(fourvec::proofs::Planes::mask_is))]
-fn mask(width: u8) -> u128
-    requires some { 0 < width }
-    requires most { width ≤ 128 }
-    ensures { result ≡ 2 ^ width - 1 }
-{
-    u128::MAX >> (128 - width)
-}
-
-// How far the two's complement number of a known vector is from 0.
-#[tactic(auto, using(fourvec::proofs::Signed::magnitude_by_sign, fourvec::proofs::Signed::negative_some))]
-fn magnitude(a: &Four) -> u128
-    requires { IsTrue (is_known a.now) }
-    ensures { result ≡ unsigned_abs (signed a.now) }
-{
-    let value = value(a);
-    if is_negative(a) {
-        let mask = mask(a.width());
-        mask - value + 1
-    } else {
-        value
-    }
-}
-
-// Where a spot begins. None only where that is 128 or more from 0.
-#[tactic(auto, using(fourvec::proofs::Places::places))]
-fn reach_of(index: &Four, spot: &Spot) -> Option<Reach>
-    requires { IsTrue (is_known index.now) }
-    ensures near { IfSome result (λ r. place_of spot.now index.now ≡ reached r.below r.far) }
-    ensures far { IfNone result (128 ≤ unsigned_abs (place_of spot.now index.now)) }
-{
-    let below = (spot.signed && is_negative(index)) != spot.negate;
-    let count = if spot.signed {
-        magnitude(index)
-    } else {
-        value(index)
-    };
-    let shift = spot.add.unsigned_abs() as u128;
-    let back = spot.add < 0;
-    let Some(far) = count.checked_mul(spot.each as u128) else {
-        return None;
-    };
-    if below == back {
-        let Some(far) = far.checked_add(shift) else {
-            return None;
-        };
-        Some(Reach { below, far })
-    } else if shift <= far {
-        Some(Reach {
-            below,
-            far: far - shift,
-        })
-    } else {
-        Some(Reach {
-            below: back,
-            far: shift - far,
-        })
-    }
 }
 
 // A place that is known.
@@ -122,7 +36,7 @@ fn spot_at(index: &Four, spot: &Spot) -> Spotted
     if !index.is_bool() {
         return Spotted::Moving;
     }
-    match reach_of(index, spot) {
+    match index.place(spot) {
         Some(reach) => Spotted::At(reach),
         None => Spotted::Far,
     }

@@ -6,7 +6,8 @@ ghost use Rattle.sv_typed.specs.Typed.{PickIsSound};
 ghost use Rattle.sv_targets.specs.Slots.{IsNear, Picked, target_slots, slots_of};
 ghost use Rattle.sv_targets.specs.Targets.{TargetIsSound};
 
-use crate::places::{Reach, Spotted, spot_of};
+use crate::places::{Spotted, spot_of};
+use fourvec::Reach;
 use crate::targets::TypedTarget;
 use items::Items;
 use lhs_alias::WireBit;

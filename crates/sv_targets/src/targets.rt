@@ -3,7 +3,7 @@ ghost use Rattle.std.specs.Prelude.{◌≡◌, Some, List, [], ◌∷◌, ◌++�
 ghost use Rattle.std.specs.Option.{option_copied};
 ghost use Rattle.sv_names.specs.Kinds.{layout_is, what_is, IsSound, WhatIsSound};
 ghost use Rattle.sv_names.specs.Names.{names_are};
-ghost use Rattle.sv_typing.specs.Picks.{rule_faults};
+ghost use Rattle.sv_typing.specs.Picks.{rule_faults, rule_scope};
 ghost use Rattle.sv_typing.specs.Roots.{JudgesChain};
 ghost use Rattle.sv_meaning.specs.Faults.{Faults, or_then};
 ghost use Rattle.sv_meaning.specs.Layouts as m;
@@ -44,9 +44,6 @@ impl Drop for TypedTarget {
     }
 }
 
-// Braces may stand in braces so often; a text with more is answered as want of memory, since each takes a part of the stack.
-const DEEPEST: u16 = 1000;
-
 // A wire with its selects.
 fn wire_target(
     wire: usize,
@@ -78,7 +75,7 @@ fn what_target(
     rule: IndexRule,
 ) -> Result<TypedTarget, TextErr>
     requires { WhatIsSound what.now }
-    ensures { JudgesTarget (rule_faults rule) (t.target_faults (rule_faults rule) begin word.now (Some (what_is what.now)) (map (step (names_are names.now)) selects.now)) (t.target_of (Some (what_is what.now)) (map (step (names_are names.now)) selects.now)) result }
+    ensures { JudgesTarget (rule_faults rule) (t.target_faults (rule_faults rule) begin word.now (Some (what_is what.now)) (map (step (rule_scope rule (names_are names.now))) selects.now)) (t.target_of (Some (what_is what.now)) (map (step (rule_scope rule (names_are names.now))) selects.now)) result }
 {
     match what {
         What::Wire { number, layout } => wire_target(
@@ -103,7 +100,7 @@ pub(crate) fn named_target(
     names: &Names<'_>,
     rule: IndexRule,
 ) -> Result<TypedTarget, TextErr>
-    ensures { JudgesTarget (rule_faults rule) (t.target_faults (rule_faults rule) begin word.now (m.find word.now.text (names_are names.now)) (map (step (names_are names.now)) selects.now)) (t.target_of (m.find word.now.text (names_are names.now)) (map (step (names_are names.now)) selects.now)) result }
+    ensures { JudgesTarget (rule_faults rule) (t.target_faults (rule_faults rule) begin word.now (m.find word.now.text (names_are names.now)) (map (step (rule_scope rule (names_are names.now))) selects.now)) (t.target_of (m.find word.now.text (names_are names.now)) (map (step (rule_scope rule (names_are names.now))) selects.now)) result }
 {
     match names.find(word.text.bytes()) {
         Some(what) => what_target(alloc, begin, word, what, selects, names, rule),
@@ -175,15 +172,16 @@ pub(crate) fn appended(
     Ok(all)
 }
 
+/// The parts of a target, the most significant first, where each index is judged so; or why it is refused: E12, E14, E19 or
+/// E23, or what an index is refused for.
 #[cycle(target)]
-fn target_in(
+pub fn typed_targets(
     alloc: Global,
     target: &Lvalue,
     names: &Names<'_>,
     rule: IndexRule,
-    depth: u16,
 ) -> Result<Items<TypedTarget>, TextErr>
-    ensures is { JudgesTargets (rule_faults rule) (t.lvalue_faults (rule_faults rule) (names_are names.now) target.now) (t.targets (names_are names.now) target.now) result }
+    ensures is { JudgesTargets (rule_faults rule) (t.lvalue_faults (rule_faults rule) (rule_scope rule (names_are names.now)) (names_are names.now) target.now) (t.targets (rule_scope rule (names_are names.now)) (names_are names.now) target.now) result }
     ensures narrow { AreNarrow result }
 {
     match target {
@@ -193,7 +191,7 @@ fn target_in(
         ),
         Lvalue::Concat(place, parts) => braced(
             *place,
-            targets_in(alloc, parts.as_slice(), names, rule, depth),
+            targets_in(alloc, parts.as_slice(), names, rule),
         ),
     }
 }
@@ -204,33 +202,15 @@ fn targets_in(
     parts: &[Lvalue],
     names: &Names<'_>,
     rule: IndexRule,
-    depth: u16,
 ) -> Result<Items<TypedTarget>, TextErr>
-    ensures { JudgesTargets (rule_faults rule) (all_faults (rule_faults rule) (names_are names.now) parts.now) (all_targets (names_are names.now) parts.now) result }
+    ensures { JudgesTargets (rule_faults rule) (all_faults (rule_faults rule) (rule_scope rule (names_are names.now)) (names_are names.now) parts.now) (all_targets (rule_scope rule (names_are names.now)) (names_are names.now) parts.now) result }
 {
-    if depth == 0 {
-        return Err(TextErr::Memory);
-    }
     let mut all = Items::new(alloc);
     'parts: for part in parts {
-        match appended(all, target_in(alloc, part, names, rule, depth - 1)) {
+        match appended(all, typed_targets(alloc, part, names, rule)) {
             Ok(more) => all = more,
             Err(why) => return Err(why),
         }
     }
     Ok(all)
-}
-
-/// The parts of a target, the most significant first, where each index is judged so; or why it is refused: E12, E14, E19 or
-/// E23, or what an index is refused for.
-pub fn typed_targets(
-    alloc: Global,
-    target: &Lvalue,
-    names: &Names<'_>,
-    rule: IndexRule,
-) -> Result<Items<TypedTarget>, TextErr>
-    ensures is { JudgesTargets (rule_faults rule) (t.lvalue_faults (rule_faults rule) (names_are names.now) target.now) (t.targets (names_are names.now) target.now) result }
-    ensures narrow { AreNarrow result }
-{
-    target_in(alloc, target, names, rule, DEEPEST)
 }

@@ -1,7 +1,7 @@
 use Rattle.std.proofs.Common.{◌+◌, ◌++◌, map, take, refl, ◌∙◌, subst, arith, Ok}
 use Rattle.std.proofs.lemmas.Result.{err_from_is_err_and, IfOk-from_err}
 use Rattle.sv_tree.specs.declared.stmts.Stmt.{Stmt}
-use Rattle.sv_meaning.specs.Layouts.{Scope}
+use Rattle.sv_meaning.specs.Layouts.{Scope, constant_scope}
 use Rattle.sv_meaning.specs.Meanings.{free_faults}
 use Rattle.sv_meaning.specs.Values.{mean}
 use Rattle.sv_meaning.specs.Targets.{targets, lvalue_faults}
@@ -66,7 +66,7 @@ typed_stmt-returns-in-Ok-clause-is t c =
     let given = c.get-in-Ok.result.now in
     let slice = c.as_slice-in-Ok.result.now in
     done_for at c.args.stmt.now c.in-For.place c.in-For.field-1 v c.in-For.start c.in-For.test c.in-For.next c.in-For.body given c.in-Ok.values slice c.args.made c.typed_turns.result c.in-For.is c.get-in-Ok.ensures c.as_slice-in-Ok.ensures
-    (subst (Gives (turns c.in-For.place at v.text c.in-For.start c.in-For.test c.in-For.next)) c.in-Ok.is c.turns.ensures.is)
+    (subst (Gives (turns c.in-For.place (constant_scope at) v.text c.in-For.start c.in-For.test c.in-For.next)) c.in-Ok.is c.turns.ensures.is)
     (at_names (λ (s : Scope). in_order (turn_deed s c.in-For.place v.text given) slice) c.args.names.now c.turns.new.names c.args.made c.args.made c.typed_turns.result
     c.turns.ensures.frames (loops_kept c.args.names.now c.turns.new.names c.turns.ensures.names c.turns.ensures.frames) refl c.typed_turns.ensures.is)
 
@@ -81,7 +81,7 @@ typed_stmt-returns-in-Err-clause-is t c =
     let at = names_are c.args.names.now in
     let v = c.in-For.variable in
     for_refused at c.args.stmt.now c.in-For.place c.in-For.field-1 v c.in-For.start c.in-For.test c.in-For.next c.in-For.body c.args.made c.in-Err.why c.in-For.is
-    (subst (Gives (turns c.in-For.place at v.text c.in-For.start c.in-For.test c.in-For.next)) c.in-Err.is c.turns.ensures.is)
+    (subst (Gives (turns c.in-For.place (constant_scope at) v.text c.in-For.start c.in-For.test c.in-For.next)) c.in-Err.is c.turns.ensures.is)
 
 pub typed_stmt-returns-in-Err-clause-loops : goal.typed_stmt-returns-in-Err-clause-loops
 typed_stmt-returns-in-Err-clause-loops t c = loops_kept c.args.names.now c.turns.new.names c.turns.ensures.names c.turns.ensures.frames
@@ -91,7 +91,7 @@ typed_stmt-returns-in-Assign-clause-is t c =
     let at = names_are c.args.names.now in
     let to = c.in-Assign.target in
     done_assign at c.args.stmt.now to c.in-Assign.field-1 c.in-Assign.field-2 c.in-Assign.value c.args.made c.assigned.result c.in-Assign.is
-    (c.assigned.ensures.is (targets at to) (lvalue_faults free_faults at to) (mean at c.in-Assign.value) c.typed_targets.ensures.is c.typed_targets.ensures.narrow (targets_some free_faults at to c.typed_targets.result c.typed_targets.ensures.is) c.typed.ensures)
+    (c.assigned.ensures.is (targets at at to) (lvalue_faults free_faults at at to) (mean at c.in-Assign.value) c.typed_targets.ensures.is c.typed_targets.ensures.narrow (targets_some free_faults at at to c.typed_targets.result c.typed_targets.ensures.is) c.typed.ensures)
 
 -- ---- lists of statements
 
@@ -345,7 +345,7 @@ typed_stmt-returns-in-Assign-clause-aims t c = λ named w.
     let at = names_are c.args.names.now in
     let to = c.in-Assign.target in
     c.assigned.ensures.aims named
-    (targets_aim free_faults at named to c.typed_targets.result c.typed_targets.ensures.is (within_as _ _ named (of_assign at c.args.stmt.now to c.in-Assign.field-1 c.in-Assign.field-2 c.in-Assign.value c.in-Assign.is) w))
+    (targets_aim free_faults at at named to c.typed_targets.result c.typed_targets.ensures.is (within_as _ _ named (of_assign at c.args.stmt.now to c.in-Assign.field-1 c.in-Assign.field-2 c.in-Assign.value c.in-Assign.is) w))
 
 pub typed_all-returns-in-Err-clause-aims : goal.typed_all-returns-in-Err-clause-aims
 typed_all-returns-in-Err-clause-aims t c = λ named w. tt

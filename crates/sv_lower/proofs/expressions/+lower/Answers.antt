@@ -1,3 +1,4 @@
+use Rattle.std.proofs.lemmas.Result.{IfOk-from_err}
 use Rattle.std.proofs.Common.{rules, ◌*◌, refl, sym, ap, ◌∙◌, arith}
 use Rattle.svex_arena.proofs.Keeping.{extends_self, extends_on}
 use Rattle.svex_arena.proofs.Steps.{width-extends}
@@ -336,3 +337,90 @@ lower_picks-returns-clause-stays t c =
 pub lower_picks-returns-clause-ok : goal.lower_picks-returns-clause-ok
 lower_picks-returns-clause-ok t c =
     picks_end _ _ _ _ _ _ _ c.picks-test.false c.picks.invariant.made
+
+pub lower_in-returns-in_err-a-in-Chosen-clause-ok : goal.lower_in-returns-in_err-a-in-Chosen-clause-ok
+lower_in-returns-in_err-a-in-Chosen-clause-ok t c = IfOk-from_err _ _ c.from_residual-in_err-a-in-Chosen.ensures.0
+
+pub lower_in-returns-in_err-a-in-Combined-clause-ok : goal.lower_in-returns-in_err-a-in-Combined-clause-ok
+lower_in-returns-in_err-a-in-Combined-clause-ok t c = IfOk-from_err _ _ c.from_residual-in_err-a-in-Combined.ensures.0
+
+pub lower_in-returns-in_err-a-in-Compared-clause-ok : goal.lower_in-returns-in_err-a-in-Compared-clause-ok
+lower_in-returns-in_err-a-in-Compared-clause-ok t c = IfOk-from_err _ _ c.from_residual-in_err-a-in-Compared.ensures.0
+
+pub lower_in-returns-in_err-a-in-Computed-clause-ok : goal.lower_in-returns-in_err-a-in-Computed-clause-ok
+lower_in-returns-in_err-a-in-Computed-clause-ok t c = IfOk-from_err _ _ c.from_residual-in_err-a-in-Computed.ensures.0
+
+pub lower_in-returns-in_err-a-in-Fitted-clause-ok : goal.lower_in-returns-in_err-a-in-Fitted-clause-ok
+lower_in-returns-in_err-a-in-Fitted-clause-ok t c = IfOk-from_err _ _ c.from_residual-in_err-a-in-Fitted.ensures.0
+
+pub lower_in-returns-in_err-a-in-Moved-clause-ok : goal.lower_in-returns-in_err-a-in-Moved-clause-ok
+lower_in-returns-in_err-a-in-Moved-clause-ok t c = IfOk-from_err _ _ c.from_residual-in_err-a-in-Moved.ensures.0
+
+pub lower_in-returns-in_err-a-in-Reduced-clause-ok : goal.lower_in-returns-in_err-a-in-Reduced-clause-ok
+lower_in-returns-in_err-a-in-Reduced-clause-ok t c = IfOk-from_err _ _ c.from_residual-in_err-a-in-Reduced.ensures.0
+
+pub lower_in-returns-in_err-a-in-Standing-clause-ok : goal.lower_in-returns-in_err-a-in-Standing-clause-ok
+lower_in-returns-in_err-a-in-Standing-clause-ok t c = IfOk-from_err _ _ c.from_residual-in_err-a-in-Standing.ensures.0
+
+pub lower_in-returns-in_err-a-in-Turned-clause-ok : goal.lower_in-returns-in_err-a-in-Turned-clause-ok
+lower_in-returns-in_err-a-in-Turned-clause-ok t c = IfOk-from_err _ _ c.from_residual-in_err-a-in-Turned.ensures.0
+
+pub lower_in-returns-in_err-b-in-Chosen-clause-ok : goal.lower_in-returns-in_err-b-in-Chosen-clause-ok
+lower_in-returns-in_err-b-in-Chosen-clause-ok t c = IfOk-from_err _ _ c.from_residual-in_err-b-in-Chosen.ensures.0
+
+pub lower_in-returns-in_err-b-in-Combined-clause-ok : goal.lower_in-returns-in_err-b-in-Combined-clause-ok
+lower_in-returns-in_err-b-in-Combined-clause-ok t c = IfOk-from_err _ _ c.from_residual-in_err-b-in-Combined.ensures.0
+
+pub lower_in-returns-in_err-b-in-Compared-clause-ok : goal.lower_in-returns-in_err-b-in-Compared-clause-ok
+lower_in-returns-in_err-b-in-Compared-clause-ok t c = IfOk-from_err _ _ c.from_residual-in_err-b-in-Compared.ensures.0
+
+pub lower_in-returns-in_err-b-in-Computed-clause-ok : goal.lower_in-returns-in_err-b-in-Computed-clause-ok
+lower_in-returns-in_err-b-in-Computed-clause-ok t c = IfOk-from_err _ _ c.from_residual-in_err-b-in-Computed.ensures.0
+
+pub lower_in-returns-in_err-b-in-Moved-clause-ok : goal.lower_in-returns-in_err-b-in-Moved-clause-ok
+lower_in-returns-in_err-b-in-Moved-clause-ok t c = IfOk-from_err _ _ c.from_residual-in_err-b-in-Moved.ensures.0
+
+pub lower_in-returns-in_err-bit-in-Combined-clause-ok : goal.lower_in-returns-in_err-bit-in-Combined-clause-ok
+lower_in-returns-in_err-bit-in-Combined-clause-ok t c = IfOk-from_err _ _ c.from_residual-in_err-bit-in-Combined.ensures.0
+
+pub lower_in-returns-in_err-bit-in-Compared-clause-ok : goal.lower_in-returns-in_err-bit-in-Compared-clause-ok
+lower_in-returns-in_err-bit-in-Compared-clause-ok t c = IfOk-from_err _ _ c.from_residual-in_err-bit-in-Compared.ensures.0
+
+pub lower_in-returns-in_err-bit-in-Reduced-clause-ok : goal.lower_in-returns-in_err-bit-in-Reduced-clause-ok
+lower_in-returns-in_err-bit-in-Reduced-clause-ok t c = IfOk-from_err _ _ c.from_residual-in_err-bit-in-Reduced.ensures.0
+
+pub lower_in-returns-in_err-c-in-Chosen-clause-ok : goal.lower_in-returns-in_err-c-in-Chosen-clause-ok
+lower_in-returns-in_err-c-in-Chosen-clause-ok t c = IfOk-from_err _ _ c.from_residual-in_err-c-in-Chosen.ensures.0
+
+pub lower_in-returns-in_err-copies-in-Repeat-clause-ok : goal.lower_in-returns-in_err-copies-in-Repeat-clause-ok
+lower_in-returns-in_err-copies-in-Repeat-clause-ok t c = IfOk-from_err _ _ c.from_residual-in_err-copies-in-Repeat.ensures.0
+
+pub lower_in-returns-in_err-part-in-Fitted-clause-ok : goal.lower_in-returns-in_err-part-in-Fitted-clause-ok
+lower_in-returns-in_err-part-in-Fitted-clause-ok t c = IfOk-from_err _ _ c.from_residual-in_err-part-in-Fitted.ensures.0
+
+pub lower_in-returns-in_err-part-in-Named-clause-ok : goal.lower_in-returns-in_err-part-in-Named-clause-ok
+lower_in-returns-in_err-part-in-Named-clause-ok t c = IfOk-from_err _ _ c.from_residual-in_err-part-in-Named.ensures.0
+
+pub lower_in-returns-in_err-whole-in-Concat-clause-ok : goal.lower_in-returns-in_err-whole-in-Concat-clause-ok
+lower_in-returns-in_err-whole-in-Concat-clause-ok t c = IfOk-from_err _ _ c.from_residual-in_err-whole-in-Concat.ensures.0
+
+pub lower_in-returns-in_err-whole-in-Named-clause-ok : goal.lower_in-returns-in_err-whole-in-Named-clause-ok
+lower_in-returns-in_err-whole-in-Named-clause-ok t c = IfOk-from_err _ _ c.from_residual.ensures.0
+
+pub lower_in-returns-in_err-whole-in-Repeat-clause-ok : goal.lower_in-returns-in_err-whole-in-Repeat-clause-ok
+lower_in-returns-in_err-whole-in-Repeat-clause-ok t c = IfOk-from_err _ _ c.from_residual-in_err-whole-in-Repeat.ensures.0
+
+pub lower_parts-returns-in_err-part-clause-ok : goal.lower_parts-returns-in_err-part-clause-ok
+lower_parts-returns-in_err-part-clause-ok t c = IfOk-from_err _ _ c.from_residual-in_err-part.ensures.0
+
+pub lower_parts-returns-in_err-whole-2-clause-ok : goal.lower_parts-returns-in_err-whole-2-clause-ok
+lower_parts-returns-in_err-whole-2-clause-ok t c = IfOk-from_err _ _ c.from_residual-in_err-whole-2.ensures.0
+
+pub lower_parts-returns-in_err-whole-clause-ok : goal.lower_parts-returns-in_err-whole-clause-ok
+lower_parts-returns-in_err-whole-clause-ok t c = IfOk-from_err _ _ c.from_residual.ensures.0
+
+pub lower_pick-returns-in_err-at-in-Moving-clause-ok : goal.lower_pick-returns-in_err-at-in-Moving-clause-ok
+lower_pick-returns-in_err-at-in-Moving-clause-ok t c = IfOk-from_err _ _ c.from_residual.ensures.0
+
+pub lower_picks-returns-in_err-part-clause-ok : goal.lower_picks-returns-in_err-part-clause-ok
+lower_picks-returns-in_err-part-clause-ok t c = IfOk-from_err _ _ c.from_residual.ensures.0

@@ -1,3 +1,4 @@
+use Rattle.std.proofs.lemmas.Result.{IfOk-from_err}
 use Rattle.std.proofs.Common.{take, ap, ◌∙◌, arith}
 use Rattle.sv_typed.specs.Typed.{worth}
 use Rattle.sv_lower.specs.Lowering.{look_read}
@@ -20,3 +21,27 @@ returns-clause-value c = λ bits.
 
 pub returns-clause-mentions : goal.returns-clause-mentions
 returns-clause-mentions c = λ p m. c.in_ok-part.ensures.ok.mentions p (c.in_ok-whole.ensures.ok.mentions p m)
+
+pub returns-in_err-part-clause-mentions : goal.returns-in_err-part-clause-mentions
+returns-in_err-part-clause-mentions c = IfOk-from_err _ _ c.from_residual-in_err-part.ensures.0
+
+pub returns-in_err-part-clause-value : goal.returns-in_err-part-clause-value
+returns-in_err-part-clause-value c = IfOk-from_err _ _ c.from_residual-in_err-part.ensures.0
+
+pub returns-in_err-part-clause-width : goal.returns-in_err-part-clause-width
+returns-in_err-part-clause-width c = IfOk-from_err _ _ c.from_residual-in_err-part.ensures.0
+
+pub returns-in_err-part-clause-within : goal.returns-in_err-part-clause-within
+returns-in_err-part-clause-within c = IfOk-from_err _ _ c.from_residual-in_err-part.ensures.0
+
+pub returns-in_err-whole-clause-mentions : goal.returns-in_err-whole-clause-mentions
+returns-in_err-whole-clause-mentions c = IfOk-from_err _ _ c.from_residual.ensures.0
+
+pub returns-in_err-whole-clause-value : goal.returns-in_err-whole-clause-value
+returns-in_err-whole-clause-value c = IfOk-from_err _ _ c.from_residual.ensures.0
+
+pub returns-in_err-whole-clause-width : goal.returns-in_err-whole-clause-width
+returns-in_err-whole-clause-width c = IfOk-from_err _ _ c.from_residual.ensures.0
+
+pub returns-in_err-whole-clause-within : goal.returns-in_err-whole-clause-within
+returns-in_err-whole-clause-within c = IfOk-from_err _ _ c.from_residual.ensures.0

@@ -1,3 +1,4 @@
+use Rattle.std.proofs.lemmas.Result.{IfOk-from_err}
 use Rattle.std.proofs.Common.{rules}
 use Rattle.sv_lower.proofs.Indices.{part_unknown, part_known, part_far}
 use Rattle.sv_lower.proofs.places.part_at_constant.Goals as goal
@@ -11,3 +12,15 @@ returns-in_ok-node-in-Some-clause-ok c =
 
 pub returns-in_ok-node-in-None-clause-ok : goal.returns-in_ok-node-in-None-clause-ok
 returns-in_ok-node-in-None-clause-ok c = part_far _ _ _ _ _ _ _ _ c.constant.ensures.stays c.requires.of c.in_ok-at-in-None.ensures.ok c.in_ok-node-in-None.ensures.ok
+
+pub returns-in_err-at-in-None-clause-ok : goal.returns-in_err-at-in-None-clause-ok
+returns-in_err-at-in-None-clause-ok c = IfOk-from_err _ _ c.from_residual-in_err-at-in-None.ensures.0
+
+pub returns-in_err-node-clause-ok : goal.returns-in_err-node-clause-ok
+returns-in_err-node-clause-ok c = IfOk-from_err _ _ c.from_residual.ensures.0
+
+pub returns-in_err-node-in-None-clause-ok : goal.returns-in_err-node-in-None-clause-ok
+returns-in_err-node-in-None-clause-ok c = IfOk-from_err _ _ c.from_residual-in_err-node-in-None.ensures.0
+
+pub returns-in_err-node-in-Some-clause-ok : goal.returns-in_err-node-in-Some-clause-ok
+returns-in_err-node-in-Some-clause-ok c = IfOk-from_err _ _ c.from_residual-in_err-node-in-Some.ensures.0

@@ -1,6 +1,5 @@
 use Rattle.std.proofs.Common.{◌≡◌, List, [], ◌++◌, All, sym, ap, ◌∙◌, subst}
 use Rattle.std.proofs.lemmas.Result.{err_from_is_err_and}
-use Rattle.sv_names.specs.Kinds.{scope_is}
 use Rattle.sv_typing.specs.Judging.{IsCause}
 use Rattle.sv_names.specs.Names.{names_are}
 use Rattle.sv_meaning.specs.Layouts.{Scope}
@@ -26,7 +25,7 @@ returns-in_err-judge_marks-clause-cause c =
 pub returns-clause-sound : goal.returns-clause-sound
 returns-clause-sound c = λ widths w.
     let b = c.args.block.now in
-    let same = ap scope_is c.in_ok-actions.ensures.names in
+    let same = c.in_ok-actions.ensures.names in
     let g = subst (λ (s : Scope). Contributes s (target_signals s b.body) c.in_ok-clock.clock c.as_slice.result.now c.drivers_in.new.arena c.in_ok-all.all) same c.in_ok-all.ensures.ok in
     let h = subst (λ (z : List Action). Contributes (names_are c.args.names.now) (target_signals (names_are c.args.names.now) b.body) c.in_ok-clock.clock z c.drivers_in.new.arena c.in_ok-all.all) c.as_slice.ensures g in
     block_sound (names_are c.args.names.now) c.in_ok-clock.clock _ b c.drivers_in.new.arena c.in_ok-all.all c.in_ok-clock.ensures.clock.named_are c.in_ok-actions.ensures.is.does h widths w
@@ -34,7 +33,7 @@ returns-clause-sound c = λ widths w.
 pub returns-clause-mentions : goal.returns-clause-mentions
 returns-clause-mentions c = λ wires p w r.
     let b = c.args.block.now in
-    let same = ap scope_is c.in_ok-actions.ensures.names in
+    let same = c.in_ok-actions.ensures.names in
     let g = subst (λ (s : Scope). Contributes s (target_signals s b.body) c.in_ok-clock.clock c.as_slice.result.now c.drivers_in.new.arena c.in_ok-all.all) same c.in_ok-all.ensures.ok in
     let h = subst (λ (z : List Action). Contributes (names_are c.args.names.now) (target_signals (names_are c.args.names.now) b.body) c.in_ok-clock.clock z c.drivers_in.new.arena c.in_ok-all.all) c.as_slice.ensures g in
     block_mentions (names_are c.args.names.now) c.in_ok-clock.clock _ b (manner (names_are c.args.names.now) b.kind) c.drivers_in.new.arena c.in_ok-all.all c.in_ok-clock.ensures.clock.manner_is c.in_ok-clock.ensures.clock.named_are c.in_ok-actions.ensures.is.does h wires p w r
@@ -42,7 +41,7 @@ returns-clause-mentions c = λ wires p w r.
 pub drivers_in-requires-clause-aims : goal.drivers_in-requires-clause-aims
 drivers_in-requires-clause-aims c =
     let b = c.args.block.now in
-    let same = ap scope_is c.in_ok-actions.ensures.names in
+    let same = c.in_ok-actions.ensures.names in
     let h = subst (λ (s : Scope). All (Aims (target_signals s b.body)) c.in_ok-actions.field-0.actions) (sym same) (c.in_ok-actions.ensures.aims (target_signals (names_are c.args.names.now) b.body) (λ s i. i)) in
     subst (λ (z : List Action). All (Aims (target_signals (names_are c.typed_body.new.names) b.body)) z) (sym c.as_slice.ensures) h
 
@@ -50,9 +49,9 @@ pub drivers_in-requires-clause-names : goal.drivers_in-requires-clause-names
 drivers_in-requires-clause-names c =
     let at = names_are c.args.names.now in
     let b = c.args.block.now in
-    let same = ap scope_is c.in_ok-actions.ensures.names in
+    let same = c.in_ok-actions.ensures.names in
     subst (λ (z : List Action). AreDeclared (names_are c.typed_body.new.names) (names_all z)) (sym c.as_slice.ensures)
     (subst (λ (s : Scope). AreDeclared s (names_all c.in_ok-actions.field-0.actions)) (sym same) (λ s i. deed_declared at b.body s (c.in_ok-actions.ensures.is.does.names s i)))
 
 pub drivers_in-requires-clause-widths : goal.drivers_in-requires-clause-widths
-drivers_in-requires-clause-widths c = subst OneWidth (sym (ap scope_is c.in_ok-actions.ensures.names)) c.requires
+drivers_in-requires-clause-widths c = subst OneWidth (sym (c.in_ok-actions.ensures.names)) c.requires
