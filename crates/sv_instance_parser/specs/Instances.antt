@@ -5,7 +5,6 @@ use Rattle.sv_tree.specs.declared.exprs.Expr.{Expr}
 use Rattle.sv_tree.specs.declared.forms.Range.{Range}
 use Rattle.sv_tree.specs.declared.forms.TypeTree.TheVariants as ty
 use Rattle.sv_tree.specs.declared.design.Pin.{Pin}
-use Rattle.sv_tree.specs.declared.design.Pin.TheVariants as pin_of
 use Rattle.sv_tree.specs.declared.design.NamedPin.{NamedPin}
 use Rattle.sv_tree.specs.declared.design.Pins.{Pins}
 use Rattle.sv_tree.specs.declared.design.Pins.TheVariants as pins_of
@@ -26,16 +25,12 @@ use Rattle.sv_instance_parser.specs.declared.tails.NameTail.TheVariants as name_
 use Rattle.sv_instance_parser.specs.declared.tails.PlainTail.{PlainTail}
 use Rattle.sv_instance_parser.specs.declared.tails.PlainTail.TheVariants as plain_tail_of
 use Rattle.sv_word_parser.specs.Combined.{◌▸◌, ◌◂◌, sort_test, listed, some_of}
+pub use Rattle.sv_word_parser.specs.Connections.{made_pin}
 use Rattle.sv_word_parser.specs.Words.{tail_by_sort}
 use Rattle.sv_instance_parser.specs.Pins.{pins_by_sort}
 use Rattle.sv_type_parser.specs.Forms.{expression, range, names}
 
 -- ---- connections
-
-abbrev pub made_pin : Option (Option Expr) → Pin
-made_pin None = pin_of.Same
-made_pin (Some None) = pin_of.Open
-made_pin (Some (Some x)) = pin_of.Given x
 
 -- an expression in parentheses, or none
 unfoldable pub pin_inside : Parser (Option Expr)

@@ -1,5 +1,5 @@
 // Instances, and what else begins with a name.
-ghost use Rattle.std.specs.Prelude.{◌≡◌, IfOk, Some};
+ghost use Rattle.std.specs.Prelude.{◌≡◌, IfOk};
 ghost use Rattle.sv_cursor.specs.Parsers as parser;
 ghost use Rattle.sv_cursor.specs.Parsers.{Reads, told};
 ghost use Rattle.sv_cursor.specs.Tests as test;
@@ -19,7 +19,7 @@ use sv_cursor::{Cursor, Mark, ParseErr, Sort};
 use sv_expr_words::{Opener, begins};
 use sv_tree::{Expr, Inst, Item, NamedPin, One, Pin, Pins, Range, TypeTree, Word};
 use sv_type_parser::{expression, expressions, more_names, names, range, ranges, with_first};
-use sv_word_parser::{TailOpener, sees};
+use sv_word_parser::{TailOpener, given_pin, sees};
 
 // ---- connections
 
@@ -43,15 +43,6 @@ fn pin_inside(alloc: Global, tokens: &mut Cursor<'_>) -> Result<Option<Expr>, Pa
     let inner = maybe_expression(alloc, tokens)?;
     let (inner, _) = both(inner, tokens.mark(Mark::RightParen))?;
     Ok(inner)
-}
-
-fn given_pin(inner: Option<Expr>) -> Pin
-    ensures { result ≡ spec.made_pin (Some inner) }
-{
-    match inner {
-        Some(value) => Pin::Given(value),
-        None => Pin::Open,
-    }
 }
 
 #[tactic(auto, unfolding(crate::specs::Instances::pin))]
