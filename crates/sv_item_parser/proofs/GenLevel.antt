@@ -1,4 +1,4 @@
--- Bodies of generate constructs, conditions and loops are read as they are spelled, where their items are.
+-- Bodies of generate constructs, conditions, loops and regions are read as they are spelled, where their items are.
 use Rattle.std.proofs.Common.{◌≡◌, ℕ, suc, ◌<◌, ◌≤◌, Bool, true, false, List, [], ◌∷◌, ◌++◌, length, Option, Some, None, refl, sym, ◌∙◌, ap, subst, append_assoc, length-append, arith}
 use Rattle.sv_outside.specs.declared.refusal.Place.{Place}
 use Rattle.sv_outside.specs.declared.text.Token.{Token}
@@ -6,7 +6,7 @@ use Rattle.sv_tree.specs.declared.word.Word.{Word}
 use Rattle.sv_tree.specs.declared.exprs.Expr.{Expr}
 use Rattle.sv_tree.specs.declared.stmts.Step.{Step}
 use Rattle.sv_tree.specs.declared.stmts.Block.{Block}
-use Rattle.sv_tree.specs.declared.design.Item.{Item, Generate'}
+use Rattle.sv_tree.specs.declared.design.Item.{Item}
 use Rattle.sv_tree.specs.declared.design.Item.TheVariants as it
 use Rattle.sv_tree.specs.declared.design.Gen.{Gen}
 use Rattle.sv_tree.specs.declared.design.Gen.TheVariants as ge
@@ -32,8 +32,7 @@ use Rattle.sv_item_parser.specs.Items.{made_gen_block, made_cond, made_loop}
 use Rattle.sv_type_parser.proofs.Rules.{Shut, some_key, key_begins, IsFirst, first_of_key, first_of_name, told_sort, no_mark, no_key}
 use Rattle.sv_stmt_parser.proofs.Steps.{NoColon}
 use Rattle.sv_item_parser.proofs.Items.{DoneItem, DoneGen, counted_done_gen, OtherGen, ItemClass}
-use Rattle.sv_item_parser.proofs.Gens.{item_begins, item_told_no_colon, item_no_begin, cond_to, loop_to, gen_block_to, gen_block_from, single_to, single_from, item_view}
-use Rattle.sv_tree.specs.declared.design.Gen.TheBlock.{shape-the_row-Item-0, hidden-the_row-Item-0, shape-the_row-Item-1, hidden-the_row-Item-1, shape-the_row-Gen-2, hidden-the_row-Gen-2}
+use Rattle.sv_item_parser.proofs.Gens.{item_begins, item_told_no_colon, item_no_begin, cond_to, loop_to, region_to, gen_block_to, gen_block_from, single_to, single_from, item_view}
 use Rattle.sv_tree.specs.declared.stmts.BlockKind.{BlockKind}
 use Rattle.sv_tree.specs.declared.stmts.BlockKind.TheVariants as kind_of
 use Rattle.sv_tree.specs.Spelling.{Begins}
@@ -43,8 +42,8 @@ use Rattle.sv_tree.proofs.CountedDesign.{length_in_generate}
 use Rattle.sv_cursor.specs.Parsers.{Parser, ◌<$>◌, pure, refuse}
 use Rattle.sv_cursor.proofs.Readers.{IsReader, IsMoved, Meets, then_meets, equal_reader, less_reader, choose_reader, refuse_reader}
 use Rattle.sv_stmt_parser.specs.Targets.{end_label}
-use Rattle.sv_item_parser.specs.Items.{place_test, items, gen_rest, gen_block, single, gen, maybe_gen, gen_if, gen_loop}
-use Rattle.sv_type_parser.proofs.Rules.{Rule, the_mark, the_key, placed, before, seq, seq_by, seq_up, optional, several, shut, rule_of, Way, ReadBy, reader_of, way_reader}
+use Rattle.sv_item_parser.specs.Items.{place_test, items, gen_rest, gen_block, single, gen, maybe_gen, gen_if, gen_loop, region}
+use Rattle.sv_type_parser.proofs.Rules.{Rule, the_mark, the_key, placed, before, opening, closing, seq, seq_by, seq_up, optional, several, shut, rule_of, Way, ReadBy, reader_of, way_reader}
 use Rattle.sv_type_parser.proofs.Limits.{Over, expression_rule, end_mark, generated}
 use Rattle.sv_stmt_parser.proofs.Steps.{block_label_rule, end_label_reads, end_label_moved}
 use Rattle.sv_stmt_parser.proofs.Stmts.{variable_rule}
@@ -61,24 +60,6 @@ classed c x i o h = let v = item_view x i o h.1 in let e : v.0 ≡ c = same v.0 
 
 pub counted_done_item : (x : Item) → Counted (DoneItem x) (length (item_depths x))
 counted_done_item x = record { count = λ i o h. (counted_item x).count i o h.0; rest = λ i o h. (counted_item x).rest i o h.0 }
-
--- whether the item is a generate region
-abbrev pub is_region : Item → Bool
-is_region (Generate' r all) = true
-is_region _ = false
-
--- a whole item that is no region
-abbrev pub Plain : Item → Spelled
-Plain x i o = DoneItem x i o × (is_region x ≡ false)
-
-if_no_region : (p : Place) (c : Expr) (x : Gen) (y : Option Gen) → is_region (it.If p c x y) ≡ false
-unfolding shape-the_row-Item-0 hidden-the_row-Item-0 shape-the_row-Item-1 hidden-the_row-Item-1 shape-the_row-Gen-2 hidden-the_row-Gen-2 denote.Hole.Carrier.hidden
-if_no_region p c x None = refl
-if_no_region p c x (Some y) = refl
-
-for_no_region : (p : Place) (header : Bool) (v : Word) (start test : Expr) (next : Step) (x : Gen) → is_region (it.For p header v start test next x) ≡ false
-unfolding shape-the_row-Item-0 hidden-the_row-Item-0 shape-the_row-Item-1 hidden-the_row-Item-1 shape-the_row-Gen-2 hidden-the_row-Gen-2 denote.Hole.Carrier.hidden
-for_no_region p header v start test next x = refl
 
 block_grows : (b : Block) → 0 < length (block_depths b)
 block_grows b = by_kind b.kind
@@ -102,7 +83,7 @@ item_grows = made.by_cases_item (λ x. 0 < length (item_depths x))
     (λ x. subst (λ l. 0 < length l) (sym (made.nests_inst x)) (simp length-append (omega arith)))
     (λ p header v start test next x. subst (λ l. 0 < length l) (sym (made.nests_for p header v start test next x)) (simp (length_in_generate, length-append) (omega arith)))
     (λ p c x y. subst (λ l. 0 < length l) (sym (made.nests_if p c x y)) (simp (length_in_generate, length-append) (omega arith)))
-    (λ all. subst (λ l. 0 < length l) (sym (made.nests_generate all)) (simp length-append (omega arith)))
+    (λ all. subst (λ l. 0 < length l) (sym (made.nests_generate all)) (simp (length_in_generate, length-append) (omega arith)))
 
 pub key_no_colon : (w : Keyword) (i o : List Token) → key (keyword_text w) i o → NoColon i
 key_no_colon w i o h = no_mark m.Colon (so.Keyword w) i refl (first_of_key w i o h)
@@ -257,12 +238,11 @@ module _ (h d : ℕ) (le : d ≤ 200) (f : Parser Item) (reads : IsReader (Over 
   cond_nested (p, (c, (x, None))) = sym (made.nests_if p c x None ∙ ap in_generate (simp append_assoc))
   cond_nested (p, (c, (x, Some y))) = sym (made.nests_if p c x (Some y) ∙ ap in_generate (simp append_assoc))
 
-  pub cond_reads : IsReader (Over 201 (suc h) 201) (suc d) Plain (Begun item_by.If) item_depths NoColon (gen_if f)
+  pub cond_reads : IsReader (Over 201 (suc h) 201) (suc d) DoneItem (Begun item_by.If) item_depths NoColon (gen_if f)
   unfolding gen_if
   cond_reads =
       let r = generated 201 h 201 cond_rule in
-      equal_reader (Over 201 (suc h) 201) r.nests item_depths made_cond cond_nested (suc d) r.spelled r.spelled Plain (Begun item_by.If) NoColon r.parser r.reads
-      (λ c i o v. (cond_to c i o v, if_no_region c.0 c.1.0 c.1.1.0 c.1.1.1)) (classed item_by.If)
+      equal_reader (Over 201 (suc h) 201) r.nests item_depths made_cond cond_nested (suc d) r.spelled r.spelled DoneItem (Begun item_by.If) NoColon r.parser r.reads cond_to (classed item_by.If)
 
   abbrev loop_rule : Rule B (suc d) (Place × (Option Place × (Word × Turns Gen)))
   loop_rule =
@@ -276,9 +256,22 @@ module _ (h d : ℕ) (le : d ≤ 200) (f : Parser Item) (reads : IsReader (Over 
   loop_nested (p, (None, c)) = sym (made.nests_for p false c.0 c.1.0 c.1.1.0 c.1.1.1.0 c.1.1.1.1 ∙ ap in_generate (simp append_assoc))
   loop_nested (p, (Some q, c)) = sym (made.nests_for p true c.0 c.1.0 c.1.1.0 c.1.1.1.0 c.1.1.1.1 ∙ ap in_generate (simp append_assoc))
 
-  pub loop_reads : IsReader (Over 201 (suc h) 201) (suc d) Plain (Begun item_by.For) item_depths NoColon (gen_loop f)
+  pub loop_reads : IsReader (Over 201 (suc h) 201) (suc d) DoneItem (Begun item_by.For) item_depths NoColon (gen_loop f)
   unfolding gen_loop
   loop_reads =
       let r = generated 201 h 201 loop_rule in
-      equal_reader (Over 201 (suc h) 201) r.nests item_depths made_loop loop_nested (suc d) r.spelled r.spelled Plain (Begun item_by.For) NoColon r.parser r.reads
-      (λ c i o v. (loop_to c i o v, for_no_region c.0 (is_given c.1.0) c.1.1.0 c.1.1.1.0 c.1.1.1.1.0 c.1.1.1.1.1.0 c.1.1.1.1.1.1)) (classed item_by.For)
+      equal_reader (Over 201 (suc h) 201) r.nests item_depths made_loop loop_nested (suc d) r.spelled r.spelled DoneItem (Begun item_by.For) NoColon r.parser r.reads loop_to (classed item_by.For)
+
+  abbrev region_rule : Rule B (suc d) (List Item)
+  region_rule = opening (the_key B k.Generate) (closing items_rule (the_key B k.Endgenerate) (no_item k.Endgenerate refl))
+
+  region_nested : (all : List Item) → in_generate (region_rule.nests all) ≡ item_depths (it.Generate all)
+  region_nested all = sym (made.nests_generate all ∙ ap in_generate (simp append_assoc))
+
+  pub region_reads : IsReader (Over 201 (suc h) 201) (suc d) DoneItem (Begun item_by.Generate) item_depths NoColon (region f)
+  unfolding region
+  region_reads =
+      let r = generated 201 h 201 region_rule in
+      less_reader (Over 201 (suc h) 201) (suc d) (suc d) DoneItem (Begun item_by.Generate) DoneItem (Begun item_by.Generate) item_depths r.stops NoColon (region f)
+      (equal_reader (Over 201 (suc h) 201) r.nests item_depths it.Generate region_nested (suc d) r.spelled r.spelled DoneItem (Begun item_by.Generate) r.stops r.parser r.reads region_to (classed item_by.Generate))
+      (omega arith) (λ x i o v. v) (λ x i o v. v) (λ o v. tt)

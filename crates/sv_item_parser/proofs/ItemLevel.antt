@@ -1,4 +1,4 @@
--- Items are read as they are spelled, at each depth. Generate regions may lie in any number of others.
+-- Items are read as they are spelled, at each depth.
 use Rattle.std.proofs.Common.{◌≡◌, ℕ, zero, suc, ◌+◌, ◌<◌, ◌≤◌, inl, inr, true, false, List, [], ◌∷◌, ◌++◌, length, Option, Some, None, Err, refl, sym, ◌∙◌, ap, subst, append_assoc, length-append, arith}
 use Rattle.sv_outside.specs.declared.refusal.Place.{Place}
 use Rattle.sv_outside.specs.declared.text.Token.{Token}
@@ -10,9 +10,8 @@ use Rattle.sv_tree.specs.declared.stmts.Block.{Block}
 use Rattle.sv_tree.specs.declared.design.AssignPair.{AssignPair}
 use Rattle.sv_tree.specs.declared.design.Param.{Param}
 use Rattle.sv_tree.specs.declared.design.NetWord.{NetWord}
-use Rattle.sv_tree.specs.declared.design.Item.{Item, Net, Variable, Typedef as TypedefItem, Param as ParamItem, Genvar, Assign, Always, Inst, For', If', Generate', Row_of-Item, end_of-Item, more_of-Item}
+use Rattle.sv_tree.specs.declared.design.Item.{Item}
 use Rattle.sv_tree.specs.declared.design.Item.TheVariants as it
-use Rattle.sv_tree.specs.declared.design.Gen.TheBlock.{shape-the_row-Item-0, hidden-the_row-Item-0, shape-the_row-Item-1, hidden-the_row-Item-1, shape-the_row-Gen-2, hidden-the_row-Gen-2}
 use Rattle.sv_tree.specs.Spelling.{Spelled, ◌⨟◌, when, mark as mark_spelled, key, name, each, commas, after_commas}
 use Rattle.sv_tree.specs.GrammarDesign.{SpellsPair, is_closed}
 use Rattle.sv_stmt_parser.specs.Stmts.{is_given}
@@ -40,11 +39,10 @@ use Rattle.sv_word_parser.specs.Combined.{◌◂◌, sort_test}
 use Rattle.sv_word_parser.specs.Words.{item_by_sort}
 use Rattle.sv_type_parser.specs.Params.{TypedName}
 use Rattle.sv_instance_parser.specs.Instances.{made_inst, made_named_item, named_item, more_names}
-use Rattle.sv_item_parser.specs.Items.{made_net, net, made_variable, variable, genvar, made_pair, pair, assigns, items, region, gen_loop, gen_if, item_for, item_level, regions, whole_item, item_from, item}
+use Rattle.sv_item_parser.specs.Items.{made_net, net, made_variable, variable, genvar, made_pair, pair, assigns, region, gen_loop, gen_if, item_for, item_level, item}
 use Rattle.sv_type_parser.proofs.Rules.{Rule, the_mark, the_key, before, seq, closing, several, tree_reads, rule_of, list_rule, renested, Way, ReadBy, way_reader, name_rule, IsFirst, first_of_mark, no_mark}
 use Rattle.sv_type_parser.proofs.Words.{net_rule}
 use Rattle.sv_type_parser.proofs.Limits.{Over, first_end, end_mark}
-use Rattle.sv_type_parser.proofs.Same.{Shrinks, then_same, token_shorter, many_same}
 use Rattle.sv_type_parser.proofs.Types.{type_stops_name, names_first, names_end}
 use Rattle.sv_type_parser.proofs.Params.{form_rule, typedef_rule, param_tree_rule}
 use Rattle.sv_type_parser.proofs.Ports.{TypedStops, typed_ends, typed_name_rule, bad_typed}
@@ -54,87 +52,8 @@ use Rattle.sv_stmt_parser.proofs.Steps.{NoColon}
 use Rattle.sv_item_parser.proofs.Instances.{tail_nests, tail_rule, more_names_rule}
 use Rattle.sv_item_parser.proofs.Blocks.{block_rule}
 use Rattle.sv_item_parser.proofs.Items.{DoneItem, Semicolon, NetSpelled, VariableSpelled, NamedSpelled, named_to}
-use Rattle.sv_item_parser.proofs.Gens.{item_begins, item_told_no_colon, region_to}
-use Rattle.sv_item_parser.proofs.GenLevel.{Begun, classed, counted_done_item, is_region, Plain, item_grows, no_item, cond_reads, loop_reads}
-
--- ---- how many regions hold a part
-
-abbrev mutual
-  -- the item is in less than so many regions, directly one in the other
-  pub Within : Item → ℕ → Type 0
-  Within (Generate' r all) zero = ⊥
-  Within (Generate' r all) (suc n) = RowWithin all n
-  Within x zero = ⊥
-  Within x (suc n) = Unit {0}
-
-  pub RowWithin : {m : _} → Row_of-Item m → ℕ → Type 0
-  RowWithin end_of-Item n = Unit {0}
-  RowWithin (more_of-Item x all) n = Within x n × RowWithin all n
-
-abbrev pub AllWithin : List Item → ℕ → Type 0
-AllWithin [] n = Unit {0}
-AllWithin (x ∷ all) n = Within x n × AllWithin all n
-
-row_within : (all : List Item) (n : ℕ) → AllWithin all n → RowWithin (hidden-the_row-Item-0 all) n
-unfolding shape-the_row-Item-0 hidden-the_row-Item-0 shape-the_row-Item-1 hidden-the_row-Item-1 shape-the_row-Gen-2 hidden-the_row-Gen-2 denote.Hole.Carrier.hidden
-row_within [] n h = tt
-row_within (x ∷ all) n h = (h.0, row_within all n h.1)
-
-within_row : (all : List Item) (n : ℕ) → RowWithin (hidden-the_row-Item-0 all) n → AllWithin all n
-unfolding shape-the_row-Item-0 hidden-the_row-Item-0 shape-the_row-Item-1 hidden-the_row-Item-1 shape-the_row-Gen-2 hidden-the_row-Gen-2 denote.Hole.Carrier.hidden
-within_row [] n h = tt
-within_row (x ∷ all) n h = (h.0, within_row all n h.1)
-
-region_within : (all : List Item) (n : ℕ) → AllWithin all n → Within (it.Generate all) (suc n)
-unfolding shape-the_row-Item-0 hidden-the_row-Item-0 shape-the_row-Item-1 hidden-the_row-Item-1 shape-the_row-Gen-2 hidden-the_row-Gen-2 denote.Hole.Carrier.hidden
-region_within all n h = row_within all n h
-
-within_region : (all : List Item) (n : ℕ) → Within (it.Generate all) (suc n) → AllWithin all n
-unfolding shape-the_row-Item-0 hidden-the_row-Item-0 shape-the_row-Item-1 hidden-the_row-Item-1 shape-the_row-Gen-2 hidden-the_row-Gen-2 denote.Hole.Carrier.hidden
-within_region all n h = within_row all n h
-
-none_within : (x : Item) → Within x 0 → ⊥
-none_within (Generate' r all) h = h
-none_within _ h = h
-
--- what is no region is in no more than itself
-plain_within : (x : Item) (n : ℕ) → is_region x ≡ false → Within x (suc n)
-plain_within (Generate' r all) n e = absurd (cc)
-plain_within _ n e = tt
-
-mutual
-  unfolding item_depths
-
-  -- an item has a token for each region that holds it
-  short_within : (x : Item) (n : ℕ) → length (item_depths x) ≤ n → Within x n
-  short_within (Generate' r all) zero le = absurd (omega arith)
-  short_within (Generate' r all) (suc n) le = row_short all n (omega (arith, length-append (one_token ++ items_depths all) one_token))
-  short_within (Net w t names) zero le = absurd (omega (arith, item_grows (Net w t names)))
-  short_within (Variable t names) zero le = absurd (omega (arith, item_grows (Variable t names)))
-  short_within (TypedefItem d) zero le = absurd (omega (arith, item_grows (TypedefItem d)))
-  short_within (ParamItem p) zero le = absurd (omega (arith, item_grows (ParamItem p)))
-  short_within (Genvar names) zero le = absurd (omega (arith, item_grows (Genvar names)))
-  short_within (Assign all) zero le = absurd (omega (arith, item_grows (Assign all)))
-  short_within (Always b) zero le = absurd (omega (arith, item_grows (Always b)))
-  short_within (Inst x) zero le = absurd (omega (arith, item_grows (Inst x)))
-  short_within (For' p header v start test next r x) zero le = absurd (omega (arith, item_grows (For' p header v start test next r x)))
-  short_within (If' p c r x other) zero le = absurd (omega (arith, item_grows (If' p c r x other)))
-  short_within _ (suc n) le = tt
-
-  row_short : {m : _} (all : Row_of-Item m) (n : ℕ) → length (items_depths all) ≤ n → RowWithin all n
-  row_short end_of-Item n le = tt
-  row_short (more_of-Item x all) n le = let e = length-append (item_depths x) (items_depths all) in (short_within x n (omega arith), row_short all n (omega arith))
-
-abbrev pub Shallow : ℕ → Item → Spelled
-Shallow n x = when (Within x n) (DoneItem x)
-
-each_shallow : (n : ℕ) (all : List Item) (i o : List Token) → AllWithin all n → each DoneItem all i o → each (Shallow n) all i o
-each_shallow n [] i o w h = h
-each_shallow n (x ∷ all) i o w h = (h.0, (w.0, h.1), each_shallow n all h.0 o w.1 h.2)
-
-shallow_each : (n : ℕ) (all : List Item) (i o : List Token) → each (Shallow n) all i o → AllWithin all n × each DoneItem all i o
-shallow_each n [] i o h = (tt, h)
-shallow_each n (x ∷ all) i o h = let g = shallow_each n all h.0 o h.2 in ((h.1.0, g.0), (h.0, h.1.1, g.1))
+use Rattle.sv_item_parser.proofs.Gens.{item_begins}
+use Rattle.sv_item_parser.proofs.GenLevel.{Begun, classed, counted_done_item, cond_reads, loop_reads, region_reads}
 
 -- ---- what begins with a name
 
@@ -178,12 +97,6 @@ named_whole c i o h = (named_to c i o h, inl (named_closed c))
     named_closed (w, name_tail.Ranged ranges all) = refl
     named_closed (w, name_tail.Plain n (plain_tail.Instances p all)) = refl
     named_closed (w, name_tail.Plain n (plain_tail.Variables all)) = refl
-
-named_within : (c : Word × NameTail) (n : ℕ) → Within (made_named_item c) (suc n)
-named_within (w, name_tail.Overridden p all) n = tt
-named_within (w, name_tail.Ranged ranges all) n = tt
-named_within (w, name_tail.Plain x (plain_tail.Instances p all)) n = tt
-named_within (w, name_tail.Plain x (plain_tail.Variables all)) n = tt
 
 -- ---- other items
 
@@ -230,188 +143,96 @@ module _ (h d : ℕ) (le : d ≤ 200) where
   abbrev pair_rule : Rule B d AssignPair
   pair_rule = rule_of pair_reads counted_pair
 
-  abbrev ItemWay : ℕ → Type 1
-  ItemWay n = Way B d Item (Shallow (suc n)) item_depths NoColon
+  abbrev ItemWay : Type 1
+  ItemWay = Way B d Item DoneItem item_depths NoColon
 
-  abbrev net_way : (n : ℕ) → ItemWay n
-  net_way n = record {
+  abbrev net_way : ItemWay
+  net_way = record {
     A = NetWord × (TypedName × List Word);
     rule = seq (net_rule B d) (seq (typed_name_rule 201 h d le) (more_names_rule 201 h 201 d le) (λ x all i o v stops. typed_before_names all i v.0 o v.1 v.2)) (λ x y i o v stops. tt);
     made = made_net;
     nested = λ c. sym (made.nests_net c.0 c.1.0.0 (c.1.0.1 ∷ c.1.1) ∙ simp append_assoc);
-    to = λ c i o v. (tt, net_to c i o v);
+    to = net_to;
     ends = λ o v. tt;
   }
 
-  abbrev variable_way : (n : ℕ) → ItemWay n
-  variable_way n = record {
+  abbrev variable_way : ItemWay
+  variable_way = record {
     A = TypeTree × List Word;
     rule = seq (form_rule 201 h d le) (names_end 201 h 201 d le) (λ x all i o v stops. type_stops_name i (names_first all i v.0 v.1));
     made = made_variable;
     nested = λ c. sym (made.nests_variable c.0 c.1 ∙ simp append_assoc);
-    to = λ c i o v. (tt, variable_to c i o v);
+    to = variable_to;
     ends = λ o v. tt;
   }
 
-  abbrev typedef_way : (n : ℕ) → ItemWay n
-  typedef_way n = record { A = Typedef; rule = typedef_rule 201 h d le; made = it.Typedef; nested = λ c. sym (made.nests_typedef c); to = λ c i o v. (tt, (made.to_typedef c i o v, inl refl)); ends = λ o v. tt }
+  abbrev typedef_way : ItemWay
+  typedef_way = record { A = Typedef; rule = typedef_rule 201 h d le; made = it.Typedef; nested = λ c. sym (made.nests_typedef c); to = λ c i o v. (made.to_typedef c i o v, inl refl); ends = λ o v. tt }
 
-  abbrev param_way : (n : ℕ) → ItemWay n
-  param_way n = record { A = Param; rule = param_tree_rule 201 h 201 d le; made = it.Param; nested = λ c. sym (made.nests_param c); to = λ c i o v. (tt, (made.to_param c i o v, inl refl)); ends = λ o v. tt }
+  abbrev param_way : ItemWay
+  param_way = record { A = Param; rule = param_tree_rule 201 h 201 d le; made = it.Param; nested = λ c. sym (made.nests_param c); to = λ c i o v. (made.to_param c i o v, inl refl); ends = λ o v. tt }
 
-  abbrev genvar_way : (n : ℕ) → ItemWay n
-  genvar_way n = record {
+  abbrev genvar_way : ItemWay
+  genvar_way = record {
     A = List Word;
     rule = before (the_key B k.Genvar) (names_end 201 h 201 d le);
     made = it.Genvar;
     nested = λ c. sym (made.nests_genvar c ∙ simp append_assoc);
-    to = λ c i o v. (tt, genvar_to c i o v);
+    to = genvar_to;
     ends = λ o v. tt;
   }
 
-  abbrev assign_way : (n : ℕ) → ItemWay n
-  assign_way n = record {
+  abbrev assign_way : ItemWay
+  assign_way = record {
     A = List AssignPair;
     rule = before (the_key B k.Assign) (closing (list_rule pair_rule (first_end m.Comma refl)) (the_mark B m.Semicolon) pairs_end);
     made = it.Assign;
     nested = λ c. sym (made.nests_assign c ∙ simp append_assoc);
-    to = λ c i o v. (tt, assign_to c i o v);
+    to = assign_to;
     ends = λ o v. tt;
   }
 
-  abbrev always_way : (n : ℕ) → ItemWay n
-  always_way n = record { A = Block; rule = block_rule h 201 d le; made = it.Always; nested = λ c. sym (made.nests_always c); to = λ c i o v. (tt, (made.to_always c i o v.0, v.1)); ends = λ o v. v }
+  abbrev always_way : ItemWay
+  always_way = record { A = Block; rule = block_rule h 201 d le; made = it.Always; nested = λ c. sym (made.nests_always c); to = λ c i o v. (made.to_always c i o v.0, v.1); ends = λ o v. v }
 
-  abbrev named_way : (n : ℕ) → ItemWay n
-  named_way n = record {
+  abbrev named_way : ItemWay
+  named_way = record {
     A = Word × NameTail;
     rule = renested (seq (name_rule B d) (tail_rule 201 h 201 d le) (λ x y i o v stops. tt)) (λ c. item_depths (made_named_item c)) named_length (named_lifts h);
     made = made_named_item;
     nested = λ c. refl;
-    to = λ c i o v. (named_within c n, named_whole c i o v);
+    to = named_whole;
     ends = λ o v. tt;
   }
 
-  -- loops, conditions, and the items in regions are read so
-  module _ (n : ℕ) (loop cond f : Parser Item) (loops : IsReader B d Plain (Begun item_by.For) item_depths NoColon loop) (conds : IsReader B d Plain (Begun item_by.If) item_depths NoColon cond)
-      (reads : IsReader B d (Shallow n) (Shallow n) item_depths NoColon f) where
-    abbrev inner_rule : Rule B d Item
-    inner_rule = rule_of reads (λ x. counted_when (counted_done_item x))
-
-    abbrev several_items : Rule B d (List Item)
-    several_items = several (sort_test item_by_sort) inner_rule (λ x i o v. item_begins x i o v.1.0) (λ x i o v. item_grows x) item_told_no_colon
-
-    shallow_items_reads : IsReader B d (each (Shallow n)) (each (Shallow n)) (each_depths item_depths) (λ o. (told (sort_test item_by_sort) o ≡ None) × NoColon o) (items f)
-    unfolding items
-    shallow_items_reads = several_items.reads
-
-    abbrev shallow_items : Rule B d (List Item)
-    shallow_items = record { spelled = each (Shallow n); nests = each_depths item_depths; stops = λ o. (told (sort_test item_by_sort) o ≡ None) × NoColon o; parser = items f; reads = shallow_items_reads; moved = several_items.moved }
-
-    region_whole : (all : List Item) (i o : List Token) → (key (keyword_text k.Generate) ⨟ (each (Shallow n) all ⨟ key (keyword_text k.Endgenerate))) i o → Shallow (suc n) (it.Generate all) i o
-    region_whole all i o v = let g = shallow_each n all v.0 v.2.0 v.2.1 in (region_within all n g.0, region_to all i o (v.0, v.1, (v.2.0, g.1, v.2.2)))
-
-    abbrev region_way : ItemWay n
-    region_way = record {
-      A = List Item;
-      rule = before (the_key B k.Generate) (closing shallow_items (the_key B k.Endgenerate) (no_item k.Endgenerate refl));
-      made = it.Generate;
-      nested = λ c. sym (made.nests_generate c ∙ simp append_assoc);
-      to = region_whole;
-      ends = λ o v. tt;
-    }
-
+  -- loops, conditions and regions are read so
+  module _ (loop cond generated : Parser Item) (loops : IsReader B d DoneItem (Begun item_by.For) item_depths NoColon loop) (conds : IsReader B d DoneItem (Begun item_by.If) item_depths NoColon cond)
+      (regions : IsReader B d DoneItem (Begun item_by.Generate) item_depths NoColon generated) where
     abbrev Told : ItemOpener → List Token → Type 0
     Told c i = told (sort_test item_by_sort) i ≡ Some c
 
-    region_from : (x : Item) (i o : List Token) → Told item_by.Generate i → Shallow (suc n) x i o → ReadBy region_way x i o
-    region_from x i o e v =
-        let c = classed item_by.Generate x i o (e, v.1) in
-        let w = within_region c.0 n (subst (λ x. Within x (suc n)) (sym c.1) v.0) in (c.0, c.1, (c.2.0, c.2.1, (c.2.2.0, each_shallow n c.0 c.2.0 c.2.2.0 w c.2.2.1, c.2.2.2)))
+    chosen : (c : ItemOpener) → IsReader B d DoneItem (Begun c) item_depths NoColon (item_for loop cond generated c)
+    unfolding net variable genvar assigns named_item more_names
+    chosen item_by.Net = way_reader net_way (Told item_by.Net) (λ x i o e v. classed item_by.Net x i o (e, v))
+    chosen item_by.Type = way_reader variable_way (Told item_by.Type) (λ x i o e v. classed item_by.Type x i o (e, v))
+    chosen item_by.Typedef = way_reader typedef_way (Told item_by.Typedef) (λ x i o e v. classed item_by.Typedef x i o (e, v))
+    chosen item_by.Param = way_reader param_way (Told item_by.Param) (λ x i o e v. classed item_by.Param x i o (e, v))
+    chosen item_by.Genvar = way_reader genvar_way (Told item_by.Genvar) (λ x i o e v. classed item_by.Genvar x i o (e, v))
+    chosen item_by.Assign = way_reader assign_way (Told item_by.Assign) (λ x i o e v. classed item_by.Assign x i o (e, v))
+    chosen item_by.Always = way_reader always_way (Told item_by.Always) (λ x i o e v. classed item_by.Always x i o (e, v))
+    chosen item_by.Name = way_reader named_way (Told item_by.Name) (λ x i o e v. classed item_by.Name x i o (e, v))
+    chosen item_by.For = loops
+    chosen item_by.If = conds
+    chosen item_by.Generate = regions
 
-    abbrev Chosen : ItemOpener → Type 0
-    Chosen c = IsReader B d (Shallow (suc n)) (λ x i o. (told (sort_test item_by_sort) i ≡ Some c) × Shallow (suc n) x i o) item_depths NoColon (item_for loop cond f c)
+    none_begun : (x : Item) (i o : List Token) → (told (sort_test item_by_sort) i ≡ None) × DoneItem x i o → ⊥
+    none_begun x i o v = let b = item_begins x i o v.1.0 in let e = b.1 in let f = v.0 in cc
 
-    plain_reader : (c : ItemOpener) (p : Parser Item) → IsReader B d Plain (Begun c) item_depths NoColon p
-        → IsReader B d (Shallow (suc n)) (λ x i o. (told (sort_test item_by_sort) i ≡ Some c) × Shallow (suc n) x i o) item_depths NoColon p
-    plain_reader c p r = less_reader B d d Plain (Begun c) (Shallow (suc n)) (λ x i o. (told (sort_test item_by_sort) i ≡ Some c) × Shallow (suc n) x i o) item_depths NoColon NoColon p r (omega arith)
-        (λ x i o v. (plain_within x n v.1, v.0)) (λ x i o v. (v.0, v.1.1)) (λ o v. v)
-
-    chosen : (c : ItemOpener) → Chosen c
-    unfolding net variable genvar assigns named_item region more_names
-    chosen item_by.Net = way_reader (net_way n) (Told item_by.Net) (λ x i o e v. classed item_by.Net x i o (e, v.1))
-    chosen item_by.Type = way_reader (variable_way n) (Told item_by.Type) (λ x i o e v. classed item_by.Type x i o (e, v.1))
-    chosen item_by.Typedef = way_reader (typedef_way n) (Told item_by.Typedef) (λ x i o e v. classed item_by.Typedef x i o (e, v.1))
-    chosen item_by.Param = way_reader (param_way n) (Told item_by.Param) (λ x i o e v. classed item_by.Param x i o (e, v.1))
-    chosen item_by.Genvar = way_reader (genvar_way n) (Told item_by.Genvar) (λ x i o e v. classed item_by.Genvar x i o (e, v.1))
-    chosen item_by.Assign = way_reader (assign_way n) (Told item_by.Assign) (λ x i o e v. classed item_by.Assign x i o (e, v.1))
-    chosen item_by.Always = way_reader (always_way n) (Told item_by.Always) (λ x i o e v. classed item_by.Always x i o (e, v.1))
-    chosen item_by.Name = way_reader (named_way n) (Told item_by.Name) (λ x i o e v. classed item_by.Name x i o (e, v.1))
-    chosen item_by.For = plain_reader item_by.For loop loops
-    chosen item_by.If = plain_reader item_by.If cond conds
-    chosen item_by.Generate = way_reader region_way (Told item_by.Generate) region_from
-
-    none_begun : (x : Item) (i o : List Token) → (told (sort_test item_by_sort) i ≡ None) × Shallow (suc n) x i o → ⊥
-    none_begun x i o v = let b = item_begins x i o v.1.1.0 in let e = b.1 in let f = v.0 in cc
-
-    item_level_reads : IsReader B d (Shallow (suc n)) (Shallow (suc n)) item_depths NoColon (item_level loop cond f)
+    item_level_reads : IsReader B d DoneItem DoneItem item_depths NoColon (item_level loop cond generated)
     unfolding item_level
     item_level_reads =
-        choose_reader B d (sort_test item_by_sort) (Shallow (suc n)) (Shallow (suc n)) item_depths NoColon (item_for loop cond f) refuse chosen
-        (refuse_reader B d (Shallow (suc n)) (λ x i o. (told (sort_test item_by_sort) i ≡ None) × Shallow (suc n) x i o) item_depths NoColon none_begun)
-
-  -- ---- items of one depth
-
-  module _ (loop cond : Parser Item) (loops : IsReader B d Plain (Begun item_by.For) item_depths NoColon loop) (conds : IsReader B d Plain (Begun item_by.If) item_depths NoColon cond) where
-    regions_reads : (n : ℕ) → IsReader B d (Shallow n) (Shallow n) item_depths NoColon (regions loop cond n)
-    unfolding regions
-    regions_reads zero = refuse_reader B d (Shallow 0) (Shallow 0) item_depths NoColon (λ x i o v. none_within x v.0)
-    regions_reads (suc n) = item_level_reads n loop cond (regions loop cond n) loops conds (regions_reads n)
-
-    regions_shrink : (n : ℕ) → Shrinks (regions loop cond n)
-    regions_shrink n i = meets_weaker (regions loop cond n i) (λ x j. Shallow n x i j) (λ x j. length j ≤ length i) ((regions_reads n).sound i) (λ x j v. omega (arith, (counted_done_item x).count i j v.1))
-
--- ---- the number of regions does not count, where there are more than tokens
-
-region_same : (f h : Parser Item) (i : List Token) → ((j : List Token) → length j < length i → ◌≡◌ {A = Outcome Item} (f j) (h j)) → Shrinks h → ◌≡◌ {A = Outcome Item} (region f i) (region h i)
-unfolding region items
-region_same f h i near shrinks =
-    ap (λ (r : Outcome (List Item)). and_then r (λ c. pure (it.Generate c)))
-    (ap (λ (r : Outcome (Place × List Item)). and_then r (λ c. pure c.1))
-    (then_same (keyword k.Generate i) (λ p. (many (sort_test item_by_sort) f ◂ keyword k.Endgenerate) >>= (λ y. pure (p, y))) (λ p. (many (sort_test item_by_sort) h ◂ keyword k.Endgenerate) >>= (λ y. pure (p, y)))
-    (meets_weaker (keyword k.Generate i) (λ p j. length j < length i) _ (token_shorter (keyword_test k.Generate) i)
-    (λ p j short. ap (λ (r : Outcome (List Item)). and_then (and_then {A = List Item × Place} (and_then r (λ a. keyword k.Endgenerate >>= (λ b. pure (a, b)))) (λ c. pure c.0)) (λ y. pure (p, y)))
-    (many_same f h (length i) near shrinks (sort_test item_by_sort) j short)))))
-
-pub by_item : (loop cond f h : Parser Item) (found : Option ItemOpener) (i : List Token) → ((j : List Token) → length j < length i → ◌≡◌ {A = Outcome Item} (f j) (h j)) → Shrinks h
-    → ◌≡◌ {A = Outcome Item} (branch found (item_for loop cond f) refuse i) (branch found (item_for loop cond h) refuse i)
-by_item loop cond f h (Some item_by.Generate) i near shrinks = region_same f h i near shrinks
-by_item loop cond f h (Some _) i near shrinks = refl
-by_item loop cond f h None i near shrinks = refl
-
-at_end : (loop cond : Parser Item) (n : ℕ) → ◌≡◌ {A = Outcome Item} (regions loop cond n []) (Err (Syntax 0))
-unfolding regions item_level
-at_end loop cond zero = refl
-at_end loop cond (suc n) = refl
-
-module _ (h d : ℕ) (le : d ≤ 200) (loop cond : Parser Item) (loops : IsReader (Over 201 h 201) d Plain (Begun item_by.For) item_depths NoColon loop)
-    (conds : IsReader (Over 201 h 201) d Plain (Begun item_by.If) item_depths NoColon cond) where
-  pub stable : (n l : ℕ) (i : List Token) → length i ≤ n → length i ≤ l → ◌≡◌ {A = Outcome Item} (regions loop cond n i) (regions loop cond l i)
-  unfolding regions item_level
-  stable n l [] a b = at_end loop cond n ∙ sym (at_end loop cond l)
-  stable zero l (x ∷ i) a b = absurd (omega arith)
-  stable (suc n) zero (x ∷ i) a b = absurd (omega arith)
-  stable (suc n) (suc l) (x ∷ i) a b =
-      by_item loop cond (regions loop cond n) (regions loop cond l) (told (sort_test item_by_sort) (x ∷ i)) (x ∷ i) (λ j short. stable n l j (omega arith) (omega arith)) (regions_shrink h d le loop cond loops conds l)
-
-  whole_reads : IsReader (Over 201 h 201) d DoneItem DoneItem item_depths NoColon (whole_item (regions loop cond))
-  whole_reads = record {
-    sound = λ i. meets_weaker (regions loop cond (length i) i) (λ x j. Shallow (length i) x i j) (λ x j. DoneItem x i j) ((regions_reads h d le loop cond loops conds (length i)).sound i) (λ x j v. v.1);
-    placed = λ i. (regions_reads h d le loop cond loops conds (length i)).placed i;
-    agrees = λ x u o m i v stops same.
-        let n = length (item_depths x) + length i in
-        subst (λ r. Agrees (Over 201 h 201) item_depths x m i r) (stable n (length i) i (omega arith) (omega arith)) ((regions_reads h d le loop cond loops conds n).agrees x u o m i (short_within x n (omega arith), v) stops same);
-  }
+        choose_reader B d (sort_test item_by_sort) DoneItem DoneItem item_depths NoColon (item_for loop cond generated) refuse chosen
+        (refuse_reader B d DoneItem (λ x i o. (told (sort_test item_by_sort) i ≡ None) × DoneItem x i o) item_depths NoColon none_begun)
 
 -- ---- the depths of generate constructs
 
@@ -437,13 +258,38 @@ cond_deep x i o v =
     subst (λ x. BadAt (Over 201 1 201) (item_depths x) 0) e
     (subst (λ l. BadAt (Over 201 1 201) l 0) (sym (made.nests_if c.0 c.1.0 c.1.1.0 c.1.1.1)) (over_first _ (simp length-append (omega arith))))
 
--- Items, in which at most so many generate loops and conditions hold a token.
+pub region_deep : (x : Item) (i o : List Token) → Begun item_by.Generate x i o → BadAt (Over 201 1 201) (item_depths x) 0
+region_deep x i o v =
+    let c = (classed item_by.Generate x i o v).0 in
+    let e = (classed item_by.Generate x i o v).1 in
+    subst (λ x. BadAt (Over 201 1 201) (item_depths x) 0) e (subst (λ l. BadAt (Over 201 1 201) l 0) (sym (made.nests_generate c)) (over_first _ (simp length-append (omega arith))))
+
+-- a construct that begins so, where none may hold a token
+none_held : (c : ItemOpener) → ((x : Item) (i o : List Token) → Begun c x i o → BadAt (Over 201 1 201) (item_depths x) 0) → IsReader (Over 201 1 201) 0 DoneItem (Begun c) item_depths NoColon too_deep
+none_held c deep = deep_reader (Over 201 1 201) (Begun c) item_depths (begun_moved c) deep DoneItem NoColon
+
+-- Items, in which at most so many generate constructs hold a token.
 pub item_reads : (g : ℕ) → g ≤ 200 → IsReader (Over 201 (suc g) 201) g DoneItem DoneItem item_depths NoColon (item g)
-unfolding item_from
+unfolding item
 item_reads zero le =
-    whole_reads 1 0 (omega arith) too_deep too_deep
-    (deep_reader (Over 201 1 201) (Begun item_by.For) item_depths (begun_moved item_by.For) loop_deep Plain NoColon)
-    (deep_reader (Over 201 1 201) (Begun item_by.If) item_depths (begun_moved item_by.If) cond_deep Plain NoColon)
+    item_level_reads 1 0 (omega arith) too_deep too_deep too_deep (none_held item_by.For loop_deep) (none_held item_by.If cond_deep) (none_held item_by.Generate region_deep)
 item_reads (suc g) le =
     let r = item_reads g (omega arith) in
-    whole_reads (suc (suc g)) (suc g) (omega arith) (gen_loop (item g)) (gen_if (item g)) (loop_reads (suc g) g (omega arith) (item g) r) (cond_reads (suc g) g (omega arith) (item g) r)
+    item_level_reads (suc (suc g)) (suc g) le (gen_loop (item g)) (gen_if (item g)) (region (item g))
+    (loop_reads (suc g) g (omega arith) (item g) r) (cond_reads (suc g) g (omega arith) (item g) r) (region_reads (suc g) g (omega arith) (item g) r)
+
+-- ---- what an item is, by what its first token begins
+
+pub no_item_begins : (g : ℕ) (i : List Token) → told (sort_test item_by_sort) i ≡ None → ◌≡◌ {A = Outcome Item} (item g i) (Err (Syntax (length i)))
+unfolding item item_level
+no_item_begins zero i e = ap (λ q. branch q (item_for too_deep too_deep too_deep) refuse i) e
+no_item_begins (suc g) i e = ap (λ q. branch q (item_for (gen_loop (item g)) (gen_if (item g)) (region (item g))) refuse i) e
+
+pub flat_begins : (g : ℕ) (c : ItemOpener) (i : List Token) → g ≡ 0 → told (sort_test item_by_sort) i ≡ Some c → ◌≡◌ {A = Outcome Item} (item g i) (item_for too_deep too_deep too_deep c i)
+unfolding item item_level
+flat_begins g c i none e = ap (λ n. item n i) none ∙ ap (λ q. branch q (item_for too_deep too_deep too_deep) refuse i) e
+
+pub held_begins : (n g : ℕ) (c : ItemOpener) (i : List Token) → n ≡ suc g → told (sort_test item_by_sort) i ≡ Some c
+    → ◌≡◌ {A = Outcome Item} (item n i) (item_for (gen_loop (item g)) (gen_if (item g)) (region (item g)) c i)
+unfolding item item_level
+held_begins n g c i more e = ap (λ n. item n i) more ∙ ap (λ q. branch q (item_for (gen_loop (item g)) (gen_if (item g)) (region (item g))) refuse i) e

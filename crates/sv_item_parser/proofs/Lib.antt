@@ -5,4 +5,3 @@ pub mod Gens
 pub mod Instances
 pub mod ItemLevel
 pub mod Items
-pub mod Regioning

@@ -1,5 +1,5 @@
 -- Blocks and items of modules on lists of tokens.
-use Rattle.std.specs.Prelude.{ℕ, zero, suc, List, ◌∷◌, length, Option, Some}
+use Rattle.std.specs.Prelude.{ℕ, zero, suc, List, ◌∷◌, Option, Some}
 use Rattle.sv_outside.specs.declared.refusal.Place.{Place}
 use Rattle.sv_outside.specs.declared.text.Token.{Token}
 use Rattle.sv_tree.specs.declared.word.Word.{Word}
@@ -162,8 +162,8 @@ module _ (item : Parser Item) where
   unfoldable pub gen_loop : Parser Item
   gen_loop = made_loop <$> (keyword key.For ⊗ (mark m.LeftParen ▸ (maybe_read (keyword_test key.Genvar) (keyword key.Genvar) ⊗ (token id_test ▷ turns gen))))
 
--- Function values read loops, conditions, and the items in generate regions.
-module _ (loop cond item : Parser Item) where
+-- Function values read loops, conditions and regions.
+module _ (loop cond generated : Parser Item) where
   abbrev pub item_for : ItemOpener → Parser Item
   item_for item_by.Net = net
   item_for item_by.Type = variable
@@ -175,23 +175,12 @@ module _ (loop cond item : Parser Item) where
   item_for item_by.Name = named_item
   item_for item_by.For = loop
   item_for item_by.If = cond
-  item_for item_by.Generate = region item
+  item_for item_by.Generate = generated
 
   unfoldable pub item_level : Parser Item
   item_level = by_told (sort_test item_by_sort) item_for refuse
 
--- items that are in less than so many generate regions, directly one in the other
-unfoldable pub regions : Parser Item → Parser Item → ℕ → Parser Item
-regions loop cond zero = refuse
-regions loop cond (suc n) = item_level loop cond (regions loop cond n)
-
-abbrev pub whole_item : (ℕ → Parser Item) → Parser Item
-whole_item p = λ i. p (length i) i
-
--- items, in which at most so many generate loops and conditions hold a token
-unfoldable pub item_from : ℕ → ℕ → Parser Item
-item_from zero = regions too_deep too_deep
-item_from (suc g) = regions (gen_loop (whole_item (item_from g))) (gen_if (whole_item (item_from g)))
-
-abbrev pub item : ℕ → Parser Item
-item g = whole_item (item_from g)
+-- items, in which at most so many generate constructs hold a token
+unfoldable pub item : ℕ → Parser Item
+item zero = item_level too_deep too_deep too_deep
+item (suc g) = item_level (gen_loop (item g)) (gen_if (item g)) (region (item g))

@@ -1,28 +1,24 @@
-// Blocks and items of modules. The rules that hold items take the reader of those as a parameter, so that each is
-// proved by itself.
+// Blocks of modules, and items that hold no items. Each function reads one production of the grammar, over the functions
+// that read its parts, and what the next token begins of an item is told here, since a list of items ends by it. Where no
+// generate construct may hold a token, these are all items.
 ghost use Rattle.std.specs.Prelude.{◌≡◌, is_some};
-ghost use Rattle.sv_cursor.specs.Parsers as parser;
-ghost use Rattle.sv_cursor.specs.Parsers.{Reads, ◌⊗◌, ◌▷◌, told};
+ghost use Rattle.sv_cursor.specs.Parsers.{Reads, told, too_deep};
 ghost use Rattle.sv_cursor.specs.Tests as test;
-ghost use Rattle.sv_word_parser.specs.Combined.{◌▸◌, ◌◂◌, listed, sort_test, word_test};
+ghost use Rattle.sv_word_parser.specs.Combined.{◌◂◌, listed, sort_test};
 ghost use Rattle.sv_instance_parser.specs.Instances as instances;
 ghost use Rattle.sv_item_parser.specs.Items as spec;
 ghost use Rattle.sv_type_parser.specs.Lists as list;
-ghost use Rattle.sv_type_parser.specs.Lists.{Nests};
-ghost use Rattle.sv_stmt_parser.specs.Loops as loops;
-ghost use Rattle.sv_stmt_parser.specs.Stmts as stmts;
 ghost use Rattle.sv_word_parser.specs.Words as words;
 
 use crate::tails::AlwaysTail;
-use items::{Boxed, Items, both};
+use items::{Items, both};
 use std::alloc::Global;
 use sv_cursor::{Cursor, Keyword, Mark, ParseErr, Sort};
-use sv_outside::Place;
-use sv_stmt_parser::{block_label, end_label, is_given, lvalue, step, stmt};
-use sv_tree::{AssignPair, Block, BlockKind, Event, Expr, Gen, Item, Step, Word};
+use sv_instance_parser::named_item;
+use sv_stmt_parser::{lvalue, stmt};
+use sv_tree::{AssignPair, Block, BlockKind, Event, Item, Word};
 use sv_type_parser::{
-    MOST_NESTING, ended_names, expression, form, given, more_names, param, typed_name, typedef,
-    with_first,
+    MOST_NESTING, ended_names, form, given, more_names, param, typed_name, typedef, with_first,
 };
 use sv_word_parser::{AlwaysWord, ItemOpener, always_next, sees, take_edge, take_net};
 
@@ -168,7 +164,7 @@ fn ended_more_names(alloc: Global, tokens: &mut Cursor<'_>) -> Result<Items<Word
 
 /// One or more nets (A.2.1.3, net_declaration).
 #[tactic(auto, unfolding(crate::specs::Items::net))]
-pub fn net(alloc: Global, tokens: &mut Cursor<'_>) -> Result<Item, ParseErr>
+fn net(alloc: Global, tokens: &mut Cursor<'_>) -> Result<Item, ParseErr>
     ensures { Reads (spec.net tokens.old) result tokens.new }
 {
     let word = take_net(tokens)?;
@@ -180,7 +176,7 @@ pub fn net(alloc: Global, tokens: &mut Cursor<'_>) -> Result<Item, ParseErr>
 
 /// One or more variables (A.2.1.3, data_declaration).
 #[tactic(auto, unfolding(crate::specs::Items::variable))]
-pub fn variable(alloc: Global, tokens: &mut Cursor<'_>) -> Result<Item, ParseErr>
+fn variable(alloc: Global, tokens: &mut Cursor<'_>) -> Result<Item, ParseErr>
     ensures { Reads (spec.variable tokens.old) result tokens.new }
 {
     let shape = form(alloc, tokens, MOST_NESTING)?;
@@ -190,7 +186,7 @@ pub fn variable(alloc: Global, tokens: &mut Cursor<'_>) -> Result<Item, ParseErr
 
 /// One or more loop variables (A.4.2, genvar_declaration).
 #[tactic(auto, unfolding(crate::specs::Items::genvar))]
-pub fn genvar(alloc: Global, tokens: &mut Cursor<'_>) -> Result<Item, ParseErr>
+fn genvar(alloc: Global, tokens: &mut Cursor<'_>) -> Result<Item, ParseErr>
     ensures { Reads (spec.genvar tokens.old) result tokens.new }
 {
     tokens.keyword(Keyword::Genvar)?;
@@ -199,7 +195,7 @@ pub fn genvar(alloc: Global, tokens: &mut Cursor<'_>) -> Result<Item, ParseErr>
 }
 
 /// A type that is given a name.
-pub fn typedef_item(alloc: Global, tokens: &mut Cursor<'_>) -> Result<Item, ParseErr>
+fn typedef_item(alloc: Global, tokens: &mut Cursor<'_>) -> Result<Item, ParseErr>
     ensures { Reads (spec.typedef_item tokens.old) result tokens.new }
 {
     let inner = typedef(alloc, tokens)?;
@@ -207,7 +203,7 @@ pub fn typedef_item(alloc: Global, tokens: &mut Cursor<'_>) -> Result<Item, Pars
 }
 
 /// Parameters.
-pub fn param_item(alloc: Global, tokens: &mut Cursor<'_>) -> Result<Item, ParseErr>
+fn param_item(alloc: Global, tokens: &mut Cursor<'_>) -> Result<Item, ParseErr>
     ensures { Reads (spec.param_item tokens.old) result tokens.new }
 {
     let inner = param(alloc, tokens)?;
@@ -215,7 +211,7 @@ pub fn param_item(alloc: Global, tokens: &mut Cursor<'_>) -> Result<Item, ParseE
 }
 
 /// A block as an item.
-pub fn always_item(alloc: Global, tokens: &mut Cursor<'_>) -> Result<Item, ParseErr>
+fn always_item(alloc: Global, tokens: &mut Cursor<'_>) -> Result<Item, ParseErr>
     ensures { Reads (spec.always_item tokens.old) result tokens.new }
 {
     let inner = always(alloc, tokens)?;
@@ -265,7 +261,7 @@ fn pairs(alloc: Global, tokens: &mut Cursor<'_>) -> Result<Items<AssignPair>, Pa
 
 /// One or more assignments (A.6.1, continuous_assign).
 #[tactic(auto, unfolding(crate::specs::Items::assigns))]
-pub fn assigns(alloc: Global, tokens: &mut Cursor<'_>) -> Result<Item, ParseErr>
+fn assigns(alloc: Global, tokens: &mut Cursor<'_>) -> Result<Item, ParseErr>
     ensures { Reads (spec.assigns tokens.old) result tokens.new }
 {
     tokens.keyword(Keyword::Assign)?;
@@ -339,238 +335,23 @@ pub fn sees_item(tokens: &Cursor<'_>) -> bool
     item_next(tokens).is_some()
 }
 
-// ---- items that hold items
-
-fn maybe_genvar(tokens: &mut Cursor<'_>) -> Result<Option<Place>, ParseErr>
-    ensures { Reads (parser.maybe_read (test.keyword_test Keyword.Genvar) (test.keyword Keyword.Genvar) tokens.old) result tokens.new }
+/// An item that holds no items, by what its first token begins. A generate construct lies too deep.
+pub fn flat_item(
+    alloc: Global,
+    tokens: &mut Cursor<'_>,
+    opener: ItemOpener,
+) -> Result<Item, ParseErr>
+    ensures { Reads (spec.item_for too_deep too_deep too_deep opener tokens.old) result tokens.new }
 {
-    match tokens.peek_keyword(Keyword::Genvar) {
-        Some(_) => {
-            let place = tokens.keyword(Keyword::Genvar)?;
-            Ok(Some(place))
-        }
-        None => Ok(None),
-    }
-}
-
-// The start, the test, the step and the body of a loop.
-type Turns = (Expr, (Expr, (Step, Boxed<Gen>)));
-
-fn loop_of(place: Place, word: Option<Place>, variable: Word, turns: Turns) -> Item
-    ensures { result ≡ spec.made_loop (place, (word, (variable, turns))) }
-{
-    let (start, (condition, (step, body))) = turns;
-    Item::For(
-        place,
-        is_given(word),
-        variable,
-        start,
-        condition,
-        step,
-        body,
-    )
-}
-
-/// The rules of items, over a reader of the items in an item.
-#[derive(Clone, Copy)]
-pub struct Generates<F> {
-    pub alloc: Global,
-    /// How many generate loops and conditions may hold a token of a part.
-    pub depth: u8,
-    /// Reads an item to a depth.
-    pub item: F,
-}
-
-impl<F: Fn(Global, &mut Cursor<'_>, u8) -> Result<Item, ParseErr>> Generates<F> {
-    fn item(&self, tokens: &mut Cursor<'_>) -> Result<Item, ParseErr>
-        requires { Nests (spec.item self.now.depth) self.now.depth (F.pre self.now.item) (F.post self.now.item) }
-        ensures { Reads (spec.item self.now.depth tokens.old) result tokens.new }
-    {
-        (self.item)(self.alloc, tokens, self.depth)
-    }
-
-    fn items(&self, tokens: &mut Cursor<'_>) -> Result<Items<Item>, ParseErr>
-        requires { Nests (spec.item self.now.depth) self.now.depth (F.pre self.now.item) (F.post self.now.item) }
-        ensures { Reads (spec.items (spec.item self.now.depth) tokens.old) result tokens.new }
-    {
-        let mut found = Items::new(self.alloc);
-        for _turn in 0..tokens.left() {
-            if !sees_item(tokens) {
-                return Ok(found);
-            }
-            let part = self.item(tokens)?;
-            found.push(part)?;
-        }
-        Ok(found)
-    }
-
-    fn gen_rest(
-        &self,
-        tokens: &mut Cursor<'_>,
-        name: &Option<Word>,
-    ) -> Result<(Items<Item>, Option<Word>), ParseErr>
-        requires { Nests (spec.item self.now.depth) self.now.depth (F.pre self.now.item) (F.post self.now.item) }
-        ensures { Reads (spec.gen_rest (spec.item self.now.depth) name.now tokens.old) result tokens.new }
-    {
-        let all = self.items(tokens)?;
-        let (all, _) = both(all, tokens.keyword(Keyword::End))?;
-        both(all, end_label(self.alloc, tokens, name))
-    }
-
-    #[tactic(auto, unfolding(crate::specs::Items::gen_block))]
-    fn gen_block(&self, tokens: &mut Cursor<'_>) -> Result<Gen, ParseErr>
-        requires { Nests (spec.item self.now.depth) self.now.depth (F.pre self.now.item) (F.post self.now.item) }
-        ensures { Reads (spec.gen_block (spec.item self.now.depth) tokens.old) result tokens.new }
-    {
-        let place = tokens.keyword(Keyword::Begin)?;
-        let name = block_label(self.alloc, tokens)?;
-        let rest = self.gen_rest(tokens, &name);
-        let (name, (all, label)) = both(name, rest)?;
-        Ok(Gen::Block(place, name, all, label))
-    }
-
-    #[tactic(auto, unfolding(crate::specs::Items::single, crate::specs::Items::place_test, sv_cursor::specs::Tests::place_test))]
-    fn single(&self, tokens: &mut Cursor<'_>) -> Result<Gen, ParseErr>
-        requires { Nests (spec.item self.now.depth) self.now.depth (F.pre self.now.item) (F.post self.now.item) }
-        ensures { Reads (spec.single (spec.item self.now.depth) tokens.old) result tokens.new }
-    {
-        match tokens.place() {
-            Some(place) => {
-                let inner = self.item(tokens)?;
-                Ok(Gen::Single(place, Boxed::new(self.alloc, inner)?))
-            }
-            None => Err(tokens.refuse()),
-        }
-    }
-
-    #[tactic(auto, using(crate::proofs::Firsts::gen_parts))]
-    fn gen_body(&self, tokens: &mut Cursor<'_>) -> Result<Gen, ParseErr>
-        requires { Nests (spec.item self.now.depth) self.now.depth (F.pre self.now.item) (F.post self.now.item) }
-        ensures { Reads (spec.gen (spec.item self.now.depth) tokens.old) result tokens.new }
-    {
-        match tokens.peek_keyword(Keyword::Begin) {
-            Some(_) => self.gen_block(tokens),
-            None => self.single(tokens),
-        }
-    }
-
-    fn body(&self, tokens: &mut Cursor<'_>) -> Result<Boxed<Gen>, ParseErr>
-        requires { Nests (spec.item self.now.depth) self.now.depth (F.pre self.now.item) (F.post self.now.item) }
-        ensures { Reads (spec.gen (spec.item self.now.depth) tokens.old) result tokens.new }
-    {
-        let inner = self.gen_body(tokens)?;
-        let inner = Boxed::new(self.alloc, inner)?;
-        Ok(inner)
-    }
-
-    #[tactic(auto, unfolding(sv_type_parser::specs::Lists::behind_else))]
-    fn else_part(&self, tokens: &mut Cursor<'_>) -> Result<Boxed<Gen>, ParseErr>
-        requires { Nests (spec.item self.now.depth) self.now.depth (F.pre self.now.item) (F.post self.now.item) }
-        ensures { Reads (list.behind_else (spec.gen (spec.item self.now.depth)) tokens.old) result tokens.new }
-    {
-        tokens.keyword(Keyword::Else)?;
-        self.body(tokens)
-    }
-
-    #[tactic(auto, unfolding(crate::specs::Items::maybe_gen, sv_type_parser::specs::Lists::behind_else))]
-    fn maybe_else(&self, tokens: &mut Cursor<'_>) -> Result<Option<Boxed<Gen>>, ParseErr>
-        requires { Nests (spec.item self.now.depth) self.now.depth (F.pre self.now.item) (F.post self.now.item) }
-        ensures { Reads (spec.maybe_gen (spec.item self.now.depth) tokens.old) result tokens.new }
-    {
-        match tokens.peek_keyword(Keyword::Else) {
-            Some(_) => {
-                let inner = self.else_part(tokens)?;
-                Ok(Some(inner))
-            }
-            None => Ok(None),
-        }
-    }
-
-    // From the `)` behind the condition on.
-    fn behind_condition(
-        &self,
-        tokens: &mut Cursor<'_>,
-    ) -> Result<(Boxed<Gen>, Option<Boxed<Gen>>), ParseErr>
-        requires { Nests (spec.item self.now.depth) self.now.depth (F.pre self.now.item) (F.post self.now.item) }
-        ensures { Reads ((test.mark Mark.RightParen ▸ (spec.gen (spec.item self.now.depth) ⊗ spec.maybe_gen (spec.item self.now.depth))) tokens.old) result tokens.new }
-    {
-        tokens.mark(Mark::RightParen)?;
-        let first = self.body(tokens)?;
-        both(first, self.maybe_else(tokens))
-    }
-
-    /// A generate `if` (A.4.2, if_generate_construct).
-    #[tactic(auto, unfolding(crate::specs::Items::gen_if))]
-    pub fn conditional(&self, tokens: &mut Cursor<'_>) -> Result<Item, ParseErr>
-        requires { Nests (spec.item self.now.depth) self.now.depth (F.pre self.now.item) (F.post self.now.item) }
-        ensures { Reads (spec.gen_if (spec.item self.now.depth) tokens.old) result tokens.new }
-    {
-        let place = tokens.keyword(Keyword::If)?;
-        tokens.mark(Mark::LeftParen)?;
-        let condition = expression(self.alloc, tokens)?;
-        let (condition, (first, second)) = both(condition, self.behind_condition(tokens))?;
-        Ok(Item::If(place, condition, first, second))
-    }
-
-    #[tactic(auto, unfolding(sv_stmt_parser::specs::Loops::stepped))]
-    fn stepped(
-        &self,
-        tokens: &mut Cursor<'_>,
-        variable: &Word,
-    ) -> Result<(Step, Boxed<Gen>), ParseErr>
-        requires { Nests (spec.item self.now.depth) self.now.depth (F.pre self.now.item) (F.post self.now.item) }
-        ensures { Reads (loops.stepped (spec.gen (spec.item self.now.depth)) variable.now tokens.old) result tokens.new }
-    {
-        let by = step(self.alloc, tokens, variable)?;
-        let (by, _) = both(by, tokens.mark(Mark::RightParen))?;
-        both(by, self.body(tokens))
-    }
-
-    #[tactic(auto, unfolding(sv_stmt_parser::specs::Loops::tested))]
-    fn tested(
-        &self,
-        tokens: &mut Cursor<'_>,
-        variable: &Word,
-    ) -> Result<(Expr, (Step, Boxed<Gen>)), ParseErr>
-        requires { Nests (spec.item self.now.depth) self.now.depth (F.pre self.now.item) (F.post self.now.item) }
-        ensures { Reads (loops.tested (spec.gen (spec.item self.now.depth)) variable.now tokens.old) result tokens.new }
-    {
-        let condition = expression(self.alloc, tokens)?;
-        let (condition, _) = both(condition, tokens.mark(Mark::Semicolon))?;
-        both(condition, self.stepped(tokens, variable))
-    }
-
-    #[tactic(auto, unfolding(sv_stmt_parser::specs::Loops::stepped, sv_stmt_parser::specs::Loops::tested))]
-    fn turns(&self, tokens: &mut Cursor<'_>, variable: &Word) -> Result<Turns, ParseErr>
-        requires { Nests (spec.item self.now.depth) self.now.depth (F.pre self.now.item) (F.post self.now.item) }
-        ensures { Reads (stmts.turns (spec.gen (spec.item self.now.depth)) variable.now tokens.old) result tokens.new }
-    {
-        tokens.mark(Mark::Assign)?;
-        let start = expression(self.alloc, tokens)?;
-        let (start, _) = both(start, tokens.mark(Mark::Semicolon))?;
-        both(start, self.tested(tokens, variable))
-    }
-
-    // The variable of a loop, and what stands behind it.
-    fn with_variable(&self, tokens: &mut Cursor<'_>) -> Result<(Word, Turns), ParseErr>
-        requires { Nests (spec.item self.now.depth) self.now.depth (F.pre self.now.item) (F.post self.now.item) }
-        ensures { Reads ((parser.token test.id_test ▷ stmts.turns (spec.gen (spec.item self.now.depth))) tokens.old) result tokens.new }
-    {
-        let variable = tokens.id(self.alloc)?;
-        let rest = self.turns(tokens, &variable);
-        both(variable, rest)
-    }
-
-    /// A generate loop (A.4.2, loop_generate_construct).
-    #[tactic(auto, unfolding(crate::specs::Items::gen_loop))]
-    pub fn counted(&self, tokens: &mut Cursor<'_>) -> Result<Item, ParseErr>
-        requires { Nests (spec.item self.now.depth) self.now.depth (F.pre self.now.item) (F.post self.now.item) }
-        ensures { Reads (spec.gen_loop (spec.item self.now.depth) tokens.old) result tokens.new }
-    {
-        let place = tokens.keyword(Keyword::For)?;
-        tokens.mark(Mark::LeftParen)?;
-        let word = maybe_genvar(tokens)?;
-        let (variable, turns) = self.with_variable(tokens)?;
-        Ok(loop_of(place, word, variable, turns))
+    match opener {
+        ItemOpener::Net => net(alloc, tokens),
+        ItemOpener::Type => variable(alloc, tokens),
+        ItemOpener::Typedef => typedef_item(alloc, tokens),
+        ItemOpener::Param => param_item(alloc, tokens),
+        ItemOpener::Genvar => genvar(alloc, tokens),
+        ItemOpener::Assign => assigns(alloc, tokens),
+        ItemOpener::Always => always_item(alloc, tokens),
+        ItemOpener::Name => named_item(alloc, tokens),
+        ItemOpener::For | ItemOpener::If | ItemOpener::Generate => Err(tokens.too_deep()),
     }
 }

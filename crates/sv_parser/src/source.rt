@@ -1,9 +1,10 @@
 // Modules and whole texts.
 ghost use Rattle.std.specs.Prelude.{◌≡◌, is_some};
 ghost use Rattle.sv_cursor.specs.Parsers as parser;
-ghost use Rattle.sv_cursor.specs.Parsers.{Reads, told};
+ghost use Rattle.sv_cursor.specs.Parsers.{Reads, told, ◌⊗◌};
 ghost use Rattle.sv_cursor.specs.Tests as test;
-ghost use Rattle.sv_word_parser.specs.Combined.{sort_test, word_test};
+ghost use Rattle.sv_word_parser.specs.Combined.{◌▸◌, sort_test, word_test};
+ghost use Rattle.sv_stmt_parser.specs.Targets as targets;
 ghost use Rattle.sv_item_parser.specs.Items as spec_items;
 ghost use Rattle.sv_type_parser.specs.Lists as list;
 ghost use Rattle.sv_type_parser.specs.Params as params_spec;
@@ -123,6 +124,17 @@ fn more_par_ports(alloc: Global, tokens: &mut Cursor<'_>) -> Result<Items<ParPor
     Ok(found)
 }
 
+// One or more parameters.
+fn some_params(
+    alloc: Global,
+    tokens: &mut Cursor<'_>,
+) -> Result<(ParPort, Items<ParPort>), ParseErr>
+    ensures { Reads ((params_spec.par_port ⊗ list.more params_spec.par_port) tokens.old) result tokens.new }
+{
+    let first = par_port(alloc, tokens)?;
+    both(first, more_par_ports(alloc, tokens))
+}
+
 #[tactic(auto, unfolding(crate::specs::Source::params_inside, crate::specs::Source::more_par_ports, sv_type_parser::specs::Lists::more, sv_type_parser::specs::Lists::behind_comma))]
 fn params_inside(
     alloc: Global,
@@ -132,10 +144,9 @@ fn params_inside(
 {
     tokens.mark(Mark::Hash)?;
     tokens.mark(Mark::LeftParen)?;
-    let first = par_port(alloc, tokens)?;
-    let (first, more) = both(first, more_par_ports(alloc, tokens))?;
-    let ((first, more), _) = both((first, more), tokens.mark(Mark::RightParen))?;
-    Ok((first, more))
+    let all = some_params(alloc, tokens)?;
+    let (all, _) = both(all, tokens.mark(Mark::RightParen))?;
+    Ok(all)
 }
 
 #[tactic(auto, unfolding(crate::specs::Source::params))]
@@ -174,23 +185,40 @@ fn body(alloc: Global, tokens: &mut Cursor<'_>) -> Result<Items<Item>, ParseErr>
     Ok(found)
 }
 
+// The items and the label of a module.
+type ItemsRest = (Items<Item>, Option<Word>);
+
 // The parameters, the ports, the items and the label of a module.
-type ModuleRest = (
-    Items<ParPort>,
-    (Option<Items<Port>>, (Items<Item>, Option<Word>)),
-);
+type ModuleRest = (Items<ParPort>, (Option<Items<Port>>, ItemsRest));
+
+// What stands behind the semicolon of the header.
+fn items_rest(alloc: Global, tokens: &mut Cursor<'_>, name: &Word) -> Result<ItemsRest, ParseErr>
+    ensures { Reads ((spec_items.items (spec_items.item 200) ⊗ (test.keyword Keyword.Endmodule ▸ targets.label_behind name.now)) tokens.old) result tokens.new }
+{
+    let items = body(alloc, tokens)?;
+    let (items, _) = both(items, tokens.keyword(Keyword::Endmodule))?;
+    both(items, label_behind(alloc, tokens, name))
+}
+
+// What stands behind the parameters of a module.
+fn ports_rest(
+    alloc: Global,
+    tokens: &mut Cursor<'_>,
+    name: &Word,
+) -> Result<(Option<Items<Port>>, ItemsRest), ParseErr>
+    ensures { Reads ((spec.maybe_ports ⊗ (test.mark Mark.Semicolon ▸ (spec_items.items (spec_items.item 200) ⊗ (test.keyword Keyword.Endmodule ▸ targets.label_behind name.now)))) tokens.old) result tokens.new }
+{
+    let ports = maybe_ports(alloc, tokens)?;
+    let (ports, _) = both(ports, tokens.mark(Mark::Semicolon))?;
+    both(ports, items_rest(alloc, tokens, name))
+}
 
 // What stands behind the name of a module.
 fn module_rest(alloc: Global, tokens: &mut Cursor<'_>, name: &Word) -> Result<ModuleRest, ParseErr>
     ensures { Reads (spec.module_rest name.now tokens.old) result tokens.new }
 {
     let params = params(alloc, tokens)?;
-    let ports = maybe_ports(alloc, tokens)?;
-    let (ports, _) = both(ports, tokens.mark(Mark::Semicolon))?;
-    let (ports, items) = both(ports, body(alloc, tokens))?;
-    let ((ports, items), _) = both((ports, items), tokens.keyword(Keyword::Endmodule))?;
-    let ((ports, items), label) = both((ports, items), label_behind(alloc, tokens, name))?;
-    Ok((params, (ports, (items, label))))
+    both(params, ports_rest(alloc, tokens, name))
 }
 
 /// A module (A.1.2, module_declaration). The cursor stands behind it then.

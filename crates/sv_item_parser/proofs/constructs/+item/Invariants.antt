@@ -1,4 +1,4 @@
-use Rattle.sv_item_parser.proofs.regions.+item.Given as goal
+use Rattle.sv_item_parser.proofs.constructs.+item.Given as goal
 
 abbrev pub decreases-item : goal.decreases-item
 decreases-item l = l.depth

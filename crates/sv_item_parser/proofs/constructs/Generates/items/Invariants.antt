@@ -4,7 +4,7 @@ use Rattle.sv_cursor.proofs.Turns.{after}
 use Rattle.sv_word_parser.specs.Combined.{sort_test}
 use Rattle.sv_word_parser.specs.Words.{item_by_sort}
 use Rattle.sv_item_parser.specs.Items.{item, items}
-use Rattle.sv_item_parser.proofs.module_items.Generates.items.Given as goal
+use Rattle.sv_item_parser.proofs.constructs.Generates.items.Given as goal
 
 abbrev pub invariant-loop-turn : goal.invariant-loop-turn
 invariant-loop-turn g l =

@@ -5,7 +5,7 @@ use Rattle.sv_cursor.proofs.Turns.{handed, after_none, many_ends, many_stops, ma
 use Rattle.sv_word_parser.specs.Combined.{sort_test}
 use Rattle.sv_word_parser.specs.Words.{item_by_sort}
 use Rattle.sv_item_parser.specs.Items.{item, items}
-use Rattle.sv_item_parser.proofs.module_items.Generates.items.Goals as goal
+use Rattle.sv_item_parser.proofs.constructs.Generates.items.Goals as goal
 
 pub loop-turn-init : goal.loop-turn-init
 unfolding items
