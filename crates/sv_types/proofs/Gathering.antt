@@ -17,6 +17,7 @@ use Rattle.sv_names.specs.Kinds.{layout_is, members_of}
 use Rattle.sv_types.specs.declared.enumerators.Enumerator.{Enumerator}
 use Rattle.sv_types.specs.declared.forms.Listed.{Listed}
 use Rattle.sv_types.specs.Types.{Refused, declared_is, all_declared, field_names, fields_of, forms_of, joined_form, IsListed, IsJoined}
+use Rattle.sv_types.proofs.Above.{with_none, with_both}
 use Rattle.sv_types.proofs.Judging.{then_err, refused_as}
 use Rattle.sv_types.proofs.Membership.{chained, members_append}
 use Rattle.sv_types.proofs.Trees.{forms_more}
@@ -32,7 +33,7 @@ behind a done j = j >>= λ r. Ok (chained a r.0, done ++ r.1)
 
 -- members of these names, and what comes behind them
 abbrev pub then_members : m.Scope → List m.Name → ℕ → List Word → List Member → f.Formed → Judged Found
-then_members at used bits words rest y = forms_of (at ++ f.entries_of y.1) (used ++ f.texts_of words) (bits + f.bits_of words (m.width y.0)) rest >>= λ r. Ok (f.members_of words y.0 r.0, y.1 ++ r.1)
+then_members at used bits words rest y = forms_of (m.with_names at (f.entries_of y.1)) (used ++ f.texts_of words) (bits + f.bits_of words (m.width y.0)) rest >>= λ r. Ok (f.members_of words y.0 r.0, y.1 ++ r.1)
 
 then_twice : {A B C : Type 0} (j : Judged A) (g : A → Judged B) (h : B → Judged C) → (j >>= λ x. g x >>= h) ≡ ((j >>= g) >>= h)
 then_twice (Ok x) g h = refl
@@ -42,7 +43,7 @@ forms_joined : (at : m.Scope) (x : Listed) (t : TypeTree) (words : List Word) (r
     forms_of at (field_names x.fields) x.bits (member.Of t words ∷ rest) ≡ (joined_form (f.form at t) x words >>= then_members at (field_names x.fields) x.bits words rest)
 forms_joined at x t words rest =
     forms_more at (field_names x.fields) x.bits t words rest
-    ∙ then_twice (f.form at t) (λ y. provided (f.member_faults (field_names x.fields) x.bits (m.width y.0) words) y) (then_members at (field_names x.fields) x.bits words rest)
+    ∙ then_twice (f.form at t) (λ y. provided (f.member_faults (field_names x.fields) x.bits y.0 words) y) (then_members at (field_names x.fields) x.bits words rest)
 
 chained_twice : (a b c : m.Members) → chained (chained a b) c ≡ chained a (chained b c)
 unfolding chained
@@ -71,7 +72,7 @@ width_chained (m.member n x a) b = let e = width_chained a b in omega arith
 -- ---- what is gathered so far
 
 abbrev pub Gathers : m.Scope → List Member → Listed → List Member → Type 0
-Gathers at all x rest = forms_of at [] 0 all ≡ behind (members_of x.fields) (all_declared x.declared) (forms_of (at ++ f.entries_of (all_declared x.declared)) (field_names x.fields) x.bits rest)
+Gathers at all x rest = forms_of at [] 0 all ≡ behind (members_of x.fields) (all_declared x.declared) (forms_of (m.with_names at (f.entries_of (all_declared x.declared))) (field_names x.fields) x.bits rest)
 
 behind_nothing : (j : Judged Found) → behind m.no_members [] j ≡ j
 unfolding chained
@@ -84,10 +85,10 @@ behind_more a b d e (Err all) = refl
 
 pub gathers_begin : (at : m.Scope) (all : List Member) (x : Listed) → x.fields ≡ [] → x.bits ≡ 0 → x.declared ≡ [] → Gathers at all x all
 gathers_begin at all x f0 b0 d0 =
-    sym (ap (λ (z : List Field). behind (members_of z) (all_declared x.declared) (forms_of (at ++ f.entries_of (all_declared x.declared)) (field_names z) x.bits all)) f0
-    ∙ ap (λ (z : ℕ). behind m.no_members (all_declared x.declared) (forms_of (at ++ f.entries_of (all_declared x.declared)) [] z all)) b0
-    ∙ ap (λ (z : List Enumerator). behind m.no_members (all_declared z) (forms_of (at ++ f.entries_of (all_declared z)) [] 0 all)) d0
-    ∙ behind_nothing (forms_of (at ++ []) [] 0 all) ∙ ap (λ (z : m.Scope). forms_of z [] 0 all) (append-nil at))
+    sym (ap (λ (z : List Field). behind (members_of z) (all_declared x.declared) (forms_of (m.with_names at (f.entries_of (all_declared x.declared))) (field_names z) x.bits all)) f0
+    ∙ ap (λ (z : ℕ). behind m.no_members (all_declared x.declared) (forms_of (m.with_names at (f.entries_of (all_declared x.declared))) [] z all)) b0
+    ∙ ap (λ (z : List Enumerator). behind m.no_members (all_declared z) (forms_of (m.with_names at (f.entries_of (all_declared z))) [] 0 all)) d0
+    ∙ behind_nothing (forms_of (m.with_names at []) [] 0 all) ∙ ap (λ (z : m.Scope). forms_of z [] 0 all) (with_none at))
 
 split : (all : List Member) (i : ℕ) (x : Member) → i < length all → x ≡ get_or all i x → drop i all ≡ x ∷ drop (suc i) all
 split all i x h e = drop-cons all i x h ∙ ap (λ (z : Member). z ∷ drop (suc i) all) (sym e)
@@ -95,15 +96,15 @@ split all i x h e = drop-cons all i x h ∙ ap (λ (z : Member). z ∷ drop (suc
 declared_both : (a b : List Enumerator) → all_declared (a ++ b) ≡ all_declared a ++ all_declared b
 declared_both a b = map-append declared_is a b
 
-scope_both : (at : m.Scope) (a b : List Enumerator) → (at ++ f.entries_of (all_declared a)) ++ f.entries_of (all_declared b) ≡ at ++ f.entries_of (all_declared (a ++ b))
+scope_both : (at : m.Scope) (a b : List Enumerator) → m.with_names (m.with_names at (f.entries_of (all_declared a))) (f.entries_of (all_declared b)) ≡ m.with_names at (f.entries_of (all_declared (a ++ b)))
 scope_both at a b =
-    append_assoc at (f.entries_of (all_declared a)) (f.entries_of (all_declared b))
-    ∙ ap (λ z. at ++ z) (sym (ap f.entries_of (declared_both a b) ∙ map-append f.entry_of (all_declared a) (all_declared b)))
+    with_both at (f.entries_of (all_declared a)) (f.entries_of (all_declared b))
+    ∙ ap (m.with_names at) (sym (ap f.entries_of (declared_both a b) ∙ map-append f.entry_of (all_declared a) (all_declared b)))
 
 then_named : (at : m.Scope) (used : List m.Name) (bits : ℕ) (words : List Word) (rest : List Member) (x : Layout) (d : List f.Declared) →
-    then_members at used bits words rest (layout_is x, d) ≡ (forms_of (at ++ f.entries_of d) (used ++ f.texts_of words) (bits + f.bits_of words (m.width (layout_is x))) rest >>= λ r. Ok (chained (members_of (fields_of x words)) r.0, d ++ r.1))
+    then_members at used bits words rest (layout_is x, d) ≡ (forms_of (m.with_names at (f.entries_of d)) (used ++ f.texts_of words) (bits + f.bits_of words (m.width (layout_is x))) rest >>= λ r. Ok (chained (members_of (fields_of x words)) r.0, d ++ r.1))
 then_named at used bits words rest x d =
-    ap (λ (g : Found → Judged Found). forms_of (at ++ f.entries_of d) (used ++ f.texts_of words) (bits + f.bits_of words (m.width (layout_is x))) rest >>= g) (λ i r. Ok (named_members words x r.0 i, d ++ r.1))
+    ap (λ (g : Found → Judged Found). forms_of (m.with_names at (f.entries_of d)) (used ++ f.texts_of words) (bits + f.bits_of words (m.width (layout_is x))) rest >>= g) (λ i r. Ok (named_members words x r.0 i, d ++ r.1))
 
 next_fields : (x next : Listed) (layout : Layout) (words : List Word) → next.fields ≡ x.fields ++ fields_of layout words → members_of next.fields ≡ chained (members_of x.fields) (members_of (fields_of layout words))
 next_fields x next layout words e = ap members_of e ∙ members_append x.fields (fields_of layout words)
@@ -120,28 +121,28 @@ next_bits x next layout words h k e =
     omega arith
 
 pub gathers_go : (at : m.Scope) (all : List Member) (i j : ℕ) (x next : Listed) (c : Member) (t : TypeTree) (words : List Word) (old new : Names) → i < length all → j ≡ suc i → c ≡ get_or all i c → c ≡ member.Of t words → IsListed x →
-    IsJoined (f.form (at ++ f.entries_of (all_declared x.declared)) t) old new x words next → Gathers at all x (drop i all) → Gathers at all next (drop j all)
+    IsJoined (f.form (m.with_names at (f.entries_of (all_declared x.declared))) t) old new x words next → Gathers at all x (drop i all) → Gathers at all next (drop j all)
 gathers_go at all i j x next c t words old new lt ji g e l h k =
-    let here = at ++ f.entries_of (all_declared x.declared) in
+    let here = m.with_names at (f.entries_of (all_declared x.declared)) in
     let rest = drop (suc i) all in
     let nf = next_fields x next h.layout words h.fields in
     let nn = next_names x next h.layout words h.fields in
     let nb = next_bits x next h.layout words l h.listed h.fields in
     let nd : all_declared next.declared ≡ all_declared x.declared ++ all_declared h.more = ap all_declared h.declared ∙ declared_both x.declared h.more in
-    let ns : here ++ f.entries_of (all_declared h.more) ≡ at ++ f.entries_of (all_declared next.declared) = scope_both at x.declared h.more ∙ ap (λ z. at ++ f.entries_of (all_declared z)) (sym h.declared) in
+    let ns : m.with_names here (f.entries_of (all_declared h.more)) ≡ m.with_names at (f.entries_of (all_declared next.declared)) = scope_both at x.declared h.more ∙ ap (λ (z : List Enumerator). m.with_names at (f.entries_of (all_declared z))) (sym h.declared) in
     k
     ∙ ap (λ (z : List Member). behind (members_of x.fields) (all_declared x.declared) (forms_of here (field_names x.fields) x.bits z)) (split all i c lt g ∙ ap (λ (z : Member). z ∷ rest) e)
     ∙ ap (behind (members_of x.fields) (all_declared x.declared)) (forms_joined here x t words rest)
     ∙ ap (λ (z : Judged f.Formed). behind (members_of x.fields) (all_declared x.declared) (z >>= then_members here (field_names x.fields) x.bits words rest)) h.is
     ∙ ap (behind (members_of x.fields) (all_declared x.declared)) (then_named here (field_names x.fields) x.bits words rest h.layout (all_declared h.more))
-    ∙ behind_more (members_of x.fields) (members_of (fields_of h.layout words)) (all_declared x.declared) (all_declared h.more) (forms_of (here ++ f.entries_of (all_declared h.more)) (field_names x.fields ++ f.texts_of words) (x.bits + f.bits_of words (m.width (layout_is h.layout))) rest)
+    ∙ behind_more (members_of x.fields) (members_of (fields_of h.layout words)) (all_declared x.declared) (all_declared h.more) (forms_of (m.with_names here (f.entries_of (all_declared h.more))) (field_names x.fields ++ f.texts_of words) (x.bits + f.bits_of words (m.width (layout_is h.layout))) rest)
     ∙ (λ k. behind (sym nf k) (sym nd k) (forms_of (ns k) (sym nn k) (sym nb k) rest))
-    ∙ ap (λ (z : ℕ). behind (members_of next.fields) (all_declared next.declared) (forms_of (at ++ f.entries_of (all_declared next.declared)) (field_names next.fields) next.bits (drop z all))) (sym ji)
+    ∙ ap (λ (z : ℕ). behind (members_of next.fields) (all_declared next.declared) (forms_of (m.with_names at (f.entries_of (all_declared next.declared))) (field_names next.fields) next.bits (drop z all))) (sym ji)
 
 pub gathers_refused : (at : m.Scope) (all : List Member) (i : ℕ) (x : Listed) (c : Member) (t : TypeTree) (words : List Word) (e : TextErr) → i < length all → c ≡ get_or all i c → c ≡ member.Of t words →
-    Refused (joined_form (f.form (at ++ f.entries_of (all_declared x.declared)) t) x words) e → Gathers at all x (drop i all) → Refused (forms_of at [] 0 all) e
+    Refused (joined_form (f.form (m.with_names at (f.entries_of (all_declared x.declared))) t) x words) e → Gathers at all x (drop i all) → Refused (forms_of at [] 0 all) e
 gathers_refused at all i x c t words e lt g d h k =
-    let here = at ++ f.entries_of (all_declared x.declared) in
+    let here = m.with_names at (f.entries_of (all_declared x.declared)) in
     let rest = drop (suc i) all in
     refused_as _ _ e
     (k ∙ ap (λ (z : List Member). behind (members_of x.fields) (all_declared x.declared) (forms_of here (field_names x.fields) x.bits z)) (split all i c lt g ∙ ap (λ (z : Member). z ∷ rest) d)
@@ -164,7 +165,7 @@ forms_none at used bits = refl
 
 pub gathers_end : (at : m.Scope) (all : List Member) (i : ℕ) (x : Listed) → length all ≤ i → Gathers at all x (drop i all) → forms_of at [] 0 all ≡ Ok (members_of x.fields, all_declared x.declared)
 gathers_end at all i x lt k =
-    let here = at ++ f.entries_of (all_declared x.declared) in
+    let here = m.with_names at (f.entries_of (all_declared x.declared)) in
     k ∙ ap (λ (z : List Member). behind (members_of x.fields) (all_declared x.declared) (forms_of here (field_names x.fields) x.bits z)) (drop_none all i lt)
     ∙ ap (behind (members_of x.fields) (all_declared x.declared)) (forms_none here (field_names x.fields) x.bits)
     ∙ ap Ok (λ i. (chained_none (members_of x.fields) i, append-nil (all_declared x.declared) i))

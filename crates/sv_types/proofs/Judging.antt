@@ -44,12 +44,3 @@ pub provided_err : {A : Type 0} (a : Faults) (x : A) (e : TextErr) → IsCause a
 provided_err a x Memory h = tt
 provided_err [] x (No r) h = h
 provided_err (f ∷ all) x (No r) h = h
-
-pub wide_enough : (n : ℕ) → 1 ≤ n → n ≤ 128 → is_width n ≡ true
-wide_enough n h k = grind (arith, nat_tests)
-
-pub too_wide : (n : ℕ) → 128 < n → is_width n ≡ false
-too_wide n h = grind (arith, nat_tests)
-
-pub above : (n : ℕ) → nat_le n 128 ≡ false → 128 < n
-above n h = grind (arith, nat_tests)

@@ -20,7 +20,7 @@ use Rattle.sv_types.specs.declared.enumerators.Enumerator.{Enumerator}
 use Rattle.sv_types.specs.declared.whole.Whole.{Whole}
 use Rattle.sv_types.specs.Types.{Refused, whole_is, JudgesWhole, JudgesEntry, declared_is, all_declared, pushed, IsAbove}
 use Rattle.sv_types.proofs.Judging.{then_err, then_in, refused_as, provided_ok, provided_err}
-use Rattle.sv_types.proofs.Above.{above_then}
+use Rattle.sv_types.proofs.Above.{above_then, with_none, with_both}
 
 -- ---- the number of a label
 
@@ -65,11 +65,11 @@ unfolding labels
 labels_none at w s n = refl
 
 labels_go : (at : m.Scope) (w : ℕ) (s : Bool) (next n : ℤ) (x : EnumLabel) (more : List EnumLabel) (e : Declared) → label_number at w next x.value ≡ Ok n → label_entry w s x.name n ≡ Ok e →
-    labels at w s next (x ∷ more) ≡ (labels (at ++ entry_of e ∷ []) w s (n +ℤ pos 1) more >>= λ rest. Ok (e ∷ rest))
+    labels at w s next (x ∷ more) ≡ (labels (m.with_names at (entry_of e ∷ [])) w s (n +ℤ pos 1) more >>= λ rest. Ok (e ∷ rest))
 unfolding labels
 labels_go at w s next n x more e h i =
-    ap (λ (z : Judged ℤ). z >>= λ (k : ℤ). label_entry w s x.name k >>= λ (d : Declared). labels (at ++ entry_of d ∷ []) w s (k +ℤ pos 1) more >>= λ (rest : List Declared). Ok (d ∷ rest)) h
-    ∙ ap (λ (z : Judged Declared). z >>= λ (d : Declared). labels (at ++ entry_of d ∷ []) w s (n +ℤ pos 1) more >>= λ (rest : List Declared). Ok (d ∷ rest)) i
+    ap (λ (z : Judged ℤ). z >>= λ (k : ℤ). label_entry w s x.name k >>= λ (d : Declared). labels (m.with_names at (entry_of d ∷ [])) w s (k +ℤ pos 1) more >>= λ (rest : List Declared). Ok (d ∷ rest)) h
+    ∙ ap (λ (z : Judged Declared). z >>= λ (d : Declared). labels (m.with_names at (entry_of d ∷ [])) w s (n +ℤ pos 1) more >>= λ (rest : List Declared). Ok (d ∷ rest)) i
 
 labels_number : (at : m.Scope) (w : ℕ) (s : Bool) (next : ℤ) (x : EnumLabel) (more : List EnumLabel) (v : TextErr) → Refused (label_number at w next x.value) v → Refused (labels at w s next (x ∷ more)) v
 unfolding labels
@@ -83,17 +83,14 @@ labels_entry at w s next n x more v h k = then_in (label_number at w next x.valu
 
 -- what is found of the first labels, and what is left
 abbrev pub Counts : m.Scope → ℕ → Bool → List EnumLabel → List Enumerator → ℤ → List EnumLabel → Type 0
-Counts at w s all done next rest = labels at w s (pos 0) all ≡ behind (all_declared done) (labels (at ++ entries_of (all_declared done)) w s next rest)
-
-at_nothing : (at : m.Scope) → at ++ [] ≡ at
-at_nothing at = append-nil at
+Counts at w s all done next rest = labels at w s (pos 0) all ≡ behind (all_declared done) (labels (m.with_names at (entries_of (all_declared done))) w s next rest)
 
 behind_nothing : (j : Judged (List Declared)) → behind [] j ≡ j
 behind_nothing (Ok x) = refl
 behind_nothing (Err all) = refl
 
 pub counts_begin : (at : m.Scope) (w : ℕ) (s : Bool) (all : List EnumLabel) → Counts at w s all [] (pos 0) all
-counts_begin at w s all = sym (behind_nothing (labels (at ++ []) w s (pos 0) all) ∙ ap (λ (z : m.Scope). labels z w s (pos 0) all) (at_nothing at))
+counts_begin at w s all = sym (behind_nothing (labels (m.with_names at []) w s (pos 0) all) ∙ ap (λ (z : m.Scope). labels z w s (pos 0) all) (with_none at))
 
 split : (all : List EnumLabel) (i : ℕ) (x : EnumLabel) → i < length all → x ≡ get_or all i x → drop i all ≡ x ∷ drop (suc i) all
 split all i x h e = drop-cons all i x h ∙ ap (λ (z : EnumLabel). z ∷ drop (suc i) all) (sym e)
@@ -101,21 +98,21 @@ split all i x h e = drop-cons all i x h ∙ ap (λ (z : EnumLabel). z ∷ drop (
 declared_more : (done : List Enumerator) (e : Enumerator) → all_declared (done ++ e ∷ []) ≡ all_declared done ++ declared_is e ∷ []
 declared_more done e = map-append declared_is done (e ∷ [])
 
-scope_more : (at : m.Scope) (done : List Enumerator) (e : Enumerator) → (at ++ entries_of (all_declared done)) ++ entry_of (declared_is e) ∷ [] ≡ at ++ entries_of (all_declared (done ++ e ∷ []))
+scope_more : (at : m.Scope) (done : List Enumerator) (e : Enumerator) → m.with_names (m.with_names at (entries_of (all_declared done))) (entry_of (declared_is e) ∷ []) ≡ m.with_names at (entries_of (all_declared (done ++ e ∷ [])))
 scope_more at done e =
-    append_assoc at (entries_of (all_declared done)) (entry_of (declared_is e) ∷ [])
-    ∙ ap (λ z. at ++ z) (sym (ap entries_of (declared_more done e) ∙ map-append entry_of (all_declared done) (declared_is e ∷ [])))
+    with_both at (entries_of (all_declared done)) (entry_of (declared_is e) ∷ [])
+    ∙ ap (m.with_names at) (sym (ap entries_of (declared_more done e) ∙ map-append entry_of (all_declared done) (declared_is e ∷ [])))
 
 pub counts_go : (at : m.Scope) (w : ℕ) (s : Bool) (all : List EnumLabel) (done : List Enumerator) (next n : ℤ) (i j : ℕ) (x : EnumLabel) (e : Enumerator) → i < length all → j ≡ suc i → x ≡ get_or all i x →
-    label_number (at ++ entries_of (all_declared done)) w next x.value ≡ Ok n → label_entry w s x.name n ≡ Ok (declared_is e) → Counts at w s all done next (drop i all) → Counts at w s all (done ++ e ∷ []) (n +ℤ pos 1) (drop j all)
+    label_number (m.with_names at (entries_of (all_declared done))) w next x.value ≡ Ok n → label_entry w s x.name n ≡ Ok (declared_is e) → Counts at w s all done next (drop i all) → Counts at w s all (done ++ e ∷ []) (n +ℤ pos 1) (drop j all)
 counts_go at w s all done next n i j x e lt ji g h k c =
-    let here = at ++ entries_of (all_declared done) in
+    let here = m.with_names at (entries_of (all_declared done)) in
     c ∙ ap (λ (z : List EnumLabel). behind (all_declared done) (labels here w s next z)) (split all i x lt g)
     ∙ ap (behind (all_declared done)) (labels_go here w s next n x (drop (suc i) all) (declared_is e) h k)
-    ∙ behind_more (all_declared done) (declared_is e) (labels (here ++ entry_of (declared_is e) ∷ []) w s (n +ℤ pos 1) (drop (suc i) all))
-    ∙ ap (λ (z : List Declared). behind z (labels (here ++ entry_of (declared_is e) ∷ []) w s (n +ℤ pos 1) (drop (suc i) all))) (sym (declared_more done e))
+    ∙ behind_more (all_declared done) (declared_is e) (labels (m.with_names here (entry_of (declared_is e) ∷ [])) w s (n +ℤ pos 1) (drop (suc i) all))
+    ∙ ap (λ (z : List Declared). behind z (labels (m.with_names here (entry_of (declared_is e) ∷ [])) w s (n +ℤ pos 1) (drop (suc i) all))) (sym (declared_more done e))
     ∙ ap (λ (z : m.Scope). behind (all_declared (done ++ e ∷ [])) (labels z w s (n +ℤ pos 1) (drop (suc i) all))) (scope_more at done e)
-    ∙ ap (λ (z : ℕ). behind (all_declared (done ++ e ∷ [])) (labels (at ++ entries_of (all_declared (done ++ e ∷ []))) w s (n +ℤ pos 1) (drop z all))) (sym ji)
+    ∙ ap (λ (z : ℕ). behind (all_declared (done ++ e ∷ [])) (labels (m.with_names at (entries_of (all_declared (done ++ e ∷ [])))) w s (n +ℤ pos 1) (drop z all))) (sym ji)
 
 drop_none : (all : List EnumLabel) (i : ℕ) → length all ≤ i → drop i all ≡ []
 drop_none [] i h = drop-nil i
@@ -124,20 +121,20 @@ drop_none (r ∷ all) (suc i) h = drop_none all i (omega arith)
 
 pub counts_end : (at : m.Scope) (w : ℕ) (s : Bool) (all : List EnumLabel) (done : List Enumerator) (next : ℤ) (i : ℕ) → length all ≤ i → Counts at w s all done next (drop i all) → labels at w s (pos 0) all ≡ Ok (all_declared done)
 counts_end at w s all done next i lt c =
-    let here = at ++ entries_of (all_declared done) in
+    let here = m.with_names at (entries_of (all_declared done)) in
     c ∙ ap (λ (z : List EnumLabel). behind (all_declared done) (labels here w s next z)) (drop_none all i lt) ∙ ap (behind (all_declared done)) (labels_none here w s next) ∙ ap Ok (append-nil (all_declared done))
 
 pub counts_number : (at : m.Scope) (w : ℕ) (s : Bool) (all : List EnumLabel) (done : List Enumerator) (next : ℤ) (i : ℕ) (x : EnumLabel) (v : TextErr) → i < length all → x ≡ get_or all i x →
-    Refused (label_number (at ++ entries_of (all_declared done)) w next x.value) v → Counts at w s all done next (drop i all) → Refused (labels at w s (pos 0) all) v
+    Refused (label_number (m.with_names at (entries_of (all_declared done))) w next x.value) v → Counts at w s all done next (drop i all) → Refused (labels at w s (pos 0) all) v
 counts_number at w s all done next i x v lt g h c =
-    let here = at ++ entries_of (all_declared done) in
+    let here = m.with_names at (entries_of (all_declared done)) in
     refused_as _ _ v (c ∙ ap (λ (z : List EnumLabel). behind (all_declared done) (labels here w s next z)) (split all i x lt g))
     (then_err (labels here w s next (x ∷ drop (suc i) all)) _ v (labels_number here w s next x (drop (suc i) all) v h))
 
 pub counts_entry : (at : m.Scope) (w : ℕ) (s : Bool) (all : List EnumLabel) (done : List Enumerator) (next n : ℤ) (i : ℕ) (x : EnumLabel) (v : TextErr) → i < length all → x ≡ get_or all i x →
-    label_number (at ++ entries_of (all_declared done)) w next x.value ≡ Ok n → Refused (label_entry w s x.name n) v → Counts at w s all done next (drop i all) → Refused (labels at w s (pos 0) all) v
+    label_number (m.with_names at (entries_of (all_declared done))) w next x.value ≡ Ok n → Refused (label_entry w s x.name n) v → Counts at w s all done next (drop i all) → Refused (labels at w s (pos 0) all) v
 counts_entry at w s all done next n i x v lt g h k c =
-    let here = at ++ entries_of (all_declared done) in
+    let here = m.with_names at (entries_of (all_declared done)) in
     refused_as _ _ v (c ∙ ap (λ (z : List EnumLabel). behind (all_declared done) (labels here w s next z)) (split all i x lt g))
     (then_err (labels here w s next (x ∷ drop (suc i) all)) _ v (labels_entry here w s next n x (drop (suc i) all) v h k))
 

@@ -1,5 +1,5 @@
 -- Members of structures, one by one.
-use Rattle.std.proofs.Common.{◌≡◌, ℕ, zero, suc, ◌+◌, ◌≤◌, ◌<◌, Bool, true, false, ◌||◌, List, [], ◌∷◌, ◌++◌, length, take, drop, get_or, map, bytes_eq, Result, Ok, Err, refl, sym, ap, ◌∙◌, subst, arith, append_assoc, nat_lt}
+use Rattle.std.proofs.Common.{◌≡◌, ℕ, zero, suc, ◌+◌, ◌≤◌, ◌<◌, Bool, true, false, ◌||◌, List, [], ◌∷◌, ◌++◌, length, take, drop, get_or, map, bytes_eq, Result, Ok, Err, refl, sym, ap, ◌∙◌, subst, arith, append_assoc, nat_le, nat_lt}
 use Rattle.std.proofs.lemmas.Bool.Decides.{nat_tests}
 use Rattle.std.proofs.lemmas.List.{map-append, append-nil, take_all}
 use Rattle.std.proofs.Math.Seq.{drop-cons, drop-nil, take-suc}
@@ -46,12 +46,16 @@ alike_more : (x : m.Name) (a b : List m.Name) → Alike a b → Alike (x ∷ a) 
 unfolding Alike has_name
 alike_more x a b h n = ap (λ z. bytes_eq x n || z) (h n)
 
-faults_alike : (words : List Word) (a b : List m.Name) (bits w : ℕ) → Alike a b → f.member_faults a bits w words ≡ f.member_faults b bits w words
+-- a member behind so many bits makes too many, or is nested too deep
+abbrev pub is_large : ℕ → m.Layout → Bool
+is_large bits x = nat_lt 128 (bits + m.width x) || nat_le 1000 (m.depth x)
+
+faults_alike : (words : List Word) (a b : List m.Name) (bits : ℕ) (x : m.Layout) → Alike a b → f.member_faults a bits x words ≡ f.member_faults b bits x words
 unfolding f.member_faults Alike
-faults_alike [] a b bits w h = refl
-faults_alike (n ∷ words) a b bits w h =
-    ap (λ z. or_then (fault_if z twice n.place ++ fault_if (nat_lt 128 (bits + w)) bad_width n.place) (f.member_faults (n.text ∷ a) (bits + w) w words)) (h n.text)
-    ∙ ap (or_then (fault_if (has_name n.text b) twice n.place ++ fault_if (nat_lt 128 (bits + w)) bad_width n.place)) (faults_alike words (n.text ∷ a) (n.text ∷ b) (bits + w) w (alike_more n.text a b h))
+faults_alike [] a b bits x h = refl
+faults_alike (n ∷ words) a b bits x h =
+    ap (λ z. or_then (fault_if z twice n.place ++ fault_if (is_large bits x) bad_width n.place) (f.member_faults (n.text ∷ a) (bits + m.width x) x words)) (h n.text)
+    ∙ ap (or_then (fault_if (has_name n.text b) twice n.place ++ fault_if (is_large bits x) bad_width n.place)) (faults_alike words (n.text ∷ a) (n.text ∷ b) (bits + m.width x) x (alike_more n.text a b h))
 
 -- ---- one member more
 
@@ -59,32 +63,40 @@ or_nothing : (a b : Faults) → or_then a [] ≡ [] → or_then a b ≡ b
 or_nothing [] b h = refl
 or_nothing (x ∷ a) b h = cc
 
-faults_step : (used : List m.Name) (bits w : ℕ) (n : Word) (more : List Word) → f.member_faults used bits w (n ∷ []) ≡ [] → f.member_faults used bits w (n ∷ more) ≡ f.member_faults (used ++ n.text ∷ []) (bits + w) w more
+faults_step : (used : List m.Name) (bits : ℕ) (x : m.Layout) (n : Word) (more : List Word) → f.member_faults used bits x (n ∷ []) ≡ [] → f.member_faults used bits x (n ∷ more) ≡ f.member_faults (used ++ n.text ∷ []) (bits + m.width x) x more
 unfolding f.member_faults
-faults_step used bits w n more h = or_nothing _ (f.member_faults (n.text ∷ used) (bits + w) w more) h ∙ faults_alike more (n.text ∷ used) (used ++ n.text ∷ []) (bits + w) w (alike_end n.text used)
+faults_step used bits x n more h = or_nothing _ (f.member_faults (n.text ∷ used) (bits + m.width x) x more) h ∙ faults_alike more (n.text ∷ used) (used ++ n.text ∷ []) (bits + m.width x) x (alike_end n.text used)
 
 in_more : (a b : Faults) (e : TextErr) → IsCause (or_then a []) e → IsCause (or_then a b) e
 in_more a b Memory h = tt
 in_more [] b (No r) h = absurd (none_in [] r refl h)
 in_more (x ∷ a) b (No r) h = h
 
-faults_here : (used : List m.Name) (bits w : ℕ) (n : Word) (more : List Word) (e : TextErr) → IsCause (f.member_faults used bits w (n ∷ [])) e → IsCause (f.member_faults used bits w (n ∷ more)) e
+faults_here : (used : List m.Name) (bits : ℕ) (x : m.Layout) (n : Word) (more : List Word) (e : TextErr) → IsCause (f.member_faults used bits x (n ∷ [])) e → IsCause (f.member_faults used bits x (n ∷ more)) e
 unfolding f.member_faults
-faults_here used bits w n more e h = in_more _ (f.member_faults (n.text ∷ used) (bits + w) w more) e h
+faults_here used bits x n more e h = in_more _ (f.member_faults (n.text ∷ used) (bits + m.width x) x more) e h
 
-pub name_twice : (x : Layout) (n : Word) (old : List Field) → has_name n.text (field_names old) ≡ true → IsCause (f.member_faults (field_names old) (m.width_all (members_of old)) x.width (n ∷ [])) (No (record { number = twice; place = n.place; count = 0 }))
+pub name_twice : (x : Layout) (n : Word) (old : List Field) → has_name n.text (field_names old) ≡ true → IsCause (f.member_faults (field_names old) (m.width_all (members_of old)) (layout_is x) (n ∷ [])) (No (record { number = twice; place = n.place; count = 0 }))
 unfolding f.member_faults
 name_twice x n old h = in_first _ _ _ (in_left _ _ _ (in_fault _ twice n.place h))
 
-above_128 : (n : ℕ) → 128 < n → nat_lt 128 n ≡ true
-above_128 n h = grind (arith, nat_tests)
+-- what code finds of it
+pub large_is : (x : Layout) (old : List Field) (bits : ℕ) (deep large : Bool) → IsSound x → bits ≡ m.width_all (members_of old) → deep ≡ nat_le 1000 (m.depth (layout_is x)) → large ≡ (nat_lt 128 (bits + x.width) || deep) → large ≡ is_large (m.width_all (members_of old)) (layout_is x)
+large_is x old bits deep large s b d e = e ∙ (λ i. nat_lt 128 (b i + sound_is x s i) || d i)
 
-below_128 : (n : ℕ) → n ≤ 128 → nat_lt 128 n ≡ false
+below_128 : (n : ℕ) → nat_lt 128 n ≡ false → n ≤ 128
 below_128 n h = grind (arith, nat_tests)
 
-pub bits_above : (x : Layout) (n : Word) (old : List Field) → 128 < m.width_all (members_of old) + x.width → IsCause (f.member_faults (field_names old) (m.width_all (members_of old)) x.width (n ∷ [])) (No (record { number = bad_width; place = n.place; count = 0 }))
+none_holds : (a b : Bool) → (a || b) ≡ false → a ≡ false
+none_holds true b h = h
+none_holds false b h = refl
+
+pub not_large : (bits width : ℕ) (deep large : Bool) → large ≡ (nat_lt 128 (bits + width) || deep) → large ≡ false → bits + width ≤ 128
+not_large bits width deep large h e = below_128 (bits + width) (none_holds (nat_lt 128 (bits + width)) deep (sym h ∙ e))
+
+pub too_large : (x : Layout) (n : Word) (old : List Field) → is_large (m.width_all (members_of old)) (layout_is x) ≡ true → IsCause (f.member_faults (field_names old) (m.width_all (members_of old)) (layout_is x) (n ∷ [])) (No (record { number = bad_width; place = n.place; count = 0 }))
 unfolding f.member_faults
-bits_above x n old h = in_first _ _ _ (in_right (fault_if (has_name n.text (field_names old)) twice n.place) _ _ (in_fault _ bad_width n.place (above_128 _ h)))
+too_large x n old h = in_first _ _ _ (in_right (fault_if (has_name n.text (field_names old)) twice n.place) _ _ (in_fault _ bad_width n.place h))
 
 -- ---- members in order
 
@@ -102,28 +114,27 @@ unfolding chained
 width_chained m.no_members b = omega arith
 width_chained (m.member n x a) b = let e = width_chained a b in omega arith
 
-pub width_more : (old : List Field) (x : Layout) (n : Word) → IsSound x → m.width_all (members_of (old ++ field_of x n ∷ [])) ≡ m.width_all (members_of old) + x.width
-width_more old x n s =
+pub width_more : (old : List Field) (x : Layout) (n : Word) → m.width_all (members_of (old ++ field_of x n ∷ [])) ≡ m.width_all (members_of old) + m.width (layout_is x)
+width_more old x n =
     let e = ap m.width_all (members_append old (field_of x n ∷ [])) ∙ width_chained (members_of old) (members_of (field_of x n ∷ [])) in
-    let w = sound_is x s in
     omega arith
 
 pub names_more : (old : List Field) (x : Layout) (n : Word) → field_names (old ++ field_of x n ∷ []) ≡ field_names old ++ n.text ∷ []
 names_more old x n = map-append (λ (y : Field). y.name) old (field_of x n ∷ [])
 
-pub field_ok : (x : Layout) (n : Word) (old new : List Field) (bits : ℕ) → IsSound x → has_name n.text (field_names old) ≡ false → bits ≡ m.width_all (members_of old) + x.width → bits ≤ 128 → new ≡ old ++ field_of x n ∷ [] → IsField x n old new bits
+pub field_ok : (x : Layout) (n : Word) (old new : List Field) (bits : ℕ) → IsSound x → has_name n.text (field_names old) ≡ false → is_large (m.width_all (members_of old)) (layout_is x) ≡ false → bits ≡ m.width_all (members_of old) + x.width → bits ≤ 128 → new ≡ old ++ field_of x n ∷ [] → IsField x n old new bits
 unfolding f.member_faults
-field_ok x n old new bits s h b most e = record {
-  clear = then_clear _ _ (both_clear _ _ (no_fault _ twice n.place h) (no_fault _ bad_width n.place (below_128 _ (let k = b in omega arith)))) refl;
+field_ok x n old new bits s h large b most e = record {
+  clear = then_clear _ _ (both_clear _ _ (no_fault _ twice n.place h) (no_fault _ bad_width n.place large)) refl;
   is = e;
-  counted = b ∙ sym (ap (λ z. m.width_all (members_of z)) e ∙ width_more old x n s);
+  counted = b ∙ ap (λ w. m.width_all (members_of old) + w) (sound_is x s) ∙ sym (ap (λ z. m.width_all (members_of z)) e ∙ width_more old x n);
   most = most;
 }
 
 -- ---- a member of each of the names
 
 pub record Adds (x : Layout) (words : List Word) (old now : List Field) (i bits : ℕ) : Type 0 where
-  pub faults : f.member_faults (field_names old) (m.width_all (members_of old)) x.width words ≡ f.member_faults (field_names now) (m.width_all (members_of now)) x.width (drop i words)
+  pub faults : f.member_faults (field_names old) (m.width_all (members_of old)) (layout_is x) words ≡ f.member_faults (field_names now) (m.width_all (members_of now)) (layout_is x) (drop i words)
   pub is : now ≡ old ++ fields_of x (take i words)
   pub counted : bits ≡ m.width_all (members_of now)
   pub most : bits ≤ 128
@@ -137,14 +148,14 @@ split all i x h e = drop-cons all i x h ∙ ap (λ (z : Word). z ∷ drop (suc i
 take_more : (all : List Word) (i j : ℕ) (x : Word) → i < length all → j ≡ suc i → x ≡ get_or all i x → take j all ≡ take i all ++ x ∷ []
 take_more all i j x h k e = ap (λ (z : ℕ). take z all) k ∙ take-suc all i x h ∙ ap (λ (z : Word). take i all ++ z ∷ []) (sym e)
 
-pub adds_go : (x : Layout) (words : List Word) (old now new : List Field) (i j bits next : ℕ) (n : Word) → IsSound x → i < length words → j ≡ suc i → n ≡ get_or words i n → Adds x words old now i bits → IsField x n now new next → Adds x words old new j next
-adds_go x words old now new i j bits next n s lt ji g h k = record {
+pub adds_go : (x : Layout) (words : List Word) (old now new : List Field) (i j bits next : ℕ) (n : Word) → i < length words → j ≡ suc i → n ≡ get_or words i n → Adds x words old now i bits → IsField x n now new next → Adds x words old new j next
+adds_go x words old now new i j bits next n lt ji g h k = record {
   faults =
-      h.faults ∙ ap (f.member_faults (field_names now) (m.width_all (members_of now)) x.width) (split words i n lt g)
-      ∙ faults_step (field_names now) (m.width_all (members_of now)) x.width n (drop (suc i) words) k.clear
-      ∙ ap (λ z. f.member_faults z (m.width_all (members_of now) + x.width) x.width (drop (suc i) words)) (sym (ap field_names k.is ∙ names_more now x n))
-      ∙ ap (λ z. f.member_faults (field_names new) z x.width (drop (suc i) words)) (sym (ap (λ z. m.width_all (members_of z)) k.is ∙ width_more now x n s))
-      ∙ ap (λ (z : ℕ). f.member_faults (field_names new) (m.width_all (members_of new)) x.width (drop z words)) (sym ji);
+      h.faults ∙ ap (f.member_faults (field_names now) (m.width_all (members_of now)) (layout_is x)) (split words i n lt g)
+      ∙ faults_step (field_names now) (m.width_all (members_of now)) (layout_is x) n (drop (suc i) words) k.clear
+      ∙ ap (λ z. f.member_faults z (m.width_all (members_of now) + m.width (layout_is x)) (layout_is x) (drop (suc i) words)) (sym (ap field_names k.is ∙ names_more now x n))
+      ∙ ap (λ z. f.member_faults (field_names new) z (layout_is x) (drop (suc i) words)) (sym (ap (λ z. m.width_all (members_of z)) k.is ∙ width_more now x n))
+      ∙ ap (λ (z : ℕ). f.member_faults (field_names new) (m.width_all (members_of new)) (layout_is x) (drop z words)) (sym ji);
   is =
       k.is ∙ ap (λ z. z ++ field_of x n ∷ []) h.is ∙ append_assoc old (fields_of x (take i words)) (field_of x n ∷ [])
       ∙ ap (λ z. old ++ z) (sym (ap (map (field_of x)) (take_more words i j n lt ji g) ∙ map-append (field_of x) (take i words) (n ∷ [])));
@@ -153,10 +164,10 @@ adds_go x words old now new i j bits next n s lt ji g h k = record {
 }
 
 pub adds_cause : (x : Layout) (words : List Word) (old now : List Field) (i bits : ℕ) (n : Word) (e : TextErr) → i < length words → n ≡ get_or words i n → Adds x words old now i bits →
-    IsCause (f.member_faults (field_names now) (m.width_all (members_of now)) x.width (n ∷ [])) e → IsCause (f.member_faults (field_names old) (m.width_all (members_of old)) x.width words) e
+    IsCause (f.member_faults (field_names now) (m.width_all (members_of now)) (layout_is x) (n ∷ [])) e → IsCause (f.member_faults (field_names old) (m.width_all (members_of old)) (layout_is x) words) e
 adds_cause x words old now i bits n e lt g h k =
-    subst (λ z. IsCause z e) (sym (h.faults ∙ ap (f.member_faults (field_names now) (m.width_all (members_of now)) x.width) (split words i n lt g)))
-    (faults_here (field_names now) (m.width_all (members_of now)) x.width n (drop (suc i) words) e k)
+    subst (λ z. IsCause z e) (sym (h.faults ∙ ap (f.member_faults (field_names now) (m.width_all (members_of now)) (layout_is x)) (split words i n lt g)))
+    (faults_here (field_names now) (m.width_all (members_of now)) (layout_is x) n (drop (suc i) words) e k)
 
 drop_none : (all : List Word) (i : ℕ) → length all ≤ i → drop i all ≡ []
 drop_none [] i h = drop-nil i
@@ -166,7 +177,7 @@ drop_none (r ∷ all) (suc i) h = drop_none all i (omega arith)
 pub adds_end : (x : Layout) (words : List Word) (old now : List Field) (i bits : ℕ) → length words ≤ i → Adds x words old now i bits → AreFields x words old now bits
 unfolding f.member_faults
 adds_end x words old now i bits lt h = record {
-  clear = h.faults ∙ ap (f.member_faults (field_names now) (m.width_all (members_of now)) x.width) (drop_none words i lt);
+  clear = h.faults ∙ ap (f.member_faults (field_names now) (m.width_all (members_of now)) (layout_is x)) (drop_none words i lt);
   is = h.is ∙ ap (λ z. old ++ fields_of x z) (take_all i words lt);
   counted = h.counted;
   most = h.most;
@@ -200,11 +211,11 @@ no_name n all i b lt h = sym (ap (λ z. has_name n (field_names z)) (fields_end 
 pub field_of_result : (x : Layout) (w : Word) (old new : List Field) (r : Result ℕ TextErr) (bits : ℕ) → r ≡ Ok bits → JudgesField x w old new r → IsField x w old new bits
 field_of_result x w old new r bits e h = subst (JudgesField x w old new) e h
 
-pub field_refused : (x : Layout) (w : Word) (old new : List Field) (r : Result ℕ TextErr) (e : TextErr) → r ≡ Err e → JudgesField x w old new r → IsCause (f.member_faults (field_names old) (m.width_all (members_of old)) x.width (w ∷ [])) e
+pub field_refused : (x : Layout) (w : Word) (old new : List Field) (r : Result ℕ TextErr) (e : TextErr) → r ≡ Err e → JudgesField x w old new r → IsCause (f.member_faults (field_names old) (m.width_all (members_of old)) (layout_is x) (w ∷ [])) e
 field_refused x w old new r e k h = subst (JudgesField x w old new) k h
 
 pub fields_of_result : (x : Layout) (words : List Word) (old new : List Field) (r : Result ℕ TextErr) (bits : ℕ) → r ≡ Ok bits → JudgesFields x words old new r → AreFields x words old new bits
 fields_of_result x words old new r bits e h = subst (JudgesFields x words old new) e h
 
-pub fields_refused : (x : Layout) (words : List Word) (old new : List Field) (r : Result ℕ TextErr) (e : TextErr) → r ≡ Err e → JudgesFields x words old new r → IsCause (f.member_faults (field_names old) (m.width_all (members_of old)) x.width words) e
+pub fields_refused : (x : Layout) (words : List Word) (old new : List Field) (r : Result ℕ TextErr) (e : TextErr) → r ≡ Err e → JudgesFields x words old new r → IsCause (f.member_faults (field_names old) (m.width_all (members_of old)) (layout_is x) words) e
 fields_refused x words old new r e k h = subst (JudgesFields x words old new) k h

@@ -1,5 +1,5 @@
 -- Layouts of ranges.
-use Rattle.std.proofs.Common.{◌≡◌, ℕ, zero, suc, ◌*◌, ◌≤◌, ◌<◌, Bool, true, false, ◌&&◌, ◌==◌, not, nat_le, List, [], ◌∷◌, length, drop, get_or, Option, Some, ℤ, IsTrue, Result, Ok, Err, IfOk, refl, sym, ap, ◌∙◌, subst, arith}
+use Rattle.std.proofs.Common.{◌≡◌, ℕ, zero, suc, min, ◌+◌, ◌*◌, ◌≤◌, ◌<◌, Bool, true, false, ◌&&◌, ◌==◌, not, nat_le, nat_lt, List, [], ◌∷◌, length, drop, get_or, Option, Some, ℤ, IsTrue, Result, Ok, Err, IfOk, refl, sym, ap, ◌∙◌, subst, arith}
 use Rattle.std.proofs.lemmas.Bool.Decides.{nat_tests}
 use Rattle.std.proofs.Math.Seq.{drop-cons, drop-nil}
 use Rattle.sv_outside.specs.declared.refusal.Place.{Place}
@@ -9,21 +9,21 @@ use Rattle.sv_tree.specs.declared.forms.Range.{Range}
 use Rattle.sv_meaning.specs.Faults.{Judged, provided, both, ◌>>=◌, fault_if, bad_width}
 use Rattle.sv_meaning.specs.Layouts as m
 use Rattle.sv_meaning.specs.Meanings.{Meaning, number_of, is_bound, is_width, whole, fixed_faults, constant_of}
-use Rattle.sv_meaning.specs.Forms.{bound_faults, bounds, ranged_layout, over_ranges, vector_layout, option_to_list}
+use Rattle.sv_meaning.specs.Forms.{bound_faults, bounds, most_levels, ranged_layout, over_ranges, vector_layout, option_to_list}
 use Rattle.sv_names.specs.declared.layout.Layout.{Layout}
 use Rattle.sv_names.specs.declared.layout.Form.TheVariants as form
 use Rattle.sv_names.specs.declared.layout.Form.TheBlock.{shape-the_row-Layout-0, hidden-the_row-Layout-0}
 use Rattle.sv_typing.specs.declared.position.Fixed.{Fixed}
 use Rattle.sv_typing.specs.Judging.{IsCause, IsFixed}
 use Rattle.sv_names.specs.Kinds.{layout_is, form_is, IsSound, FormIsSound}
-use Rattle.sv_names.proofs.Sound.{sound_is, sound_some, sound_most, same_bound}
+use Rattle.sv_names.proofs.Sound.{sound_is, sound_some, some_bits, same_bound}
 use mir.Syntax.{w64}
 use mir.Val.{to_z, of_z}
 use Rattle.sv_typing.proofs.Lists.{in_second, in_fault, no_fault, then_clear}
 use Rattle.sv_typing.proofs.OfRules.{cause_first}
 use Rattle.sv_types.specs.declared.bounds.Bounds.{Bounds}
 use Rattle.sv_types.specs.Types.{Refused, IsBound, JudgesBound, JudgesBounds, IsLayout, JudgesLayout, ranged_form}
-use Rattle.sv_types.proofs.Judging.{both_ok, both_left, both_right, then_ok, then_err, then_in, provided_ok, provided_err, wide_enough, too_wide, above}
+use Rattle.sv_types.proofs.Judging.{both_ok, both_left, both_right, then_ok, then_err, then_in, provided_ok, provided_err}
 
 -- ---- bounds
 
@@ -81,27 +81,74 @@ dim_sound x each l r h bl br s w some most =
     let v : x.width ≡ m.count_between l r * m.width (layout_is each) = w ∙ ap (λ n. m.count_between l r * n) (sound_is each s) in
     subst (FormIsSound x.width x.signed) (sym h) ((v, some, most), bl, br, s)
 
-width_of : (x : Layout) (y : m.Layout) → IsSound x → layout_is x ≡ y → is_width (m.width y) ≡ true
-width_of x y s e =
-    let w = sound_is x s ∙ ap m.width e in
-    subst (λ n. is_width n ≡ true) w (wide_enough x.width (sound_some x s) (sound_most x s))
+pub count_some : (l r : ℤ) → 1 ≤ m.count_between l r
+count_some l r = omega arith
 
-pub ranged_ok : (j : Judged m.Layout) (k : Judged (ℤ × ℤ)) (p : Place) (s : Bool) (each x : Layout) (b : Bounds) → IsLayout j each → k ≡ Ok (b.left, b.right) → layout_is x ≡ m.dim s b.left b.right (layout_is each) → IsSound x →
-    IsLayout (both j k >>= ranged_layout p s) x
-ranged_ok j k p s each x b h i e y =
-    let f : fault_if (not (is_width (m.width (m.dim s b.left b.right (layout_is each))))) bad_width p ≡ [] = no_fault _ bad_width p (ap not (width_of x _ y e)) in
+-- one level more
+pub dim_depth : (s : Bool) (l r : ℤ) (each : m.Layout) → m.depth (m.dim s l r each) ≡ suc (m.depth each)
+unfolding m.depth
+dim_depth s l r each = refl
+
+range_fits : (n d levels : ℕ) → 1 ≤ n → levels ≡ min 1000 d → (is_width n && nat_le (suc d) 1000) ≡ (nat_le n 128 && nat_lt levels 1000)
+range_fits n d levels h e = λ i. wide i && deep i
+  where
+    wide : is_width n ≡ nat_le n 128
+    wide = grind (arith, nat_tests)
+
+    deep : nat_le (suc d) 1000 ≡ nat_lt levels 1000
+    deep = grind (arith, nat_tests)
+
+-- whether elements make a range
+abbrev pub Makes : Layout → Bounds → ℕ → Bool → Type 0
+Makes each b levels makes = makes ≡ (nat_le (m.count_between b.left b.right * each.width) 128 && nat_lt levels 1000)
+
+makes_is : (s : Bool) (each : Layout) (b : Bounds) (levels : ℕ) (makes : Bool) → IsSound each → levels ≡ min 1000 (m.depth (layout_is each)) → Makes each b levels makes →
+    (is_width (m.width (m.dim s b.left b.right (layout_is each))) && nat_le (m.depth (m.dim s b.left b.right (layout_is each))) most_levels) ≡ makes
+makes_is s each b levels makes h d e =
+    let count = m.count_between b.left b.right in
+    (λ i. is_width (count * sym (sound_is each h) i) && nat_le (dim_depth s b.left b.right (layout_is each) i) 1000)
+    ∙ range_fits (count * each.width) (m.depth (layout_is each)) levels (some_bits count each.width (count_some b.left b.right) (sound_some each h)) d
+    ∙ sym e
+
+pub levels_ok : (levels : ℕ) (r : Result Layout TextErr) (x : Layout) → r ≡ Ok x → IfOk r (λ y. levels ≡ min 1000 (m.depth (layout_is y))) → levels ≡ min 1000 (m.depth (layout_is x))
+levels_ok levels r x e h = subst (λ (z : Result Layout TextErr). IfOk z (λ y. levels ≡ min 1000 (m.depth (layout_is y)))) e h
+
+pub made : (each : Layout) (b : Bounds) (levels count : ℕ) (makes : Bool) → count ≡ m.count_between b.left b.right → makes ≡ (nat_le (count * each.width) 128 && nat_lt levels 1000) → Makes each b levels makes
+made each b levels count makes e h = h ∙ (λ i. nat_le (e i * each.width) 128 && nat_lt levels 1000)
+
+pub dim_levels : (s : Bool) (l r : ℤ) (each x : Layout) (levels : ℕ) → levels ≡ min 1000 (m.depth (layout_is each)) → layout_is x ≡ m.dim s l r (layout_is each) → min (levels + 1) 1000 ≡ min 1000 (m.depth (layout_is x))
+dim_levels s l r each x levels e h = one_more levels (m.depth (layout_is each)) (m.depth (layout_is x)) e (ap m.depth h ∙ dim_depth s l r (layout_is each))
+  where
+    one_more : (n d more : ℕ) → n ≡ min 1000 d → more ≡ suc d → min (n + 1) 1000 ≡ min 1000 more
+    one_more n d more e k = omega arith
+
+pub makes_bits : (count each levels : ℕ) (makes : Bool) → makes ≡ (nat_le (count * each) 128 && nat_lt levels 1000) → makes ≡ true → count * each ≤ 128
+makes_bits count each levels makes e h = least (count * each) (first_holds (nat_le (count * each) 128) (nat_lt levels 1000) (sym e ∙ h))
+  where
+    first_holds : (a b : Bool) → (a && b) ≡ true → a ≡ true
+    first_holds true b k = refl
+    first_holds false b k = k
+
+    least : (n : ℕ) → nat_le n 128 ≡ true → n ≤ 128
+    least n k = grind (arith, nat_tests)
+
+pub ranged_ok : (j : Judged m.Layout) (k : Judged (ℤ × ℤ)) (p : Place) (s : Bool) (each x : Layout) (levels : ℕ) (b : Bounds) (makes : Bool) → IsLayout j each → k ≡ Ok (b.left, b.right) → levels ≡ min 1000 (m.depth (layout_is each)) →
+    Makes each b levels makes → makes ≡ true → layout_is x ≡ m.dim s b.left b.right (layout_is each) → IsSound x → IsLayout (both j k >>= ranged_layout p s) x
+ranged_ok j k p s each x levels b makes h i d mk t e y =
+    let D = m.dim s b.left b.right (layout_is each) in
+    let f : fault_if (not (is_width (m.width D) && nat_le (m.depth D) most_levels)) bad_width p ≡ [] = no_fault _ bad_width p (ap not (makes_is s each b levels makes h.sound d mk ∙ t)) in
     record {
       is = then_ok (both j k) (ranged_layout p s) (layout_is each, (b.left, b.right)) (layout_is x) (both_ok j k (layout_is each) (b.left, b.right) h.is i)
           (provided_ok _ (m.dim s b.left b.right (layout_is each)) f ∙ ap Ok (sym e));
       sound = y;
     }
 
-pub ranged_wide : (j : Judged m.Layout) (k : Judged (ℤ × ℤ)) (p : Place) (s : Bool) (each : Layout) (b : Bounds) → IsLayout j each → k ≡ Ok (b.left, b.right) → nat_le (m.count_between b.left b.right * each.width) 128 ≡ false →
-    Refused (both j k >>= ranged_layout p s) (No (record { number = bad_width; place = p; count = 0 }))
-ranged_wide j k p s each b h i n =
-    let w : is_width (m.count_between b.left b.right * m.width (layout_is each)) ≡ false = ap (λ v. is_width (m.count_between b.left b.right * v)) (sym (sound_is each h.sound)) ∙ too_wide _ (above _ n) in
+pub ranged_wide : (j : Judged m.Layout) (k : Judged (ℤ × ℤ)) (p : Place) (s : Bool) (each : Layout) (levels : ℕ) (b : Bounds) (makes : Bool) → IsLayout j each → k ≡ Ok (b.left, b.right) → levels ≡ min 1000 (m.depth (layout_is each)) →
+    Makes each b levels makes → makes ≡ false → Refused (both j k >>= ranged_layout p s) (No (record { number = bad_width; place = p; count = 0 }))
+ranged_wide j k p s each levels b makes h i d mk n =
+    let D = m.dim s b.left b.right (layout_is each) in
     then_in (both j k) (ranged_layout p s) (layout_is each, (b.left, b.right)) (No (record { number = bad_width; place = p; count = 0 })) (both_ok j k (layout_is each) (b.left, b.right) h.is i)
-    (provided_err (fault_if (not (is_width (m.width (m.dim s b.left b.right (layout_is each))))) bad_width p) (m.dim s b.left b.right (layout_is each)) (No (record { number = bad_width; place = p; count = 0 })) (in_fault _ bad_width p (ap not w)))
+    (provided_err (fault_if (not (is_width (m.width D) && nat_le (m.depth D) most_levels)) bad_width p) D (No (record { number = bad_width; place = p; count = 0 })) (in_fault _ bad_width p (ap not (makes_is s each b levels makes h.sound d mk ∙ n))))
 
 pub ranged_left : (j : Judged m.Layout) (k : Judged (ℤ × ℤ)) (p : Place) (s : Bool) (e : TextErr) → Refused j e → Refused (both j k >>= ranged_layout p s) e
 ranged_left j k p s e h = then_err (both j k) (ranged_layout p s) e (both_left j k e h)
@@ -126,6 +173,10 @@ drop_none : (all : List Range) (i : ℕ) → length all ≤ i → drop i all ≡
 drop_none [] i h = drop-nil i
 drop_none (r ∷ all) zero h = absurd (omega arith)
 drop_none (r ∷ all) (suc i) h = drop_none all i (omega arith)
+
+pub levels_next : (levels next : ℕ) (r : Result Layout TextErr) → next ≡ min (levels + 1) 1000 → IfOk r (λ x. min (levels + 1) 1000 ≡ min 1000 (m.depth (layout_is x))) → IfOk r (λ x. next ≡ min 1000 (m.depth (layout_is x)))
+levels_next levels next (Ok x) e h = e ∙ h
+levels_next levels next (Err w) e h = tt
 
 pub ranges_begin : (at : m.Scope) (s : Bool) (all : List Range) (i : ℕ) (x : Layout) → length all ≤ i → IsSound x → JudgesLayout (over_ranges at s (drop i all) (layout_is x)) (Ok x)
 ranges_begin at s all i x h y = record { is = ap (λ z. over_ranges at s z (layout_is x)) (drop_none all i h) ∙ over_none at s (layout_is x); sound = y }
@@ -161,9 +212,6 @@ ranges_end at s all i x found e h =
 pub sound_ok : (r : Result Layout TextErr) (x : Layout) → r ≡ Ok x → IfOk r (λ y. IsSound y) → IsSound x
 sound_ok r x e h = subst (λ (z : Result Layout TextErr). IfOk z (λ y. IsSound y)) e h
 
-pub count_some : (l r : ℤ) → 1 ≤ m.count_between l r
-count_some l r = omega arith
-
 pub dim_made : (s : Bool) (l r : ℤ) (e each : Layout) → e ≡ each → IsTrue (is_bound l) → IsTrue (is_bound r) → form_is s (form.Dim (to_z w64 (of_z w64 l)) (to_z w64 (of_z w64 r)) e) ≡ m.dim s l r (layout_is each)
 unfolding shape-the_row-Layout-0 hidden-the_row-Layout-0 denote.Hole.Carrier.hidden
 dim_made s l r e each h bl br = (λ i. m.dim s (same_bound l bl i) (same_bound r br i) (layout_is (h i)))
@@ -175,6 +223,10 @@ dim_made_sound w s l r e each h k bl br v some most =
     let made : FormIsSound w s (form.Dim l r each) = ((i, some, most), bl, br, k) in
     subst (λ (z : Layout). FormIsSound w s (form.Dim (to_z w64 (of_z w64 l)) (to_z w64 (of_z w64 r)) z)) (sym h)
     (subst (λ (z : ℤ). FormIsSound w s (form.Dim (to_z w64 (of_z w64 l)) z each)) (sym (same_bound r br)) (subst (λ (z : ℤ). FormIsSound w s (form.Dim z r each)) (sym (same_bound l bl)) made))
+
+pub no_levels : (x : Layout) → layout_is x ≡ m.scalar false → 0 ≡ min 1000 (m.depth (layout_is x))
+unfolding m.depth
+no_levels x e = sym (ap (λ z. min 1000 (m.depth z)) e)
 
 pub scalar_layout : (s : Bool) (x : Layout) → layout_is x ≡ m.scalar s → IsSound x → IsLayout (Ok (m.scalar s)) x
 scalar_layout s x e h = record { is = ap Ok (sym e); sound = h }

@@ -35,13 +35,13 @@ forms_row : (at : m.Scope) (used : List m.Name) (bits : ℕ) (all : List Member)
 unfolding f.form forms_of shape-the_row-Member-1 hidden-the_row-Member-1 denote.Hole.Carrier.hidden
 forms_row at used bits [] = refl
 forms_row at used bits (Of' r (more_of-TypeTree t end_of-TypeTree) names ∷ all) =
-    ap (λ g. f.form at t >>= λ x. provided (f.member_faults used bits (m.width x.0) names) x >>= g) (λ i y. forms_row (at ++ f.entries_of y.1) (used ++ f.texts_of names) (bits + f.bits_of names (m.width y.0)) all i >>= λ rest. Ok (f.members_of names y.0 rest.0, y.1 ++ rest.1))
+    ap (λ g. f.form at t >>= λ x. provided (f.member_faults used bits x.0 names) x >>= g) (λ i y. forms_row (m.with_names at (f.entries_of y.1)) (used ++ f.texts_of names) (bits + f.bits_of names (m.width y.0)) all i >>= λ rest. Ok (f.members_of names y.0 rest.0, y.1 ++ rest.1))
 
 pub form_struct : (at : m.Scope) (s : Option Sign) (all : List Member) (ranges : List Range) → f.form at (t.Struct s all ranges) ≡ struct_form at (f.has_sign s) ranges (forms_of at [] 0 all)
 unfolding f.form shape-the_row-Member-1 hidden-the_row-Member-1 denote.Hole.Carrier.hidden
 form_struct at s all ranges = ap (struct_form at (f.has_sign s) ranges) (forms_row at [] 0 all)
 
 pub forms_more : (at : m.Scope) (used : List m.Name) (bits : ℕ) (t : TypeTree) (names : List Word) (all : List Member) →
-    forms_of at used bits (member.Of t names ∷ all) ≡ (f.form at t >>= λ x. provided (f.member_faults used bits (m.width x.0) names) x >>= λ y. forms_of (at ++ f.entries_of y.1) (used ++ f.texts_of names) (bits + f.bits_of names (m.width y.0)) all >>= λ rest. Ok (f.members_of names y.0 rest.0, y.1 ++ rest.1))
+    forms_of at used bits (member.Of t names ∷ all) ≡ (f.form at t >>= λ x. provided (f.member_faults used bits x.0 names) x >>= λ y. forms_of (m.with_names at (f.entries_of y.1)) (used ++ f.texts_of names) (bits + f.bits_of names (m.width y.0)) all >>= λ rest. Ok (f.members_of names y.0 rest.0, y.1 ++ rest.1))
 unfolding forms_of shape-the_row-TypeTree-0 hidden-the_row-TypeTree-0 denote.Hole.Carrier.hidden
 forms_more at used bits t names all = refl

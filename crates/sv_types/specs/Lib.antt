@@ -1,3 +1,2 @@
-pub mod Depths
 pub mod Types
 pub mod Values

@@ -17,7 +17,7 @@ use Rattle.sv_names.specs.declared.layout.What.TheVariants.{Number}
 use Rattle.sv_names.specs.declared.names.Names.{Names}
 use Rattle.sv_typing.specs.Judging.{IsCause}
 use Rattle.sv_names.specs.Kinds.{Entry, layout_is, IsSound, FieldIsSound, members_of}
-use Rattle.sv_names.specs.Names.{frames_of, loops_of}
+use Rattle.sv_names.specs.Names.{stack_of, loops_of}
 use Rattle.sv_types.specs.declared.bounds.Bounds.{Bounds}
 use Rattle.sv_types.specs.declared.whole.Whole.{Whole}
 use Rattle.sv_types.specs.declared.whole.Whole.TheVariants as whole
@@ -84,7 +84,7 @@ pushed e = (e.name, Number e.value)
 
 -- The names with more of them above.
 pub record IsAbove (old new : Names) (more : List Entry) : Type 0 where
-  pub frames : frames_of new ≡ frames_of old
+  pub frames : stack_of new ≡ stack_of old
   pub loops : loops_of new ≡ loops_of old ++ more
 
 -- the names where a call is refused in the middle
@@ -117,24 +117,24 @@ fields_of x all = map (field_of x) all
 
 -- members with a name more, and the bits of all
 pub record IsField (x : Layout) (w : Word) (old new : List Field) (bits : ℕ) : Type 0 where
-  pub clear : f.member_faults (field_names old) (m.width_all (members_of old)) x.width (w ∷ []) ≡ []
+  pub clear : f.member_faults (field_names old) (m.width_all (members_of old)) (layout_is x) (w ∷ []) ≡ []
   pub is : new ≡ old ++ field_of x w ∷ []
   pub counted : bits ≡ m.width_all (members_of new)
   pub most : bits ≤ 128
 
 abbrev pub JudgesField : Layout → Word → List Field → List Field → Result ℕ TextErr → Type 0
 JudgesField x w old new (Ok bits) = IsField x w old new bits
-JudgesField x w old new (Err e) = IsCause (f.member_faults (field_names old) (m.width_all (members_of old)) x.width (w ∷ [])) e
+JudgesField x w old new (Err e) = IsCause (f.member_faults (field_names old) (m.width_all (members_of old)) (layout_is x) (w ∷ [])) e
 
 pub record AreFields (x : Layout) (words : List Word) (old new : List Field) (bits : ℕ) : Type 0 where
-  pub clear : f.member_faults (field_names old) (m.width_all (members_of old)) x.width words ≡ []
+  pub clear : f.member_faults (field_names old) (m.width_all (members_of old)) (layout_is x) words ≡ []
   pub is : new ≡ old ++ fields_of x words
   pub counted : bits ≡ m.width_all (members_of new)
   pub most : bits ≤ 128
 
 abbrev pub JudgesFields : Layout → List Word → List Field → List Field → Result ℕ TextErr → Type 0
 JudgesFields x words old new (Ok bits) = AreFields x words old new bits
-JudgesFields x words old new (Err e) = IsCause (f.member_faults (field_names old) (m.width_all (members_of old)) x.width words) e
+JudgesFields x words old new (Err e) = IsCause (f.member_faults (field_names old) (m.width_all (members_of old)) (layout_is x) words) e
 
 -- sound members of no more than 128 bits
 pub record IsListed (x : Listed) : Type 0 where
@@ -147,8 +147,8 @@ unfoldable pub forms_of : m.Scope → List m.Name → ℕ → List Member → Ju
 forms_of at used bits [] = Ok (m.no_members, [])
 forms_of at used bits (Of' r (more_of-TypeTree t end_of-TypeTree) names ∷ all) = do
   x ← f.form at t
-  y ← provided (f.member_faults used bits (m.width x.0) names) x
-  rest ← forms_of (at ++ f.entries_of y.1) (used ++ f.texts_of names) (bits + f.bits_of names (m.width y.0)) all
+  y ← provided (f.member_faults used bits x.0 names) x
+  rest ← forms_of (m.with_names at (f.entries_of y.1)) (used ++ f.texts_of names) (bits + f.bits_of names (m.width y.0)) all
   Ok (f.members_of names y.0 rest.0, y.1 ++ rest.1)
 
 -- members that are judged, and the constants that their types declare, which are names from there on
@@ -163,7 +163,7 @@ JudgesMembers j old new (Err e) = IsLeft j old new e
 
 -- the members of one type, behind others
 abbrev pub joined_form : Judged f.Formed → Listed → List Word → Judged f.Formed
-joined_form j x words = j >>= λ y. provided (f.member_faults (field_names x.fields) x.bits (m.width y.0) words) y
+joined_form j x words = j >>= λ y. provided (f.member_faults (field_names x.fields) x.bits y.0 words) y
 
 pub record IsJoined (j : Judged f.Formed) (old new : Names) (x : Listed) (words : List Word) (next : Listed) : Type 0 where
   pub layout : Layout
@@ -190,10 +190,14 @@ enum_form at s r all = do
   found ← f.labels at (m.width base) s (pos 0) all
   Ok (base, found)
 
+-- a structure of these members, of which there is one
+abbrev pub struct_of : m.Scope → Bool → List Range → m.Members → Judged m.Layout
+struct_of at s ranges all = provided (f.some_member all) all >>= f.struct_layout at s ranges
+
 abbrev pub struct_form : m.Scope → Bool → List Range → Judged (m.Members × List f.Declared) → Judged f.Formed
 struct_form at s ranges j = do
-  found ← j
-  x ← f.struct_layout (at ++ f.entries_of found.1) s ranges found.0
+  found ← j >>= λ all. provided (f.some_member all.0) all
+  x ← f.struct_layout (m.with_names at (f.entries_of found.1)) s ranges found.0
   Ok (x, found.1)
 
 -- a type, and the constants that it declares, which are names from there on

@@ -2,7 +2,7 @@
 ghost use Rattle.std.specs.Prelude.{◌≡◌, ◌≤◌, ℕ, pos, IsTrue, IfOk, OnOk, OnErr, [], ◌∷◌, ◌++◌};
 ghost use Rattle.std.specs.Option.{option_copied};
 ghost use Rattle.fourvec.specs.Bits.{is_known};
-ghost use Rattle.sv_names.specs.Names.{names_are};
+ghost use Rattle.sv_names.specs.Names.{constants_are};
 ghost use Rattle.sv_const.specs.Sizes.{JudgesConstant};
 ghost use Rattle.sv_meaning.specs.Forms.{can_hold, label_value, label_number, label_entry, labels};
 ghost use Rattle.sv_meaning.specs.Meanings.{Meaning};
@@ -43,7 +43,7 @@ fn label_number(
     names: &Names<'_>,
 ) -> Result<Whole, TextErr>
     requires { width ≤ 128 }
-    ensures { JudgesWhole (label_number (names_are names.now) width (whole_is next) (option_copied value.entry)) result }
+    ensures { JudgesWhole (label_number (constants_are names.now) width (whole_is next) (option_copied value.entry)) result }
 {
     match value {
         None => Ok(next),
@@ -99,7 +99,7 @@ pub(crate) fn enumerators(
 ) -> Result<Items<Enumerator>, TextErr>
     requires some { 1 ≤ width }
     requires most { width ≤ 128 }
-    ensures { JudgesLabels (labels (names_are names.old) width signed (pos 0) all.now) names.old names.new result }
+    ensures { JudgesLabels (labels (constants_are names.old) width signed (pos 0) all.now) names.old names.new result }
 {
     let mut declared = Items::new(alloc);
     let mut next = Whole::Natural(0);

@@ -2,26 +2,32 @@
 ghost use Rattle.std.specs.Prelude.{◌≡◌, ◌≤◌, true, List, [], Ok, IfOk, All, map};
 ghost use Rattle.std.specs.Option.{option_copied};
 ghost use Rattle.sv_names.specs.Kinds.{layout_is, IsSound, FieldIsSound, members_of};
-ghost use Rattle.sv_names.specs.Names.{names_are, frames_of, loops_of};
+ghost use Rattle.sv_names.specs.Names.{constants_are, stack_of, loops_of};
 ghost use Rattle.sv_names.specs.declared.names.Names.{Names};
 ghost use Rattle.sv_meaning.specs.Faults.{Judged};
 ghost use Rattle.sv_meaning.specs.Forms as m_forms;
-ghost use Rattle.sv_meaning.specs.Forms.{form, has_sign, named_layout, struct_layout};
+ghost use Rattle.sv_meaning.specs.Forms.{form, has_sign, named_layout};
 ghost use Rattle.sv_meaning.specs.Layouts as m;
-ghost use Rattle.sv_types.specs.Types.{JudgesLayout, JudgesForm, JudgesType, Forms, JudgesMembers, JudgesJoined, IsAbove, IsListed, pushed, forms_of, alone_form, enum_form, struct_form};
+ghost use Rattle.sv_types.specs.Types.{JudgesLayout, JudgesForm, JudgesType, Forms, JudgesMembers, JudgesJoined, IsAbove, IsListed, pushed, forms_of, alone_form, enum_form, struct_of, struct_form};
 
 use crate::bounds::Bounds;
 use crate::copies::copy;
-use crate::depth::is_structure_too_deep;
 use crate::enumerators::{Enumerator, enumerators};
 use crate::members::add_fields;
 use crate::ranges::{base_layout, dim, over_ranges, scalar, vector_layout};
 use items::Items;
 use std::alloc::Global;
 use sv_names::{Field, Form, Layout, Names};
-use sv_outside::TextErr;
+use sv_outside::{Place, TextErr};
 use sv_tree::{EnumLabel, Member, Range, Sign, TypeTree, Word};
 use sv_typing::{layout_under, refusal};
+
+// No place of a text.
+const NOWHERE: Place = Place {
+    file: 0,
+    line: 0,
+    column: 0,
+};
 
 /// The layout of a type, and the constants that it declares, in order.
 #[derive(Drop)]
@@ -58,9 +64,9 @@ fn named_layout(
     ranges: &[Range],
     names: &Names<'_>,
 ) -> Result<Layout, TextErr>
-    ensures { JudgesLayout (named_layout (names_are names.now) word.now (m.find word.now.text (names_are names.now)) ranges.now) result }
+    ensures { JudgesLayout (named_layout (constants_are names.now) word.now (m.find word.now.text (constants_are names.now)) ranges.now) result }
 {
-    match layout_under(names.find(word.text.bytes())) {
+    match layout_under(names.find_above(word.text.bytes())) {
         Some(layout) => {
             let each = copy(alloc, layout)?;
             over_ranges(alloc, false, ranges, names, each)
@@ -90,7 +96,7 @@ fn enum_form(
     all: &[EnumLabel],
     names: &mut Names<'_>,
 ) -> Result<Formed, TextErr>
-    ensures { Forms (enum_form (names_are names.old) signed (option_copied range.entry) all.now) names.old names.new result }
+    ensures { Forms (enum_form (constants_are names.old) signed (option_copied range.entry) all.now) names.old names.new result }
 {
     match base_layout(alloc, signed, range, names) {
         Ok(layout) => match enumerators(alloc, layout.width, signed, all, names) {
@@ -117,8 +123,7 @@ fn structure(signed: bool, fields: Items<Field>, bits: u8) -> Layout
     }
 }
 
-// A structure of these members, with ranges. One that would be nested too deep is answered as want of memory, and so is one
-// of no bits, which no text spells.
+// A structure of these members, with ranges; or E14. One of no members, which no text spells, is refused at no place.
 fn struct_layout(
     alloc: Global,
     signed: bool,
@@ -130,10 +135,10 @@ fn struct_layout(
     requires sound { All FieldIsSound fields }
     requires bits { bits ≡ m.width_all (members_of fields) }
     requires most { bits ≤ 128 }
-    ensures { JudgesLayout (struct_layout (names_are names.now) signed ranges.now (members_of fields)) result }
+    ensures { JudgesLayout (struct_of (constants_are names.now) signed ranges.now (members_of fields)) result }
 {
-    if bits == 0 || is_structure_too_deep(fields.as_slice()) {
-        return Err(TextErr::Memory);
+    if bits == 0 {
+        return Err(TextErr::No(refusal(14, NOWHERE)));
     }
     if ranges.is_empty() {
         Ok(structure(signed, fields, bits))
@@ -151,7 +156,7 @@ fn struct_form(
     listed: Result<Listed, TextErr>,
 ) -> Result<Formed, TextErr>
     requires { IfOk listed (λ x. IsListed x) }
-    ensures { (j : Judged (m.Members × List m_forms.Declared)) (at : Names) → JudgesMembers j at names.now listed → Forms (struct_form (names_are at) signed ranges.now j) at names.now result }
+    ensures { (j : Judged (m.Members × List m_forms.Declared)) (at : Names) → JudgesMembers j at names.now listed → Forms (struct_form (constants_are at) signed ranges.now j) at names.now result }
 {
     match listed {
         Ok(
@@ -173,7 +178,7 @@ fn struct_form(
 // A type; the constants that it declares are added to the names.
 #[cycle(form)]
 fn form(alloc: Global, tree: &TypeTree, names: &mut Names<'_>) -> Result<Formed, TextErr>
-    ensures { Forms (form (names_are names.old) tree.now) names.old names.new result }
+    ensures { Forms (form (constants_are names.old) tree.now) names.old names.new result }
 {
     match tree {
         TypeTree::Vector(_, sign, ranges) => {
@@ -204,7 +209,7 @@ fn form(alloc: Global, tree: &TypeTree, names: &mut Names<'_>) -> Result<Formed,
 // Members; the constants that their types declare are added to the names.
 #[cycle(form)]
 fn forms(alloc: Global, members: &[Member], names: &mut Names<'_>) -> Result<Listed, TextErr>
-    ensures { JudgesMembers (forms_of (names_are names.old) [] 0 members.now) names.old names.new result }
+    ensures { JudgesMembers (forms_of (constants_are names.old) [] 0 members.now) names.old names.new result }
 {
     let mut listed = Listed {
         fields: Items::new(alloc),
@@ -255,11 +260,11 @@ fn joined(
 }
 
 /// The layout of a type, and the constants that it declares, in order; or why it is refused: E12, E13, E14, or what an
-/// expression is refused for. A layout nested more than 1,000 deep, each range and each structure being one level, is
-/// answered as want of memory. The names are afterwards as before.
+/// expression is refused for. A layout nested more than 1,000 deep, each range and each structure being one level, is E14 at the
+/// range, or at the member's name, that makes it so deep. The names are afterwards as before.
 pub fn form_of(alloc: Global, tree: &TypeTree, names: &mut Names<'_>) -> Result<Formed, TextErr>
-    ensures is { JudgesForm (form (names_are names.old) tree.now) result }
-    ensures frames { frames_of names.new ≡ frames_of names.old }
+    ensures is { JudgesForm (form (constants_are names.old) tree.now) result }
+    ensures frames { stack_of names.new ≡ stack_of names.old }
     ensures loops { loops_of names.new ≡ loops_of names.old }
 {
     let count = names.loops();
@@ -270,8 +275,8 @@ pub fn form_of(alloc: Global, tree: &TypeTree, names: &mut Names<'_>) -> Result<
 
 /// The layout of a type; or why it is refused, as for `form_of`. The names are afterwards as before.
 pub fn layout_of(alloc: Global, tree: &TypeTree, names: &mut Names<'_>) -> Result<Layout, TextErr>
-    ensures is { JudgesType (form (names_are names.old) tree.now) result }
-    ensures frames { frames_of names.new ≡ frames_of names.old }
+    ensures is { JudgesType (form (constants_are names.old) tree.now) result }
+    ensures frames { stack_of names.new ≡ stack_of names.old }
     ensures loops { loops_of names.new ≡ loops_of names.old }
 {
     let Formed { layout, .. } = form_of(alloc, tree, names)?;

@@ -16,3 +16,4 @@ pub use copies::copy;
 pub use enumerators::Enumerator;
 pub use forms::{Formed, form_of, layout_of};
 pub use params::param_value;
+pub use sv_const::sized;

@@ -1,12 +1,13 @@
 // The members of structures (IEEE 1800-2017, 7.2).
-ghost use Rattle.std.specs.Prelude.{◌≡◌, ◌≤◌, IfOk, All, map};
-ghost use Rattle.sv_names.specs.Kinds.{IsSound, FieldIsSound, members_of};
+ghost use Rattle.std.specs.Prelude.{◌≡◌, ◌≤◌, ◌+◌, ◌||◌, nat_le, nat_lt, IfOk, All, map};
+ghost use Rattle.sv_names.specs.Kinds.{layout_is, IsSound, FieldIsSound, members_of};
 ghost use Rattle.sv_meaning.specs.Forms.{member_faults};
-ghost use Rattle.sv_meaning.specs.Layouts.{width_all};
+ghost use Rattle.sv_meaning.specs.Layouts.{depth, width_all};
 ghost use Rattle.sv_meaning.specs.Names.{has_name};
 ghost use Rattle.sv_types.specs.Types.{field_names, JudgesField, JudgesFields};
 
 use crate::copies::copy;
+use crate::depth::{MOST_LEVELS, depth_of};
 use items::Items;
 use std::alloc::Global;
 use sv_names::{Field, Layout};
@@ -26,15 +27,32 @@ fn has_field(fields: &[Field], name: &[u8]) -> bool
     false
 }
 
+// Whether a member of so many bits is none behind so many others: all have more than 128 bits, or it is nested too deep.
+fn is_too_large(bits: u8, width: u8, deep: bool) -> bool
+    requires { bits ≤ 128 }
+    ensures { result ≡ (nat_lt 128 (bits + width) || deep) }
+{
+    width > 128 - bits || deep
+}
+
+// Whether a structure with such a member is nested too deep.
+fn is_too_deep(layout: &Layout) -> bool
+    ensures { result ≡ nat_le 1000 (depth (layout_is layout.now)) }
+{
+    depth_of(layout) >= MOST_LEVELS
+}
+
 // One member more, behind members of so many bits; or E13 or E14.
 fn add_field(
     alloc: Global,
     layout: &Layout,
+    deep: bool,
     word: &Word,
     fields: &mut Items<Field>,
     bits: u8,
 ) -> Result<u8, TextErr>
     requires sound { IsSound layout.now }
+    requires deep { deep ≡ nat_le 1000 (depth (layout_is layout.now)) }
     requires bits { bits ≡ width_all (members_of fields.old) }
     requires most { bits ≤ 128 }
     ensures { JudgesField layout.now word.now fields.old fields.new result }
@@ -43,7 +61,7 @@ fn add_field(
         return Err(TextErr::No(refusal(13, word.place)));
     }
     let width = layout.width;
-    if width > 128 - bits {
+    if is_too_large(bits, width, deep) {
         return Err(TextErr::No(refusal(14, word.place)));
     }
     let layout = copy(alloc, layout)?;
@@ -65,9 +83,10 @@ pub(crate) fn add_fields(
     requires most { bits ≤ 128 }
     ensures { JudgesFields layout.now words.now fields.old fields.new result }
 {
+    let deep = is_too_deep(layout);
     let mut total = bits;
     'words: for word in words {
-        total = add_field(alloc, layout, word, fields, total)?;
+        total = add_field(alloc, layout, deep, word, fields, total)?;
     }
     Ok(total)
 }

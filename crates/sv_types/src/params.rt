@@ -2,7 +2,7 @@
 ghost use Rattle.std.specs.Prelude.{◌≡◌, ◌≤◌, true, Some, IfOk, ℤ};
 ghost use Rattle.std.specs.Option.{option_copied};
 ghost use Rattle.sv_typing.specs.Judging.{Judges, Fixes};
-ghost use Rattle.sv_names.specs.Names.{names_are};
+ghost use Rattle.sv_names.specs.Names.{constants_are};
 ghost use Rattle.sv_meaning.specs.Faults.{Judged};
 ghost use Rattle.sv_meaning.specs.Forms.{has_sign};
 ghost use Rattle.sv_meaning.specs.Meanings.{Meaning};
@@ -22,7 +22,7 @@ use sv_names::{Known, Names};
 use sv_outside::{Place, TextErr};
 use sv_tree::{Expr, ParamBits, ParamType, Range, Sign};
 use sv_typed::Typed;
-use sv_typing::{Fixed, is_signed, refusal, start, typed};
+use sv_typing::{Fixed, Position, is_signed, refusal, start, typed};
 
 // A whole number is signed where `unsigned` is not written.
 fn is_signed_whole(sign: Option<Sign>) -> bool
@@ -83,13 +83,13 @@ fn converted_expr(
 ) -> Result<Known, TextErr>
     requires some { 1 ≤ width }
     requires most { width ≤ 128 }
-    ensures { JudgesValue (params.typed width signed (mean (names_are names.now) value.now)) result }
+    ensures { JudgesValue (params.typed width signed (mean (constants_are names.now) value.now)) result }
 {
     converted(
         start(value),
         width,
         signed,
-        typed(alloc, value, names, true),
+        typed(alloc, value, names, Position::Constant),
     )
 }
 
@@ -114,7 +114,7 @@ fn in_range(
     value: &Expr,
     value_names: &Names<'_>,
 ) -> Result<Known, TextErr>
-    ensures { JudgesValue (converted_in (params.range_width (names_are names.now) range.now) signed (mean (names_are value_names.now) value.now)) result }
+    ensures { JudgesValue (converted_in (params.range_width (constants_are names.now) range.now) signed (mean (constants_are value_names.now) value.now)) result }
 {
     match range_width(range.place, bounds(alloc, range, names)) {
         Ok(width) => converted_expr(alloc, width, signed, value, value_names),
@@ -132,7 +132,7 @@ fn bits_value(
     value: &Expr,
     value_names: &Names<'_>,
 ) -> Result<Known, TextErr>
-    ensures { JudgesValue (params.param_value (names_are names.now) (Some (param_type.Bits word sign (option_copied range.entry))) (mean (names_are value_names.now) value.now)) result }
+    ensures { JudgesValue (params.param_value (constants_are names.now) (Some (param_type.Bits word sign (option_copied range.entry))) (mean (constants_are value_names.now) value.now)) result }
 {
     match range {
         Some(range) => in_range(alloc, range, has_sign(sign), names, value, value_names),
@@ -154,7 +154,7 @@ fn typed_value(
     value: &Expr,
     value_names: &Names<'_>,
 ) -> Result<Known, TextErr>
-    ensures { JudgesValue (params.param_value (names_are names.now) (Some form.now) (mean (names_are value_names.now) value.now)) result }
+    ensures { JudgesValue (params.param_value (constants_are names.now) (Some form.now) (mean (constants_are value_names.now) value.now)) result }
 {
     match form {
         ParamType::Whole(_, sign) => {
@@ -184,7 +184,7 @@ pub fn param_value(
     value: &Expr,
     value_names: &Names<'_>,
 ) -> Result<Known, TextErr>
-    ensures { JudgesValue (params.param_value (names_are names.now) (option_copied form.entry) (mean (names_are value_names.now) value.now)) result }
+    ensures { JudgesValue (params.param_value (constants_are names.now) (option_copied form.entry) (mean (constants_are value_names.now) value.now)) result }
 {
     match form {
         Some(form) => typed_value(alloc, form, names, value, value_names),

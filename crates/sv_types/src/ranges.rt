@@ -1,9 +1,9 @@
 // Layouts of packed ranges (IEEE 1800-2017, 7.4.1).
-ghost use Rattle.std.specs.Prelude.{◌≡◌, ◌≤◌, ◌*◌, ◌&&◌, ◌==◌, IsTrue, IfOk, ℤ, nat_le, false, List, [], ◌∷◌};
+ghost use Rattle.std.specs.Prelude.{◌≡◌, ◌≤◌, ◌+◌, ◌*◌, ◌&&◌, ◌==◌, IsTrue, IfOk, ℤ, min, nat_le, nat_lt, false, List, [], ◌∷◌};
 ghost use Rattle.std.specs.Option.{option_copied};
 ghost use Rattle.sv_typing.specs.Judging.{Fixes};
 ghost use Rattle.sv_names.specs.Kinds.{layout_is, IsSound};
-ghost use Rattle.sv_names.specs.Names.{names_are};
+ghost use Rattle.sv_names.specs.Names.{constants_are};
 ghost use Rattle.sv_meaning.specs.Faults.{Judged, provided};
 ghost use Rattle.sv_meaning.specs.Forms.{bound_faults, bound, bounds, over_ranges, vector_layout, option_to_list};
 ghost use Rattle.sv_meaning.specs.Layouts as m;
@@ -11,7 +11,7 @@ ghost use Rattle.sv_meaning.specs.Meanings.{Meaning, number_of};
 ghost use Rattle.sv_types.specs.Types.{JudgesBound, JudgesBounds, JudgesLayout, ranged_form};
 
 use crate::bounds::Bounds;
-use crate::depth::are_ranges_too_deep;
+use crate::depth::{MOST_LEVELS, depth_of};
 use items::Boxed;
 use std::alloc::{AllocError, Global};
 use sv_const::eval_fixed;
@@ -45,14 +45,14 @@ fn bound_of(place: Place, fixed: Result<Fixed, TextErr>) -> Result<i64, TextErr>
 
 // A bound of a range at a place.
 fn bound(alloc: Global, place: Place, expr: &Expr, names: &Names<'_>) -> Result<i64, TextErr>
-    ensures { JudgesBound (bound (names_are names.now) place expr.now) result }
+    ensures { JudgesBound (bound (constants_are names.now) place expr.now) result }
 {
     bound_of(place, eval_fixed(alloc, expr, names))
 }
 
 /// The bounds of a range; or E14, or what an expression is refused for.
 pub(crate) fn bounds(alloc: Global, range: &Range, names: &Names<'_>) -> Result<Bounds, TextErr>
-    ensures { JudgesBounds (bounds (names_are names.now) range.now) result }
+    ensures { JudgesBounds (bounds (constants_are names.now) range.now) result }
 {
     let left = bound(alloc, range.place, &range.left, names)?;
     let right = bound(alloc, range.place, &range.right, names)?;
@@ -66,6 +66,14 @@ fn fits(count: u64, each: u8) -> bool
     ensures { result ≡ nat_le (count * each) 128 }
 {
     count <= (128 / each) as u64
+}
+
+// Whether so many elements of so many bits, nested so deep, make a range: of no more than 128 bits, and not nested too deep.
+fn make_range(count: u64, each: u8, levels: usize) -> bool
+    requires { 1 ≤ each }
+    ensures { result ≡ (nat_le (count * each) 128 && nat_lt levels 1000) }
+{
+    fits(count, each) && levels < MOST_LEVELS
 }
 
 /// A range of elements of no more than 128 bits together.
@@ -93,20 +101,23 @@ pub(crate) fn dim(
     })
 }
 
-/// A range of elements, or E14.
+/// A range of elements that are nested so deep, counted to 1,000; or E14.
 pub(crate) fn ranged(
     alloc: Global,
     place: Place,
     signed: bool,
     each: Result<Layout, TextErr>,
+    levels: usize,
     bounds: Result<Bounds, TextErr>,
 ) -> Result<Layout, TextErr>
-    requires { IfOk each (λ x. IsSound x) }
-    ensures { (j : Judged m.Layout) (k : Judged (ℤ × ℤ)) → JudgesLayout j each → JudgesBounds k bounds → JudgesLayout (ranged_form place signed j k) result }
+    requires sound { IfOk each (λ x. IsSound x) }
+    requires levels { IfOk each (λ x. levels ≡ min 1000 (m.depth (layout_is x))) }
+    ensures is { (j : Judged m.Layout) (k : Judged (ℤ × ℤ)) → JudgesLayout j each → JudgesBounds k bounds → JudgesLayout (ranged_form place signed j k) result }
+    ensures levels { IfOk result (λ x. min (levels + 1) 1000 ≡ min 1000 (m.depth (layout_is x))) }
 {
     let bounds = bounds?;
     let each = each?;
-    if fits(bounds.count(), each.width) {
+    if make_range(bounds.count(), each.width, levels) {
         Ok(dim(alloc, signed, bounds, each)?)
     } else {
         Err(TextErr::No(refusal(14, place)))
@@ -120,8 +131,8 @@ fn sign_at(signed: bool, at: usize) -> bool
     signed && at == 0
 }
 
-/// Ranges over elements, the outermost first; that one has the sign. A layout that would be nested too deep is answered as
-/// want of memory.
+/// Ranges over elements, the outermost first; that one has the sign. The depth of the elements is found once, and then ranges are
+/// counted, so that the work is linear.
 pub(crate) fn over_ranges(
     alloc: Global,
     signed: bool,
@@ -130,11 +141,9 @@ pub(crate) fn over_ranges(
     each: Layout,
 ) -> Result<Layout, TextErr>
     requires { IsSound each }
-    ensures { JudgesLayout (over_ranges (names_are names.now) signed ranges.now (layout_is each)) result }
+    ensures { JudgesLayout (over_ranges (constants_are names.now) signed ranges.now (layout_is each)) result }
 {
-    if are_ranges_too_deep(ranges.len(), &each) {
-        return Err(TextErr::Memory);
-    }
+    let mut levels = depth_of(&each);
     let mut found = Ok(each);
     let mut at = ranges.len();
     'outward: while at > 0 {
@@ -145,8 +154,10 @@ pub(crate) fn over_ranges(
             range.place,
             sign_at(signed, at),
             found,
+            levels,
             bounds(alloc, range, names),
         );
+        levels = (levels + 1).min(MOST_LEVELS);
     }
     found
 }
@@ -158,7 +169,7 @@ pub(crate) fn vector_layout(
     ranges: &[Range],
     names: &Names<'_>,
 ) -> Result<Layout, TextErr>
-    ensures { JudgesLayout (vector_layout (names_are names.now) signed ranges.now) result }
+    ensures { JudgesLayout (vector_layout (constants_are names.now) signed ranges.now) result }
 {
     if ranges.is_empty() {
         Ok(scalar(signed))
@@ -174,7 +185,7 @@ pub(crate) fn base_layout(
     range: Option<&Range>,
     names: &Names<'_>,
 ) -> Result<Layout, TextErr>
-    ensures { JudgesLayout (vector_layout (names_are names.now) signed (option_to_list (option_copied range.entry))) result }
+    ensures { JudgesLayout (vector_layout (constants_are names.now) signed (option_to_list (option_copied range.entry))) result }
 {
     match range {
         None => Ok(scalar(signed)),
@@ -183,6 +194,7 @@ pub(crate) fn base_layout(
             range.place,
             signed,
             Ok(scalar(false)),
+            0,
             bounds(alloc, range, names),
         ),
     }

@@ -2,9 +2,9 @@ use Rattle.std.proofs.Common.{◌≡◌, ◌+◌, ◌++◌, map, refl, sym, subs
 use Rattle.std.specs.Option.{option_copied}
 use Rattle.sv_tree.specs.declared.forms.Member.TheVariants as member
 use Rattle.sv_meaning.specs.Forms.{form, entries_of}
-use Rattle.sv_meaning.specs.Layouts.{Scope, width_all}
+use Rattle.sv_meaning.specs.Layouts.{Scope, with_names, width_all}
 use Rattle.sv_names.specs.Kinds.{members_of, FieldIsSound}
-use Rattle.sv_names.specs.Names.{names_are}
+use Rattle.sv_names.specs.Names.{constants_are}
 use Rattle.sv_types.specs.Types.{IsAbove, Forms, JudgesJoined, pushed, all_declared}
 use Rattle.sv_types.proofs.Above.{above_none, above_names}
 use Rattle.sv_types.proofs.Alone.{member_is}
@@ -43,18 +43,18 @@ forms-members-init t c = record {
     most = omega arith;
     sound = subst (All FieldIsSound) (sym c.new.ensures) (λ k d lt. absurd (omega arith));
   };
-  gathers = gathers_begin (names_are c.args.names.now) c.args.members.now (record { fields = c.new.result; bits = 0; declared = c.new-2.result }) c.new.ensures refl c.new-2.ensures;
+  gathers = gathers_begin (constants_are c.args.names.now) c.args.members.now (record { fields = c.new.result; bits = 0; declared = c.new-2.result }) c.new.ensures refl c.new-2.ensures;
 }
 
 pub forms-returns-in-Err : goal.forms-returns-in-Err
 forms-returns-in-Err t c =
-    let at = names_are c.args.names.now in
+    let at = constants_are c.args.names.now in
     let g = c.member-item.result in
     let l = c.members.listed in
     let here = above_names c.args.names.now c.members.names l.declared c.members.invariant.names in
     let is : g ≡ member.Of c.get.result.now c.as_slice.result.now = member_is g _ _ c.get.result.now c.as_slice.result.now c.get.ensures c.as_slice.ensures in
     let h = subst (λ (z : Scope). Forms (form z c.get.result.now) c.members.names c.form-formed.new.names c.form-formed.result) here c.form-formed.ensures in
-    let j = form (at ++ entries_of (all_declared l.declared)) c.get.result.now in
+    let j = form (with_names at (entries_of (all_declared l.declared))) c.get.result.now in
     let left = subst (JudgesJoined j c.args.names.now c.form-formed.new.names l c.as_slice.result.now) c.in-Err.is (c.joined.ensures j c.args.names.now c.members.names c.form-formed.new.names c.members.invariant.names h) in
     record {
       cause = gathers_refused at c.args.members.now c.members.member-index l g c.get.result.now c.as_slice.result.now c.in-Err.why c.members-test.true c.member-item.is is left.cause c.members.invariant.gathers;
@@ -63,14 +63,14 @@ forms-returns-in-Err t c =
 
 pub forms-members-preserved : goal.forms-members-preserved
 forms-members-preserved t c =
-    let at = names_are c.args.names.now in
+    let at = constants_are c.args.names.now in
     let g = c.member-item.result in
     let l = c.members.listed in
     let i = c.members.member-index in
     let here = above_names c.args.names.now c.members.names l.declared c.members.invariant.names in
     let is : g ≡ member.Of c.get.result.now c.as_slice.result.now = member_is g _ _ c.get.result.now c.as_slice.result.now c.get.ensures c.as_slice.ensures in
     let h = subst (λ (z : Scope). Forms (form z c.get.result.now) c.members.names c.form-formed.new.names c.form-formed.result) here c.form-formed.ensures in
-    let j = form (at ++ entries_of (all_declared l.declared)) c.get.result.now in
+    let j = form (with_names at (entries_of (all_declared l.declared))) c.get.result.now in
     let next = subst (JudgesJoined j c.args.names.now c.form-formed.new.names l c.as_slice.result.now) c.in-Ok.is (c.joined.ensures j c.args.names.now c.members.names c.form-formed.new.names c.members.invariant.names h) in
     record {
       names = next.names;
@@ -80,7 +80,7 @@ forms-members-preserved t c =
 
 pub forms-returns : goal.forms-returns
 forms-returns t c = record {
-  is = gathers_end (names_are c.args.names.now) c.args.members.now c.members.member-index c.members.listed c.members-test.false c.members.invariant.gathers;
+  is = gathers_end (constants_are c.args.names.now) c.args.members.now c.members.member-index c.members.listed c.members-test.false c.members.invariant.gathers;
   names = c.members.invariant.names;
   listed = c.members.invariant.listed;
 }

@@ -12,7 +12,7 @@ returns-in_err-total c =
 
 pub words-preserved : goal.words-preserved
 words-preserved c =
-    adds_go c.args.layout.now c.args.words.now c.args.fields.now c.words.fields c.add_field.new.fields c.words.word-index (c.words.word-index + 1) c.words.total c.in_ok-total.total c.word-item.result c.requires.sound c.words-test.true (omega arith) c.word-item.is
+    adds_go c.args.layout.now c.args.words.now c.args.fields.now c.words.fields c.add_field.new.fields c.words.word-index (c.words.word-index + 1) c.words.total c.in_ok-total.total c.word-item.result c.words-test.true (omega arith) c.word-item.is
     c.words.invariant (field_of_result c.args.layout.now c.word-item.result c.words.fields c.add_field.new.fields c.add_field.result c.in_ok-total.total c.in_ok-total.was c.add_field.ensures)
 
 pub returns : goal.returns

@@ -1,0 +1,11 @@
+use Rattle.std.proofs.Common.{◌≤◌, arith}
+use Rattle.sv_names.specs.Kinds.{members_of}
+use Rattle.sv_names.specs.Names.{constants_are}
+use Rattle.sv_types.proofs.Shapes.{struct_ranges, not_empty}
+use Rattle.sv_types.proofs.forms.struct_layout.Goals as goal
+
+pub returns-else-is_empty : goal.returns-else-is_empty
+returns-else-is_empty c =
+    let some : 1 ≤ c.args.bits = omega arith in
+    struct_ranges (constants_are c.args.names.now) c.args.signed c.args.ranges.now (members_of c.args.fields) c.args.bits c.structure-else-is_empty.result c.over_ranges.result c.requires.bits some
+    (not_empty c.args.ranges.now c.if-is_empty.ensures) c.structure-else-is_empty.ensures.is c.over_ranges.ensures
