@@ -1,7 +1,7 @@
 -- Statements by their productions, as code lists their parts.
 use Rattle.std.proofs.Common.{◌≡◌, ℕ, suc, ◌+◌, ◌≤◌, Bool, true, false, not, List, [], ◌∷◌, ◌++◌, map, Option, Some, None, Result, Ok, Err, refl, sym, ap, ◌∙◌, subst, arith, append_assoc, length, take, drop, get_or, ◌<◌}
 use Rattle.std.proofs.lemmas.Bool.Decides.{nat_tests}
-use Rattle.std.proofs.lemmas.List.{append-nil, take_all, at_drop_more, at_drop_all, take-append-drop, append_cancel_left}
+use Rattle.std.proofs.lemmas.List.{append-nil, take_all, at_drop_more, at_drop_all, take-append-drop}
 use Rattle.std.specs.Result.{IfOk}
 use Rattle.std.specs.List.{AllZip, AllByRecursion}
 use Rattle.std.proofs.lemmas.List.Elements.{recursion_from_All}
@@ -33,8 +33,7 @@ use Rattle.sv_typed.specs.declared.tree.Pick.{Pick}
 use Rattle.sv_typed.specs.Typed.{PickIsSound, picked_width}
 use Rattle.sv_names.specs.declared.names.Names.{Names}
 use Rattle.sv_names.specs.Kinds.{entries_are}
-use Rattle.sv_names.specs.declared.names.Frame.{Frame}
-use Rattle.sv_names.specs.Names.{names_are, entries_of, stack_of, frames_of, fronts, fronts_above, loops_of}
+use Rattle.sv_names.specs.Names.{names_are, stack_of, fronts, fronts_above, loops_of}
 use Rattle.sv_typing.specs.Judging.{IsCause}
 use Rattle.sv_typing.proofs.Lists.{in_left, in_right, in_first, in_second, contains_both, then_clear, second_clear}
 use Rattle.sv_typing.proofs.Judged.{cause_from}
@@ -57,9 +56,6 @@ judged_as d e made r h j = subst (λ (x : Deed). JudgesDeed x made r) (sym h) j
 
 pub names_kept : (a b : Names) → stack_of b ≡ stack_of a → loops_of b ≡ loops_of a → names_are b ≡ names_are a
 names_kept a b f l = λ i. record { all = entries_are (fronts (f i) ++ l i); above = entries_are (fronts_above (f i) ++ l i) }
-
-pub loops_kept : (a b : Names) → entries_of b ≡ entries_of a → stack_of b ≡ stack_of a → loops_of b ≡ loops_of a
-loops_kept a b e f = append_cancel_left (frames_of a) (loops_of b) (loops_of a) (ap (λ (x : List Frame). fronts x ++ loops_of b) (sym f) ∙ e)
 
 pub at_names : (f : Scope → Deed) (a b : Names) (n made : ℕ) (r : Result Acted TextErr) → stack_of b ≡ stack_of a → loops_of b ≡ loops_of a → n ≡ made → JudgesDeed (f (names_are b)) n r → JudgesDeed (f (names_are a)) made r
 at_names f a b n made r h l e j = subst (λ (at : Scope). JudgesDeed (f at) made r) (names_kept a b h l) (subst (λ (k : ℕ). JudgesDeed (f (names_are b)) k r) e j)

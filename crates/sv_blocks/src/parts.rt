@@ -10,9 +10,9 @@ ghost use Rattle.sv_stores.specs.Scenes.{IsScene, IsState};
 ghost use Rattle.sv_blocks.specs.Fitting.{PickSits};
 ghost use Rattle.sv_blocks.specs.Parts.{SpotIsIn, SpotIsWide, Spots, ReadsPart, PutsPart, IsLay};
 
-use fourvec::Spot;
+use fourvec::{Reach, Spot};
 use std::alloc::{AllocError, Global};
-use sv_lower::{Place, beside, is_nameless, make, part_at, place_at, place_of, sliced, windowed};
+use sv_lower::{beside, is_nameless, make, part_at, place_at, sliced, windowed};
 use sv_stores::{Scene, State, lowered};
 use sv_typed::{Pick, PickPlace, Typed};
 use svex_arena::{Arena, Node, Shape};
@@ -20,13 +20,13 @@ use svex_arena::{Arena, Node, Shape};
 /// Where a part of a node begins.
 #[derive(Clone, Copy)]
 pub enum Spotted {
-    At(Place),
+    At(Reach),
     /// At the place that a node gives.
     Moving(Node, Spot),
 }
 
 // Where a part at a constant index begins. None where the index has an unknown bit, or is too far from 0.
-fn known_place(index: &Typed, spot: &Spot) -> Option<Place>
+fn known_place(index: &Typed, spot: &Spot) -> Option<Reach>
     requires { IsSound index.now }
     ensures { IfSome result (λ p. (read : Read) → spot_place spot.now (own index.now read) ≡ Some (reached p.below p.far)) }
 {
@@ -35,7 +35,7 @@ fn known_place(index: &Typed, spot: &Spot) -> Option<Place>
     }
     let value = index.own();
     if value.is_bool() {
-        place_of(&value, spot)
+        value.place(spot)
     } else {
         None
     }
@@ -107,7 +107,7 @@ struct Lay {
 
 // How a part of a width lies over a vector of a size.
 #[tactic(auto, using(crate::proofs::Laying::lays))]
-fn lay_of(size: u8, place: Place, width: u8) -> Lay
+fn lay_of(size: u8, place: Reach, width: u8) -> Lay
     ensures { IsLay size (reached place.below place.far) width result.below result.lo result.inside }
 {
     if place.below {
@@ -180,7 +180,7 @@ fn laid(
     alloc: Global,
     arena: &mut Arena,
     of: Node,
-    place: Place,
+    place: Reach,
     part: Node,
 ) -> Result<Node, AllocError>
     requires of { of < length arena.old }

@@ -15,7 +15,7 @@ use Rattle.sv_actions.specs.Typing.{JudgesDeed}
 use Rattle.sv_actions.specs.Listing.{in_order, else_deed, turn_deed, all_arms, rest_of, made_behind, arms_behind, Within}
 use Rattle.sv_actions.proofs.Orders.{order_cause}
 use Rattle.sv_actions.proofs.Acting.{acted_ok, acted_err}
-use Rattle.sv_actions.proofs.Producing.{at_names, arms_at, loops_kept, done_empty, done_block, done_if, done_case, done_for, for_refused, done_assign, done_labels, done_default, arms_begin, arms_next, arms_end, arms_cause, rest_passed, rest_found, rest_absent, order_begin, order_goes, order_ends, arms_ok, arms_err, turn_made, turn_refused, targets_some}
+use Rattle.sv_actions.proofs.Producing.{at_names, arms_at, done_empty, done_block, done_if, done_case, done_for, for_refused, done_assign, done_labels, done_default, arms_begin, arms_next, arms_end, arms_cause, rest_passed, rest_found, rest_absent, order_begin, order_goes, order_ends, arms_ok, arms_err, turn_made, turn_refused, targets_some}
 use Rattle.sv_actions.proofs.Rooting.{of_block, of_two, of_case, of_for, of_assign, of_other, of_labels, of_default}
 use Rattle.sv_actions.proofs.Aiming.{within_at, within_as, within_left, within_right, within_one, within_turn, aims_of, arms_aim_of, targets_aim}
 use Rattle.sv_actions.proofs.statements.+stmt.Goals as goal
@@ -68,13 +68,13 @@ typed_stmt-returns-in-Ok-clause-is t c =
     done_for at c.args.stmt.now c.in-For.place c.in-For.field-1 v c.in-For.start c.in-For.test c.in-For.next c.in-For.body given c.in-Ok.values slice c.args.made c.typed_turns.result c.in-For.is c.get-in-Ok.ensures c.as_slice-in-Ok.ensures
     (subst (Gives (turns c.in-For.place (constant_scope at) v.text c.in-For.start c.in-For.test c.in-For.next)) c.in-Ok.is c.turns.ensures.is)
     (at_names (λ (s : Scope). in_order (turn_deed s c.in-For.place v.text given) slice) c.args.names.now c.turns.new.names c.args.made c.args.made c.typed_turns.result
-    c.turns.ensures.frames (loops_kept c.args.names.now c.turns.new.names c.turns.ensures.names c.turns.ensures.frames) refl c.typed_turns.ensures.is)
+    c.turns.ensures.frames c.turns.ensures.loops refl c.typed_turns.ensures.is)
 
 pub typed_stmt-returns-in-Ok-clause-frames : goal.typed_stmt-returns-in-Ok-clause-frames
 typed_stmt-returns-in-Ok-clause-frames t c = c.typed_turns.ensures.frames ∙ c.turns.ensures.frames
 
 pub typed_stmt-returns-in-Ok-clause-loops : goal.typed_stmt-returns-in-Ok-clause-loops
-typed_stmt-returns-in-Ok-clause-loops t c = c.typed_turns.ensures.loops ∙ loops_kept c.args.names.now c.turns.new.names c.turns.ensures.names c.turns.ensures.frames
+typed_stmt-returns-in-Ok-clause-loops t c = c.typed_turns.ensures.loops ∙ c.turns.ensures.loops
 
 pub typed_stmt-returns-in-Err-clause-is : goal.typed_stmt-returns-in-Err-clause-is
 typed_stmt-returns-in-Err-clause-is t c =
@@ -84,7 +84,7 @@ typed_stmt-returns-in-Err-clause-is t c =
     (subst (Gives (turns c.in-For.place (constant_scope at) v.text c.in-For.start c.in-For.test c.in-For.next)) c.in-Err.is c.turns.ensures.is)
 
 pub typed_stmt-returns-in-Err-clause-loops : goal.typed_stmt-returns-in-Err-clause-loops
-typed_stmt-returns-in-Err-clause-loops t c = loops_kept c.args.names.now c.turns.new.names c.turns.ensures.names c.turns.ensures.frames
+typed_stmt-returns-in-Err-clause-loops t c = c.turns.ensures.loops
 
 pub typed_stmt-returns-in-Assign-clause-is : goal.typed_stmt-returns-in-Assign-clause-is
 typed_stmt-returns-in-Assign-clause-is t c =
@@ -333,7 +333,7 @@ pub typed_stmt-returns-in-Ok-clause-aims : goal.typed_stmt-returns-in-Ok-clause-
 typed_stmt-returns-in-Ok-clause-aims t c = λ named w.
     let given = c.get-in-Ok.result.now in
     c.typed_turns.ensures.aims named
-    (within_at (λ (s : Scope). target_signals s given) c.args.names.now c.turns.new.names named c.turns.ensures.frames (loops_kept c.args.names.now c.turns.new.names c.turns.ensures.names c.turns.ensures.frames)
+    (within_at (λ (s : Scope). target_signals s given) c.args.names.now c.turns.new.names named c.turns.ensures.frames c.turns.ensures.loops
     (within_as _ _ named
     (of_for (names_are c.args.names.now) c.args.stmt.now c.in-For.place c.in-For.field-1 c.in-For.variable c.in-For.start c.in-For.test c.in-For.next c.in-For.body given c.in-For.is c.get-in-Ok.ensures) w))
 
