@@ -1,8 +1,8 @@
 -- The step that a conflict teaches is new.
-use Rattle.std.proofs.Common.{◌≡◌, ℕ, ◌<◌, ◌≤◌, ◌+◌, ◌-◌, inl, not, Bool, true, cond, List, [], ◌∷◌, ◌++◌, length, get_or, map, reverse, take, drop, Option, Some, None, sym, refl, ap, ◌∙◌, arith, subst, length-append, append_assoc}
+use Rattle.std.proofs.Common.{◌≡◌, ℕ, ◌<◌, ◌≤◌, ◌+◌, ◌-◌, ◌*◌, inl, not, Bool, true, cond, List, [], ◌∷◌, ◌++◌, length, get_or, map, reverse, take, drop, Option, Some, None, sym, refl, ap, ◌∙◌, arith, subst, length-append, append_assoc}
 use Rattle.std.specs.List.{All, Contains, filter}
 use Rattle.std.proofs.lemmas.List.{map-append, take_all, take-append-le}
-use Rattle.std.proofs.lemmas.List.Elements.{All-contains, All-filter, All-weaker, Contains-append_right}
+use Rattle.std.proofs.lemmas.List.Elements.{All-contains, All-filter, All-push, All-weaker, Contains-append_right}
 use Rattle.std.proofs.Math.Seq.{get_or-append_seam}
 use Rattle.cnf.specs.declared.Dim.{Dim}
 use Rattle.cnf.specs.Clauses.{negate, AreBelow, Valuation, valuation, denied, all_open, IsConflict, IsUnit}
@@ -147,6 +147,12 @@ second_head x K y ys e = ap (λ l. get_or l 0 x) e
 second_has : (x : Dim) (K : List Dim) (y : Dim) (ys : List Dim) → K ≡ y ∷ ys → Contains (x ∷ K) y
 second_has x K y ys e = subst (λ (l : List Dim). Contains (x ∷ l) y) (sym e) (1, omega arith, refl)
 
+-- where each literal has a list, so have the first two
+pub pair_room : (n : ℕ) (clause : List Dim) → 0 < length clause → All (λ d. 2 * d.var + 1 < n) clause → (2 * (first_pair clause).a.var + 1 < n) × (2 * (first_pair clause).b.var + 1 < n)
+pair_room n [] some room = absurd (omega (arith, some))
+pair_room n (x ∷ []) some room = (room 0 x (omega arith), room 0 x (omega arith))
+pair_room n (x ∷ y ∷ ys) some room = (room 0 x (omega arith), room 1 y (omega arith))
+
 -- after the new clause stands among the others, is watched, and has made its first literal true
 pub taken_up : (vars : ℕ) (db : List (List Dim)) (s : Entry) (pairs : List Pair) (rows rows2 : List (List Watch)) (t0 t1 t2 : TrailLists) (seen : List Bool) (n k : ℕ) (p : Pair) (e : Assigned) →
     IsReady vars db pairs rows t0 → IsTaught vars db t0.entries seen n s →
@@ -187,6 +193,7 @@ taken_up vars db s pairs rows rows2 t0 t1 t2 seen n k p e ready taught tracks1 w
     let set_true : high x.dim.var ≡ Some (not x.dim.negated) = subst (λ (d : Dim). high d.var ≡ Some d.negated) (ap (λ (y : Assigned). y.dim) eis) (now_assigned t2.values t1.entries t2.entries e tracks2 more) in
     let new_half : IsHalf low high c p = inl (x.dim, subst (λ (l : List Dim). Contains l x.dim) (sym cis) (0, omega arith, refl), set_true) in (
       record {
+        below = All-push (AreBelow vars) db s.clause ready.below range;
         sound = learned_sound db s vars seen x e (take (n - 1) t0.entries) t1.entries t2.entries t2.values taught.first same o apart1 anchored explained1 tracks2 more
             (eis ∙ ap (λ m. let a : Assigned = record { dim = negate x.dim; reason = Some m } in a) kis);
         width = width2 ∙ width1;

@@ -9,3 +9,4 @@ pub mod Backs
 pub mod Starts
 pub mod Restarts
 pub mod Shorter
+pub mod Kept

@@ -32,6 +32,7 @@ restarted vars db pairs rows t0 t1 from place ready half tracks wide back = ⊎_
     let was = was_below db pairs t0.entries t1.entries below ready.was in
     let whole : take place t1.entries ≡ t1.entries = take_all place t1.entries (omega (arith, cut.1)) in (
       record {
+        below = ready.below;
         sound = record { tracks = tracks; explained = explained_front db t0.entries t1.entries (below.0 ∷ below.1) below.2 ready.sound.explained };
         width = wide ∙ ready.width;
         paired = ready.paired;

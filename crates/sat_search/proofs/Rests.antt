@@ -15,7 +15,7 @@ use Rattle.sat_search.proofs.Steps.{trail_range}
 use Rattle.sat_search.specs.Learn.{IsBelow}
 use Rattle.sat_state.specs.declared.watch.Pair.{Pair}
 use Rattle.sat_state.specs.Watch.{HasTrue, IsHalf, pair_at, no_pair, WasCalm, IsMove, Rest}
-use Rattle.sat_search.proofs.Watches.{half_grow, half_next, half_moved}
+use Rattle.sat_search.proofs.Watches.{half_grow, half_next, half_moved, twice}
 
 pub one_in : (x k : ℕ) → Contains (x ∷ []) k → x ≡ k
 one_in x k h = let l : h.0 < 1 = h.1 in let z : h.0 ≡ 0 = omega arith in subst (λ (i : ℕ). get_or (x ∷ []) i k ≡ k) z h.2
@@ -101,10 +101,6 @@ was_moved vars db pairs high d k0 q (e ∷ es) lp m apart below was =
           (cases_eq k k0),
       was_moved vars db pairs high d k0 q es lp m apart.2 below2 was.1,
     )
-
-twice : (b : Bool) → not (not b) ≡ b
-twice true = refl
-twice false = refl
 
 -- what is older is below
 pub below_front : (vars : ℕ) (xs ys : List Assigned) → IsApart vars (xs ++ ys) → IsBelow (denied (dims ys)) (denied (dims (xs ++ ys)))

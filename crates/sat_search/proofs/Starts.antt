@@ -136,9 +136,9 @@ started_force vars db k pairs rows t t2 found p lt same by width grown end h =
 
 -- all are watched
 pub started_all : (vars : ℕ) (clauses : List (Vec Dim Global)) (pairs : List Pair) (rows : List (List Watch)) (t : TrailLists) (found : Option ℕ) →
-    IsStarted vars (map (λ v. v.items) clauses) (length clauses) pairs rows t found →
+    AllBelow vars (map (λ v. v.items) clauses) → IsStarted vars (map (λ v. v.items) clauses) (length clauses) pairs rows t found →
     IsReady vars (map (λ v. v.items) clauses) pairs rows t × MatchOption found (IsHalfway (map (λ v. v.items) clauses) pairs t 0) (λ k. (k < length (map (λ v. v.items) clauses)) × IsConflict (valuation t.values) (clause_at (map (λ v. v.items) clauses) k))
-started_all vars clauses pairs rows t found h0 =
+started_all vars clauses pairs rows t found below h0 =
     let db : List (List Dim) = map (λ v. v.items) clauses in
     let len : length clauses ≡ length db = sym (length-map clauses (λ v. v.items)) in
     let h : IsStarted vars db (length db) pairs rows t found = subst (λ (n : ℕ). IsStarted vars db n pairs rows t found) len h0 in
@@ -150,6 +150,7 @@ started_all vars clauses pairs rows t found h0 =
       | Some j ↦ λ f. f
     ] in (
       record {
+        below = below;
         sound = h.by.sound;
         width = h.width;
         paired = subst (λ (d : List (List Dim)). ArePairs d pairs) whole h.paired;

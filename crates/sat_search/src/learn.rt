@@ -17,7 +17,7 @@ use crate::back::{go_back, is_clear};
 use cnf::Dim;
 use refute_check::Step;
 use sat_state::lists::{Uses, add_to, make_room};
-use sat_state::lit::Lit;
+use sat_state::packed::PackedDim;
 use sat_state::store::Store;
 use sat_state::trail::{Assigned, Trail};
 use sat_state::watch::{Pair, Watch};
@@ -73,7 +73,7 @@ fn mark_one(trail: &Trail, seen: &mut [bool], var: usize) -> usize
 }
 
 /// Marks the variables of a clause. Answers how many were not marked and had their value at the newest level.
-fn mark(trail: &Trail, seen: &mut [bool], clause: &[Lit]) -> usize
+fn mark(trail: &Trail, seen: &mut [bool], clause: &[PackedDim]) -> usize
     requires range { AreBelow (length seen.old) clause.now }
     requires width { length seen.old ≡ length trail.now.values }
     ensures marked { All (λ d. seen_at seen.new d.var ≡ true) clause.now }
@@ -172,7 +172,7 @@ fn is_covered(seen: &[bool], d: Dim, var: usize) -> bool
 }
 
 /// Whether each other variable of a clause is seen.
-fn is_implied(seen: &[bool], clause: &[Lit], var: usize) -> bool
+fn is_implied(seen: &[bool], clause: &[PackedDim], var: usize) -> bool
     requires { AreBelow (length seen.now) clause.now }
     ensures { IsTrue result → All (λ d. d.var ≢ var → seen_at seen.now d.var ≡ true) clause.now }
 {
@@ -359,6 +359,29 @@ pub fn watch_pair(
     Ok(())
 }
 
+/// Adds a clause that is not empty, and watches its first two literals. Answers its number.
+fn add_clause(
+    pairs: &mut Vec<Pair>,
+    lists: &mut [Vec<Watch>],
+    store: &mut Store,
+    uses: &mut Uses,
+    clause: &[Dim],
+) -> Result<usize, AllocError>
+    requires some { 0 < length clause.now }
+    requires room { All (λ d. 2 * d.var + 1 < length lists.old) clause.now }
+    ensures number { IfOk result (λ k. k ≡ length store.old) }
+    ensures store { OnOk result (store.new ≡ store.old ++ clause.now ∷ []) }
+    ensures pairs { OnOk result (pairs.new.items ≡ pairs.old.items ++ first_pair clause.now ∷ []) }
+    ensures lists { OnOk result (rows lists.new ≡ with_pair (rows lists.old) (first_pair clause.now) (length store.old)) }
+{
+    let number = store.len();
+    let pair = first_two(clause)?;
+    store.push(clause)?;
+    make_room(lists, uses, store.clause(number))?;
+    watch_pair(pairs, lists, pair, number)?;
+    Ok(number)
+}
+
 /// Takes the trail back to where the new clause has one open literal, adds the clause, and makes that literal true. Answers
 /// from where to propagate.
 fn take_up(
@@ -384,11 +407,7 @@ fn take_up(
 {
     let top = trail.entries()[left - 1].dim;
     go_back(trail, seen, left);
-    let reason = store.len();
-    let pair = first_two(step.clause.as_slice())?;
-    store.push(step.clause.as_slice())?;
-    make_room(lists, uses, store.clause(reason))?;
-    watch_pair(pairs, lists, pair, reason)?;
+    let reason = add_clause(pairs, lists, store, uses, step.clause.as_slice())?;
     steps.push(step)?;
     let from = trail.entries().len();
     trail.assign(Assigned {
@@ -423,7 +442,6 @@ pub fn learn(
     notes: &mut Notes,
     conflict: usize,
 ) -> Result<Option<usize>, AllocError>
-    requires width { AllBelow (length trail.old.values) store.old }
     requires ready { IsReady (length trail.old.values) store.old pairs.old.items (rows lists.old) trail.old }
     requires seen { length seen.old ≡ length trail.old.values }
     requires known { conflict < length store.old }

@@ -1,13 +1,12 @@
 //! Propagation and decisions, up to a conflict or a solution.
 
-ghost use Rattle.std.specs.Prelude.{◌≡◌, ℕ, ◌+◌, ◌<◌, ◌≤◌, Option, Some, None, length, OnOk, IfOk, MatchOption, reverse};
+ghost use Rattle.std.specs.Prelude.{◌≡◌, ◌+◌, ◌<◌, None, length, OnOk, IfOk};
 ghost use Rattle.std.specs.List.{All};
-ghost use Rattle.cnf.specs.Clauses.{AllBelow, valuation};
-ghost use Rattle.sat_state.specs.Trail.{IsQuiet, IsSound, open_count};
-ghost use Rattle.sat_state.specs.Watch.{AllHalf, ArePairs, AreLists, IsCalm, Listed, WasCalm, rows};
-ghost use Rattle.sat_search.specs.Walk.{before};
+ghost use Rattle.cnf.specs.Clauses.{valuation};
+ghost use Rattle.sat_state.specs.Trail.{IsQuiet};
+ghost use Rattle.sat_state.specs.Watch.{IsCalm, rows};
 ghost use Rattle.sat_search.specs.Found.{IsFound};
-ghost use Rattle.sat_search.specs.Lesson.{IsHalfway, IsReady};
+ghost use Rattle.sat_search.specs.Lesson.{IsFuller, IsHalfway, IsReady};
 
 use crate::walk::work_off;
 use cnf::Dim;
@@ -26,25 +25,12 @@ fn look_through(
     at: usize,
     store: &Store,
 ) -> Result<Option<usize>, AllocError>
-    requires width { AllBelow (length trail.old.values) store.now }
-    requires sound { IsSound store.now trail.old.values trail.old.entries }
+    requires ready { IsReady (length trail.old.values) store.now pairs.old (rows lists.old) trail.old }
     requires at { at < length trail.old.entries }
-    requires pairs { ArePairs store.now pairs.old }
-    requires lists { AreLists (length trail.old.values) store.now (rows lists.old) }
-    requires listed { Listed pairs.old (rows lists.old) }
-    requires half { AllHalf store.now pairs.old (before trail.old.entries at) (valuation trail.old.values) }
-    requires was { WasCalm store.now pairs.old (reverse trail.old.entries) }
-    ensures sound { OnOk result (IsSound store.now trail.new.values trail.new.entries) }
-    ensures width { OnOk result (length trail.new.values ≡ length trail.old.values) }
-    ensures place { OnOk result (at < length trail.new.entries) }
-    ensures longer { OnOk result (length trail.old.entries ≤ length trail.new.entries) }
-    ensures filled { OnOk result (open_count trail.new.values + length trail.new.entries ≡ open_count trail.old.values + length trail.old.entries) }
-    ensures pairs { OnOk result (ArePairs store.now pairs.new) }
-    ensures lists { OnOk result (AreLists (length trail.old.values) store.now (rows lists.new)) }
-    ensures listed { OnOk result (Listed pairs.new (rows lists.new)) }
-    ensures was { OnOk result (WasCalm store.now pairs.new (reverse trail.new.entries)) }
-    ensures found { IfOk result (λ found. IsFound store.now (valuation trail.new.values) found
-        (AllHalf store.now pairs.new (before trail.new.entries (at + 1)) (valuation trail.new.values))) }
+    requires half { IsHalfway store.now pairs.old trail.old at }
+    ensures ready { OnOk result (IsReady (length trail.old.values) store.now pairs.new (rows lists.new) trail.new) }
+    ensures fuller { OnOk result (IsFuller trail.old trail.new) }
+    ensures found { IfOk result (λ found. IsFound store.now (valuation trail.new.values) found (IsHalfway store.now pairs.new trail.new (at + 1))) }
 {
     let d = trail.entries()[at].dim;
     let mut list = take_list(alloc, lists, d);
@@ -63,29 +49,17 @@ fn propagate(
     from: usize,
     store: &Store,
 ) -> Result<Option<usize>, AllocError>
-    requires width { AllBelow (length trail.old.values) store.now }
-    requires sound { IsSound store.now trail.old.values trail.old.entries }
-    requires from { from ≤ length trail.old.entries }
-    requires pairs { ArePairs store.now pairs.old }
-    requires lists { AreLists (length trail.old.values) store.now (rows lists.old) }
-    requires listed { Listed pairs.old (rows lists.old) }
-    requires half { AllHalf store.now pairs.old (before trail.old.entries from) (valuation trail.old.values) }
-    requires was { WasCalm store.now pairs.old (reverse trail.old.entries) }
-    ensures sound { OnOk result (IsSound store.now trail.new.values trail.new.entries) }
-    ensures width { OnOk result (length trail.new.values ≡ length trail.old.values) }
-    ensures fewer { OnOk result (open_count trail.new.values ≤ open_count trail.old.values) }
-    ensures pairs { OnOk result (ArePairs store.now pairs.new) }
-    ensures lists { OnOk result (AreLists (length trail.old.values) store.now (rows lists.new)) }
-    ensures listed { OnOk result (Listed pairs.new (rows lists.new)) }
-    ensures was { OnOk result (WasCalm store.now pairs.new (reverse trail.new.entries)) }
-    ensures found { IfOk result (λ found. IsFound store.now (valuation trail.new.values) found
-        (IsCalm store.now pairs.new (valuation trail.new.values))) }
+    requires ready { IsReady (length trail.old.values) store.now pairs.old (rows lists.old) trail.old }
+    requires half { IsHalfway store.now pairs.old trail.old from }
+    ensures ready { OnOk result (IsReady (length trail.old.values) store.now pairs.new (rows lists.new) trail.new) }
+    ensures fuller { OnOk result (IsFuller trail.old trail.new) }
+    ensures found { IfOk result (λ found. IsFound store.now (valuation trail.new.values) found (IsCalm store.now pairs.new (valuation trail.new.values))) }
 {
     let mut at = from;
     while at < trail.entries().len() {
-        let found = look_through(alloc, trail, pairs, lists, at, store)?;
-        if found.is_some() {
-            return Ok(found);
+        match look_through(alloc, trail, pairs, lists, at, store)? {
+            Some(k) => return Ok(Some(k)),
+            None => {}
         }
         at += 1;
     }
@@ -102,20 +76,9 @@ fn search(
     from: usize,
     store: &Store,
 ) -> Result<Option<usize>, AllocError>
-    requires width { AllBelow (length trail.old.values) store.now }
-    requires sound { IsSound store.now trail.old.values trail.old.entries }
-    requires from { from ≤ length trail.old.entries }
-    requires pairs { ArePairs store.now pairs.old }
-    requires lists { AreLists (length trail.old.values) store.now (rows lists.old) }
-    requires listed { Listed pairs.old (rows lists.old) }
-    requires half { AllHalf store.now pairs.old (before trail.old.entries from) (valuation trail.old.values) }
-    requires was { WasCalm store.now pairs.old (reverse trail.old.entries) }
-    ensures sound { OnOk result (IsSound store.now trail.new.values trail.new.entries) }
-    ensures width { OnOk result (length trail.new.values ≡ length trail.old.values) }
-    ensures pairs { OnOk result (ArePairs store.now pairs.new) }
-    ensures lists { OnOk result (AreLists (length trail.old.values) store.now (rows lists.new)) }
-    ensures listed { OnOk result (Listed pairs.new (rows lists.new)) }
-    ensures was { OnOk result (WasCalm store.now pairs.new (reverse trail.new.entries)) }
+    requires ready { IsReady (length trail.old.values) store.now pairs.old (rows lists.old) trail.old }
+    requires half { IsHalfway store.now pairs.old trail.old from }
+    ensures ready { OnOk result (IsReady (length trail.old.values) store.now pairs.new (rows lists.new) trail.new) }
     ensures found { IfOk result (λ found. IsFound store.now (valuation trail.new.values) found
         (IsQuiet store.now (valuation trail.new.values) × All (λ o. o ≡ None → ⊥) trail.new.values)) }
 {
@@ -149,7 +112,6 @@ pub fn conflict_of(
     from: usize,
     store: &Store,
 ) -> Result<Option<usize>, AllocError>
-    requires width { AllBelow (length trail.old.values) store.now }
     requires ready { IsReady (length trail.old.values) store.now pairs.old.items (rows lists.old) trail.old }
     requires found { IsFound store.now (valuation trail.old.values) found (IsHalfway store.now pairs.old.items trail.old from) }
     ensures ready { OnOk result (IsReady (length trail.old.values) store.now pairs.new.items (rows lists.new) trail.new) }

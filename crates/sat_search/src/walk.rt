@@ -1,13 +1,14 @@
 //! Work on one list of watches.
 
-ghost use Rattle.std.specs.Prelude.{◌≡◌, ℕ, ◌+◌, ◌<◌, ◌≤◌, length, OnOk, IfOk, reverse, take};
+ghost use Rattle.std.specs.Prelude.{◌+◌, ◌<◌, ◌≤◌, length, OnOk, IfOk};
 ghost use Rattle.std.specs.List.{All};
 ghost use Rattle.cnf.specs.Clauses.{AllBelow, Valuation, valuation};
 ghost use Rattle.refute_check.specs.Accepted.{clause_at};
-ghost use Rattle.sat_state.specs.Trail.{IsSound, open_count};
-ghost use Rattle.sat_state.specs.Watch.{ArePairs, AreLists, IsGood, IsHalf, ListedBut, Rest, WasCalm, numbers, pair_at, rows};
+ghost use Rattle.sat_state.specs.Watch.{ArePairs, IsGood, IsHalf, Rest, numbers, pair_at, rows};
 ghost use Rattle.sat_state.specs.Visited.{IsVisited};
-ghost use Rattle.sat_search.specs.Walk.{before, StandsAt, IsWalked, left_of};
+ghost use Rattle.sat_search.specs.Walk.{before, StandsAt, left_of};
+ghost use Rattle.sat_search.specs.Found.{IsFound};
+ghost use Rattle.sat_search.specs.Lesson.{IsFuller, IsHalfway, IsOut};
 
 use cnf::Dim;
 use sat_state::lists::add_to;
@@ -58,31 +59,17 @@ pub fn work_off(
     d: Dim,
     store: &Store,
 ) -> Result<Walk, AllocError>
-    requires width { AllBelow (length trail.old.values) store.now }
-    requires sound { IsSound store.now trail.old.values trail.old.entries }
+    requires out { IsOut (length trail.old.values) store.now pairs.old (rows lists.old) trail.old d (numbers list.old) }
     requires at { at < length trail.old.entries }
-    requires range { d.var < length trail.old.values }
     requires stands { StandsAt trail.old.entries at d }
-    requires pairs { ArePairs store.now pairs.old }
-    requires lists { AreLists (length trail.old.values) store.now (rows lists.old) }
     requires good { All (IsGood store.now) list.old }
-    requires listed { ListedBut pairs.old (rows lists.old) d (numbers list.old) }
     requires rest { Rest store.now pairs.old (before trail.old.entries at) (before trail.old.entries (at + 1)) (valuation trail.old.values) (numbers list.old) }
-    requires was { WasCalm store.now pairs.old (reverse trail.old.entries) }
-    ensures sound { OnOk result (IsSound store.now trail.new.values trail.new.entries) }
-    ensures width { OnOk result (length trail.new.values ≡ length trail.old.values) }
-    ensures front { OnOk result (take (at + 1) trail.new.entries ≡ take (at + 1) trail.old.entries) }
-    ensures place { OnOk result (at < length trail.new.entries) }
-    ensures longer { OnOk result (length trail.old.entries ≤ length trail.new.entries) }
-    ensures filled { OnOk result (open_count trail.new.values + length trail.new.entries ≡ open_count trail.old.values + length trail.old.entries) }
-    ensures pairs { OnOk result (ArePairs store.now pairs.new) }
-    ensures lists { OnOk result (AreLists (length trail.old.values) store.now (rows lists.new)) }
+    ensures out { IfOk result (λ walk. IsOut (length trail.old.values) store.now pairs.new (rows lists.new) trail.new d (numbers (left_of list.new walk.kept walk.read))) }
+    ensures fuller { OnOk result (IsFuller trail.old trail.new) }
     ensures good { OnOk result (All (IsGood store.now) list.new) }
     ensures order { IfOk result (λ walk. walk.kept ≤ walk.read) }
     ensures read { IfOk result (λ walk. walk.read ≤ length list.old) }
-    ensures listed { IfOk result (λ walk. ListedBut pairs.new (rows lists.new) d (numbers (left_of list.new walk.kept walk.read))) }
-    ensures was { OnOk result (WasCalm store.now pairs.new (reverse trail.new.entries)) }
-    ensures walked { IfOk result (IsWalked store.now pairs.new trail.new at) }
+    ensures found { IfOk result (λ walk. IsFound store.now (valuation trail.new.values) walk.conflict (IsHalfway store.now pairs.new trail.new (at + 1))) }
 {
     let mut kept = 0;
     for i in 0..list.len() {

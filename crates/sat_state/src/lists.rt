@@ -4,7 +4,7 @@ ghost use Rattle.std.specs.Prelude.{◌≡◌, IfOk, ◌^◌, ◌+◌, ◌*◌, 
 ghost use Rattle.std.specs.List.{All};
 ghost use Rattle.sat_state.specs.Watch.{code, rows, row_at};
 
-use crate::lit::Lit;
+use crate::packed::PackedDim;
 use crate::store::Store;
 use crate::watch::Watch;
 use cnf::Dim;
@@ -23,7 +23,7 @@ pub fn empty_lists(alloc: Global, count: usize) -> Result<Vec<Vec<Watch>>, Alloc
     Ok(lists)
 }
 
-/// The number of a literal's list.
+/// The number of a literal among all, and so of its list: that of its variable twice, and one more where it is negated.
 fn number_of(d: Dim) -> usize
     requires { 2 * d.var + 1 < 2 ^ 64 }
     ensures { result ≡ code d }
@@ -86,12 +86,12 @@ fn widen_at(lists: &mut [Vec<Watch>], number: usize, count: usize) -> Result<(),
 pub fn make_room(
     lists: &mut [Vec<Watch>],
     uses: &mut Uses,
-    clause: &[Lit],
+    clause: &[PackedDim],
 ) -> Result<(), AllocError>
     ensures { rows lists.new ≡ rows lists.old }
 {
-    for lit in clause {
-        let number = lit.number();
+    for d in clause {
+        let number = number_of(d.dim());
         widen_at(lists, number, uses.count(number))?;
     }
     Ok(())
@@ -129,11 +129,11 @@ pub fn put_list(lists: &mut [Vec<Watch>], d: Dim, list: Vec<Watch>)
 }
 
 /// Puts a watch into the list of a literal.
-pub fn add_to(lists: &mut [Vec<Watch>], d: Lit, watch: Watch) -> Result<(), AllocError>
+pub fn add_to(lists: &mut [Vec<Watch>], d: PackedDim, watch: Watch) -> Result<(), AllocError>
     requires { 2 * d.var + 1 < length lists.old }
     ensures { OnOk result (rows lists.new ≡ slice_set (rows lists.old) (code d) (row_at (rows lists.old) d ++ watch ∷ [])) }
 {
-    lists[d.number()].push(watch)?;
+    lists[number_of(d.dim())].push(watch)?;
     Ok(())
 }
 

@@ -1,20 +1,20 @@
 //! Literals in half of the memory.
 
-ghost use Rattle.std.specs.Prelude.{◌≡◌, IfOk};
-ghost use Rattle.sat_state.specs.Watch.{code};
+ghost use Rattle.std.specs.Prelude.{◌≡◌, ◌<◌, ◌^◌, IfOk};
 
 use cnf::Dim;
 use std::alloc::AllocError;
 use std::marker::Model;
 
-/// A literal in half of the memory of a `Dim`. Contracts see the `Dim`.
+/// A `Dim` in half of its memory: the 8 bytes in which the solver holds what it looks at most often. Contracts see the `Dim`.
+/// Given clauses, the log and the judge have `Dim`s, whose variables go up to 2^64.
 #[derive(Clone, Copy)]
-pub struct Lit {
+pub struct PackedDim {
     var: u32,
     negated: bool,
 }
 
-impl Model for Lit {
+impl Model for PackedDim {
     ghost use Rattle.cnf.specs.declared.Dim.{Dim};
 
     ghost Value = { Dim };
@@ -24,31 +24,24 @@ impl Model for Lit {
     ghost inverse = { λ d. record { var = d.var; negated = d.negated } };
 }
 
-impl Lit {
-    /// The literal. There is no memory for 2^32 variables.
-    pub fn of(d: Dim) -> Result<Lit, AllocError>
-        ensures { IfOk result (λ lit. lit ≡ d) }
+impl PackedDim {
+    /// The literal, packed. There is no memory for 2^32 variables.
+    pub fn of(d: Dim) -> Result<PackedDim, AllocError>
+        ensures { IfOk result (λ packed. packed ≡ d) }
     {
         if d.var > 0xffff_ffff {
             return Err(AllocError);
         }
-        Ok(Lit {
+        Ok(PackedDim {
             var: d.var as u32,
             negated: d.negated,
         })
     }
 
-    /// The number of the literal among all: that of its variable twice, and one more where it is negated.
-    pub fn number(&self) -> usize
-        ensures { result ≡ code self.now }
-    {
-        let var = self.var as usize;
-        if self.negated { 2 * var + 1 } else { 2 * var }
-    }
-
-    /// The literal as a `Dim`.
+    /// The literal.
     pub fn dim(&self) -> Dim
-        ensures { result ≡ self.now }
+        ensures same { result ≡ self.now }
+        ensures narrow { result.var < 2 ^ 32 }
     {
         Dim {
             var: self.var as usize,

@@ -3,7 +3,7 @@
 ghost use Rattle.std.specs.Prelude.{◌≡◌, ◌<◌, ◌≤◌, ◌++◌, ◌∷◌, [], length, map, take, OnOk, OnErr, IfOk};
 ghost use Rattle.refute_check.specs.Accepted.{clause_at};
 
-use crate::lit::Lit;
+use crate::packed::PackedDim;
 use cnf::Dim;
 use std::alloc::{AllocError, Global};
 use std::marker::Model;
@@ -17,7 +17,7 @@ pub struct Span {
 
 /// Clauses by their numbers, whose literals stand one after another. Contracts see the list of the clauses.
 pub struct Store {
-    lits: Vec<Lit>,
+    lits: Vec<PackedDim>,
     spans: Vec<Span>,
 }
 
@@ -41,17 +41,17 @@ impl Model for Store {
 }
 
 // Appends a literal.
-fn write_one(lits: &mut Vec<Lit>, d: Dim) -> Result<(), AllocError>
+fn write_one(lits: &mut Vec<PackedDim>, d: Dim) -> Result<(), AllocError>
     ensures added { OnOk result (lits.new.items ≡ lits.old.items ++ d ∷ []) }
     ensures unchanged { OnErr result (lits.new.items ≡ lits.old.items) }
 {
-    let lit = Lit::of(d)?;
+    let lit = PackedDim::of(d)?;
     lits.push(lit)?;
     Ok(())
 }
 
 /// Appends these literals, or, where there is no memory for all, some.
-fn write(lits: &mut Vec<Lit>, clause: &[Dim]) -> Result<(), AllocError>
+fn write(lits: &mut Vec<PackedDim>, clause: &[Dim]) -> Result<(), AllocError>
     ensures all { OnOk result (lits.new.items ≡ lits.old.items ++ clause.now) }
     ensures front { take (length lits.old.items) lits.new.items ≡ lits.old.items }
     ensures longer { length lits.old.items ≤ length lits.new.items }
@@ -92,7 +92,7 @@ impl Store {
     }
 
     /// The literals of a clause.
-    pub fn clause(&self, k: usize) -> &[Lit]
+    pub fn clause(&self, k: usize) -> &[PackedDim]
         requires { k < length self.now }
         ensures { result.now ≡ clause_at self.now k }
     {

@@ -6,15 +6,15 @@ ghost use Rattle.cnf.specs.Clauses.{AreBelow, IsFalsified, Valuation, valuation}
 ghost use Rattle.sat_state.specs.Watch.{HasTrue, IsHalf, IsBeside, Watches, pair_of};
 ghost use Rattle.sat_state.specs.Visited.{IsFreeAt, IsVisited};
 
-use crate::lit::Lit;
+use crate::packed::PackedDim;
 use cnf::Dim;
 use std::alloc::AllocError;
 
 /// The two literals of a clause that are watched. A clause of which none is watched has twice the same.
 #[derive(Clone, Copy)]
 pub struct Pair {
-    pub a: Lit,
-    pub b: Lit,
+    pub a: PackedDim,
+    pub b: PackedDim,
 }
 
 impl Pair {
@@ -23,8 +23,8 @@ impl Pair {
         ensures { IfOk result (λ pair. pair ≡ pair_of a b) }
     {
         Ok(Pair {
-            a: Lit::of(a)?,
-            b: Lit::of(b)?,
+            a: PackedDim::of(a)?,
+            b: PackedDim::of(b)?,
         })
     }
 }
@@ -33,14 +33,14 @@ impl Pair {
 #[derive(Clone, Copy)]
 pub struct Watch {
     pub clause: usize,
-    pub blocker: Lit,
+    pub blocker: PackedDim,
 }
 
 /// What is to be done with a clause of which a watched literal has become false.
 #[derive(Clone, Copy)]
 pub enum Visit {
     /// It stays in the list, with this literal to be looked at first.
-    Keep(Lit),
+    Keep(PackedDim),
     /// The second of this pair, which stands at this place of the clause, is watched in place of the false literal.
     Move(Pair, usize),
     /// This literal is open, and each other one is false.
@@ -50,7 +50,7 @@ pub enum Visit {
 }
 
 /// Whether the literal is false.
-fn is_false(values: &[Option<bool>], lit: Lit) -> bool
+fn is_false(values: &[Option<bool>], lit: PackedDim) -> bool
     requires { lit.var < length values.now }
     ensures { IsTrue result ↔ IsFalsified (valuation values.now) lit }
 {
@@ -62,7 +62,7 @@ fn is_false(values: &[Option<bool>], lit: Lit) -> bool
 }
 
 /// Whether the literal is true.
-pub fn is_true(values: &[Option<bool>], lit: Lit) -> bool
+pub fn is_true(values: &[Option<bool>], lit: PackedDim) -> bool
     requires { lit.var < length values.now }
     ensures { IsTrue result ↔ (valuation values.now lit.var ≡ Some (not lit.negated)) }
 {
@@ -74,7 +74,7 @@ pub fn is_true(values: &[Option<bool>], lit: Lit) -> bool
 }
 
 /// The first place of a literal that is not false, and not `other`.
-fn first_free(values: &[Option<bool>], clause: &[Lit], other: Dim) -> Option<usize>
+fn first_free(values: &[Option<bool>], clause: &[PackedDim], other: Dim) -> Option<usize>
     requires { AreBelow (length values.now) clause.now }
     ensures { IsFreeAt (valuation values.now) clause.now other result }
 {
@@ -95,7 +95,12 @@ fn within(from: usize, length: usize) -> usize
 
 /// The place of a literal that is not false, and not `other`. It is looked for from a place on, and then before it.
 #[tactic(auto, using(crate::proofs::Places::free_later, crate::proofs::Places::free_rest))]
-pub fn other_free(values: &[Option<bool>], clause: &[Lit], other: Dim, from: usize) -> Option<usize>
+pub fn other_free(
+    values: &[Option<bool>],
+    clause: &[PackedDim],
+    other: Dim,
+    from: usize,
+) -> Option<usize>
     requires { AreBelow (length values.now) clause.now }
     ensures { IsFreeAt (valuation values.now) clause.now other result }
 {
@@ -107,7 +112,7 @@ pub fn other_free(values: &[Option<bool>], clause: &[Lit], other: Dim, from: usi
 }
 
 /// The watched literal beside `d`, if two are watched and `d` is one of them.
-fn beside(pair: &Pair, d: Dim) -> Option<Lit>
+fn beside(pair: &Pair, d: Dim) -> Option<PackedDim>
     ensures { MatchOption result ((pair.now.a ≡ pair.now.b) ⊎ ((pair.now.a ≢ d) × (pair.now.b ≢ d))) (λ o. IsBeside pair.now d o × (d ≢ o)) }
 {
     let a = pair.a.dim();
@@ -127,9 +132,9 @@ fn beside(pair: &Pair, d: Dim) -> Option<Lit>
 /// place from which to look for another one to be watched.
 pub fn look_again(
     values: &[Option<bool>],
-    clause: &[Lit],
+    clause: &[PackedDim],
     pair: &Pair,
-    blocker: Lit,
+    blocker: PackedDim,
     d: Dim,
     from: usize,
 ) -> Visit
@@ -148,10 +153,10 @@ pub fn look_again(
 #[tactic(auto, using(crate::proofs::Visits::visit_unit, crate::proofs::Visits::visit_conflict))]
 fn look_beside(
     values: &[Option<bool>],
-    clause: &[Lit],
+    clause: &[PackedDim],
     pair: &Pair,
     d: Dim,
-    other: Lit,
+    other: PackedDim,
     from: usize,
 ) -> Visit
     requires range { AreBelow (length values.now) clause.now }

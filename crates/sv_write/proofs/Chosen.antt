@@ -1,5 +1,5 @@
 -- Trees as code takes them apart, where the arm tells little.
-use Rattle.std.proofs.Common.{◌≡◌, List, Option, codes, sym, ap, ◌∙◌}
+use Rattle.std.proofs.Common.{◌≡◌, List, Option, sym, ap, ◌∙◌}
 use borrow.Enum.Total.{values_d}
 use Rattle.sv_outside.specs.declared.refusal.Place.{Place}
 use Rattle.sv_tree.specs.contracts.forms.Member as contract

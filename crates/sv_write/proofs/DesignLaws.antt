@@ -1,5 +1,5 @@
 -- Instances and items of modules: what is written are the kinds and texts of whatever tokens spell them.
-use Rattle.std.specs.Prelude.{Bool, true, false, List, [], ◌∷◌, codes, Option}
+use Rattle.std.specs.Prelude.{Bool, true, false, codes, Option}
 use mathlib.Core.Former.{Count}
 use Rattle.sv_tree.specs.declared.design.AssignPair.{AssignPair}
 use Rattle.sv_tree.specs.declared.design.Pin.{Pin}
@@ -13,7 +13,7 @@ use Rattle.sv_tree.specs.declared.design.Item.{Item, Net, Variable, Typedef, Par
 use Rattle.sv_tree.specs.declared.design.Gen.{Gen, Block', Single'}
 use Rattle.sv_tree.specs.GrammarDesign.{SpellsPair, SpellsPin, SpellsNamed, SpellsPins, SpellsOne, SpellsGiven, SpellsInst, genvar_if, SpellsItem, SpellsGen, SpellsElse, SpellsItems, is_closed_gen}
 use Rattle.sv_write.specs.Design.{write_pair, write_pin, write_named, write_pins, write_one, write_override, write_inst, write_genvar_if, write_item, write_gen, write_else, write_items}
-use Rattle.sv_write.proofs.Lawful.{Law, ◌▹◌, law_mark, law_key, law_key_at, law_name, law_nothing, law_when, law_maybe, law_each, law_commas, law_label, law_label_of, law_first}
+use Rattle.sv_write.proofs.Lawful.{Law, ◌▹◌, law_mark, law_key, law_key_at, law_name, law_nothing, law_when, law_maybe, law_commas, law_label_of, law_first}
 use Rattle.sv_write.proofs.ExprsLaws.{law_expr}
 use Rattle.sv_write.proofs.FormsLaws.{law_given, law_type, law_typedef, law_param, law_net_key}
 use Rattle.sv_write.proofs.StmtsLaws.{law_lvalue, law_step, law_block_name, law_block}

@@ -1,5 +1,5 @@
 -- Loops over parts, of which the first n are written.
-use Rattle.std.proofs.Common.{◌≡◌, ℕ, ◌+◌, ◌-◌, ◌<◌, ◌≤◌, List, [], ◌∷◌, length, take, drop, get_or, codes, refl, sym, ap, ◌∙◌, arith}
+use Rattle.std.proofs.Common.{◌≡◌, ℕ, ◌+◌, ◌-◌, ◌<◌, ◌≤◌, List, [], ◌∷◌, length, take, drop, get_or, refl, sym, ap, ◌∙◌, arith}
 use Rattle.std.proofs.lemmas.List.{take_all, drop_all, drop_more}
 use Rattle.sv_write.specs.declared.lexeme.Lexeme.{Lexeme}
 use Rattle.sv_write.specs.Writing.{Write, each, behind_comma, commas}

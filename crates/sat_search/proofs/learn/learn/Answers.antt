@@ -52,6 +52,25 @@ returns-in_err-from c =
       half = IfOk-from_err _ _ e;
     }
 
+pub teach-requires : goal.teach-requires
+teach-requires c = record { width = c.requires.ready.below; sound = c.requires.ready.sound; seen = c.requires.seen; known = c.requires.known; conflict = c.requires.conflict }
+
+pub take_up-requires-clause-ready : goal.take_up-requires-clause-ready
+take_up-requires-clause-ready c =
+    subst (λ (t : TrailLists). IsReady (length t.values) c.args.store.now c.args.pairs.now.items (rows c.args.lists.now) t) (sym c.after_conflict.ensures) c.requires.ready
+
+pub returns-then-left-eq0-clause-learned : goal.returns-then-left-eq0-clause-learned
+returns-then-left-eq0-clause-learned c = tt
+
+pub returns-then-left-eq0-clause-less : goal.returns-then-left-eq0-clause-less
+returns-then-left-eq0-clause-less c = tt
+
+pub returns-then-left-eq0-clause-ready : goal.returns-then-left-eq0-clause-ready
+returns-then-left-eq0-clause-ready c = tt
+
+pub returns-then-left-eq0-clause-half : goal.returns-then-left-eq0-clause-half
+returns-then-left-eq0-clause-half c = tt
+
 pub returns : goal.returns
 returns c =
     let taught = c.in_ok-left.ensures.taught (omega (arith, c.if-left-eq0.false)) in

@@ -13,7 +13,7 @@ pub loop-d-preserved : goal.loop-d-preserved
 loop-d-preserved c = record {
   marked = All-more (λ d. seen_at c.mark_one.new.seen d.var ≡ true) c.args.clause.now c.loop-d.d-index no_dim c.loop-d-test.true
       (All-weaker (λ d. seen_at c.loop-d.seen d.var ≡ true) (λ d. seen_at c.mark_one.new.seen d.var ≡ true) (λ d h. c.mark_one.ensures.more d.var h) (take c.loop-d.d-index c.args.clause.now) c.loop-d.invariant.marked)
-      (subst (λ (d : Dim). seen_at c.mark_one.new.seen d.var ≡ true) (c.dim.ensures ∙ c.d-item.is ∙ get_or_default c.args.clause.now c.loop-d.d-index c.d-item.result no_dim c.loop-d-test.true) c.mark_one.ensures.marked);
+      (subst (λ (d : Dim). seen_at c.mark_one.new.seen d.var ≡ true) (c.dim.ensures.same ∙ c.d-item.is ∙ get_or_default c.args.clause.now c.loop-d.d-index c.d-item.result no_dim c.loop-d-test.true) c.mark_one.ensures.marked);
   more = λ v h. c.mark_one.ensures.more v (c.loop-d.invariant.more v h);
 }
 

@@ -2,6 +2,7 @@ use Rattle.std.proofs.Common.{◌≡◌, ◌<◌, ◌+◌, ◌-◌, length, List
 use Rattle.std.specs.List.{All}
 use Rattle.std.proofs.lemmas.List.Elements.{All-take}
 use Rattle.cnf.specs.declared.Dim.{Dim}
+use Rattle.cnf.specs.Clauses.{AreBelow}
 use Rattle.refute_check.specs.Accepted.{clause_at}
 use Rattle.sat_state.specs.declared.trail.Assigned.{Assigned}
 use Rattle.sat_state.specs.Trail.{IsApart, IsExplained}
@@ -38,6 +39,13 @@ clause-requires-in-Some c =
     let x : Assigned = get_or entries k no_assigned in
     let why : x.reason ≡ Some c.in-Some.r = subst (λ (t : List Assigned). (get_or t k no_assigned).reason ≡ Some c.in-Some.r) c.entries-entries.ensures c.in-Some.is in
     reason_known db (take (k + 1) entries) (take k entries) x c.in-Some.r (explained_front db entries (take (k + 1) entries) (drop (k + 1) entries) (front_is entries (k + 1)) c.requires.sound.explained) (place_is entries k no_assigned lt) why
+
+pub mark-count-requires : goal.mark-count-requires
+mark-count-requires c = record {
+  range = subst (λ (cl : List Dim). AreBelow (length c.args.seen.now) cl) (sym c.clause.ensures)
+      (subst (λ (n : ℕ). AreBelow n (clause_at c.args.store.now c.args.conflict)) (sym c.requires.seen) (c.requires.width c.args.conflict [] c.requires.known));
+  width = c.requires.seen;
+}
 
 pub loop-i-preserved : goal.loop-i-preserved
 loop-i-preserved c =

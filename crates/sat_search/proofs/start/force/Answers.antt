@@ -1,13 +1,59 @@
-use Rattle.std.proofs.Common.{◌≡◌, List, map, subst, ap}
+use Rattle.std.proofs.Common.{◌≡◌, ◌<◌, List, [], length, map, refl, subst, ap, arith}
 use Rattle.std.specs.List.{Contains}
+use Rattle.std.proofs.lemmas.List.{length-map}
+use Rattle.std.proofs.lemmas.List.Elements.{All-contains}
 use Rattle.cnf.specs.declared.Dim.{Dim}
 use Rattle.cnf.specs.Clauses.{Valuation, valuation, IsUnit, IsConflict}
 use Rattle.refute_check.specs.Accepted.{clause_at}
 use Rattle.sat_search.specs.Start.{first_of}
 use Rattle.sat_search.proofs.Rests.{below_assigned, now_assigned}
-use Rattle.sat_search.proofs.Starts.{one_true}
+use Rattle.sat_search.proofs.Starts.{one_true, forced_push}
 use Rattle.std.proofs.lemmas.Result.{IfOk-from_err}
 use Rattle.sat_search.proofs.start.force.Goals as goal
+
+pub assign-requires : goal.assign-requires
+assign-requires c =
+    let db = map (λ v. v.items) c.args.clauses.now in
+    let d = c.in-Unit.d in
+    let lt : c.args.k < length db = let e : length db ≡ length c.args.clauses.now = length-map c.args.clauses.now (λ v. v.items) in omega (arith, c.requires.k, e) in
+    let unit : IsUnit (valuation c.args.trail.now.values) (clause_at db c.args.k) d = subst (λ (a : Valuation). IsUnit a (clause_at db c.args.k) d) (ap valuation c.values.ensures)
+    (subst (λ (l : List Dim). IsUnit (valuation c.values.result.now) l d) c.given.ensures c.in-Unit.ensures) in
+    record {
+      range = All-contains (λ (x : Dim). x.var < length c.args.trail.now.values) (clause_at db c.args.k) d (c.requires.width c.args.k [] lt) unit.inside;
+      tracks = c.requires.forced.sound.tracks;
+      «open» = unit.opened;
+    }
+
+pub returns-in-Conflict : goal.returns-in-Conflict
+returns-in-Conflict c =
+    let cl = clause_at (map (λ v. v.items) c.args.clauses.now) c.args.k in
+    record {
+      forced = c.requires.forced;
+      width = refl;
+      grown = λ v t h. h;
+      found = (refl, subst (λ (a : Valuation). IsConflict a cl) (ap valuation c.values.ensures) (subst (λ (l : List Dim). IsConflict (valuation c.values.result.now) l) c.given.ensures c.in-Conflict.ensures));
+    }
+
+pub returns-in-Neither-clause-forced : goal.returns-in-Neither-clause-forced
+returns-in-Neither-clause-forced c = c.requires.forced
+
+pub returns-in-Neither-clause-width : goal.returns-in-Neither-clause-width
+returns-in-Neither-clause-width c = refl
+
+pub returns-in-Neither-clause-grown : goal.returns-in-Neither-clause-grown
+returns-in-Neither-clause-grown c = λ v t h. h
+
+pub returns-in_ok-assign-in-Unit-clause-width : goal.returns-in_ok-assign-in-Unit-clause-width
+returns-in_ok-assign-in-Unit-clause-width c = c.in_ok-assign-in-Unit.ensures.width
+
+pub returns-in_ok-assign-in-Unit-clause-forced : goal.returns-in_ok-assign-in-Unit-clause-forced
+returns-in_ok-assign-in-Unit-clause-forced c =
+    let db = map (λ v. v.items) c.args.clauses.now in
+    let d = c.in-Unit.d in
+    let lt : c.args.k < length db = let e : length db ≡ length c.args.clauses.now = length-map c.args.clauses.now (λ v. v.items) in omega (arith, c.requires.k, e) in
+    let unit : IsUnit (valuation c.args.trail.now.values) (clause_at db c.args.k) d = subst (λ (a : Valuation). IsUnit a (clause_at db c.args.k) d) (ap valuation c.values.ensures)
+    (subst (λ (l : List Dim). IsUnit (valuation c.values.result.now) l d) c.given.ensures c.in-Unit.ensures) in
+    forced_push db c.args.trail.now c.assign.new.self c.args.k d _ c.requires.forced lt unit refl c.in_ok-assign-in-Unit.ensures.tracks c.in_ok-assign-in-Unit.ensures.entries
 
 pub returns-in_ok-assign-in-Unit-clause-grown : goal.returns-in_ok-assign-in-Unit-clause-grown
 returns-in_ok-assign-in-Unit-clause-grown c =

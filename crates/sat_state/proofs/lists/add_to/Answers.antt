@@ -1,11 +1,14 @@
-use Rattle.std.proofs.Common.{ap, ◌∙◌, ◌++◌, ◌∷◌, [], sym, subst, ◌<◌, length, ℕ, Vec, Global}
+use Rattle.std.proofs.Common.{◌≡◌, ap, ◌∙◌, ◌++◌, ◌∷◌, [], sym, subst, ◌<◌, length, ℕ, Vec, Global}
+use Rattle.cnf.specs.declared.Dim.{Dim}
 use Rattle.sat_state.specs.declared.watch.Watch.{Watch}
+use Rattle.sat_state.specs.Watch.{code}
 use Rattle.sat_state.proofs.RowSets.{rows_set, row_is, code_below}
 use Rattle.sat_state.proofs.lists.add_to.Goals as goal
 
 pub returns : goal.returns
 returns c =
-    let lt = subst (λ (n : ℕ). n < length c.args.lists.now) (sym c.number.ensures) (code_below c.args.d (length c.args.lists.now) c.requires) in
-    rows_set c.args.lists.now _ _ c.push.new.self _ c.number.ensures
-    (c.in_ok-push.ensures.items ∙ ap (λ (v : Vec Watch Global). v.items ++ c.args.watch ∷ []) (sym c.index-lists-number.is)
-    ∙ ap (λ r. r ++ c.args.watch ∷ []) (row_is c.args.lists.now _ _ c.index-lists-number.result lt c.number.ensures c.index-lists-number.is))
+    let number : c.number_of.result ≡ code c.args.d = c.number_of.ensures ∙ ap (λ (d : Dim). code d) c.dim.ensures.same in
+    let lt = subst (λ (n : ℕ). n < length c.args.lists.now) (sym number) (code_below c.args.d (length c.args.lists.now) c.requires) in
+    rows_set c.args.lists.now _ _ c.push.new.self _ number
+    (c.in_ok-push.ensures.items ∙ ap (λ (v : Vec Watch Global). v.items ++ c.args.watch ∷ []) (sym c.index-lists-number_of.is)
+    ∙ ap (λ r. r ++ c.args.watch ∷ []) (row_is c.args.lists.now _ _ c.index-lists-number_of.result lt number c.index-lists-number_of.is))
