@@ -34,7 +34,7 @@ use Rattle.sv_tree.specs.Nesting.{Depths, IsTooDeep}
 use Rattle.sv_tree.specs.NestingDesign.{source_depths}
 use Rattle.sv_tree.specs.declared.design.Source.{Source}
 use Rattle.svtv_choices.specs.Choices.{bits_of}
-use Rattle.svtv_choices.specs.Rooms.{exceeding, naming, room_faults}
+use Rattle.svtv_choices.specs.Rooms.{exceeding, exceeding_faults, room_faults}
 use Rattle.svtv_table.specs.Binding.{bind_faults}
 use Rattle.svtv_table.specs.Faults.{first_of}
 use Rattle.svtv_table.specs.Fields.{IsRecords}
@@ -169,7 +169,7 @@ none_exceeds before (v ∷ more) h = ap (exceeding_at v before more) (le-ltb 16 
 
 room_stands : (design : Design) (table : Table) (r : Refusal) → HasRoom design table → HasNoRoom design table r → ⊥
 unfolding room_faults
-room_stands design table r h n = none_first (naming table.rows (exceeding 0 (vars_of design table))) r (ap (naming table.rows) (none_exceeds 0 (vars_of design table) (omega (arith, h)))) n
+room_stands design table r h n = none_first (exceeding_faults table.rows (exceeding 0 (vars_of design table))) r (ap (exceeding_faults table.rows) (none_exceeds 0 (vars_of design table) (omega (arith, h)))) n
 
 -- ---- turns
 

@@ -36,6 +36,15 @@ abbrev pub naming : List Row → Option (List ℕ) → List Refusal
 naming rows None = []
 naming rows (Some name) = at_each (row_naming name) 0 rows
 
+-- at the table's start where no cell names it, which no table has whose variables these are
+abbrev pub or_start : List Refusal → List Refusal
+or_start [] = fault 40 1 1 ∷ []
+or_start (refusal ∷ more) = refusal ∷ more
+
+abbrev pub exceeding_faults : List Row → Option (List ℕ) → List Refusal
+exceeding_faults rows None = []
+exceeding_faults rows (Some name) = or_start (naming rows (Some name))
+
 -- E40 at each cell of the first variable that exceeds the most
 unfoldable pub room_faults : List Row → List VarDecl → List Refusal
-room_faults rows vars = naming rows (exceeding 0 vars)
+room_faults rows vars = exceeding_faults rows (exceeding 0 vars)

@@ -3,9 +3,9 @@ ghost use Rattle.std.specs.Prelude.{◌≡◌, ◌≤◌, ◌<◌, ◌+◌, ◌^
 ghost use Rattle.svtv_choices.specs.Choices.{bits_of};
 ghost use Rattle.svtv_choices.specs.Rooms as spec;
 ghost use Rattle.svtv_choices.specs.Rooms.{cell_naming, exceeding, naming, row_naming};
-ghost use Rattle.svtv_table.specs.Faults.{Stops, at_each, first_of};
+ghost use Rattle.svtv_table.specs.Faults.{at_each, first_of};
 
-use sv_outside::{Name, Place, Refusal, TextErr};
+use sv_outside::{Name, Place, Refusal};
 use svtv_table::{Cell, Row, RowKind, Table, VarDecl};
 
 // The number of bits, or the name of the first variable at which they exceed the most.
@@ -75,17 +75,17 @@ fn first_with(rows: &[Row], name: &Name) -> Option<Refusal>
 
 /// The number of bits of the variables of a table, at most 16; or E40 at the first cell of the variable at which the sum of bits, in
 /// the order of variables, exceeds 16.
-pub fn room(table: &Table, vars: &[VarDecl]) -> Result<u32, TextErr>
+pub fn room(table: &Table, vars: &[VarDecl]) -> Result<u32, Refusal>
     ensures bits { IfOk result (λ bits. bits ≡ bits_of vars.now) }
     ensures most { IfOk result (λ bits. bits ≤ 16) }
-    ensures err { IfErr result (Stops (spec.room_faults table.now.rows vars.now)) }
+    ensures err { IfErr result (λ refusal. first_of (spec.room_faults table.now.rows vars.now) ≡ Some refusal) }
 {
     let name = match sum_of(vars) {
         Ok(bits) => return Ok(bits),
         Err(name) => name,
     };
     match first_with(table.rows.as_slice(), name) {
-        Some(refusal) => Err(TextErr::No(refusal)),
-        None => Err(TextErr::Memory),
+        Some(refusal) => Err(refusal),
+        None => Err(refused(1, 1)),
     }
 }

@@ -1,5 +1,5 @@
 -- Files in their turn: those before them are legal.
-use Rattle.std.proofs.Common.{◌≡◌, ℕ, ◌≤◌, List, [], map, Option, Bool, sym, ◌∙◌, ap, subst, inl, inr}
+use Rattle.std.proofs.Common.{◌≡◌, ℕ, ◌≤◌, List, [], map, Option, Some, Bool, sym, ◌∙◌, ap, subst, inl, inr}
 use Rattle.std.specs.List.{All, AllZip, IsDistinct}
 use Rattle.std.specs.Str.{bytes_eq}
 use Rattle.flat_net.specs.declared.flat.Flat.{Flat}
@@ -10,6 +10,7 @@ use Rattle.goal_tree.specs.declared.tree.GoalTree.{GoalTree}
 use Rattle.sv_elab.specs.Elaborated.{IsElaborated}
 use Rattle.sv_meaning.specs.Designs.{Design}
 use Rattle.sv_outside.specs.declared.refusal.TextErr.{TextErr}
+use Rattle.sv_outside.specs.declared.refusal.Refusal.{Refusal}
 use Rattle.sv_outside.specs.declared.refusal.TextErr.TheVariants as e
 use Rattle.sv_outside.specs.declared.text.Signal.{Signal}
 use Rattle.svex_shape.specs.declared.shape.Shape.{Shape}
@@ -106,9 +107,10 @@ module _ (told : Told) (d t : Text) (top : Option Text) (x : Setup) (s : Stands 
   room_stop g e.Memory (Unread file place) h i = absurd i
   room_stop g e.Memory Memory h i = tt
 
-  pub room_turn : (g : Text) (vars : List VarDecl) (error : TextErr) (stop : Stop) → vars ≡ x.bound.vars → faults.Stops (room_faults x.table.rows vars) error → IsOf t error stop
+  pub room_turn : (g : Text) (vars : List VarDecl) (r : Refusal) (stop : Stop) → vars ≡ x.bound.vars → faults.first_of (room_faults x.table.rows vars) ≡ Some r → IsOf t (e.No r) stop
       → Stops (RefusesProof told d t g top) (LeavesProof told d t g top) stop
-  room_turn g vars error stop v h i = room_stop g error stop (subst (λ vs. faults.Stops (room_faults x.table.rows vs) error) (v ∙ vars_are) h) i
+  unfolding faults.Stops
+  room_turn g vars r stop v h i = room_stop g (e.No r) stop (subst (λ vs. faults.first_of (room_faults x.table.rows vs) ≡ Some r) (v ∙ vars_are) h) i
 
   goals_stop : (g : Text) (stop : Stop) → HasRoom s.design x.table → StopsAs g (RefusesGoals told g (vars_of s.design x.table) (samples_in s.design x.table)) stop
       → Stops (RefusesProof told d t g top) (LeavesProof told d t g top) stop

@@ -9,7 +9,7 @@ ghost use Rattle.svtv_files.specs.Stopping.{IfUnread, Stops};
 use crate::goals::load_goals;
 use crate::setup::{Setup, load_setup};
 use std::alloc::Global;
-use sv_outside::{Files, Name};
+use sv_outside::{Files, Name, TextErr};
 use svex_arena::Arena;
 use svtv_choices::room;
 use svtv_files::{Stop, refused};
@@ -41,7 +41,7 @@ pub fn prove<F: Files>(
     } = setup;
     let bits = match room(&rows, bound.vars.as_slice()) {
         Ok(bits) => bits,
-        Err(error) => return Err(refused(table, error)),
+        Err(refusal) => return Err(refused(table, TextErr::No(refusal))),
     };
     let mut arena = Arena::new(alloc);
     let found = match load_goals(

@@ -10,7 +10,7 @@ use Rattle.svtv_commands.proofs.proving.prove.Goals as goal
 pub returns-in-Err-room-clause-stop : goal.returns-in-Err-room-clause-stop
 returns-in-Err-room-clause-stop g c =
     let told = g.F.Files.contents c.args.files.now in
-    room_turn told c.args.design.now c.args.table.now (option_copied c.args.top) c.in-Ok.setup c.in-Ok.ensures.stands c.args.goals.now c.as_slice.result.now c.in-Err-room.error c.refused.result c.as_slice.ensures c.in-Err-room.ensures.err c.refused.ensures
+    room_turn told c.args.design.now c.args.table.now (option_copied c.args.top) c.in-Ok.setup c.in-Ok.ensures.stands c.args.goals.now c.as_slice.result.now c.in-Err-room.refusal c.refused.result c.as_slice.ensures c.in-Err-room.ensures.err c.refused.ensures
 
 pub load_goals-requires-clause-vars : goal.load_goals-requires-clause-vars
 load_goals-requires-clause-vars g c =
