@@ -1,7 +1,9 @@
 -- Files that are read, and why they are not.
-use Rattle.std.proofs.Common.{◌≡◌, ℕ, zero, suc, ◌+◌, ◌^◌, ◌≤◌, ◌<◌, List, [], ◌∷◌, ◌++◌, refl, sym, ◌∙◌, ap, subst, arith, length, take, drop, get_or, Option, Some, None, drop-cons, length-take}
+use Rattle.std.proofs.Common.{◌≡◌, ℕ, zero, suc, ◌+◌, ◌^◌, ◌≤◌, ◌<◌, List, [], ◌∷◌, ◌++◌, refl, sym, ◌∙◌, ap, subst, arith, length, take, drop, get_or, Option, Some, None, drop-cons, length-take, inl, inr}
 use Rattle.std.proofs.lemmas.List.{take-append-drop}
 use Rattle.std.specs.Prelude.{IfSome}
+use Rattle.sv_outside.specs.declared.outside.FileErr.{FileErr}
+use Rattle.sv_outside.specs.declared.outside.FileErr.TheVariants as fault
 use Rattle.sv_outside.specs.declared.refusal.Place.{Place}
 use Rattle.sv_outside.specs.declared.refusal.Refusal.{Refusal}
 use Rattle.sv_token.specs.declared.lexer.Lined.{Lined}
@@ -15,7 +17,7 @@ use Rattle.sv_preproc.specs.Directives.{Contents, State, most_counted}
 use Rattle.sv_preproc.specs.Laws.{Possible}
 use Rattle.sv_preproc.specs.Reached as reached
 use Rattle.sv_preproc.specs.Reached.{Stop, no, unread, IsUnfit}
-use Rattle.sv_preproc.specs.Seen.{Names, NotEntered, NotCut, uncut, many, HasCause}
+use Rattle.sv_preproc.specs.Seen.{Names, IsNotRead, NotEntered, NotIncluded, NotCut, uncut, many, HasCause, IsTakenIn, Enters}
 use Rattle.sv_preproc.proofs.Errors.{caused_as}
 
 pub named : (Why : Stop → List ℕ → Type 0) (e : ItemErr) (place : Place) (file : List ℕ) (p : PreErr) → Names e place file p
@@ -63,3 +65,27 @@ not_entered C s name text at asked held short e h = caused_as (NotCut s name tex
     step : (stop : Stop) (file : List ℕ) → NotCut s name text stop file → NotEntered C s name at asked stop file
     step stop file (uncut r) = (reached.uncut text held r, refl)
     step stop file (many before a after l k) = (reached.many before a after (record { held = held; short = short; cut = l }) k, refl)
+
+-- a file that is not entered is not included
+pub not_included : (C : Contents) (room : ℕ) (s : State) (name other : List ℕ) (at : Place) (asked : List ℕ) (e : PreErr) → 1 ≤ room → name ≡ other → HasCause (NotEntered C s name at asked) e
+    → HasCause (NotIncluded C room s other at asked) e
+not_included C room s name other at asked e r same c =
+    caused_as (NotEntered C s other at asked) (NotIncluded C room s other at asked) e (λ stop file x. inr (r, x)) (subst (λ i. HasCause (NotEntered C s i at asked) e) same c)
+
+-- as many files are included as may be
+pub too_deep : (C : Contents) (room : ℕ) (s : State) (name : List ℕ) (at : Place) (asked : List ℕ) (e : PreErr) → room ≡ 0 → Names (Refused 3) at asked e → HasCause (NotIncluded C room s name at asked) e
+too_deep C room s name at asked e r n = named_as (NotIncluded C room s name at asked) 3 at asked e n (inl (r, refl, refl))
+
+-- why a file's bytes are not answered
+pub not_answered : (told : List ℕ → Option (List ℕ)) (s : State) (name : List ℕ) (at : Place) (asked : List ℕ) (why : FileErr) (here : Place) (e : PreErr) → IsNotRead why at asked here name e
+    → (why ≡ fault.Long → IfSome (told name) (λ text. 2 ^ 24 < length text)) → here ≡ start (length s.files) → HasCause (NotEntered (Possible told) s name at asked) e
+not_answered told s name at asked fault.Failed here e h l p = subst (HasCause (NotEntered (Possible told) s name at asked)) (sym h) (refl, refl)
+not_answered told s name at asked fault.Long here e h l p = named_as (NotEntered (Possible told) s name at asked) 4 here name e h (not_short told s name at asked (l refl) here p)
+not_answered told s name at asked fault.Memory here e h l p = subst (HasCause (NotEntered (Possible told) s name at asked)) (sym h) tt
+
+-- what was cut was read
+pub entered_from : (C : Contents) (before after : State) (name text other : List ℕ) (tokens : List Lined) (end : Place) → C name text → length text ≤ most_bytes → other ≡ text
+    → IsTakenIn before after name other tokens end → Enters C before after name tokens end
+entered_from C before after name text other tokens end held short same h =
+    let t = subst (λ i. IsTakenIn before after name i tokens end) same h in
+    record { text = text; file = record { held = held; short = short; cut = t.cut }; counted = t.counted; ends = t.ends }

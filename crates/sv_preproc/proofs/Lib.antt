@@ -12,3 +12,4 @@ pub mod Ahead
 pub mod Counts
 pub mod Refusals
 pub mod Items
+pub mod Commands

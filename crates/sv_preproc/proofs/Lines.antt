@@ -1,5 +1,5 @@
 -- Steps along a line.
-use Rattle.std.proofs.Common.{◌≡◌, ℕ, suc, ◌+◌, List, [], ◌∷◌, Bool, true, false, refl, sym, ◌∙◌, ap, subst, arith, if◌then◌else◌, length, ◌≤◌, ◌<◌, Option, Some, None}
+use Rattle.std.proofs.Common.{◌≡◌, ℕ, suc, ◌+◌, List, [], ◌∷◌, Bool, true, false, refl, sym, ap, subst, arith, if◌then◌else◌, length, ◌≤◌, Option, Some, None}
 use Rattle.std.specs.Prelude.{◌==◌, ◌&&◌}
 use Rattle.std.proofs.lemmas.Bool.{cond_both}
 use Rattle.sv_preproc.specs.declared.role.Role.{Role}
@@ -105,9 +105,7 @@ by_role live role.Endif a ts = omega arith
 by_role live role.Include a ts = either_way ts live _ _ (include_short a ts) (omega arith)
 by_role live role.Line a ts = line_rest_short a.line ts
 
-pub item_short : (live : Bool) (a : Lined) (from ts rest : List Lined) (i : Item) → from ≡ a ∷ ts → spec.item live from ≡ i → behind_of i ≡ rest → length rest < length from
-item_short live a from ts rest i e f b =
-    let h : length (behind_of i) ≤ length ts = subst (IsShort ts) (ap (spec.item live) (sym e) ∙ f) (by_role live (role_of a.token) a ts) in
-    let k : length rest ≤ length ts = subst (λ r. length r ≤ length ts) b h in
-    let l : length from ≡ suc (length ts) = ap length e in
-    omega (arith, k, l)
+pub item_short : (live : Bool) (a : Lined) (ts rest : List Lined) (i : Item) → spec.item live (a ∷ ts) ≡ i → behind_of i ≡ rest → length rest ≤ length ts
+item_short live a ts rest i f b =
+    let h : length (behind_of i) ≤ length ts = subst (IsShort ts) f (by_role live (role_of a.token) a ts) in
+    subst (λ r. length r ≤ length ts) b h

@@ -1,11 +1,11 @@
 // The front of a file's tokens.
-ghost use Rattle.std.specs.Prelude.{◌≡◌, ◌&&◌, ◌==◌, ℕ, List};
+ghost use Rattle.std.specs.Prelude.{◌≡◌, ◌&&◌, ◌==◌, ◌∷◌};
 ghost use Rattle.sv_preproc.specs.Directives as spec;
 ghost use Rattle.sv_preproc.specs.Roles as roles;
 ghost use Rattle.sv_preproc.specs.Seen.{shown};
 
 use crate::line::line_rest;
-use crate::role::{Role, role_of};
+use crate::role::{Role, may_name, role_of};
 use sv_outside::{Kind, Place, Token};
 use sv_token::Lined;
 
@@ -41,33 +41,6 @@ fn is_quoted(token: &Token) -> bool
         Kind::Quoted => true,
         _ => false,
     }
-}
-
-// Whether a macro may have the name, which no directive has.
-#[tactic(auto, unfolding(crate::specs::Roles::command))]
-fn may_name(name: &[u8]) -> bool
-    ensures { result ≡ roles.may_name name.now }
-{
-    if name == b"define".as_slice()
-        || name == b"undef".as_slice()
-        || name == b"ifdef".as_slice()
-        || name == b"ifndef".as_slice()
-        || name == b"elsif".as_slice()
-        || name == b"else".as_slice()
-        || name == b"endif".as_slice()
-    {
-        return false;
-    }
-    if name == b"include".as_slice() || name == b"timescale".as_slice() {
-        return false;
-    }
-    if name == b"default_nettype".as_slice() || name == b"resetall".as_slice() {
-        return false;
-    }
-    if name == b"celldefine".as_slice() || name == b"endcelldefine".as_slice() {
-        return false;
-    }
-    true
 }
 
 // Whether the word names the macro that the `define` defines.
@@ -141,12 +114,9 @@ fn include_item<'a>(directive: &'a Lined, after: &'a [Lined]) -> Item<'a>
 }
 
 /// The item at the front, in a branch that counts or in one that is skipped.
-pub fn item_at<'a>(live: bool, tokens: &'a [Lined]) -> Item<'a>
-    ensures { shown result ≡ spec.item live tokens.now }
+pub fn item_at<'a>(live: bool, first: &'a Lined, after: &'a [Lined]) -> Item<'a>
+    ensures { shown result ≡ spec.item live (first.now ∷ after.now) }
 {
-    let Some((first, after)) = tokens.split_first() else {
-        return Item::Ended;
-    };
     match role_of(&first.token) {
         Role::Kept if live => Item::Kept(&first.token, after),
         Role::Used if live => Item::Used(&first.token, after),

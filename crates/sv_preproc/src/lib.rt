@@ -10,6 +10,7 @@ mod line;
 mod macros;
 mod reading;
 mod role;
+mod stepping;
 
 pub use error::PreErr;
 pub use known::{Frame, Known};

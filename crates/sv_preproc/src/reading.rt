@@ -1,39 +1,21 @@
 // Reads files with their directives.
-ghost use Rattle.std.specs.Prelude.{◌≡◌, ◌≤◌, ◌<◌, ◌+◌, ◌++◌, ◌∷◌, [], ℕ, List, length, IfOk, OnOk, IfErr, Some};
-ghost use Rattle.sv_outside.specs.Outside.{AtMostOneMore, Rose};
+ghost use Rattle.std.specs.Prelude.{◌≡◌, ◌≤◌, ◌<◌, ◌+◌, [], ℕ, List, length, IfOk, OnOk, IfErr};
+ghost use Rattle.sv_outside.specs.Outside.{counted};
 ghost use Rattle.sv_token.specs.Cut as cut;
 ghost use Rattle.sv_preproc.specs.Directives as spec;
 ghost use Rattle.sv_preproc.specs.Laws.{Possible};
 ghost use Rattle.sv_preproc.specs.Reached as reached;
 ghost use Rattle.sv_preproc.specs.Roles as roles;
-ghost use Rattle.sv_preproc.specs.Seen.{seen, Names, NotEntered, NotCut, Enters, Reads, HasCause, IfReadFault};
+ghost use Rattle.sv_preproc.specs.Seen.{seen, Names, IsNotRead, NotEntered, NotIncluded, NotCut, IsTakenIn, Enters, Reads, HasCause, is_read_fault};
+ghost use Rattle.sv_preproc.specs.declared.error.ItemErr.TheVariants.{Refused};
 
-use crate::branch::{begin, turn};
 use crate::error::{ItemErr, PreErr};
-use crate::item::{Item, item_at};
 use crate::known::{Frame, Known};
-use crate::line::{copy_at, line_rest, line_text};
-use crate::macros::{MOST_COUNTED, expand_use};
-use std::alloc::{AllocError, Global};
-use sv_outside::{FileErr, Files, Name, Place, Refusal, TextErr, Token};
+use crate::macros::MOST_COUNTED;
+use crate::stepping::{Step, read_item, refusal};
+use std::alloc::Global;
+use sv_outside::{FileErr, Files, Name, Place, TextErr, Token};
 use sv_token::{Lined, end_of, lex_lines};
-
-// The refusal of an item, at a place of the file.
-fn refusal(error: ItemErr, place: Place, file: &Name) -> PreErr
-    ensures { Names error place file.now result }
-{
-    match (error, file.copy()) {
-        (ItemErr::Refused(number), Ok(name)) => {
-            let refusal = Refusal {
-                number,
-                place,
-                count: 0,
-            };
-            PreErr::No(refusal, name)
-        }
-        _ => PreErr::Memory,
-    }
-}
 
 /// Where a file begins.
 pub fn start_of(file: usize) -> Place
@@ -46,8 +28,19 @@ pub fn start_of(file: usize) -> Place
     }
 }
 
-// Reads a file's bytes for the directive at a place of another file, by one read.
-#[tactic(auto, using(sv_outside::proofs::Counts::read_rose, sv_outside::proofs::Counts::read_once, sv_outside::proofs::Counts::read_kept))]
+// Why a file's bytes are not answered: it was not read for the directive at a place of another file, or is too long.
+fn not_read(why: FileErr, at: Place, asked: Name, start: Place, name: &Name) -> PreErr
+    ensures { IsNotRead why at asked start name.now result }
+{
+    match why {
+        FileErr::Failed => PreErr::Read(at, asked),
+        FileErr::Long => refusal(ItemErr::Refused(4), start, name),
+        FileErr::Memory => PreErr::Memory,
+    }
+}
+
+// Reads a file's bytes for the directive at a place of another file, by one read. The name for a read fault is
+// copied first, so that no want of memory hides one.
 fn bytes_of<F: Files>(
     alloc: Global,
     files: &mut F,
@@ -59,23 +52,15 @@ fn bytes_of<F: Files>(
     ensures read { IfOk result (λ text. Possible (F.contents files.old) name.now text.items) }
     ensures short { IfOk result (λ text. length text.items ≤ cut.most_bytes) }
     ensures caused { IfErr result (HasCause (NotEntered (Possible (F.contents files.old)) (seen known.now) name.now at asked.now)) }
-    ensures fault { IfErr result (IfReadFault (Rose (F.faults files.old) (F.faults files.new))) }
     ensures kept { OnOk result (F.faults files.new ≡ F.faults files.old) }
-    ensures once { AtMostOneMore (F.faults files.old) (F.faults files.new) }
+    ensures counts { IfErr result (λ e. F.faults files.new ≡ counted (is_read_fault e) (F.faults files.old)) }
     ensures unchanged { (other : List ℕ) → F.contents files.new other ≡ F.contents files.old other }
     ensures counts_up { F.faults files.old ≤ F.faults files.new }
 {
+    let file = asked.copy()?;
     match files.read(alloc, name) {
         Ok(text) => Ok(text),
-        Err(FileErr::Failed) => {
-            let file = asked.copy()?;
-            Err(PreErr::Read(at, file))
-        }
-        Err(FileErr::Long) => {
-            let start = start_of(known.files.len());
-            Err(refusal(ItemErr::Refused(4), start, name))
-        }
-        Err(FileErr::Memory) => Err(PreErr::Memory),
+        Err(why) => Err(not_read(why, at, file, start_of(known.files.len()), name)),
     }
 }
 
@@ -102,10 +87,33 @@ fn cut_file(alloc: Global, known: &Known, name: &Name, text: &[u8]) -> Result<Ve
 }
 
 /// A file that is read: its tokens, and where it ends.
-#[derive(Drop)]
 pub struct Entered {
     pub lines: Vec<Lined>,
     pub end: Place,
+}
+
+// Its vector is dropped by one call at each exit.
+impl Drop for Entered {
+    fn drop(self) {
+        let Entered { lines: _, end: _ } = self;
+    }
+}
+
+// Cuts a file's text as the next file, and counts its tokens.
+fn take_in(alloc: Global, known: &mut Known, name: &Name, text: &[u8]) -> Result<Entered, PreErr>
+    requires { (known.old.counted ≤ spec.most_counted) × (length text.now ≤ cut.most_bytes) }
+    ensures taken { IfOk result (λ v. IsTakenIn (seen known.old) (seen known.new) name.now text.now v.lines.items v.end) }
+    ensures within { OnOk result (known.new.counted ≤ spec.most_counted) }
+    ensures caused { IfErr result (HasCause (NotCut (seen known.old) name.now text.now)) }
+{
+    let file = name.copy()?;
+    let entered = Entered {
+        lines: cut_file(alloc, known, name, text)?,
+        end: end_of(known.files.len(), text),
+    };
+    known.files.push(file)?;
+    known.counted += entered.lines.len();
+    Ok(entered)
 }
 
 /// Reads a file for the directive at a place of another file, and counts its tokens.
@@ -121,20 +129,13 @@ pub fn enter<F: Files>(
     ensures enters { IfOk result (λ v. Enters (Possible (F.contents files.old)) (seen known.old) (seen known.new) name.now v.lines.items v.end) }
     ensures within { OnOk result (known.new.counted ≤ spec.most_counted) }
     ensures caused { IfErr result (HasCause (NotEntered (Possible (F.contents files.old)) (seen known.old) name.now at asked.now)) }
-    ensures fault { IfErr result (IfReadFault (Rose (F.faults files.old) (F.faults files.new))) }
+    ensures kept { OnOk result (F.faults files.new ≡ F.faults files.old) }
+    ensures counts { IfErr result (λ e. F.faults files.new ≡ counted (is_read_fault e) (F.faults files.old)) }
     ensures unchanged { (other : List ℕ) → F.contents files.new other ≡ F.contents files.old other }
     ensures counts_up { F.faults files.old ≤ F.faults files.new }
 {
     let text = bytes_of(alloc, files, known, name, at, asked)?;
-    let lines = match cut_file(alloc, known, name, &text) {
-        Ok(lines) => lines,
-        Err(error) => return Err(error),
-    };
-    let end = end_of(known.files.len(), &text);
-    let file = name.copy()?;
-    known.files.push(file)?;
-    known.counted += lines.len();
-    Ok(Entered { lines, end })
+    take_in(alloc, known, name, &text)
 }
 
 #[tactic(auto, using(crate::proofs::Files::without_last_of, crate::proofs::Files::without_none))]
@@ -150,20 +151,56 @@ fn between_quotes(text: &[u8]) -> &[u8]
     }
 }
 
-// Defines a macro, whose text is the rest of the line, and tells what stands behind it.
-fn define<'a>(
+// A file that is included, with its name.
+struct Included {
+    name: Name,
+    file: Entered,
+}
+
+impl Drop for Included {
+    fn drop(self) {
+        let Included { name: _, file: _ } = self;
+    }
+}
+
+// Reads the file that a directive of another file includes, where so many includes may still nest.
+fn include<F: Files>(
     alloc: Global,
+    files: &mut F,
+    room: usize,
     known: &mut Known,
-    name: &Token,
-    line: usize,
-    behind: &'a [Lined],
-) -> Result<&'a [Lined], AllocError>
-    ensures defined { OnOk result (seen known.new ≡ spec.with_definition (seen known.old) name.now.text (Some (roles.line_text line behind.now))) }
-    ensures rest { IfOk result (λ rest. rest.now ≡ roles.line_rest line behind.now) }
+    directive: &Token,
+    path: &Token,
+    asked: &Name,
+) -> Result<Included, PreErr>
+    requires { known.old.counted ≤ spec.most_counted }
+    ensures allowed { IfOk result (λ _. 1 ≤ room) }
+    ensures named { IfOk result (λ v. v.name ≡ roles.between_quotes path.now.text) }
+    ensures enters { IfOk result (λ v. Enters (Possible (F.contents files.old)) (seen known.old) (seen known.new) v.name v.file.lines.items v.file.end) }
+    ensures within { OnOk result (known.new.counted ≤ spec.most_counted) }
+    ensures caused { IfErr result (HasCause (NotIncluded (Possible (F.contents files.old)) room (seen known.old) (roles.between_quotes path.now.text) directive.now.place asked.now)) }
+    ensures kept { OnOk result (F.faults files.new ≡ F.faults files.old) }
+    ensures counts { IfErr result (λ e. F.faults files.new ≡ counted (is_read_fault e) (F.faults files.old)) }
+    ensures unchanged { (other : List ℕ) → F.contents files.new other ≡ F.contents files.old other }
+    ensures counts_up { F.faults files.old ≤ F.faults files.new }
 {
-    let text = line_text(alloc, line, behind)?;
-    known.macros.define(name.text.bytes(), text)?;
-    Ok(line_rest(line, behind))
+    if room == 0 {
+        return Err(refusal(ItemErr::Refused(3), directive.place, asked));
+    }
+    let name = Name::new(alloc, between_quotes(path.text.bytes()))?;
+    let file = enter(alloc, files, known, &name, directive.place, asked)?;
+    Ok(Included { name, file })
+}
+
+// A file with an open conditional is refused at its end.
+fn closed(frames: &[Frame], end: Place, file: &Name) -> Result<(), PreErr>
+    ensures closed { OnOk result (frames.now ≡ []) }
+    ensures refused { IfErr result (λ e. (0 < length frames.now) × Names (Refused 5) end file.now e) }
+{
+    if !frames.is_empty() {
+        return Err(refusal(ItemErr::Refused(5), end, file));
+    }
+    Ok(())
 }
 
 /// Writes what the tokens of a file stand for, with so many includes left that may nest.
@@ -181,7 +218,8 @@ pub fn read_all<F: Files>(
     ensures reads { OnOk result (Reads (Possible (F.contents files.old)) room (seen known.old) lines.now out.old.items out.new.items (seen known.new)) }
     ensures within { OnOk result (known.new.counted ≤ spec.most_counted) }
     ensures caused { IfErr result (HasCause (reached.Stops (Possible (F.contents files.old)) room (seen known.old) lines.now end file.now)) }
-    ensures fault { IfErr result (IfReadFault (Rose (F.faults files.old) (F.faults files.new))) }
+    ensures kept { OnOk result (F.faults files.new ≡ F.faults files.old) }
+    ensures counts { IfErr result (λ e. F.faults files.new ≡ counted (is_read_fault e) (F.faults files.old)) }
     ensures unchanged { (other : List ℕ) → F.contents files.new other ≡ F.contents files.old other }
     ensures counts_up { F.faults files.old ≤ F.faults files.new }
 {
@@ -189,65 +227,26 @@ pub fn read_all<F: Files>(
     let mut frames: Vec<Frame> = Vec::new(alloc);
     let mut rest = lines;
     'items: while let Some((first, after)) = rest.split_first() {
-        match item_at(live, rest) {
-            Item::Kept(token, behind) => {
-                out.push(copy_at(token, token.place)?)?;
+        match read_item(alloc, known, &mut frames, live, first, after, out, file)? {
+            Step::Behind(inside, behind) => {
+                live = inside;
                 rest = behind;
             }
-            Item::Passed(behind) => {
-                rest = behind;
-            }
-            Item::Used(token, behind) => {
-                known.counted = match expand_use(&known.macros, token, out, known.counted) {
-                    Ok(total) => total,
-                    Err(error) => return Err(refusal(error, token.place, file)),
-                };
-                rest = behind;
-            }
-            Item::Defined(name, line, behind) => {
-                rest = define(alloc, known, name, line, behind)?;
-            }
-            Item::Forgotten(name, behind) => {
-                known.macros.forget(name.text.bytes());
-                rest = behind;
-            }
-            Item::Included(directive, path, behind) => {
-                if room == 0 {
-                    return Err(refusal(ItemErr::Refused(3), directive.place, file));
-                }
-                let name = Name::new(alloc, between_quotes(path.text.bytes()))?;
-                let inner = enter(alloc, files, known, &name, directive.place, file)?;
+            Step::Include(directive, path, behind) => {
+                let inner = include(alloc, files, room, known, directive, path, file)?;
                 read_all(
                     alloc,
                     files,
                     room - 1,
-                    &name,
-                    &inner.lines,
-                    inner.end,
+                    &inner.name,
+                    &inner.file.lines,
+                    inner.file.end,
                     known,
                     out,
                 )?;
                 rest = behind;
             }
-            Item::Opened(wanted, name, behind) => {
-                live = begin(&known.macros, &mut frames, live, wanted, name.text.bytes())?;
-                rest = behind;
-            }
-            Item::Broken(number, place) => {
-                return Err(refusal(ItemErr::Refused(number), place, file));
-            }
-            Item::Ended => {
-                let (inside, behind) = match turn(&known.macros, &mut frames, first, after) {
-                    Ok(next) => next,
-                    Err(error) => return Err(refusal(error, first.token.place, file)),
-                };
-                live = inside;
-                rest = behind;
-            }
         }
     }
-    if !frames.is_empty() {
-        return Err(refusal(ItemErr::Refused(5), end, file));
-    }
-    Ok(())
+    closed(&frames, end, file)
 }

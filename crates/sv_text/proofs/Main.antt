@@ -1,7 +1,9 @@
 -- The main file.
 use Rattle.std.proofs.Common.{◌≡◌, ℕ, List, [], refl, sym, ◌∙◌, ap, subst, Result, Ok, Err, Option}
 use Rattle.std.specs.Result.{IfOk, IfErr, IsErr}
+use Rattle.sv_outside.specs.Outside.{Rose, counted}
 use Rattle.sv_outside.specs.Text.{TokenList}
+use Rattle.sv_outside.proofs.Counts.{rose}
 use Rattle.sv_outside.specs.declared.refusal.Refusal.{Refusal}
 use Rattle.sv_outside.specs.declared.refusal.Place.{Place}
 use Rattle.sv_token.specs.declared.lexer.Lined.{Lined}
@@ -12,7 +14,7 @@ use Rattle.sv_preproc.specs.Directives.{Contents, State, Macros, IsWholeText, no
 use Rattle.sv_preproc.specs.Laws.{Possible, Told}
 use Rattle.sv_preproc.specs.Reached as reached
 use Rattle.sv_preproc.specs.Reached.{Stop, no, unread, Stops, StopsIn}
-use Rattle.sv_preproc.specs.Seen.{NotEntered, Enters, HasCause, GivesOnly}
+use Rattle.sv_preproc.specs.Seen.{NotEntered, Enters, HasCause, GivesOnly, IfReadFault, is_read_fault}
 use Rattle.sv_preproc.proofs.Errors.{caused_as}
 use Rattle.sv_preproc.proofs.Refusals.{none_stops}
 use Rattle.sv_preproc.proofs.Unique.{one_list, possible_told, told_possible}
@@ -28,6 +30,13 @@ pub refused_somehow : (told : List ℕ → Option (List ℕ)) (main : List ℕ) 
     → (refusal : Refusal) (file : List ℕ) → StopsIn (Told told) main (no refusal) file → IsErr result
 refused_somehow told main (Ok t) h refusal file s = absurd (none_stops (told_possible told) s refusal refl t h.last h.whole h.within)
 refused_somehow told main (Err e) h refusal file s = refl
+
+-- the count has risen, or stands at its end, where one more is counted
+pub rose_where_read : {A : Type 0} (result : Result A PreErr) (before now : ℕ) → IfErr result (λ e. now ≡ counted (is_read_fault e) before) → IfErr result (IfReadFault (Rose before now))
+rose_where_read (Ok v) before now h = tt
+rose_where_read (Err (No refusal file)) before now h = tt
+rose_where_read (Err (Read place file)) before now h = rose before now h
+rose_where_read (Err Memory) before now h = tt
 
 -- nothing is known yet
 pub first_state : (macros : Macros) (files : List (List ℕ)) → macros ≡ no_macros → files ≡ [] → record { macros = macros; files = files; counted = 0 } ≡ at_first

@@ -1,12 +1,12 @@
 // Reads the main file.
-ghost use Rattle.std.specs.Prelude.{◌≡◌, ◌≤◌, ℕ, List, IfOk, IfErr, IsErr};
-ghost use Rattle.sv_outside.specs.Outside.{Rose};
+ghost use Rattle.std.specs.Prelude.{◌≡◌, ◌≤◌, ℕ, List, IfOk, OnOk, IfErr, IsErr};
+ghost use Rattle.sv_outside.specs.Outside.{Rose, counted};
 ghost use Rattle.sv_outside.specs.Text.{TokenList};
 ghost use Rattle.sv_outside.specs.declared.refusal.Refusal.{Refusal};
 ghost use Rattle.sv_preproc.specs.Directives as spec;
 ghost use Rattle.sv_preproc.specs.Laws.{Possible, Told};
 ghost use Rattle.sv_preproc.specs.Reached as reached;
-ghost use Rattle.sv_preproc.specs.Seen.{HasCause, IfReadFault, GivesOnly};
+ghost use Rattle.sv_preproc.specs.Seen.{HasCause, IfReadFault, GivesOnly, is_read_fault};
 
 use std::alloc::Global;
 use sv_outside::{Files, Name, Tokens};
@@ -19,7 +19,8 @@ const DEEPEST_INCLUDE: usize = 16;
 fn read_main<F: Files>(alloc: Global, files: &mut F, main: &Name) -> Result<Tokens, PreErr>
     ensures text { IfOk result (λ tokens. spec.IsWholeText (Possible (F.contents files.old)) main.now tokens) }
     ensures caused { IfErr result (HasCause (reached.StopsIn (Possible (F.contents files.old)) main.now)) }
-    ensures fault { IfErr result (IfReadFault (Rose (F.faults files.old) (F.faults files.new))) }
+    ensures kept { OnOk result (F.faults files.new ≡ F.faults files.old) }
+    ensures counts { IfErr result (λ e. F.faults files.new ≡ counted (is_read_fault e) (F.faults files.old)) }
     ensures unchanged { (other : List ℕ) → F.contents files.new other ≡ F.contents files.old other }
     ensures counts_up { F.faults files.old ≤ F.faults files.new }
 {
@@ -55,7 +56,7 @@ fn read_main<F: Files>(alloc: Global, files: &mut F, main: &Name) -> Result<Toke
 /// tokens counted, each token of a file once and each token of a macro's text once for every use; E5, a conditional that is not
 /// balanced; E6, a name that is not defined, or a directive's name in a macro's text; E7, uses nested over 64; E25, a macro with arguments.
 /// `Read` has the place of the directive that asked for the file; of the main file that is its own line 1 and column 1.
-#[tactic(auto, using(crate::proofs::Main::only_this, crate::proofs::Main::refused_somehow))]
+#[tactic(auto, using(crate::proofs::Main::only_this, crate::proofs::Main::refused_somehow, crate::proofs::Main::rose_where_read))]
 pub fn preprocess<F: Files>(alloc: Global, files: &mut F, main: &Name) -> Result<Tokens, PreErr>
     // The answer is the list that the text stands for, and there is no other.
     ensures text { IfOk result (λ tokens. spec.IsWholeText (Possible (F.contents files.old)) main.now tokens) }
@@ -65,6 +66,10 @@ pub fn preprocess<F: Files>(alloc: Global, files: &mut F, main: &Name) -> Result
     ensures caused { IfErr result (HasCause (reached.StopsIn (Possible (F.contents files.old)) main.now)) }
     ensures faulty { (refusal : Refusal) (file : List ℕ) → reached.StopsIn (Told (F.contents files.old)) main.now (reached.no refusal) file → IsErr result }
     ensures fault { IfErr result (IfReadFault (Rose (F.faults files.old) (F.faults files.new))) }
+
+    // Reading ends at its first failed read: one more is counted where a read fault is answered, and else none.
+    ensures kept { OnOk result (F.faults files.new ≡ F.faults files.old) }
+    ensures counts { IfErr result (λ e. F.faults files.new ≡ counted (is_read_fault e) (F.faults files.old)) }
 
     // The files change by their reads alone.
     ensures unchanged { (other : List ℕ) → F.contents files.new other ≡ F.contents files.old other }

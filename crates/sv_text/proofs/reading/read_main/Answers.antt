@@ -1,8 +1,8 @@
-use Rattle.std.proofs.Common.{subst}
+use Rattle.std.proofs.Common.{subst, ◌∙◌}
 use Rattle.sv_preproc.specs.Laws.{Possible}
 use Rattle.sv_preproc.specs.Reached.{Stops}
 use Rattle.sv_preproc.specs.Seen.{seen, texts, HasCause}
-use Rattle.sv_preproc.proofs.Errors.{handed_on}
+use Rattle.sv_preproc.proofs.Errors.{handed_on, counts_on}
 use Rattle.sv_text.proofs.Main.{first_state, main_unentered, main_stopped}
 use Rattle.sv_preproc.proofs.Items.{told_as}
 use Rattle.sv_text.proofs.reading.read_main.Goals as goal
@@ -22,3 +22,14 @@ returns-in_err-read_all-clause-caused g c =
     (subst (λ i. HasCause (Stops (Possible i) 16 (seen c.enter.new.known) c.deref.result.now c.in_ok-file.file.end c.args.main.now) c.in_err-read_all.field-0.0) same c.in_err-read_all.ensures.caused) in
     handed_on c.from_residual-in_err-read_all.result c.in_err-read_all.field-0.0 _ c.from_residual-in_err-read_all.ensures.1
     (main_stopped (Possible started) _ (seen c.enter.new.known) c.args.main.now c.in_ok-file.file.lines.items c.in_ok-file.file.end c.in_err-read_all.field-0.0 first c.in_ok-file.ensures.enters cause)
+
+pub returns-in_err-file-clause-counts : goal.returns-in_err-file-clause-counts
+returns-in_err-file-clause-counts g c = handed_on c.from_residual.result c.in_err-file.field-0.0 _ c.from_residual.ensures.1 c.in_err-file.ensures.counts
+
+pub returns-in_err-read_all-clause-counts : goal.returns-in_err-read_all-clause-counts
+returns-in_err-read_all-clause-counts g c =
+    handed_on c.from_residual-in_err-read_all.result c.in_err-read_all.field-0.0 _ c.from_residual-in_err-read_all.ensures.1
+    (counts_on c.in_err-read_all.field-0.0 _ _ _ c.in_ok-file.ensures.kept c.in_err-read_all.ensures.counts)
+
+pub returns-clause-kept : goal.returns-clause-kept
+returns-clause-kept g c = c.in_ok-read_all.ensures.kept ∙ c.in_ok-file.ensures.kept
