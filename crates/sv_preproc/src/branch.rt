@@ -1,4 +1,6 @@
-// The branches of conditionals.
+// The branches of conditionals (IEEE 1800-2017, 22.6). The conditionals that are open stand in a list of frames, the
+// innermost last. Each function changes the list by one frame, and tells whether the branch that begins counts. So one
+// loop reads branches that count and branches that are skipped, and no conditional takes a part of the stack.
 ghost use Rattle.std.specs.Prelude.{◌≡◌, ◌⊎◌, ◌&&◌, ◌||◌, ◌++◌, ◌∷◌, [], ℕ, List, not, reverse, true, IfOk, OnOk, IfErr};
 ghost use Rattle.sv_preproc.specs.Directives as spec;
 ghost use Rattle.sv_preproc.specs.Reached as reached;

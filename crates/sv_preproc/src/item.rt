@@ -1,4 +1,5 @@
-// The front of a file's tokens.
+// The front of a file's tokens: which item stands there, told from its first tokens and from whether the branch counts.
+// Nothing is done about it here, so that each function is one definition by cases, with no state in its contract.
 ghost use Rattle.std.specs.Prelude.{◌≡◌, ◌&&◌, ◌==◌, ◌∷◌};
 ghost use Rattle.sv_preproc.specs.Directives as spec;
 ghost use Rattle.sv_preproc.specs.Roles as roles;

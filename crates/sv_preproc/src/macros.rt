@@ -1,4 +1,7 @@
-// Macros, and the tokens that their texts stand for.
+// Macros, and the tokens that their texts stand for (IEEE 1800-2017, 22.5.1). The text of each name's latest definition
+// stands in a hash map. Macros are only found, set and forgotten by name, and never listed, so no order of names is kept
+// beside it. A use is expanded at its place, and each token of a macro's text is counted, so that texts which double at
+// each name end at a bound.
 ghost use Rattle.std.specs.Prelude.{◌≡◌, ◌≤◌, ◌<◌, ◌+◌, ◌++◌, ◌∷◌, [], ℕ, List, length, take, drop, IfOk, OnOk, IfErr, Option, Some, None, option_map};
 ghost use Rattle.std.specs.Map.{update};
 ghost use Rattle.std.specs.Str.{bytes_eq};

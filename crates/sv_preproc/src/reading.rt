@@ -1,4 +1,7 @@
-// Reads files with their directives.
+// Reads files with their directives. A file is read by one call of the files, cut and counted before its tokens are
+// looked at, and what it includes is read in the same way, by one more call of `read_all` with one include less that may
+// nest. All else that an item does stands in `stepping`, outside of that cycle, since each exit of a function in a cycle
+// is dear to prove. Reading ends at the first failed read, so each call says exactly how many have failed.
 ghost use Rattle.std.specs.Prelude.{◌≡◌, ◌≤◌, ◌<◌, ◌+◌, [], ℕ, List, length, IfOk, OnOk, IfErr};
 ghost use Rattle.sv_outside.specs.Outside.{counted};
 ghost use Rattle.sv_token.specs.Cut as cut;

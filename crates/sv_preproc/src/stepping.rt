@@ -1,4 +1,6 @@
-// One item of a file is read, but for an include, whose file is read first.
+// One item at the front of what is left of a file is read, but for an include, which is only told: its file is read
+// first, by `reading`. Nothing here reads files or holds anything that is owned, so that no exit has a value to drop, and
+// what an item does is told as a step between two places, which the loop of `read_all` puts one behind the other.
 ghost use Rattle.std.specs.Prelude.{◌≡◌, ◌≤◌, ◌∷◌, ℕ, List, Option, Some, length, reverse, IfOk, OnOk, IfErr};
 ghost use Rattle.sv_outside.specs.declared.refusal.Place.{Place};
 ghost use Rattle.sv_preproc.specs.Directives as spec;
