@@ -1,5 +1,5 @@
 -- How the search ends.
-use Rattle.std.proofs.Common.{◌≡◌, ℕ, zero, suc, ◌<◌, ◌≤◌, ◌+◌, Bool, false, List, [], ◌∷◌, ◌++◌, length, get_or, map, take, Option, Some, None, sym, refl, ap, ◌∙◌, arith, subst, ⊎_elim, length-append, Vec, Global}
+use Rattle.std.proofs.Common.{◌≡◌, ℕ, zero, suc, ◌<◌, ◌≤◌, ◌+◌, Bool, false, List, [], ◌∷◌, ◌++◌, length, get_or, map, take, Option, Some, None, sym, refl, ap, ◌∙◌, arith, subst, ⊎_elim, length-append}
 use Rattle.std.specs.Prelude.{unwrap_or, IfSome, IsSomeAnd, IsTrue}
 use Rattle.std.specs.List.{All}
 use Rattle.std.proofs.lemmas.List.{take-append-le, get_or_append_left, length-map}
@@ -7,18 +7,13 @@ use Rattle.std.proofs.lemmas.List.Elements.{Contains-get_or}
 use Rattle.std.proofs.lemmas.Bool.{cases_lt, false≢true}
 use Rattle.std.proofs.Math.Seq.{get_or-append_seam}
 use Rattle.cnf.specs.declared.Dim.{Dim}
-use Rattle.cnf.specs.Formula.{Formula, formula_of}
+use Rattle.cnf.specs.Formula.{Formula}
 use Rattle.cnf.specs.Clauses.{ClauseHolds, Solves, IsConflict, AllBelow, valuation}
 use Rattle.refute_check.specs.Entry.{Entry, no_entry}
 use Rattle.refute_check.specs.Accepted.{IsDerived, IsAccepted, known, known_of, entry_at}
-use Rattle.refute_check.proofs.Derivations.{known_below}
 use Rattle.refute_check.proofs.Refutes.{holds_or_not}
-use Rattle.sat_state.specs.Trail.{IsQuiet, all_of}
+use Rattle.sat_state.specs.Trail.{IsQuiet}
 use Rattle.refute_check.specs.Fresh.{IsNew, IsFresh}
-
--- every clause names variables in range
-pub all_below : (vars : ℕ) (clauses : List (List Dim)) (log : List Entry) → AllBelow vars clauses → IsFresh (formula_of vars clauses) log (length log) → AllBelow vars (all_of clauses log)
-all_below vars clauses log h fresh = known_below vars vars clauses log (length log) (omega arith) (omega arith) h (λ j lt. (fresh.each j lt).derived)
 
 known_front : (formula : Formula) (log : List Entry) (s : Entry) (k : ℕ) → k ≤ length log → known formula (log ++ s ∷ []) k ≡ known formula log k
 known_front formula log s k le = ap (λ l. formula.clauses ++ map (λ (t : Entry). t.clause) l) (take-append-le k log (s ∷ []) le)

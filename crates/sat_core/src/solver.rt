@@ -75,7 +75,6 @@ fn learn_all(
     notes: &mut Notes,
     first: Option<usize>,
 ) -> Result<Stop, AllocError>
-    requires clauses { AllBelow (length trail.old.values) store.old }
     requires budget { IfSome budget (λ n. 0 < n) }
     requires seen { length seen.old ≡ length trail.old.values }
     requires steps { steps.old.items ≡ [] }

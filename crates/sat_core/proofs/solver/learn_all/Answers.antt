@@ -1,4 +1,4 @@
-use Rattle.std.proofs.Common.{rules, ◌≡◌, ◌<◌, ◌+◌, ℕ, length, List, map, sym, ◌∙◌, refl, subst, ap, arith, [], ◌∷◌, ◌++◌, length-append, Option, None}
+use Rattle.std.proofs.Common.{rules, ◌≡◌, ◌<◌, ◌+◌, ℕ, length, List, map, sym, ◌∙◌, refl, subst, ap, arith, [], ◌∷◌, ◌++◌, length-append, Option}
 use Rattle.std.specs.Prelude.{IfSome, IfNone}
 use Rattle.std.proofs.lemmas.Option.{MatchOption-at_none}
 use Rattle.cnf.specs.Formula.{formula_of}
@@ -6,19 +6,15 @@ use Rattle.cnf.specs.Clauses.{AllBelow, valuation}
 use Rattle.refute_check.specs.Entry.{Entry}
 use Rattle.refute_check.specs.Accepted.{IsAccepted, IsDerived}
 use Rattle.refute_check.specs.Fresh.{IsFresh, IsNew}
-use Rattle.sat_state.specs.declared.watch.Pair.{Pair}
-use Rattle.sat_state.specs.declared.watch.Watch.{Watch}
 use Rattle.sat_state.specs.Trail.{IsQuiet, all_of}
 use Rattle.sat_state.specs.Watch.{rows}
-use Rattle.sat_search.specs.Found.{IsFound}
-use Rattle.sat_search.specs.Start.{IsStarted}
 use Rattle.sat_search.specs.Lesson.{IsReady, IsHalfway, IsLast}
 use Rattle.std.proofs.lemmas.List.{append-nil}
 use Rattle.cnf.specs.declared.Dim.{Dim}
 use Rattle.sat_search.proofs.Learned.{known_push}
-use Rattle.sat_core.proofs.Ends.{all_below, fresh_push, accepted_push, sat_end, spent, within_more}
+use Rattle.sat_search.proofs.Kept.{ready_here}
+use Rattle.sat_core.proofs.Ends.{fresh_push, accepted_push, sat_end, spent, within_more}
 use Rattle.sat_search.proofs.Restarts.{restarted}
-use Rattle.sat_search.proofs.Starts.{started_none, started_all}
 use Rattle.std.proofs.lemmas.Result.{IfOk-from_err}
 use Rattle.sat_core.proofs.solver.learn_all.Goals as goal
 
@@ -29,7 +25,6 @@ conflicts-init c =
     let none : [] ≡ c.args.steps.now.items = sym c.requires.steps in
     let fresh : IsFresh (formula_of vars db) [] 0 = record { count = refl; each = λ k lt. absurd (omega (arith, lt)) } in
     record {
-      width = refl;
       store = sym (append-nil db) ∙ ap (all_of db) none;
       ready = c.requires.ready;
       state = c.requires.found;
@@ -37,38 +32,26 @@ conflicts-init c =
       within = subst (λ (t : List Entry). IfSome c.args.budget (λ n. length t < n)) none c.requires.budget;
     }
 
-pub conflict_of-requires-clause-width : goal.conflict_of-requires-clause-width
-conflict_of-requires-clause-width c =
-    let vars = length c.args.trail.now.values in
-    subst (λ (db : List (List Dim)). AllBelow (length c.conflicts.trail.values) db) (sym c.conflicts.invariant.store)
-    (subst (λ (n : ℕ). AllBelow n (all_of c.args.store.now c.conflicts.steps.items)) (sym c.conflicts.invariant.width)
-    (all_below vars c.args.store.now c.conflicts.steps.items c.requires.clauses c.conflicts.invariant.fresh))
+pub conflict_of-requires-clause-ready : goal.conflict_of-requires-clause-ready
+conflict_of-requires-clause-ready c = ready_here (length c.args.trail.now.values) c.conflicts.store c.conflicts.pairs.items (rows c.conflicts.lists) c.conflicts.trail c.conflicts.invariant.ready
 
 pub returns-in-None : goal.returns-in-None
 returns-in-None c =
     let cl = c.args.store.now in
     let values = c.conflict_of.new.trail.values in
-    let wide : length values ≡ length c.args.trail.now.values = c.in_ok-conflict_of.ensures.ready.width ∙ c.conflicts.invariant.width in
-    let below : AllBelow (length values) cl = subst (λ (m : ℕ). AllBelow m cl) (sym wide) c.requires.clauses in
+    let wide : length values ≡ length c.args.trail.now.values = c.in_ok-conflict_of.ensures.ready.width ∙ c.conflicts.invariant.ready.width in
+    let below : AllBelow (length values) cl = subst (λ (m : ℕ). AllBelow m cl) (sym wide) c.requires.ready.below in
     let quiet = MatchOption-at_none _ _ c.in-None.is c.in_ok-conflict_of.ensures.found in
     let quieted : IsQuiet (all_of c.args.store.now c.conflicts.steps.items) (valuation values) = subst (λ (db : List (List Dim)). IsQuiet db (valuation values)) c.conflicts.invariant.store quiet.0 in
     let done = sat_end values cl c.conflicts.steps.items c.in_ok-solution-in-None.field-0.items quieted quiet.1 below (c.in_ok-solution-in-None.ensures ∙ ap (map _) c.values.ensures) in
     (done.0 ∙ wide, done.1)
-
-pub learn-requires-clause-width : goal.learn-requires-clause-width
-learn-requires-clause-width c =
-    let vars = length c.args.trail.now.values in
-    let wide : length c.conflict_of.new.trail.values ≡ vars = c.in_ok-conflict_of.ensures.ready.width ∙ c.conflicts.invariant.width in
-    subst (λ (db : List (List Dim)). AllBelow (length c.conflict_of.new.trail.values) db) (sym c.conflicts.invariant.store)
-    (subst (λ (n : ℕ). AllBelow n (all_of c.args.store.now c.conflicts.steps.items)) (sym wide)
-    (all_below vars c.args.store.now c.conflicts.steps.items c.requires.clauses c.conflicts.invariant.fresh))
 
 pub returns-in-None-2 : goal.returns-in-None-2
 returns-in-None-2 c =
     let vars = length c.args.trail.now.values in
     let cl = c.args.store.now in
     let formula = formula_of vars cl in
-    let wide : length c.conflict_of.new.trail.values ≡ vars = c.in_ok-conflict_of.ensures.ready.width ∙ c.conflicts.invariant.width in
+    let wide : length c.conflict_of.new.trail.values ≡ vars = c.in_ok-conflict_of.ensures.ready.width ∙ c.conflicts.invariant.ready.width in
     let log = c.conflicts.steps.items in
     let end : (s : Entry) × (c.learn.new.steps.items ≡ log ++ s ∷ []) × IsLast (length c.conflict_of.new.trail.values) c.conflicts.store s =
     subst (λ (o : Option ℕ). IfNone o ((s : Entry) × (c.learn.new.steps.items ≡ log ++ s ∷ []) × IsLast (length c.conflict_of.new.trail.values) c.conflicts.store s)) c.in-None-2.is c.in_ok-learn-in-Some.ensures.refuted in
@@ -81,7 +64,7 @@ returns-then-is_spent c =
     let cl = c.args.store.now in
     let formula = formula_of vars cl in
     let log = c.conflicts.steps.items in
-    let wide : length c.conflict_of.new.trail.values ≡ vars = c.in_ok-conflict_of.ensures.ready.width ∙ c.conflicts.invariant.width in
+    let wide : length c.conflict_of.new.trail.values ≡ vars = c.in_ok-conflict_of.ensures.ready.width ∙ c.conflicts.invariant.ready.width in
     let taught : (s : Entry) × (c.learn.new.steps.items ≡ log ++ s ∷ []) × (c.learn.new.store ≡ c.conflicts.store ++ s.clause ∷ []) × IsNew (length c.conflict_of.new.trail.values) c.conflicts.store s =
     subst (λ (o : Option ℕ). IfSome o (λ _. (s : Entry) × (c.learn.new.steps.items ≡ log ++ s ∷ []) × (c.learn.new.store ≡ c.conflicts.store ++ s.clause ∷ []) × IsNew (length c.conflict_of.new.trail.values) c.conflicts.store s)) c.in-Some-2.is c.in_ok-learn-in-Some.ensures.learned in
     let new : IsNew vars (all_of c.args.store.now log) taught.0 = subst (λ (db : List (List Dim)). IsNew vars db taught.0) c.conflicts.invariant.store (subst (λ (m : ℕ). IsNew m c.conflicts.store taught.0) wide taught.3) in
@@ -96,7 +79,7 @@ conflicts-preserved c =
     let cl = c.args.store.now in
     let formula = formula_of vars cl in
     let log = c.conflicts.steps.items in
-    let wide : length c.conflict_of.new.trail.values ≡ vars = c.in_ok-conflict_of.ensures.ready.width ∙ c.conflicts.invariant.width in
+    let wide : length c.conflict_of.new.trail.values ≡ vars = c.in_ok-conflict_of.ensures.ready.width ∙ c.conflicts.invariant.ready.width in
     let taught : (s : Entry) × (c.learn.new.steps.items ≡ log ++ s ∷ []) × (c.learn.new.store ≡ c.conflicts.store ++ s.clause ∷ []) × IsNew (length c.conflict_of.new.trail.values) c.conflicts.store s =
     subst (λ (o : Option ℕ). IfSome o (λ _. (s : Entry) × (c.learn.new.steps.items ≡ log ++ s ∷ []) × (c.learn.new.store ≡ c.conflicts.store ++ s.clause ∷ []) × IsNew (length c.conflict_of.new.trail.values) c.conflicts.store s)) c.in-Some-2.is c.in_ok-learn-in-Some.ensures.learned in
     let new : IsNew vars (all_of c.args.store.now log) taught.0 = subst (λ (db : List (List Dim)). IsNew vars db taught.0) c.conflicts.invariant.store (subst (λ (m : ℕ). IsNew m c.conflicts.store taught.0) wide taught.3) in
@@ -112,7 +95,6 @@ conflicts-preserved c =
     let anew = restarted vars c.learn.new.store c.learn.new.pairs.items (rows c.learn.new.lists) c.learn.new.trail c.restart-from.new.trail c.in-Some-2.next c.restart-from.result ready half
     c.restart-from.ensures.tracks c.restart-from.ensures.width c.restart-from.ensures.back in
     record {
-      width = anew.0.width;
       store = taught.2 ∙ ap (λ (db : List (List Dim)). db ++ taught.0.clause ∷ []) c.conflicts.invariant.store ∙ sym (known_push cl log taught.0) ∙ ap (all_of c.args.store.now) (sym taught.1);
       ready = anew.0;
       state = anew.1;

@@ -12,7 +12,6 @@ use Rattle.sat_core.proofs.solver.learn_all.Given as goal
 
 abbrev pub invariant-conflicts : goal.invariant-conflicts
 invariant-conflicts l = let vars = length l.fn.trail.values in record {
-  width : length l.trail.values ≡ vars;
   store : l.store ≡ all_of l.fn.store l.steps.items;
   ready : IsReady vars l.store l.pairs.items (rows l.lists) l.trail;
   state : IsFound l.store (valuation l.trail.values) l.found (IsHalfway l.store l.pairs.items l.trail l.from);

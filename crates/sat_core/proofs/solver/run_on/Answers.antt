@@ -1,7 +1,7 @@
 use Rattle.std.proofs.Common.{◌≡◌, ℕ, length, List, map, sym, ◌∙◌, subst, None}
 use Rattle.cnf.specs.declared.Dim.{Dim}
 use Rattle.cnf.specs.Formula.{formula_of}
-use Rattle.cnf.specs.Clauses.{AllBelow, valuation}
+use Rattle.cnf.specs.Clauses.{valuation}
 use Rattle.sat_state.specs.declared.watch.Pair.{Pair}
 use Rattle.sat_state.specs.declared.watch.Watch.{Watch}
 use Rattle.sat_state.specs.Watch.{rows}
@@ -22,11 +22,10 @@ start-requires-clause-started c =
 pub learn_all-requires : goal.learn_all-requires
 learn_all-requires c =
     let vars = length c.args.trail.now.values in
-    let both = started_all vars c.args.clauses.now c.start.new.pairs.items (rows c.start.new.lists) c.start.new.trail c.in_ok-found.found c.in_ok-found.ensures.started in
+    let both = started_all vars c.args.clauses.now c.start.new.pairs.items (rows c.start.new.lists) c.start.new.trail c.in_ok-found.found c.requires.clauses c.in_ok-found.ensures.started in
     let stored = sym c.requires.store in
     let wide : length c.start.new.trail.values ≡ vars = both.0.width in
     record {
-      clauses = subst (λ (db : List (List Dim)). AllBelow (length c.start.new.trail.values) db) stored (subst (λ (n : ℕ). AllBelow n (map (λ v. v.items) c.args.clauses.now)) (sym wide) c.requires.clauses);
       budget = c.requires.budget;
       seen = c.requires.seen ∙ sym wide;
       steps = c.new-steps.ensures.items;
@@ -39,7 +38,7 @@ pub returns : goal.returns
 returns c =
     let vars = length c.args.trail.now.values in
     let cl = map (λ v. v.items) c.args.clauses.now in
-    let both = started_all vars c.args.clauses.now c.start.new.pairs.items (rows c.start.new.lists) c.start.new.trail c.in_ok-found.found c.in_ok-found.ensures.started in
+    let both = started_all vars c.args.clauses.now c.start.new.pairs.items (rows c.start.new.lists) c.start.new.trail c.in_ok-found.found c.requires.clauses c.in_ok-found.ensures.started in
     c.ended.ensures (formula_of vars cl) c.args.budget
     (subst (λ (n : ℕ). IsRightStop (formula_of n cl) c.args.budget c.learn_all.new.steps.items c.in_ok-stop.stop) both.0.width
     (subst (λ (db : List (List Dim)). IsRightStop (formula_of (length c.start.new.trail.values) db) c.args.budget c.learn_all.new.steps.items c.in_ok-stop.stop) c.requires.store c.in_ok-stop.ensures))
