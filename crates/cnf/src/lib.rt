@@ -15,7 +15,8 @@ use std::marker::Model;
 use std::ops::Not;
 pub use walk::{ClauseState, state_of};
 
-/// A literal of clauses: a variable, or its negation.
+/// A literal of clauses: a variable, or its negation. Clauses, logs and their judge have it in this form, with variables up to
+/// 2^64. The solver packs it into 8 bytes where it holds many (`PackedDim` of sat_state), and contracts see a `Dim` there too.
 #[derive(Clone, Copy, Debug, PartialEq, Eq, PartialOrd, Ord, Hash)]
 pub struct Dim {
     pub var: usize,
