@@ -30,7 +30,7 @@ use Rattle.event_nets.specs.Tables.{home_of}
 
 -- ---- joins
 
-links-append : (a b : List Join) → links_of (a ++ b) ≡ links_of a ++ links_of b
+pub links-append : (a b : List Join) → links_of (a ++ b) ≡ links_of a ++ links_of b
 unfolding links_of
 links-append [] b = refl
 links-append (j ∷ a) b =

@@ -2,9 +2,11 @@ pub mod Reading
 pub mod Homes
 pub mod Giving
 pub mod Laying
+mod Joining
 pub mod NetPlaces
 pub mod FlatNets
 pub mod Making
 pub mod Gathering
+pub mod Walking
 pub mod Needed
 mod Rows

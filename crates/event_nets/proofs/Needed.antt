@@ -1,9 +1,9 @@
 -- What the nets of a flat design need.
-use Rattle.std.proofs.Common.{◌≡◌, ℕ, suc, ◌<◌, ◌≤◌, Bool, true, false, cond, List, [], ◌∷◌, ◌++◌, length, get_or, map, sym, ap, ◌∙◌, subst, inl, inr, arith}
+use Rattle.std.proofs.Common.{ℕ, suc, ◌<◌, Bool, true, false, cond, List, [], ◌∷◌, length, get_or, map, sym, subst, inl, inr, arith}
 use Rattle.std.specs.Prelude.{All, Option, None, Some, IfSome}
 use Rattle.std.proofs.lemmas.Bool.{cases_lt}
 use Rattle.std.proofs.lemmas.List.{get_or-map, get_or_past, length-map}
-use Rattle.std.proofs.lemmas.List.Elements.{All-head, All-tail, All-nil, All-cons, All-append}
+use Rattle.std.proofs.lemmas.List.Elements.{All-head, All-tail, All-nil, All-cons, All-append, All-filter}
 use Rattle.sv_outside.specs.declared.text.Signal.{Signal}
 use Rattle.lhs_alias.specs.declared.segs.WireBit.{WireBit}
 use Rattle.lhs_alias.specs.Segs.{bit, lhs_bits}
@@ -19,9 +19,11 @@ use Rattle.event_nets.specs.declared.gift.Gift.{Gift}
 use Rattle.event_nets.specs.declared.gift.Source.{Source}
 use Rattle.event_nets.specs.declared.gift.Source.TheVariants.{Value, Stimulus}
 use Rattle.event_nets.specs.Gifts.{gifts_at, gifts_to, driver_gifts, stimulus_gifts}
-use Rattle.event_nets.specs.Needs.{IsRoot, node_of}
+use Rattle.event_nets.specs.declared.tables.Tables.{Tables}
+use Rattle.event_nets.specs.Needs.{IsRoot, node_of, gift_rows}
+use Rattle.event_nets.specs.Runs.{is_at}
 use Rattle.event_nets.specs.Nets.{is_net_bit, run_of, low_of}
-use Rattle.event_nets.specs.Tables.{home_of, lows_of, gifts_of}
+use Rattle.event_nets.specs.Tables.{AreTables, home_of, lows_of, gifts_of}
 use Rattle.event_nets.proofs.FlatNets.{run-inside}
 
 -- the lowest bit of a net has a place in the row
@@ -68,3 +70,9 @@ roots-below flat ok =
     let home = home_of (links_of flat.joins) (widths_of flat.wires) in
     All-append (IsRoot (length flat.arena)) (driver_gifts home flat.drivers) (stimulus_gifts home 0 flat.wires)
     (drivers-root (widths_of flat.wires) flat.arena home flat.drivers ok.drivers) (stimuli-root (length flat.arena) home 0 flat.wires)
+
+pub net-roots : (flat : Flat) (tables : Tables) → IsFlat flat → AreTables flat tables → (low : ℕ) → low < length (all_bits (widths_of flat.wires)) → All (IsRoot (length flat.arena)) (get_or (gift_rows tables.given.items) low [])
+net-roots flat tables ok are low lt =
+    let P : Gift → Type 0 = IsRoot (length flat.arena) in
+    subst (λ (l : List Gift). All P l) (sym (are.given low lt))
+    (All-filter (λ g. is_at (get_or tables.lows.items g.to None) low) P tables.gifts.items (subst (λ (l : List Gift). All P l) (sym are.gifts) (roots-below flat ok)))

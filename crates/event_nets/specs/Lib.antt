@@ -2,4 +2,5 @@ pub mod Gifts
 pub mod Nets
 pub mod Runs
 pub mod Needs
+pub mod Walks
 pub mod Tables

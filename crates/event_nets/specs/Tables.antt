@@ -12,7 +12,7 @@ use Rattle.event_nets.specs.declared.gift.Gift.{Gift}
 use Rattle.event_nets.specs.declared.tables.Tables.{Tables}
 use Rattle.event_nets.specs.Gifts.{driver_gifts, stimulus_gifts}
 use Rattle.event_nets.specs.Nets.{nets_of, low_of}
-use Rattle.event_nets.specs.Needs.{IsNeeded, gift_rows, node_rows, given_to}
+use Rattle.event_nets.specs.Needs.{gift_rows, given_to}
 
 -- ---- valuations
 
@@ -52,6 +52,4 @@ pub record AreTables (flat : Flat) (tables : Tables) : Type 0 where
   pub lows : tables.lows.items ≡ lows_of flat
   pub nets : tables.nets.items ≡ map (place_of (widths_of flat.wires)) (nets_of flat)
   pub given_each : length tables.given.items ≡ length (all_bits (widths_of flat.wires))
-  pub needs_each : length tables.needs.items ≡ length (all_bits (widths_of flat.wires))
   pub given : (low : ℕ) → low < length (all_bits (widths_of flat.wires)) → slice_index_or (gift_rows tables.given.items) low [] ≡ given_to tables.lows.items tables.gifts.items low
-  pub needs : (low : ℕ) → low < length (all_bits (widths_of flat.wires)) → IsNeeded flat.arena (slice_index_or (gift_rows tables.given.items) low []) (slice_index_or (node_rows tables.needs.items) low [])

@@ -3,6 +3,7 @@
 ghost use Rattle.std.specs.Prelude.{◌≡◌, ℕ, ◌+◌, ◌<◌, ◌≤◌, ◌^◌, List, [], ◌∷◌, ◌++◌, length, map, All, IfOk, OnOk, if◌then◌else◌};
 ghost use Rattle.lhs_alias.specs.Segs.{seg_bits, lhs_bits, AreSegs, IsSeg};
 ghost use Rattle.lhs_alias.specs.Lies.{LieIn};
+ghost use Rattle.lhs_alias.specs.Pairs.{HaveOwnChildren};
 ghost use Rattle.lhs_alias.specs.Joined.{Stands, HasPlace, place_in, all_bits, starts_of, widths_of as joined_widths};
 ghost use Rattle.settling.specs.Settling.{Link};
 ghost use Rattle.driver_resolve.specs.Drivers.{widths_of, wire_bits};
@@ -34,15 +35,13 @@ pub fn wire_widths(alloc: Global, wires: &[Signal]) -> Result<Vec<u8>, AllocErro
 pub fn join_all(alloc: Global, widths: &[u8], joins: &[Join]) -> Result<Joins, AllocError>
     requires widths { All (λ width. (1 ≤ width) × (width ≤ 128)) widths.now }
     requires joins { All (IsJoin widths.now) joins.now }
+    requires own_children { HaveOwnChildren (links_of joins.now) }
     ensures widths { IfOk result (λ made. joined_widths made ≡ widths.now) }
     ensures stands { IfOk result (λ made. Stands made (links_of joins.now)) }
 {
     let mut made = Joins::new(alloc, widths)?;
     for join in joins {
-        match made.join(&join.child, &join.parent) {
-            Ok(()) => {}
-            Err(_) => return Err(AllocError),
-        }
+        made.join(&join.child, &join.parent).unwrap();
     }
     Ok(made)
 }

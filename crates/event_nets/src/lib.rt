@@ -9,3 +9,4 @@ mod needs;
 pub mod nets;
 pub mod tables;
 pub mod values;
+pub mod walk;

@@ -8,7 +8,7 @@ ghost use Rattle.event_nets.specs.Tables.{AreTables, IsValuation, gifts_of, home
 
 use crate::gift::Gift;
 use crate::lay::{all_homes, give_drivers, give_inputs, join_all, lay};
-use crate::needs::{all_needed, given_by_net};
+use crate::needs::given_by_net;
 use crate::nets::{all_lows, driven_places, net_places};
 use crate::tables::Tables;
 use crate::values::unknown;
@@ -78,7 +78,6 @@ fn tables_over(
     let lows = lows_of(alloc, flat, widths, &homes, &gifts)?;
     let nets = net_places(alloc, &lows)?;
     let given = given_by_net(alloc, &lows, &gifts)?;
-    let needs = all_needed(alloc, &flat.arena, &given)?;
     Ok(Tables {
         starts,
         homes,
@@ -86,7 +85,6 @@ fn tables_over(
         nets,
         gifts,
         given,
-        needs,
     })
 }
 

@@ -1,7 +1,7 @@
 //! What is kept of a flat design.
 
 ghost use Rattle.std.specs.Prelude.{◌≡◌, ◌<◌, [], length, slice_index_or};
-ghost use Rattle.event_nets.specs.Needs.{gift_rows, node_rows};
+ghost use Rattle.event_nets.specs.Needs.{gift_rows};
 
 use crate::gift::Gift;
 
@@ -19,8 +19,6 @@ pub struct Tables {
     pub gifts: Vec<Gift>,
     /// What is given to each net, by the place of its lowest bit.
     pub given: Vec<Vec<Gift>>,
-    /// The nodes that this takes, the lowest number first.
-    pub needs: Vec<Vec<usize>>,
 }
 
 impl Drop for Tables {
@@ -32,7 +30,6 @@ impl Drop for Tables {
             nets: _,
             gifts: _,
             given: _,
-            needs: _,
         } = self;
     }
 }
@@ -44,13 +41,5 @@ impl Tables {
         ensures { result.now ≡ slice_index_or (gift_rows self.now.given.items) low [] }
     {
         self.given[low].as_slice()
-    }
-
-    /// The nodes that this takes.
-    pub fn needs_of(&self, low: usize) -> &[usize]
-        requires { low < length self.now.needs.items }
-        ensures { result.now ≡ slice_index_or (node_rows self.now.needs.items) low [] }
-    {
-        self.needs[low].as_slice()
     }
 }

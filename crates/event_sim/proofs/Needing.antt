@@ -1,12 +1,11 @@
 -- One net is told the same where its own nodes alone are evaluated.
 use mathlib.Core.Path.{fun_ext}
-use Rattle.std.proofs.Common.{◌≡◌, ℕ, ◌+◌, ◌<◌, ◌≤◌, Bool, true, false, cond, eqb, List, [], ◌∷◌, length, get_or, set, take, map, refl, sym, ap, ◌∙◌, subst, inl, inr, arith, length-set, zero-add, Vec, Global}
+use Rattle.std.proofs.Common.{◌≡◌, ℕ, ◌+◌, ◌<◌, ◌≤◌, Bool, true, false, cond, eqb, List, [], ◌∷◌, length, get_or, set, take, map, refl, sym, ap, ◌∙◌, subst, inl, inr, arith, zero-add}
 use Rattle.std.specs.Prelude.{All, Option, None, Some, IfSome, filter}
 use Rattle.std.specs.List.{Contains, range_with_len}
-use Rattle.std.specs.List.Sorted.{IsNonDecreasing}
-use Rattle.std.proofs.lemmas.Bool.{cases_eq, cases_lt, eqb-true, eq-eqb}
-use Rattle.std.proofs.lemmas.List.{get_or-set_same, get_or-set_other, get_or-take, get_or_default, get_or_past, length-take-le, length-map}
-use Rattle.std.proofs.lemmas.List.Elements.{All-head, All-tail, All-nil, All-cons, All-filter, All-contains, Contains-append_cases}
+use Rattle.std.proofs.lemmas.Bool.{cases_eq, cases_lt, eqb-true}
+use Rattle.std.proofs.lemmas.List.{get_or-set_same, get_or-set_other, get_or-take, get_or_default, get_or_past, length-take-le}
+use Rattle.std.proofs.lemmas.List.Elements.{All-head, All-tail, All-nil, All-cons, All-contains}
 use Rattle.std.proofs.lemmas.List.FromFn.{get_or-map-range_with_len, length-map-range_with_len}
 use Rattle.fourvec.specs.declared.Bit.{Bit}
 use Rattle.fourvec.specs.declared.Bit.TheVariants.{Unknown}
@@ -22,32 +21,12 @@ use Rattle.event_nets.specs.declared.gift.Gift.{Gift}
 use Rattle.event_nets.specs.declared.gift.Source.{Source}
 use Rattle.event_nets.specs.declared.gift.Source.TheVariants.{Value, Stimulus}
 use Rattle.event_nets.specs.Gifts.{IsGift, IsTold, source_in, gift_bit, given_at, told_of, told_bit}
-use Rattle.event_nets.specs.Needs.{IsInOrder, IsNeeded, HasRoots, node_of, given_to}
+use Rattle.event_nets.specs.Needs.{IsInOrder, HasRoots, node_of, given_to}
 use Rattle.event_nets.specs.Runs.{is_at}
 use Rattle.event_sim.specs.Passes.{HasValues, HasValuesOf}
-use Rattle.event_sim.specs.Rows.{takes, taken, passed_bit, passed_row, Passed}
+use Rattle.event_sim.specs.Rows.{takes, passed_bit, Passed}
 
 -- ---- one node after another gets its value
-
--- a node of the list that is below the one at a place stands before it
-before : (nodes : List ℕ) (i k : ℕ) → IsNonDecreasing nodes → i < length nodes → Contains nodes k → k < get_or nodes i 0 → Contains (take i nodes) k
-before nodes i k rising il h lt =
-    let j = h.0 in
-    let jl : j < length nodes = h.1 in
-    let at : get_or nodes j 0 ≡ k = get_or_default nodes j 0 k jl ∙ h.2 in
-    elim (cases_lt j i) [
-      | inl ji ↦ (j, omega (arith, ji, length-take-le i nodes (omega (arith, il))), get_or-take i nodes j k ji ∙ h.2)
-      | inr ij ↦ absurd (let le : get_or nodes i 0 ≤ get_or nodes j 0 = rising i j 0 ij jl in omega (arith, le, at, lt))
-    ]
-
-children-before : (shapes : List Shape) (nodes : List ℕ) (i : ℕ) → IsArena shapes → IsInOrder shapes nodes → i < length nodes
-    → OnChildren (Contains (take i nodes)) (shape_at shapes (get_or nodes i 0))
-children-before shapes nodes i a o il =
-    let n = get_or nodes i 0 in
-    let s = shape_at shapes n in
-    let within : n < length shapes = o.below i 0 il in
-    map_children (λ k. Contains nodes k × (k < n)) (Contains (take i nodes)) (λ k h. before nodes i k o.rising il h.0 h.1) s
-    (join_children (Contains nodes) (λ k. k < n) s (o.closed n (i, il, get_or_default nodes i n 0 il)) (a.children n within))
 
 pub some-children-below : (shapes : List Shape) (nodes : List ℕ) (i : ℕ) → IsArena shapes → IsInOrder shapes nodes → i < length nodes → ChildrenBelow (length shapes) (shape_at shapes (get_or nodes i 0))
 some-children-below shapes nodes i a o il =
@@ -58,7 +37,7 @@ some-children-below shapes nodes i a o il =
 has-children : (r : Reading) (shapes : List Shape) (done : List Vector) (nodes : List ℕ) (i : ℕ) → IsArena shapes → IsInOrder shapes nodes → i < length nodes → HasValuesOf r shapes done (take i nodes)
     → OnChildren (λ j. value_in done j ≡ value_at r shapes j) (shape_at shapes (get_or nodes i 0))
 has-children r shapes done nodes i a o il e =
-    map_children (Contains (take i nodes)) (λ j. value_in done j ≡ value_at r shapes j) (λ j h. e.is j h) (shape_at shapes (get_or nodes i 0)) (children-before shapes nodes i a o il)
+    map_children (Contains (take i nodes)) (λ j. value_in done j ≡ value_at r shapes j) (λ j h. e.is j h) (shape_at shapes (get_or nodes i 0)) (o.behind i 0 il)
 
 pub some-fits : (r : Reading) (shapes : List Shape) (done : List Vector) (nodes : List ℕ) (i : ℕ) → HasWidths r → IsArena shapes → IsInOrder shapes nodes → i < length nodes → HasValuesOf r shapes done (take i nodes)
     → FitsWidths (width_in done) (shape_at shapes (get_or nodes i 0))

@@ -1,17 +1,15 @@
 -- What a simulation holds beside its flat design.
-use Rattle.std.specs.Prelude.{◌≡◌, ℕ, List, [], length, map, ◌++◌, Option, None, slice_index_or}
-use Rattle.fourvec.specs.declared.Bit.TheVariants.{Unknown}
-use Rattle.lhs_alias.specs.declared.segs.WireBit.{WireBit}
-use Rattle.lhs_alias.specs.Joined.{all_bits, starts_of, place_of}
-use Rattle.settling.specs.Settling.{Store, Link, first_bit}
+use Rattle.std.specs.Prelude.{◌≡◌, ℕ, List, length, Option, None, slice_index_or}
+use Rattle.lhs_alias.specs.Joined.{all_bits}
+use Rattle.settling.specs.Settling.{Store, Link}
 use Rattle.settling.specs.Events.{Net}
 use Rattle.svex_shape.specs.Values.{Vector}
 use Rattle.driver_resolve.specs.Drivers.{widths_of}
 use Rattle.flat_net.specs.declared.flat.Flat.{Flat}
-use Rattle.flat_net.specs.Flats.{links_of}
 use Rattle.event_sim.specs.declared.sim.Sim.{Sim}
 pub use Rattle.event_nets.specs.Tables.{store_of, IsValuation}
 use Rattle.event_nets.specs.Tables.{home_of, AreTables}
+use Rattle.event_nets.specs.Walks.{HasRoom}
 use Rattle.event_sim.specs.Rows.{takes}
 
 -- ---- valuations
@@ -43,6 +41,7 @@ pub record Fits (flat : Flat) (sim : Sim) : Type 0 where
   pub tables : AreTables flat sim.tables
   pub values : length sim.work.values.items ≡ length flat.arena
   pub told : length sim.work.told.items ≡ length (all_bits (widths_of flat.wires))
+  pub room : HasRoom (length flat.arena) sim.work.walk
 
 -- the bits that a pass sets
 abbrev pub picked : List Link → List ℕ → List (Option ℕ) → Option ℕ → Net

@@ -8,22 +8,29 @@ ghost use Rattle.svex_shape.specs.Values.{value_at, read};
 ghost use Rattle.event_nets.specs.Gifts.{IsGift, source_in, gift_bit, told_bit, IsTold};
 ghost use Rattle.event_sim.specs.Rows.{takes, taken, passed_bit, passed_row, Passed};
 ghost use Rattle.event_sim.specs.Passes.{HasValues, HasValuesOf};
-ghost use Rattle.event_nets.specs.Needs.{IsInOrder};
+ghost use Rattle.event_nets.specs.Needs.{IsInOrder, IsNeeded, IsRoot};
+ghost use Rattle.event_nets.specs.Walks.{HasRoom};
 
 use event_nets::gift::{Gift, Source, told_more};
 use event_nets::tables::Tables;
+use event_nets::walk::Walk;
 use fourvec::{Bit, Four};
 use svex_arena::{Arena, Env, Node, shape_value};
 
-/// What a pass computes: a value for each node, and for each first bit what its class is told.
+/// What a pass computes: a value for each node, and for each first bit what its class is told; and room to find the nodes of a net.
 pub struct Work {
     pub values: Vec<Four>,
     pub told: Vec<Option<Bit>>,
+    pub walk: Walk,
 }
 
 impl Drop for Work {
     fn drop(self) {
-        let Work { values: _, told: _ } = self;
+        let Work {
+            values: _,
+            told: _,
+            walk: _,
+        } = self;
     }
 }
 
@@ -35,6 +42,7 @@ impl Work {
         ensures len { length self.new.values.items ≡ length arena.now }
         ensures arena { IsArena arena.now }
         ensures told { self.new.told.items ≡ self.old.told.items }
+        ensures walk { self.new.walk ≡ self.old.walk }
     {
         let _ = arena.len();
         evaluate_all(arena, env, &mut self.values);
@@ -46,21 +54,26 @@ impl Work {
         ensures told { IsTold self.old.values.items env.now.stim tables.now.gifts.items self.new.told.items }
         ensures len { length self.new.told.items ≡ length self.old.told.items }
         ensures values { self.new.values.items ≡ self.old.values.items }
+        ensures walk { self.new.walk ≡ self.old.walk }
     {
         tell_all(&tables.gifts, &self.values, &env.stim, &mut self.told);
     }
 
-    /// Evaluates the nodes that a net takes.
-    pub fn evaluate_net(&mut self, nodes: &[usize], arena: &Arena, env: &Env)
+    /// Finds the nodes that the gifts of a net take, and evaluates these alone.
+    pub fn evaluate_net(&mut self, gifts: &[Gift], arena: &Arena, env: &Env)
         requires len { length self.old.values.items ≡ length arena.now }
-        requires order { IsInOrder arena.now nodes.now }
-        ensures values { HasValuesOf (read env.now) arena.now self.new.values.items nodes.now }
+        requires room { HasRoom (length arena.now) self.old.walk }
+        requires roots { All (IsRoot (length arena.now)) gifts.now }
+        ensures needed { IsNeeded arena.now gifts.now self.new.walk.nodes.items }
+        ensures values { HasValuesOf (read env.now) arena.now self.new.values.items self.new.walk.nodes.items }
         ensures len { length self.new.values.items ≡ length arena.now }
         ensures arena { IsArena arena.now }
         ensures told { self.new.told.items ≡ self.old.told.items }
+        ensures room { HasRoom (length arena.now) self.new.walk }
     {
         let _ = arena.len();
-        evaluate_some(nodes, arena, env, &mut self.values);
+        self.walk.find(arena, gifts);
+        evaluate_some(&self.walk.nodes, arena, env, &mut self.values);
     }
 
     /// Tells the classes of a net what is given to them.
@@ -69,6 +82,7 @@ impl Work {
         ensures told { IsTold self.old.values.items env.now.stim gifts.now self.new.told.items }
         ensures len { length self.new.told.items ≡ length self.old.told.items }
         ensures values { self.new.values.items ≡ self.old.values.items }
+        ensures walk { self.new.walk ≡ self.old.walk }
     {
         tell_all(gifts, &self.values, &env.stim, &mut self.told);
     }

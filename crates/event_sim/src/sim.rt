@@ -20,6 +20,7 @@ use event_nets::make::{env_of, tables_of};
 use event_nets::nets::low_of;
 use event_nets::tables::Tables;
 use event_nets::values::{copy_all, hold};
+use event_nets::walk::Walk;
 use flat_net::{Flat, Valuation};
 use fourvec::Four;
 use std::alloc::{AllocError, Global};
@@ -52,12 +53,14 @@ impl Sim {
         let widths = wire_widths(alloc, flat.wires.as_slice())?;
         let mut told = Vec::new(alloc);
         let tables = tables_of(alloc, flat, &widths, &mut told)?;
-        let values = vec![in alloc; Four::new(1, 1, 0); flat.arena.len()]?;
+        let nodes = flat.arena.len();
+        let values = vec![in alloc; Four::new(1, 1, 0); nodes]?;
+        let walk = Walk::new(alloc, nodes)?;
         let env = env_of(alloc, &widths)?;
         Ok(Sim {
             tables,
             env,
-            work: Work { values, told },
+            work: Work { values, told, walk },
         })
     }
 
@@ -115,9 +118,8 @@ impl Sim {
             ≡ event (links_of flat.now.joins) (given_in flat.now (stim_of self.old) (prev_of self.old))
             (picked (links_of flat.now.joins) (widths_of flat.now.wires) self.old.tables.lows.items (Some low)) (now_of self.old) n k }
     {
-        let nodes = self.tables.needs_of(low);
-        self.work.evaluate_net(nodes, &flat.arena, &self.env);
         let gifts = self.tables.given_to(low);
+        self.work.evaluate_net(gifts, &flat.arena, &self.env);
         self.work.tell_net(gifts, &self.env);
         let _ = self.work.take(&self.tables, Some(low), &mut self.env);
     }

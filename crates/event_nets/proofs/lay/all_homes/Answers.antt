@@ -1,3 +1,4 @@
+use Rattle.std.proofs.lemmas.Result.{IfOk-from_err}
 use Rattle.std.proofs.Common.{◌++◌, get_or, map, take, sym, ap, ◌∙◌, arith}
 use Rattle.std.proofs.lemmas.List.{map-append}
 use Rattle.lhs_alias.specs.Segs.{seg_bits, lhs_bits}
@@ -23,3 +24,9 @@ loop-wire-preserved c = λ links s.
     ∙ ap (λ w. map home front ++ map home (lhs_bits w)) c.in_ok-whole.ensures
     ∙ sym (map-append home front here)
     ∙ ap (λ l. map home l) (sym (all_bits-take_more widths i 0 (omega arith)))
+
+pub returns-in_err-put_homes : goal.returns-in_err-put_homes
+returns-in_err-put_homes c = IfOk-from_err _ _ c.from_residual-in_err-put_homes.ensures.0
+
+pub returns-in_err-whole : goal.returns-in_err-whole
+returns-in_err-whole c = IfOk-from_err _ _ c.from_residual.ensures.0

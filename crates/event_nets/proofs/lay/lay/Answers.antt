@@ -1,3 +1,4 @@
+use Rattle.std.proofs.lemmas.Result.{IfOk-from_err}
 use Rattle.std.proofs.Common.{◌<◌, ◌++◌, ◌∷◌, [], length, get_or, take, sym, ap, ◌∙◌, arith, length-append}
 use Rattle.lhs_alias.specs.Segs.{seg_bits}
 use Rattle.lhs_alias.specs.Joined.{starts_of, starts_from, all_bits, bits_from}
@@ -29,3 +30,9 @@ loop-width-preserved c =
         length-seg_bits (record { wire = i; lo = 0; width = get_or widths i 0 }),
       );
     }
+
+pub returns-in_err-add_wire-clause-starts : goal.returns-in_err-add_wire-clause-starts
+returns-in_err-add_wire-clause-starts c = IfOk-from_err _ _ c.from_residual.ensures.0
+
+pub returns-in_err-add_wire-clause-told : goal.returns-in_err-add_wire-clause-told
+returns-in_err-add_wire-clause-told c = IfOk-from_err _ _ c.from_residual.ensures.0

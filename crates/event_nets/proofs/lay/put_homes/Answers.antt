@@ -1,6 +1,6 @@
 use Rattle.std.proofs.Common.{◌^◌, ◌++◌, List, length, map, refl, sym, ap, ◌∙◌, subst, arith, length-append}
 use Rattle.std.specs.Prelude.{All}
-use Rattle.std.proofs.lemmas.Result.{on_ok_weaker}
+use Rattle.std.proofs.lemmas.Result.{on_ok_weaker, IfOk-from_err}
 use Rattle.std.proofs.lemmas.List.{length-map}
 use Rattle.std.proofs.lemmas.List.Elements.{All-weaker}
 use Rattle.lhs_alias.specs.declared.segs.Seg.{Seg}
@@ -50,3 +50,9 @@ returns-clause-len c =
       length-map (lhs_bits c.args.of.now) (first_of c.args.joins.now),
     ))
     c.put_places.ensures
+
+pub returns-in_err-firsts-clause-homes : goal.returns-in_err-firsts-clause-homes
+returns-in_err-firsts-clause-homes c = IfOk-from_err _ _ c.from_residual.ensures.0
+
+pub returns-in_err-firsts-clause-len : goal.returns-in_err-firsts-clause-len
+returns-in_err-firsts-clause-len c = IfOk-from_err _ _ c.from_residual.ensures.0

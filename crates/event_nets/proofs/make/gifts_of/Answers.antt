@@ -1,3 +1,4 @@
+use Rattle.std.proofs.lemmas.Result.{IfOk-from_err}
 use Rattle.std.proofs.Common.{ℕ, List, sym, subst}
 use Rattle.std.specs.Prelude.{All}
 use Rattle.lhs_alias.specs.Joined.{widths_of as joined_widths}
@@ -21,3 +22,9 @@ returns c =
     gifts-made links (joined_widths c.args.joins.now) (widths_of flat.wires) c.as_slice.result.now flat.drivers c.as_slice-2.result.now flat.wires
     c.new-gifts.result.items c.give_drivers.new.gifts.items c.give_inputs.new.gifts.items
     c.new-gifts.ensures.items (c.in_ok-give_drivers.ensures links c.requires.stands) (c.in_ok-give_inputs.ensures links c.requires.stands) c.requires.joins c.as_slice.ensures c.as_slice-2.ensures
+
+pub returns-in_err-give_drivers : goal.returns-in_err-give_drivers
+returns-in_err-give_drivers c = IfOk-from_err _ _ c.from_residual.ensures.0
+
+pub returns-in_err-give_inputs : goal.returns-in_err-give_inputs
+returns-in_err-give_inputs c = IfOk-from_err _ _ c.from_residual-in_err-give_inputs.ensures.0

@@ -1,19 +1,19 @@
-use Rattle.std.proofs.Common.{◌≡◌, ℕ, ◌<◌, ◌≤◌, List, [], length, get_or, map, sym, ap, ◌∙◌, subst, arith, Vec, Global}
+use Rattle.std.proofs.lemmas.Result.{IfOk-from_err}
+use Rattle.std.proofs.Common.{◌≡◌, ℕ, ◌<◌, ◌≤◌, List, length, get_or, map, sym, ap, ◌∙◌, subst, arith}
 use Rattle.std.specs.Prelude.{All, Option, None, IfSome, filter}
 use Rattle.std.specs.List.{range_with_len}
 use Rattle.std.proofs.lemmas.List.{length-map}
-use Rattle.std.proofs.lemmas.List.Elements.{All-filter}
 use Rattle.lhs_alias.specs.Joined.{all_bits, place_of}
 use Rattle.driver_resolve.specs.Drivers.{widths_of}
 use Rattle.flat_net.specs.Flats.{links_of}
 use Rattle.event_nets.specs.declared.gift.Gift.{Gift}
-use Rattle.event_nets.specs.Needs.{IsNeeded, IsRoot, gift_rows, node_rows, given_to}
+use Rattle.event_nets.specs.Needs.{given_to}
 use Rattle.event_nets.specs.Nets.{low_of}
-use Rattle.event_nets.specs.Runs.{begins, is_at}
+use Rattle.event_nets.specs.Runs.{begins}
 use Rattle.event_nets.specs.Tables.{home_of, gifts_of}
 use Rattle.event_nets.proofs.FlatNets.{nets-are}
 use Rattle.event_nets.proofs.Making.{wires-narrow, all-below}
-use Rattle.event_nets.proofs.Needed.{lows-inside, roots-below}
+use Rattle.event_nets.proofs.Needed.{lows-inside}
 use Rattle.event_nets.proofs.make.tables_over.Goals as goal
 
 pub all_homes-requires-clause-widths : goal.all_homes-requires-clause-widths
@@ -46,15 +46,6 @@ given_by_net-requires-clause-lows c = λ k.
     subst (λ (n : ℕ). IfSome (get_or c.deref-6.result.now k None) (λ low. low < n)) long
     (subst (λ (l : List (Option ℕ)). IfSome (get_or l k None) (λ low. low < length bits)) (sym is) (lows-inside flat k))
 
-pub all_needed-requires : goal.all_needed-requires
-all_needed-requires c = λ k lt.
-    let flat = c.args.flat.now in
-    let roots = subst (λ (l : List Gift). All (IsRoot (length flat.arena)) l) (sym (c.deref-7.ensures.value ∙ c.in_ok-gifts.ensures)) (roots-below flat c.requires.flat) in
-    let low : k < length c.deref-6.result.now = omega (arith, lt, ap (λ l. length l) c.deref-8.ensures.value, c.in_ok-given.ensures.len) in
-    let row : get_or (gift_rows c.deref-8.result.now) k [] ≡ given_to c.deref-6.result.now c.deref-7.result.now k =
-    ap (λ l. get_or (gift_rows l) k []) c.deref-8.ensures.value ∙ c.in_ok-given.ensures.given k low in
-    subst (λ (l : List Gift). All (IsRoot (length flat.arena)) l) (sym row) (All-filter (λ g. is_at (get_or c.deref-6.result.now g.to None) k) (IsRoot (length flat.arena)) c.deref-7.result.now roots)
-
 pub returns : goal.returns
 returns c =
     let flat = c.args.flat.now in
@@ -71,10 +62,22 @@ returns c =
           ∙ ap (λ l. filter (begins l) (range_with_len 0 (length l))) c.deref-5.ensures.value
           ∙ nets-are flat c.in_ok-lows.lows.items c.in_ok-lows.ensures;
       given_each = given_each;
-      needs_each = c.in_ok-needs.ensures.len ∙ ap (λ l. length l) c.deref-8.ensures.value ∙ given_each;
       given = λ low lt. c.in_ok-given.ensures.given low (omega (arith, lt, long))
           ∙ ap (λ l. given_to l c.deref-7.result.now low) c.deref-6.ensures.value
           ∙ ap (λ l. given_to c.in_ok-lows.lows.items l low) c.deref-7.ensures.value;
-      needs = λ low lt. subst (λ (l : List (Vec Gift Global)). IsNeeded flat.arena (get_or (gift_rows l) low []) (get_or (node_rows c.in_ok-needs.needs.items) low [])) c.deref-8.ensures.value
-          (c.in_ok-needs.ensures.needs low (omega (arith, lt, ap (λ l. length l) c.deref-8.ensures.value, given_each)));
     }
+
+pub returns-in_err-gifts : goal.returns-in_err-gifts
+returns-in_err-gifts c = IfOk-from_err _ _ c.from_residual-in_err-gifts.ensures.0
+
+pub returns-in_err-given : goal.returns-in_err-given
+returns-in_err-given c = IfOk-from_err _ _ c.from_residual-in_err-given.ensures.0
+
+pub returns-in_err-homes : goal.returns-in_err-homes
+returns-in_err-homes c = IfOk-from_err _ _ c.from_residual.ensures.0
+
+pub returns-in_err-lows : goal.returns-in_err-lows
+returns-in_err-lows c = IfOk-from_err _ _ c.from_residual-in_err-lows.ensures.0
+
+pub returns-in_err-nets : goal.returns-in_err-nets
+returns-in_err-nets c = IfOk-from_err _ _ c.from_residual-in_err-nets.ensures.0

@@ -1,4 +1,5 @@
-use Rattle.std.proofs.Common.{◌≡◌, ℕ, ◌<◌, List, length, subst, ◌++◌, ◌∷◌, [], cond, get_or, sym, ap, ◌∙◌, Vec, Global}
+use Rattle.std.proofs.lemmas.Result.{IfOk-from_err}
+use Rattle.std.proofs.Common.{ℕ, ◌<◌, List, length, subst, ◌++◌, ◌∷◌, [], cond, get_or, sym, ap, ◌∙◌, Vec, Global}
 use Rattle.std.specs.Prelude.{Option, IfSome}
 use Rattle.std.proofs.lemmas.List.{append-nil, get_or-map}
 use Rattle.event_nets.specs.declared.gift.Gift.{Gift}
@@ -21,3 +22,9 @@ returns-in_ok-push-in-Some-clause-more c = λ k kl.
     let is = c.in_ok-push-in-Some.ensures.items ∙ ap (λ (l : List Gift). l ++ own) (sym (get_or-map (λ (w : Vec Gift Global). w.items) given low c.index-given-low.result [] lt)) in
     gifts_set given low c.push.new.self own lt is k kl
     ∙ ap (λ (o : Option ℕ). get_or (gift_rows given) k [] ++ cond (is_at o k) own []) (sym c.in-Some.is)
+
+pub returns-in_err-push-in-Some-clause-len : goal.returns-in_err-push-in-Some-clause-len
+returns-in_err-push-in-Some-clause-len c = IfOk-from_err _ _ c.from_residual.ensures.0
+
+pub returns-in_err-push-in-Some-clause-more : goal.returns-in_err-push-in-Some-clause-more
+returns-in_err-push-in-Some-clause-more c = IfOk-from_err _ _ c.from_residual.ensures.0

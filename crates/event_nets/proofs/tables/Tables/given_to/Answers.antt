@@ -1,4 +1,4 @@
-use Rattle.std.proofs.Common.{◌<◌, length, ◌∙◌, arith}
+use Rattle.std.proofs.Common.{◌∙◌}
 use Rattle.event_nets.proofs.Gathering.{gift_row}
 use Rattle.event_nets.proofs.tables.Tables.given_to.Goals as goal
 

@@ -1,6 +1,8 @@
 use Rattle.std.proofs.Common.{List, length, sym, ap, ◌∙◌, subst}
 use Rattle.svex_shape.specs.Values.{Vector}
 use Rattle.driver_resolve.specs.Drivers.{widths_of}
+use Rattle.event_nets.specs.declared.walk.Walk.{Walk}
+use Rattle.event_nets.specs.Walks.{HasRoom}
 use Rattle.event_nets.specs.Tables.{IsValuation}
 use Rattle.event_sim.proofs.Fitting.{gifts-fit, rows-fit, starts-fit, homes-fit, lows-fit, pass-now}
 use Rattle.event_sim.proofs.Passing.{passed-widths}
@@ -37,6 +39,7 @@ returns-clause-fits c =
       tables = fits.tables;
       values = ap (λ l. length l) c.tell.ensures.values ∙ c.evaluate.ensures.len;
       told = c.tell.ensures.len ∙ ap (λ l. length l) c.evaluate.ensures.told ∙ fits.told;
+      room = subst (λ (w : Walk). HasRoom (length c.args.flat.now.arena) w) (sym (c.tell.ensures.walk ∙ c.evaluate.ensures.walk)) fits.room;
     }
 
 pub returns-clause-now : goal.returns-clause-now

@@ -1,19 +1,18 @@
-use Rattle.std.proofs.Common.{ℕ, ◌<◌, List, [], length, get_or, sym, ap, ◌∙◌, subst, arith}
-use Rattle.svex_shape.specs.Values.{Vector, read}
+use Rattle.std.proofs.Common.{List, length, sym, ap, ◌∙◌, subst, arith}
+use Rattle.svex_shape.specs.Values.{Vector}
 use Rattle.driver_resolve.specs.Drivers.{widths_of}
 use Rattle.event_nets.specs.declared.gift.Gift.{Gift}
 use Rattle.event_nets.specs.Gifts.{IsTold, IsGift}
-use Rattle.event_nets.specs.Needs.{IsInOrder}
+use Rattle.event_nets.specs.declared.walk.Walk.{Walk}
+use Rattle.event_nets.specs.Needs.{IsRoot, IsNeeded}
+use Rattle.event_nets.specs.Walks.{HasRoom}
 use Rattle.event_nets.specs.Tables.{IsValuation}
 use Rattle.std.specs.Prelude.{All}
-use Rattle.event_sim.specs.Passes.{HasValuesOf}
+use Rattle.event_nets.proofs.Needed.{net-roots}
 use Rattle.event_sim.proofs.Fitting.{rows-fit, starts-fit, homes-fit, lows-fit}
 use Rattle.event_sim.proofs.OneNet.{net-gifts-fit, net-now}
 use Rattle.event_sim.proofs.Passing.{passed-widths}
 use Rattle.event_sim.proofs.sim.Sim.pass_net.Goals as goal
-
-pub needs_of-nodes-requires : goal.needs_of-nodes-requires
-needs_of-nodes-requires c = omega (arith, c.requires.low, c.requires.fits.tables.needs_each)
 
 pub given_to-gifts-requires : goal.given_to-gifts-requires
 given_to-gifts-requires c = omega (arith, c.requires.low, c.requires.fits.tables.given_each)
@@ -21,18 +20,23 @@ given_to-gifts-requires c = omega (arith, c.requires.low, c.requires.fits.tables
 pub evaluate_net-requires-clause-len : goal.evaluate_net-requires-clause-len
 evaluate_net-requires-clause-len c = c.requires.fits.values
 
-pub evaluate_net-requires-clause-order : goal.evaluate_net-requires-clause-order
-evaluate_net-requires-clause-order c =
-    subst (λ (l : List ℕ). IsInOrder c.args.flat.now.arena l) (sym c.needs_of-nodes.ensures) (c.requires.fits.tables.needs c.args.low c.requires.low).order
+pub evaluate_net-requires-clause-room : goal.evaluate_net-requires-clause-room
+evaluate_net-requires-clause-room c = c.requires.fits.room
+
+pub evaluate_net-requires-clause-roots : goal.evaluate_net-requires-clause-roots
+evaluate_net-requires-clause-roots c =
+    let flat = c.args.flat.now in
+    subst (λ (l : List Gift). All (IsRoot (length flat.arena)) l) (sym c.given_to-gifts.ensures) (net-roots flat c.args.self.now.tables c.requires.flat c.requires.fits.tables c.args.low c.requires.low)
 
 pub tell_net-requires : goal.tell_net-requires
 tell_net-requires c =
     let flat = c.args.flat.now in
     let sim = c.args.self.now in
     let values = c.evaluate_net.new.self.values.items in
-    let has = subst (λ (l : List ℕ). HasValuesOf (read sim.env) flat.arena values l) c.needs_of-nodes.ensures c.evaluate_net.ensures.values in
+    let nodes = c.evaluate_net.new.self.walk.nodes.items in
+    let need = subst (λ (l : List Gift). IsNeeded flat.arena l nodes) c.given_to-gifts.ensures c.evaluate_net.ensures.needed in
     subst (λ (l : List Gift). All (IsGift values sim.env.stim (length c.evaluate_net.new.self.told.items)) l) (sym c.given_to-gifts.ensures)
-    (net-gifts-fit flat sim c.evaluate_net.ensures.arena c.requires.flat c.requires.fits c.args.low c.requires.low values has c.evaluate_net.new.self.told.items c.evaluate_net.ensures.told)
+    (net-gifts-fit flat sim c.evaluate_net.ensures.arena c.requires.flat c.requires.fits c.args.low c.requires.low nodes need values c.evaluate_net.ensures.values c.evaluate_net.new.self.told.items c.evaluate_net.ensures.told)
 
 pub take-requires-clause-starts : goal.take-requires-clause-starts
 take-requires-clause-starts c = starts-fit c.args.flat.now c.args.self.now c.requires.fits
@@ -60,6 +64,7 @@ returns-clause-fits c =
       tables = fits.tables;
       values = ap (λ l. length l) c.tell_net.ensures.values ∙ c.evaluate_net.ensures.len;
       told = c.tell_net.ensures.len ∙ ap (λ l. length l) c.evaluate_net.ensures.told ∙ fits.told;
+      room = subst (λ (w : Walk). HasRoom (length c.args.flat.now.arena) w) (sym c.tell_net.ensures.walk) c.evaluate_net.ensures.room;
     }
 
 pub returns-clause-now : goal.returns-clause-now
@@ -67,8 +72,9 @@ returns-clause-now c =
     let flat = c.args.flat.now in
     let sim = c.args.self.now in
     let values = c.evaluate_net.new.self.values.items in
-    let has = subst (λ (l : List ℕ). HasValuesOf (read sim.env) flat.arena values l) c.needs_of-nodes.ensures c.evaluate_net.ensures.values in
-    net-now flat sim c.evaluate_net.ensures.arena c.requires.flat c.requires.fits c.args.low c.requires.low values has
+    let nodes = c.evaluate_net.new.self.walk.nodes.items in
+    let need = subst (λ (l : List Gift). IsNeeded flat.arena l nodes) c.given_to-gifts.ensures c.evaluate_net.ensures.needed in
+    net-now flat sim c.evaluate_net.ensures.arena c.requires.flat c.requires.fits c.args.low c.requires.low nodes need values c.evaluate_net.ensures.values
     c.tell_net.new.self.told.items (c.tell_net.ensures.len ∙ ap (λ l. length l) c.evaluate_net.ensures.told)
     (subst (λ (l : List Gift). IsTold values sim.env.stim l c.tell_net.new.self.told.items) c.given_to-gifts.ensures c.tell_net.ensures.told)
     c.take.new.env.present c.take.ensures.rows

@@ -1,6 +1,6 @@
-use Rattle.std.proofs.Common.{◌≡◌, ℕ, ◌<◌, length, get_or, refl, ◌∙◌, arith, length-set, subst, sym}
-use Rattle.event_nets.proofs.Gathering.{listed_rest, all_off}
-use Rattle.event_nets.proofs.needs.clear.Goals as goal
+use Rattle.std.proofs.Common.{ℕ, ◌<◌, length, get_or, refl, ◌∙◌, arith, length-set, subst, sym}
+use Rattle.event_nets.proofs.Walking.{listed_rest, all_off}
+use Rattle.event_nets.proofs.walk.clear.Goals as goal
 
 pub loop-node-init : goal.loop-node-init
 loop-node-init c = record { len = refl; rest = c.requires.listed }

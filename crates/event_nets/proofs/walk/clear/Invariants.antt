@@ -1,6 +1,6 @@
 use Rattle.std.proofs.Common.{◌≡◌, ℕ, true, false, length, get_or, drop}
 use Rattle.std.specs.List.{Contains}
-use Rattle.event_nets.proofs.needs.clear.Given as goal
+use Rattle.event_nets.proofs.walk.clear.Given as goal
 
 abbrev pub invariant-loop-node : goal.invariant-loop-node
 invariant-loop-node l = record {
