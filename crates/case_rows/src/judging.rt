@@ -1,10 +1,9 @@
 //! Cases are judged one after another, and what differs is told.
 
-use crate::words::{Fault, put, put_number, rows_of, sides, word, words_from};
+use crate::words::{Fault, put, put_number, put_three, rows_of, sides, word, words_from};
 use std::alloc::Global;
 
 /// What was found so far.
-#[derive(Drop)]
 pub struct Report {
     // What is to be printed.
     out: Vec<u8>,
@@ -16,13 +15,30 @@ pub struct Report {
     wrong: u64,
 }
 
-/// What judges the rows of a block: says what came for a question, and answers whether that is what should have come.
+impl Drop for Report {
+    fn drop(self) {
+        let Report {
+            out: _,
+            said: _,
+            case: _,
+            cases: _,
+            wrong: _,
+        } = self;
+    }
+}
+
+/// What judges the rows of a block.
 pub trait Judge {
-    fn row(&mut self, question: &[u8], wanted: &[u8], said: &mut Vec<u8>) -> Result<bool, Fault>;
+    /// Says what comes for a question. The row is right where that is the text that is wanted; what may be written in several ways is said
+    /// as it is wanted.
+    fn row(&mut self, question: &[u8], wanted: &[u8], said: &mut Vec<u8>) -> Result<(), Fault>;
 }
 
 /// What knows the keys of a file: a line `KEY WORDS`, and the lines of the block behind it.
 pub trait Bench {
+    /// What a file begins with.
+    fn new(alloc: Global) -> Self;
+
     fn key(&mut self, line: &[u8], block: &[u8], report: &mut Report) -> Result<(), Fault>;
 }
 
@@ -57,12 +73,8 @@ impl Report {
     // Tells of a row for which something else came.
     fn differs(&mut self, row: &[u8]) -> Result<(), Fault> {
         self.wrong = self.wrong.saturating_add(1);
-        put(&mut self.out, self.case.as_slice())?;
-        put(&mut self.out, b": ")?;
-        put(&mut self.out, row)?;
-        put(&mut self.out, b"\n  is ")?;
-        put(&mut self.out, self.said.as_slice())?;
-        put(&mut self.out, b"\n")
+        put_three(&mut self.out, self.case.as_slice(), b": ", row)?;
+        put_three(&mut self.out, b"\n  is ", self.said.as_slice(), b"\n")
     }
 
     /// Takes in whether what was said of a row is right.
@@ -78,30 +90,52 @@ impl Report {
         }
     }
 
-    // Ends a file.
-    fn end(&mut self, name: &[u8]) -> Result<(), Fault> {
-        put(&mut self.out, name)?;
-        put(&mut self.out, b": ")?;
+    // Takes in what was said of a row, of which that is wanted.
+    fn compare(
+        &mut self,
+        row: &[u8],
+        wanted: &[u8],
+        judged: Result<(), Fault>,
+    ) -> Result<(), Fault> {
+        let right = self.said.as_slice() == wanted;
+        match judged {
+            Ok(()) => self.take(row, Ok(right)),
+            Err(fault) => self.take(row, Err(fault)),
+        }
+    }
+
+    // How many cases are as they should be, or how many rows differ.
+    fn put_count(&mut self) -> Result<(), Fault> {
         if self.wrong == 0 {
             put_number(&mut self.out, self.cases)?;
-            put(&mut self.out, b" cases as they should be\n")?;
+            put(&mut self.out, b" cases as they should be\n")
         } else {
             put_number(&mut self.out, self.wrong)?;
-            put(&mut self.out, b" rows differ\n")?;
+            put(&mut self.out, b" rows differ\n")
         }
+    }
+
+    // Ends a file.
+    fn end(&mut self, name: &[u8]) -> Result<(), Fault> {
+        put_three(&mut self.out, name, b": ", b"")?;
+        self.put_count()?;
         self.cases = 0;
         self.wrong = 0;
         Ok(())
     }
 }
 
+fn judge_row<J: Judge>(judge: &mut J, row: &[u8], report: &mut Report) -> Result<(), Fault> {
+    let (question, wanted) = sides(row);
+    let judged = judge.row(question, wanted, report.said());
+    report.compare(row, wanted, judged)
+}
+
 /// Judges each row of a block.
 pub fn each_row<J: Judge>(judge: &mut J, block: &[u8], report: &mut Report) -> Result<(), Fault> {
     for line in block.split(|c| *c == b'\n') {
         if let Some(row) = rows_of(line) {
-            let (question, wanted) = sides(row);
-            let answer = judge.row(question, wanted, report.said());
-            report.take(row, answer)?;
+            judge_row(judge, row, report)?;
         }
     }
     Ok(())

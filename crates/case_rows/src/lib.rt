@@ -5,15 +5,13 @@
 //! Most rows are `question => answer`. What a key means, the program says that judges by it.
 #![tactic(auto)]
 
-mod expressions;
 mod judging;
-mod vectors;
+mod programs;
 mod words;
 
-pub use expressions::built;
-pub use judging::{Bench, Judge, Report, each_row, judge_text};
-pub use vectors::{digits, put_digits, put_vectors};
+pub use judging::{Bench, Judge, Report, each_row};
+pub use programs::judge_files;
 pub use words::{
-    Fault, named, number, part, put, put_number, rows_of, sides, signed, size, small, trimmed,
-    word, words_from,
+    Fault, first_named, named, number, part, put, put_number, put_size, put_three, rows_of, sides,
+    signed, size, size_at, small, small_at, trimmed, word, words_from,
 };

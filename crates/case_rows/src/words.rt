@@ -146,10 +146,42 @@ pub fn named<T: Copy>(table: &[(&[u8], T)], name: &[u8]) -> Option<T> {
     None
 }
 
+/// What the first word of a text stands for in a table of names, where it must be one of them.
+pub fn first_named<T: Copy>(table: &[(&[u8], T)], text: &[u8]) -> Result<T, Fault> {
+    named(table, word(text, 0)).ok_or(Fault::Form)
+}
+
+/// The number that the word at a place is, where there must be one.
+pub fn size_at(text: &[u8], at: usize) -> Result<usize, Fault> {
+    size(word(text, at))
+}
+
+/// The number below 256 that the word at a place is, where there must be one.
+pub fn small_at(text: &[u8], at: usize) -> Result<u8, Fault> {
+    small(word(text, at)).ok_or(Fault::Form)
+}
+
 /// Puts a text behind another.
 pub fn put(out: &mut Vec<u8>, text: &[u8]) -> Result<(), Fault> {
     out.extend_from_slice(text)?;
     Ok(())
+}
+
+/// Puts three texts, one behind the other.
+pub fn put_three(
+    out: &mut Vec<u8>,
+    first: &[u8],
+    second: &[u8],
+    third: &[u8],
+) -> Result<(), Fault> {
+    put(out, first)?;
+    put(out, second)?;
+    put(out, third)
+}
+
+/// Puts how many there are of something.
+pub fn put_size(out: &mut Vec<u8>, size: usize) -> Result<(), Fault> {
+    put_number(out, size as u64)
 }
 
 // The digit of a number at a power of ten.

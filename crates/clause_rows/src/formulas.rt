@@ -1,7 +1,7 @@
 //! Clauses as text: literals as in the DIMACS format, whose variables count from 1, with a `-` where they are negated; each clause ends with
 //! a semicolon.
 
-use case_rows::{Fault, number, part, put, put_number, signed, size, trimmed};
+use case_rows::{Fault, part, put, put_number, put_size, signed, size, trimmed};
 use cnf::{Cnf, Dim};
 use std::alloc::Global;
 
@@ -19,21 +19,26 @@ pub fn ended(text: &[u8]) -> Option<&[u8]> {
     }
 }
 
-pub fn clause(alloc: Global, text: &[u8]) -> Result<Vec<Dim>, Fault> {
-    let mut clause = Vec::new(alloc);
+/// Puts the literals of a clause.
+pub fn put_literals(clause: &mut Vec<Dim>, text: &[u8]) -> Result<(), Fault> {
     for word in text.split(|c| *c == b' ') {
         if !word.is_empty() {
             let next = dim(word).ok_or(Fault::Form)?;
             clause.push(next)?;
         }
     }
-    Ok(clause)
+    Ok(())
+}
+
+fn put_clause_of(alloc: Global, clauses: &mut Vec<Vec<Dim>>, text: &[u8]) -> Result<(), Fault> {
+    let mut clause = Vec::new(alloc);
+    put_literals(&mut clause, text)?;
+    Ok(clauses.push(clause)?)
 }
 
 fn put_clauses(alloc: Global, clauses: &mut Vec<Vec<Dim>>, text: &[u8]) -> Result<(), Fault> {
     for part in text.split(|c| *c == b';') {
-        let clause = clause(alloc, part)?;
-        clauses.push(clause)?;
+        put_clause_of(alloc, clauses, part)?;
     }
     Ok(())
 }
@@ -59,7 +64,7 @@ fn put_clause(said: &mut Vec<u8>, clause: &[Dim]) -> Result<(), Fault> {
 
 /// Puts the number of variables and the clauses.
 pub fn put_formula(said: &mut Vec<u8>, cnf: &Cnf) -> Result<(), Fault> {
-    put_number(said, cnf.vars as u64)?;
+    put_size(said, cnf.vars)?;
     put(said, b":")?;
     for clause in &cnf.clauses {
         put_clause(said, clause.as_slice())?;

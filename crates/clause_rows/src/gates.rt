@@ -6,7 +6,7 @@
 use crate::formulas::put_formula;
 use crate::solving::put_answer;
 use aig::{Aig, Lit};
-use case_rows::{Fault, Judge, Report, each_row, named, put, put_number, signed, word};
+use case_rows::{Fault, Judge, Report, each_row, first_named, put, put_size, signed, word};
 use cnf::{Cnf, clauses_of};
 use std::alloc::Global;
 
@@ -37,8 +37,8 @@ pub fn judge_gates(alloc: Global, block: &[u8], report: &mut Report) -> Result<(
     each_row(&mut gates, block, report)
 }
 
-fn lit(word: &[u8]) -> Result<Lit, Fault> {
-    let (negated, node) = signed(word).ok_or(Fault::Form)?;
+fn lit_at(text: &[u8], at: usize) -> Result<Lit, Fault> {
+    let (negated, node) = signed(word(text, at)).ok_or(Fault::Form)?;
     Ok(Lit {
         node: usize::try_from(node).unwrap_or(0),
         negated,
@@ -47,7 +47,7 @@ fn lit(word: &[u8]) -> Result<Lit, Fault> {
 
 fn put_lit(said: &mut Vec<u8>, l: Lit) -> Result<(), Fault> {
     put(said, if l.negated { b"-" } else { b"" })?;
-    put_number(said, l.node as u64)
+    put_size(said, l.node)
 }
 
 fn conjunction(aig: &mut Aig, a: Lit, b: Lit) -> Result<Lit, Fault> {
@@ -73,7 +73,7 @@ impl Gates {
     }
 
     fn put_and(&mut self, question: &[u8], said: &mut Vec<u8>) -> Result<(), Fault> {
-        let (a, b) = (lit(word(question, 1))?, lit(word(question, 2))?);
+        let (a, b) = (lit_at(question, 1)?, lit_at(question, 2)?);
         put_lit(said, conjunction(&mut self.aig, a, b)?)
     }
 
@@ -88,18 +88,17 @@ impl Gates {
     }
 
     fn say(&mut self, question: &[u8], said: &mut Vec<u8>) -> Result<(), Fault> {
-        match named(&CALLS, word(question, 0)).ok_or(Fault::Form)? {
+        match first_named(&CALLS, question)? {
             Call::Input => self.put_input(said),
             Call::And => self.put_and(question, said),
-            Call::Clauses => self.put_clauses(lit(word(question, 1))?, said),
-            Call::Solve => self.put_solved(lit(word(question, 1))?, said),
+            Call::Clauses => self.put_clauses(lit_at(question, 1)?, said),
+            Call::Solve => self.put_solved(lit_at(question, 1)?, said),
         }
     }
 }
 
 impl Judge for Gates {
-    fn row(&mut self, question: &[u8], wanted: &[u8], said: &mut Vec<u8>) -> Result<bool, Fault> {
-        self.say(question, said)?;
-        Ok(said.as_slice() == wanted)
+    fn row(&mut self, question: &[u8], _wanted: &[u8], said: &mut Vec<u8>) -> Result<(), Fault> {
+        self.say(question, said)
     }
 }

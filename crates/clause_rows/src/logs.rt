@@ -2,8 +2,8 @@
 //! `accepted`, or the number of the first step that is not derived, or of steps if none is empty:
 //! `2 / 1 2; 1 -2; -1 2; -1 -2; / 1:0 1; :4 2 3; => accepted`.
 
-use crate::formulas::{clause, ended, read};
-use case_rows::{Fault, Judge, part, put, put_number, size, trimmed};
+use crate::formulas::{ended, put_literals, read};
+use case_rows::{Fault, Judge, part, put, put_size, size, trimmed};
 use cnf::Cnf;
 use refute_check::{CheckErr, Checker, Log, Step};
 use std::alloc::{AllocError, Global};
@@ -24,22 +24,23 @@ pub fn judged(alloc: Global, cnf: &Cnf, log: &Log) -> Result<Option<usize>, Allo
     }
 }
 
-fn hints(alloc: Global, text: &[u8]) -> Result<Vec<usize>, Fault> {
-    let mut hints = Vec::new(alloc);
+fn put_hints(hints: &mut Vec<usize>, text: &[u8]) -> Result<(), Fault> {
     for word in text.split(|c| *c == b' ') {
         if !word.is_empty() {
             hints.push(size(word)?)?;
         }
     }
-    Ok(hints)
+    Ok(())
 }
 
 fn step(alloc: Global, text: &[u8]) -> Result<Step, Fault> {
-    let clause = clause(alloc, part(text, b':', 0))?;
-    Ok(Step {
-        clause,
-        hints: hints(alloc, part(text, b':', 1))?,
-    })
+    let mut step = Step {
+        clause: Vec::new(alloc),
+        hints: Vec::new(alloc),
+    };
+    put_literals(&mut step.clause, part(text, b':', 0))?;
+    put_hints(&mut step.hints, part(text, b':', 1))?;
+    Ok(step)
 }
 
 fn put_steps(alloc: Global, steps: &mut Vec<Step>, text: &[u8]) -> Result<(), Fault> {
@@ -76,15 +77,14 @@ impl Logs {
     fn say(&self, said: &mut Vec<u8>) -> Result<(), Fault> {
         match judged(self.alloc, &self.cnf, &self.log)? {
             None => put(said, b"accepted"),
-            Some(k) => put_number(said, k as u64),
+            Some(k) => put_size(said, k),
         }
     }
 }
 
 impl Judge for Logs {
-    fn row(&mut self, question: &[u8], wanted: &[u8], said: &mut Vec<u8>) -> Result<bool, Fault> {
+    fn row(&mut self, question: &[u8], _wanted: &[u8], said: &mut Vec<u8>) -> Result<(), Fault> {
         self.read(question)?;
-        self.say(said)?;
-        Ok(said.as_slice() == wanted)
+        self.say(said)
     }
 }

@@ -9,14 +9,13 @@ mod random;
 mod scanning;
 mod solving;
 
-use case_rows::{Bench, Fault, Report, each_row, judge_text, named, word};
+use case_rows::{Bench, Fault, Report, each_row, judge_files, named, word};
 use gates::judge_gates;
 use logs::Logs;
 use random::Random;
 use solving::Formulas;
 use std::alloc::Global;
-use std::io::Write;
-use std::{env, fs, io};
+use std::io;
 
 #[derive(Clone, Copy)]
 enum Key {
@@ -40,6 +39,10 @@ struct Keys {
 }
 
 impl Bench for Keys {
+    fn new(alloc: Global) -> Keys {
+        Keys { alloc }
+    }
+
     fn key(&mut self, line: &[u8], block: &[u8], report: &mut Report) -> Result<(), Fault> {
         match named(&KEYS, word(line, 0)) {
             Some(Key::Logs) => each_row(&mut Logs::new(self.alloc), block, report),
@@ -51,20 +54,6 @@ impl Bench for Keys {
     }
 }
 
-fn judge_file(rt: &HostRuntime, name: &str, report: &mut Report) -> io::Result<()> {
-    let text = fs::read(rt, name)?;
-    let mut keys = Keys { alloc: rt.alloc() };
-    match judge_text(&mut keys, name.as_bytes(), &text, report) {
-        Ok(()) => Ok(()),
-        Err(_) => Err(io::ErrorKind::OutOfMemory.into()),
-    }
-}
-
 fn main(rt: HostRuntime) -> io::Result<()> {
-    let mut report = Report::new(rt.alloc());
-    for name in env::args(&rt)?.skip(1) {
-        judge_file(&rt, name.as_str(), &mut report)?;
-    }
-    rt.stdout().write_all(report.out())?;
-    Ok(())
+    judge_files::<Keys>(&rt)
 }

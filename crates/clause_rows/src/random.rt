@@ -4,7 +4,7 @@
 //! the answer is for how many of them a plain solver finds what the solver finds. `search 100 480 5 => unsat` is the answer for the first.
 
 use crate::solving::{plain_answer, put_answer};
-use case_rows::{Fault, Judge, number, put_number, size, word};
+use case_rows::{Fault, Judge, first_named, number, put_number, size_at, word};
 use cnf::{Cnf, Dim};
 use std::alloc::Global;
 
@@ -14,6 +14,14 @@ pub struct Random {
     cnf: Cnf,
     state: u64,
 }
+
+#[derive(Clone, Copy)]
+enum Call {
+    Same,
+    Search,
+}
+
+static CALLS: [(&[u8], Call); 2] = [(b"same", Call::Same), (b"search", Call::Search)];
 
 // The next number of the sequence.
 fn next_random(state: &mut u64) -> u64 {
@@ -65,8 +73,8 @@ impl Random {
 
     fn same(&mut self, question: &[u8], said: &mut Vec<u8>) -> Result<(), Fault> {
         let mut same: u64 = 0;
-        let (vars, count) = (size(word(question, 1))?, size(word(question, 2))?);
-        for _ in 0..size(word(question, 4))? {
+        let (vars, count) = (size_at(question, 1)?, size_at(question, 2)?);
+        for _ in 0..size_at(question, 4)? {
             self.make(vars, count)?;
             if self.agrees(said)? {
                 same = same.saturating_add(1);
@@ -77,19 +85,17 @@ impl Random {
     }
 
     fn search(&mut self, question: &[u8], said: &mut Vec<u8>) -> Result<(), Fault> {
-        self.make(size(word(question, 1))?, size(word(question, 2))?)?;
+        self.make(size_at(question, 1)?, size_at(question, 2)?)?;
         put_answer(self.alloc, &self.cnf, None, said)
     }
 }
 
 impl Judge for Random {
-    fn row(&mut self, question: &[u8], wanted: &[u8], said: &mut Vec<u8>) -> Result<bool, Fault> {
+    fn row(&mut self, question: &[u8], _wanted: &[u8], said: &mut Vec<u8>) -> Result<(), Fault> {
         self.state = number(word(question, 3)).ok_or(Fault::Form)?;
-        match word(question, 0) {
-            b"same" => self.same(question, said)?,
-            b"search" => self.search(question, said)?,
-            _ => return Err(Fault::Form),
+        match first_named(&CALLS, question)? {
+            Call::Same => self.same(question, said),
+            Call::Search => self.search(question, said),
         }
-        Ok(said.as_slice() == wanted)
     }
 }

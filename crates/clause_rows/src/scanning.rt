@@ -76,11 +76,11 @@ impl Scanning {
     // Makes a literal true.
     fn set(&mut self, d: Dim, untried: bool) -> Result<(), AllocError> {
         set_value(&mut self.values, d.var, Some(!d.negated));
-        self.trials.push(Trial {
+        let trial = Trial {
             var: d.var,
             untried,
-        })?;
-        Ok(())
+        };
+        Ok(self.trials.push(trial)?)
     }
 
     // Goes back to the newest variable whose other value is untried, and takes that. Answers whether there is one.
@@ -93,17 +93,58 @@ impl Scanning {
             let negated = value_of(&self.values, trial.var) == Some(true);
             set_value(&mut self.values, trial.var, None);
             if trial.untried {
-                self.set(
-                    Dim {
-                        var: trial.var,
-                        negated,
-                    },
-                    false,
-                )?;
+                let d = Dim {
+                    var: trial.var,
+                    negated,
+                };
+                self.set(d, false)?;
                 return Ok(true);
             }
         }
         Ok(false)
+    }
+}
+
+impl Scanning {
+    // What a look at the clauses leads to: whether they have a solution, or none where more is to be tried.
+    fn turn(&mut self, clauses: &[Vec<Dim>]) -> Result<Option<bool>, AllocError> {
+        match first_state(&self.values, clauses) {
+            ClauseState::Conflict => self.retreat(),
+            ClauseState::Unit(d) => {
+                self.set(d, false)?;
+                Ok(None)
+            }
+            ClauseState::Neither => self.advance(),
+        }
+    }
+
+    fn retreat(&mut self) -> Result<Option<bool>, AllocError> {
+        let more = self.go_back()?;
+        Ok(if more { None } else { Some(false) })
+    }
+
+    fn advance(&mut self) -> Result<Option<bool>, AllocError> {
+        match first_open(&self.values) {
+            None => Ok(Some(true)),
+            Some(var) => {
+                let d = Dim {
+                    var,
+                    negated: false,
+                };
+                self.set(d, true)?;
+                Ok(None)
+            }
+        }
+    }
+
+    fn run(&mut self, clauses: &[Vec<Dim>]) -> Result<Option<bool>, AllocError> {
+        for _ in 0..100_000u32 {
+            let ended = self.turn(clauses)?;
+            if ended.is_some() {
+                return Ok(ended);
+            }
+        }
+        Ok(None)
     }
 }
 
@@ -114,25 +155,5 @@ pub fn scanned(alloc: Global, cnf: &Cnf) -> Result<Option<bool>, AllocError> {
         values: vec![in alloc; open; cnf.vars]?,
         trials: Vec::new(alloc),
     };
-    for _ in 0..100_000u32 {
-        match first_state(&scanning.values, &cnf.clauses) {
-            ClauseState::Conflict => {
-                if !scanning.go_back()? {
-                    return Ok(Some(false));
-                }
-            }
-            ClauseState::Unit(d) => scanning.set(d, false)?,
-            ClauseState::Neither => match first_open(&scanning.values) {
-                None => return Ok(Some(true)),
-                Some(var) => scanning.set(
-                    Dim {
-                        var,
-                        negated: false,
-                    },
-                    true,
-                )?,
-            },
-        }
-    }
-    Ok(None)
+    scanning.run(&cnf.clauses)
 }

@@ -157,13 +157,12 @@ impl Formulas {
 }
 
 impl Judge for Formulas {
-    fn row(&mut self, question: &[u8], wanted: &[u8], said: &mut Vec<u8>) -> Result<bool, Fault> {
+    fn row(&mut self, question: &[u8], wanted: &[u8], said: &mut Vec<u8>) -> Result<(), Fault> {
         read(self.alloc, &mut self.cnf, question)?;
         let budget = budget_of(word(question, 1))?;
         if budget.is_none() {
             self.scan(wanted, said)?;
         }
-        put_answer(self.alloc, &self.cnf, budget, said)?;
-        Ok(said.as_slice() == wanted)
+        put_answer(self.alloc, &self.cnf, budget, said)
     }
 }

@@ -4,7 +4,8 @@
 //! - `join 2.0.1 0.3.1` joins bit 0 of wire 2 to bit 3 of wire 0 above it: a wire, its lowest bit, and how many;
 //! - `drive 1.0.2,1.3.1 = not now0.3` drives such parts, the highest first.
 
-use case_rows::{Fault, built, digits, named, part, rows_of, small, word, words_from};
+use case_exprs::{built, read_vectors};
+use case_rows::{Fault, first_named, part, rows_of, small, small_at, word, words_from};
 use driver_resolve::Driver;
 use flat_net::{Flat, Join};
 use fourvec::Four;
@@ -37,7 +38,7 @@ fn segs(alloc: Global, text: &[u8]) -> Result<Lhs, Fault> {
 }
 
 fn wire(alloc: Global, flat: &mut Flat, row: &[u8], input: bool) -> Result<(), Fault> {
-    let width = small(word(row, 2)).ok_or(Fault::Form)?;
+    let width = small_at(row, 2)?;
     let path = Name::new(alloc, word(row, 1))?;
     Ok(flat.wires.push(Signal { path, width, input })?)
 }
@@ -70,7 +71,7 @@ static LINES: [(&[u8], Line); 4] = [
 ];
 
 fn put_row(alloc: Global, flat: &mut Flat, row: &[u8]) -> Result<(), Fault> {
-    match named(&LINES, word(row, 0)).ok_or(Fault::Form)? {
+    match first_named(&LINES, row)? {
         Line::In => wire(alloc, flat, row, true),
         Line::Wire => wire(alloc, flat, row, false),
         Line::Join => join(alloc, flat, row),
@@ -98,19 +99,9 @@ pub fn put_design(alloc: Global, flat: &mut Flat, block: &[u8]) -> Result<(), Fa
     Ok(())
 }
 
-fn put_values(list: &mut Vec<Four>, words: &[u8]) -> Result<(), Fault> {
-    for word in words.split(|c| *c == b' ') {
-        if !word.is_empty() {
-            let next = digits(word).ok_or(Fault::Form)?;
-            list.push(next)?;
-        }
-    }
-    Ok(())
-}
-
 /// The vectors of words.
 pub fn values(alloc: Global, words: &[u8]) -> Result<Items<Four>, Fault> {
     let mut list = Vec::new(alloc);
-    put_values(&mut list, words)?;
+    read_vectors(&mut list, words)?;
     Ok(Items::from_vec(list))
 }

@@ -7,12 +7,11 @@ mod least;
 mod settled;
 mod sound;
 
-use case_rows::{Bench, Fault, Report, judge_text, named, put, word};
+use case_rows::{Bench, Fault, Report, judge_files, named, put, word};
 use least::{Given, judge_run};
 use settled::judge_settling;
 use std::alloc::Global;
-use std::io::Write;
-use std::{env, fs, io};
+use std::io;
 
 #[derive(Clone, Copy)]
 enum Key {
@@ -52,6 +51,14 @@ impl Keys {
 }
 
 impl Bench for Keys {
+    fn new(alloc: Global) -> Keys {
+        Keys {
+            alloc,
+            design: Vec::new(alloc),
+            table: Vec::new(alloc),
+        }
+    }
+
     fn key(&mut self, line: &[u8], block: &[u8], report: &mut Report) -> Result<(), Fault> {
         match named(&KEYS, word(line, 0)) {
             Some(Key::Design) => keep(&mut self.design, block),
@@ -63,25 +70,6 @@ impl Bench for Keys {
     }
 }
 
-fn judge_file(rt: &HostRuntime, name: &str, report: &mut Report) -> io::Result<()> {
-    let text = fs::read(rt, name)?;
-    let alloc = rt.alloc();
-    let mut keys = Keys {
-        alloc,
-        design: Vec::new(alloc),
-        table: Vec::new(alloc),
-    };
-    match judge_text(&mut keys, name.as_bytes(), &text, report) {
-        Ok(()) => Ok(()),
-        Err(_) => Err(io::ErrorKind::OutOfMemory.into()),
-    }
-}
-
 fn main(rt: HostRuntime) -> io::Result<()> {
-    let mut report = Report::new(rt.alloc());
-    for name in env::args(&rt)?.skip(1) {
-        judge_file(&rt, name.as_str(), &mut report)?;
-    }
-    rt.stdout().write_all(report.out())?;
-    Ok(())
+    judge_files::<Keys>(&rt)
 }

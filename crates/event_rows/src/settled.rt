@@ -9,7 +9,8 @@ ghost use Rattle.event_sim.specs.Sims.{IsValuation, now_values, Fits};
 
 use crate::design::{empty, put_design, values};
 use crate::sound::{is_sound, is_valuation};
-use case_rows::{Fault, Report, put, put_digits, rows_of, sides};
+use case_exprs::put_digits;
+use case_rows::{Fault, Report, put, rows_of, sides};
 use event_sim::Sim;
 use flat_net::{Flat, Valuation};
 use fourvec::Four;

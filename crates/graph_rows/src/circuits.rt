@@ -10,7 +10,7 @@ ghost use Rattle.aig.specs.Graph.{IsIn};
 
 use aig::{Aig, Lit};
 use aig_words::{add, div, eq, lt, mul, mux, or, pick, rem, sar, shl, shr, slt, sub, xor};
-use case_rows::{Fault, Judge, named, put, put_number, size, small, word};
+use case_rows::{Fault, Judge, first_named, put, put_number, size_at, small_at};
 use items::both;
 use std::alloc::{AllocError, Global};
 
@@ -136,7 +136,6 @@ fn bit_of(alloc: Global, aig: &Aig, values: &[bool], l: Lit) -> Result<bool, Fau
 }
 
 // A graph with an operator's operands.
-#[derive(Drop)]
 struct Board {
     alloc: Global,
     aig: Aig,
@@ -145,6 +144,20 @@ struct Board {
     b: Vec<Lit>,
     out: Vec<Lit>,
     values: Vec<bool>,
+}
+
+impl Drop for Board {
+    fn drop(self) {
+        let Board {
+            alloc: _,
+            aig: _,
+            c: _,
+            a: _,
+            b: _,
+            out: _,
+            values: _,
+        } = self;
+    }
 }
 
 // Two numbers, and whether the first is chosen.
@@ -281,28 +294,27 @@ pub struct Circuits {
 }
 
 fn right(board: &mut Board, op: Op, question: &[u8]) -> Result<u64, Fault> {
-    let width = small(word(question, 1)).ok_or(Fault::Form)?;
-    let count = small(word(question, 2)).ok_or(Fault::Form)?;
-    let step = small(word(question, 3)).ok_or(Fault::Form)?;
+    let width = small_at(question, 1)?;
+    let count = small_at(question, 2)?;
+    let step = small_at(question, 3)?;
     board.lay(usize::from(width))?;
     board.make(op)?;
     board.right(op, width, count, step)
 }
 
-// An operator, and a graph with nothing in it.
-fn board_of(alloc: Global, question: &[u8]) -> Result<(Op, Board), Fault> {
-    let op = named(&OPS, word(question, 0)).ok_or(Fault::Form)?;
+// A graph with nothing in it.
+fn board_of(alloc: Global) -> Result<Board, Fault> {
     let aig = Aig::new(alloc)?;
-    Ok((op, Board::new(alloc, aig)))
+    Ok(Board::new(alloc, aig))
 }
 
 impl Judge for Circuits {
-    fn row(&mut self, question: &[u8], wanted: &[u8], said: &mut Vec<u8>) -> Result<bool, Fault> {
-        let (op, mut board) = board_of(self.alloc, question)?;
+    fn row(&mut self, question: &[u8], _wanted: &[u8], said: &mut Vec<u8>) -> Result<(), Fault> {
+        let op = first_named(&OPS, question)?;
+        let mut board = board_of(self.alloc)?;
         let right = right(&mut board, op, question);
         let (_, right) = both(board, right)?;
-        put_number(said, right)?;
-        Ok(said.as_slice() == wanted)
+        put_number(said, right)
     }
 }
 
@@ -315,16 +327,16 @@ pub struct Swapped {
 fn swap(board: &mut Board, op: Op, said: &mut Vec<u8>) -> Result<(), Fault> {
     let len = board.aig.len();
     let word = board.make_swapped(op)?;
-    let words = board.out.as_slice() == word.as_slice();
-    put(said, if words { b"word" } else { b"no word" })?;
-    put(
+    put_same(
         said,
-        if board.aig.len() == len {
-            b" and graph"
-        } else {
-            b""
-        },
+        board.out.as_slice() == word.as_slice(),
+        board.aig.len() == len,
     )
+}
+
+fn put_same(said: &mut Vec<u8>, word: bool, graph: bool) -> Result<(), Fault> {
+    put(said, if word { b"word" } else { b"no word" })?;
+    put(said, if graph { b" and graph" } else { b"" })
 }
 
 fn try_swapped(
@@ -333,16 +345,15 @@ fn try_swapped(
     question: &[u8],
     said: &mut Vec<u8>,
 ) -> Result<(), Fault> {
-    board.lay(size(word(question, 1))?)?;
+    board.lay(size_at(question, 1)?)?;
     board.make(op)?;
     swap(board, op, said)
 }
 
 impl Judge for Swapped {
-    fn row(&mut self, question: &[u8], wanted: &[u8], said: &mut Vec<u8>) -> Result<bool, Fault> {
-        let (op, mut board) = board_of(self.alloc, question)?;
-        let told = try_swapped(&mut board, op, question, said);
-        let (_, _) = both(board, told)?;
-        Ok(said.as_slice() == wanted)
+    fn row(&mut self, question: &[u8], _wanted: &[u8], said: &mut Vec<u8>) -> Result<(), Fault> {
+        let op = first_named(&OPS, question)?;
+        let mut board = board_of(self.alloc)?;
+        try_swapped(&mut board, op, question, said)
     }
 }

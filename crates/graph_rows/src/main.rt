@@ -7,13 +7,12 @@ mod gates;
 mod nodes;
 mod values;
 
-use case_rows::{Bench, Fault, Report, each_row, judge_text, named, word};
+use case_rows::{Bench, Fault, Report, each_row, judge_files, named, word};
 use circuits::{Circuits, Swapped};
 use gates::judge_gates;
 use nodes::{Becomes, Nodes, Substituted};
 use std::alloc::Global;
-use std::io::Write;
-use std::{env, fs, io};
+use std::io;
 use svex_arena::Env;
 use values::{Entries, Planes, Values};
 
@@ -50,19 +49,6 @@ struct Keys {
 }
 
 impl Keys {
-    fn new(alloc: Global) -> Keys {
-        Keys {
-            alloc,
-            env: Env {
-                present: Vec::new(alloc),
-                previous: Vec::new(alloc),
-                stim: Vec::new(alloc),
-                chosen: Vec::new(alloc),
-                sampled: Vec::new(alloc),
-            },
-        }
-    }
-
     // Keys of vectors and of the graph of expressions.
     fn expressions(&mut self, key: Key, block: &[u8], report: &mut Report) -> Result<(), Fault> {
         match key {
@@ -87,6 +73,19 @@ impl Keys {
 }
 
 impl Bench for Keys {
+    fn new(alloc: Global) -> Keys {
+        Keys {
+            alloc,
+            env: Env {
+                present: Vec::new(alloc),
+                previous: Vec::new(alloc),
+                stim: Vec::new(alloc),
+                chosen: Vec::new(alloc),
+                sampled: Vec::new(alloc),
+            },
+        }
+    }
+
     fn key(&mut self, line: &[u8], block: &[u8], report: &mut Report) -> Result<(), Fault> {
         match named(&KEYS, word(line, 0)) {
             Some(key) => self.expressions(key, block, report),
@@ -95,20 +94,6 @@ impl Bench for Keys {
     }
 }
 
-fn judge_file(rt: &HostRuntime, name: &str, report: &mut Report) -> io::Result<()> {
-    let text = fs::read(rt, name)?;
-    let mut keys = Keys::new(rt.alloc());
-    match judge_text(&mut keys, name.as_bytes(), &text, report) {
-        Ok(()) => Ok(()),
-        Err(_) => Err(io::ErrorKind::OutOfMemory.into()),
-    }
-}
-
 fn main(rt: HostRuntime) -> io::Result<()> {
-    let mut report = Report::new(rt.alloc());
-    for name in env::args(&rt)?.skip(1) {
-        judge_file(&rt, name.as_str(), &mut report)?;
-    }
-    rt.stdout().write_all(report.out())?;
-    Ok(())
+    judge_files::<Keys>(&rt)
 }

@@ -9,7 +9,8 @@
 //!   many nodes its substitution makes, and what it becomes: `not now0.4 => 0 not now1.4`. Where it makes none, what it becomes is there
 //!   before.
 
-use case_rows::{Fault, Judge, built, named, put, put_number, size, word, words_from};
+use case_exprs::built;
+use case_rows::{Fault, Judge, named, put, put_size, size_at, word, words_from};
 use std::alloc::Global;
 use svex_arena::{Arena, Node, Shape, Subst, VarName};
 use svex_rewrite::simplify;
@@ -34,10 +35,6 @@ pub struct Nodes {
     alloc: Global,
     arena: Arena,
     copy: Arena,
-}
-
-fn put_size(said: &mut Vec<u8>, size: usize) -> Result<(), Fault> {
-    put_number(said, size as u64)
 }
 
 impl Nodes {
@@ -84,8 +81,8 @@ impl Nodes {
 
     fn answer(&mut self, question: &[u8]) -> Result<usize, Fault> {
         match named(&CALLS, word(question, 0)) {
-            Some(Call::Many) => self.many(size(word(question, 1))?),
-            Some(Call::Cut) => self.cut(size(word(question, 1))?),
+            Some(Call::Many) => self.many(size_at(question, 1)?),
+            Some(Call::Cut) => self.cut(size_at(question, 1)?),
             Some(Call::Copy) => self.keep(),
             Some(Call::Back) => self.back(),
             None => self.node(question),
@@ -94,20 +91,18 @@ impl Nodes {
 }
 
 impl Judge for Nodes {
-    fn row(&mut self, question: &[u8], wanted: &[u8], said: &mut Vec<u8>) -> Result<bool, Fault> {
+    fn row(&mut self, question: &[u8], _wanted: &[u8], said: &mut Vec<u8>) -> Result<(), Fault> {
         let answer = self.answer(question)?;
-        put_size(said, answer)?;
-        Ok(said.as_slice() == wanted)
+        put_size(said, answer)
     }
 }
 
-// Tells of two nodes, and whether they are one.
-fn is_node(said: &mut Vec<u8>, is: Node, wanted: Node) -> Result<bool, Fault> {
+// Tells of two nodes.
+fn put_nodes(said: &mut Vec<u8>, is: Node, wanted: Node) -> Result<(), Fault> {
     put(said, b"node ")?;
     put_size(said, is.index())?;
     put(said, b" and not node ")?;
-    put_size(said, wanted.index())?;
-    Ok(is == wanted)
+    put_size(said, wanted.index())
 }
 
 #[derive(Drop)]
@@ -126,14 +121,18 @@ impl Becomes {
 }
 
 impl Judge for Becomes {
-    fn row(&mut self, question: &[u8], wanted: &[u8], said: &mut Vec<u8>) -> Result<bool, Fault> {
+    fn row(&mut self, question: &[u8], wanted: &[u8], said: &mut Vec<u8>) -> Result<(), Fault> {
         let root = built(&mut self.arena, self.alloc, question)?;
-        let wanted = built(&mut self.arena, self.alloc, wanted)?;
+        let node = built(&mut self.arena, self.alloc, wanted)?;
         if root.index() >= self.arena.len() {
             return Err(Fault::Form);
         }
         let simple = simplify(&mut self.arena, self.alloc, root)?;
-        is_node(said, simple, wanted)
+        if simple == node {
+            put(said, wanted)
+        } else {
+            put_nodes(said, simple, node)
+        }
     }
 }
 
@@ -145,15 +144,14 @@ pub struct Substituted {
 }
 
 // Puts a node at a place of a list, with none before it where there was none.
-fn set_entry(list: &mut Vec<Option<Node>>, at: usize, node: Node) -> Result<bool, Fault> {
+fn set_entry(list: &mut Vec<Option<Node>>, at: usize, node: Node) -> Result<(), Fault> {
     for _ in list.len()..at {
         list.push(None)?;
     }
-    list.push(Some(node))?;
-    Ok(true)
+    Ok(list.push(Some(node))?)
 }
 
-fn set_replacement(by: &mut Subst, present: bool, at: usize, node: Node) -> Result<bool, Fault> {
+fn set_replacement(by: &mut Subst, present: bool, at: usize, node: Node) -> Result<(), Fault> {
     if present {
         set_entry(&mut by.present, at, node)
     } else {
@@ -168,6 +166,12 @@ fn answer_of(arena: &mut Arena, alloc: Global, root: Node, by: &Subst) -> Result
     let roots = [root];
     let answers = arena.substitute(alloc, &roots, by)?;
     answers.first().copied().ok_or(Fault::Form)
+}
+
+fn put_made(said: &mut Vec<u8>, made: usize, is: Node, wanted: Node) -> Result<(), Fault> {
+    put_size(said, made)?;
+    put(said, b" made, ")?;
+    put_nodes(said, is, wanted)
 }
 
 impl Substituted {
@@ -185,36 +189,52 @@ impl Substituted {
         }
     }
 
-    fn replace(&mut self, row: &[u8]) -> Result<bool, Fault> {
+    fn replace(&mut self, row: &[u8]) -> Result<(), Fault> {
         let node = built(&mut self.arena, self.alloc, words_from(row, 3))?;
-        let at = size(word(row, 2))?;
+        let at = size_at(row, 2)?;
         let present = word(row, 1) == b"now".as_slice();
         set_replacement(&mut self.by, present, at, node)
     }
 
-    // How many nodes a substitution made, and whether it gives what is wanted.
-    fn meets(&mut self, root: Node, wanted: &[u8], said: &mut Vec<u8>) -> Result<bool, Fault> {
-        let before = self.arena.len();
-        let answer = answer_of(&mut self.arena, self.alloc, root, &self.by)?;
-        let made = self.arena.len().saturating_sub(before);
-        put_size(said, made)?;
-        put(said, b" made, ")?;
-        let text = words_from(wanted, 1);
-        let wanted_node = built(&mut self.arena, self.alloc, text)?;
-        let is = is_node(said, answer, wanted_node)?;
-        Ok(is && made == size(word(wanted, 0))?)
-    }
-}
-
-impl Judge for Substituted {
-    fn row(&mut self, question: &[u8], wanted: &[u8], said: &mut Vec<u8>) -> Result<bool, Fault> {
-        if word(question, 0) == b"replace".as_slice() {
-            return self.replace(question);
-        }
+    fn substitute(
+        &mut self,
+        question: &[u8],
+        wanted: &[u8],
+        said: &mut Vec<u8>,
+    ) -> Result<(), Fault> {
         let root = built(&mut self.arena, self.alloc, question)?;
         if word(wanted, 0) == b"0".as_slice() {
             built(&mut self.arena, self.alloc, words_from(wanted, 1))?;
         }
-        self.meets(root, wanted, said)
+        self.say(root, wanted, said)
+    }
+
+    // What a substitution gives, and how many nodes it made.
+    fn made(&mut self, root: Node) -> Result<(Node, usize), Fault> {
+        let before = self.arena.len();
+        let answer = answer_of(&mut self.arena, self.alloc, root, &self.by)?;
+        Ok((answer, self.arena.len().saturating_sub(before)))
+    }
+
+    // Says what is wanted, where a substitution gives that by so many nodes.
+    fn say(&mut self, root: Node, wanted: &[u8], said: &mut Vec<u8>) -> Result<(), Fault> {
+        let (answer, made) = self.made(root)?;
+        let node = built(&mut self.arena, self.alloc, words_from(wanted, 1))?;
+        if answer == node && made == size_at(wanted, 0)? {
+            put(said, wanted)
+        } else {
+            put_made(said, made, answer, node)
+        }
+    }
+}
+
+impl Judge for Substituted {
+    fn row(&mut self, question: &[u8], wanted: &[u8], said: &mut Vec<u8>) -> Result<(), Fault> {
+        if word(question, 0) == b"replace".as_slice() {
+            self.replace(question)?;
+            put(said, wanted)
+        } else {
+            self.substitute(question, wanted, said)
+        }
     }
 }

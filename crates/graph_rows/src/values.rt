@@ -7,7 +7,8 @@
 
 ghost use Rattle.std.specs.Prelude.{◌≤◌};
 
-use case_rows::{Fault, Judge, built, digits, named, put, put_digits, put_number, small, word};
+use case_exprs::{Kind, built, digits, kind_of, put_digits, read_vectors};
+use case_rows::{Fault, Judge, first_named, put, put_number, small_at, word, words_from};
 use fourvec::Four;
 use std::alloc::Global;
 use svex_arena::{Arena, Env};
@@ -56,62 +57,41 @@ fn put_bit(said: &mut Vec<u8>, at: u8, a: &Four) -> Result<(), Fault> {
     put_digits(said, &a.slice(at, 1))
 }
 
+fn vector_at(text: &[u8], at: usize) -> Result<Four, Fault> {
+    digits(word(text, at)).ok_or(Fault::Form)
+}
+
 impl Planes {
     fn say(&self, question: &[u8], a: &Four, said: &mut Vec<u8>) -> Result<(), Fault> {
-        match named(&CALLS, word(question, 0)).ok_or(Fault::Form)? {
+        match first_named(&CALLS, question)? {
             Call::Width => put_number(said, u64::from(a.width())),
             Call::Up => put_plane(said, a.width(), a.up()),
             Call::Low => put_plane(said, a.width(), a.low()),
             Call::IsBool => put_truth(said, a.is_bool()),
-            Call::Below => {
-                let b = digits(word(question, 2)).ok_or(Fault::Form)?;
-                put_truth(said, a.below(&b))
-            }
-            Call::Bit => put_bit(said, small(word(question, 2)).ok_or(Fault::Form)?, a),
+            Call::Below => put_truth(said, a.below(&vector_at(question, 2)?)),
+            Call::Bit => put_bit(said, small_at(question, 2)?, a),
         }
     }
 }
 
 impl Judge for Planes {
-    fn row(&mut self, question: &[u8], wanted: &[u8], said: &mut Vec<u8>) -> Result<bool, Fault> {
-        let a = digits(word(question, 1)).ok_or(Fault::Form)?;
-        self.say(question, &a, said)?;
-        Ok(said.as_slice() == wanted)
+    fn row(&mut self, question: &[u8], _wanted: &[u8], said: &mut Vec<u8>) -> Result<(), Fault> {
+        let a = vector_at(question, 1)?;
+        self.say(question, &a, said)
     }
 }
-
-#[derive(Clone, Copy)]
-enum Kind {
-    Now,
-    Prev,
-    Stim,
-    Chosen,
-    Sampled,
-}
-
-static KINDS: [(&[u8], Kind); 5] = [
-    (b"now", Kind::Now),
-    (b"prev", Kind::Prev),
-    (b"stim", Kind::Stim),
-    (b"chosen", Kind::Chosen),
-    (b"sampled", Kind::Sampled),
-];
 
 #[derive(Drop)]
 pub struct Entries<'a> {
     pub env: &'a mut Env,
 }
 
-fn set_entries(list: &mut Vec<Four>, words: &[u8]) -> Result<bool, Fault> {
+fn set_entries(list: &mut Vec<Four>, words: &[u8]) -> Result<(), Fault> {
     list.clear();
-    for word in words.split(|c| *c == b' ').skip(1) {
-        let value = digits(word).ok_or(Fault::Form)?;
-        list.push(value)?;
-    }
-    Ok(true)
+    read_vectors(list, words_from(words, 1))
 }
 
-fn set_kind(env: &mut Env, kind: Kind, words: &[u8]) -> Result<bool, Fault> {
+fn set_kind(env: &mut Env, kind: Kind, words: &[u8]) -> Result<(), Fault> {
     match kind {
         Kind::Now => set_entries(&mut env.present, words),
         Kind::Prev => set_entries(&mut env.previous, words),
@@ -122,9 +102,10 @@ fn set_kind(env: &mut Env, kind: Kind, words: &[u8]) -> Result<bool, Fault> {
 }
 
 impl<'a> Judge for Entries<'a> {
-    fn row(&mut self, words: &[u8], _wanted: &[u8], _said: &mut Vec<u8>) -> Result<bool, Fault> {
-        let kind = named(&KINDS, word(words, 0)).ok_or(Fault::Form)?;
-        set_kind(self.env, kind, words)
+    fn row(&mut self, words: &[u8], wanted: &[u8], said: &mut Vec<u8>) -> Result<(), Fault> {
+        let kind = kind_of(word(words, 0)).ok_or(Fault::Form)?;
+        set_kind(self.env, kind, words)?;
+        put(said, wanted)
     }
 }
 
@@ -145,18 +126,25 @@ impl<'a> Values<'a> {
     }
 }
 
+// Puts a value as it is wanted, where it is that one and has the width of its node.
+fn put_value(said: &mut Vec<u8>, value: &Four, width: u8, wanted: &[u8]) -> Result<(), Fault> {
+    if width != value.width() {
+        put_digits(said, value)?;
+        put(said, b" of another width")
+    } else if digits(wanted) == Some(*value) {
+        put(said, wanted)
+    } else {
+        put_digits(said, value)
+    }
+}
+
 impl<'a> Judge for Values<'a> {
-    fn row(&mut self, question: &[u8], wanted: &[u8], said: &mut Vec<u8>) -> Result<bool, Fault> {
+    fn row(&mut self, question: &[u8], wanted: &[u8], said: &mut Vec<u8>) -> Result<(), Fault> {
         let node = built(&mut self.arena, self.alloc, question)?;
         if node.index() >= self.arena.len() {
             return Err(Fault::Form);
         }
         let value = self.arena.eval(self.alloc, node, self.env)?;
-        put_digits(said, &value)?;
-        if self.arena.width(node) != value.width() {
-            put(said, b" of another width")?;
-            return Ok(false);
-        }
-        Ok(digits(wanted) == Some(value))
+        put_value(said, &value, self.arena.width(node), wanted)
     }
 }

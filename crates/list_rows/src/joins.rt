@@ -11,7 +11,10 @@
 ghost use Rattle.std.specs.Prelude.{◌≡◌, ◌≤◌, All, IsTrue};
 ghost use Rattle.lhs_alias.specs.Joined.{widths_of};
 
-use case_rows::{Fault, Judge, Report, each_row, named, part, put, put_number, size, small, word};
+use case_rows::{
+    Fault, Judge, Report, each_row, first_named, part, put, put_number, put_size, size, size_at,
+    small, word,
+};
 use items::both;
 use lhs_alias::{Joins, Lhs, Seg};
 use std::alloc::Global;
@@ -40,16 +43,24 @@ fn lhs(alloc: Global, text: &[u8]) -> Result<Lhs, Fault> {
     Ok(Lhs::from_vec(segs))
 }
 
+// A point and a number behind it.
+fn put_next(said: &mut Vec<u8>, number: u8) -> Result<(), Fault> {
+    put(said, b".")?;
+    put_number(said, u64::from(number))
+}
+
+fn put_seg(said: &mut Vec<u8>, seg: Seg) -> Result<(), Fault> {
+    put_size(said, seg.wire)?;
+    put_next(said, seg.lo)?;
+    put_next(said, seg.width)
+}
+
 fn put_lhs(said: &mut Vec<u8>, of: &Lhs) -> Result<(), Fault> {
     for seg in of.segs() {
         if !said.is_empty() {
             put(said, b",")?;
         }
-        put_number(said, seg.wire as u64)?;
-        put(said, b".")?;
-        put_number(said, u64::from(seg.lo))?;
-        put(said, b".")?;
-        put_number(said, u64::from(seg.width))?;
+        put_seg(said, *seg)?;
     }
     Ok(())
 }
@@ -187,16 +198,18 @@ impl Board {
     }
 
     fn say(&mut self, question: &[u8], said: &mut Vec<u8>) -> Result<(), Fault> {
-        match named(&CALLS, word(question, 0)).ok_or(Fault::Form)? {
-            Call::Join => {
-                let joined = self.join(word(question, 1), word(question, 2))?;
-                put(said, if joined { b"joined" } else { b"taken" })
-            }
+        match first_named(&CALLS, question)? {
+            Call::Join => self.say_join(question, said),
             Call::First => self.say_first(word(question, 1), said),
-            Call::Rising => self.link(size(word(question, 1))?, true),
-            Call::Falling => self.link(size(word(question, 1))?, false),
+            Call::Rising => self.link(size_at(question, 1)?, true),
+            Call::Falling => self.link(size_at(question, 1)?, false),
             Call::Leading => put_number(said, self.leading(self.widths.len())?),
         }
+    }
+
+    fn say_join(&mut self, question: &[u8], said: &mut Vec<u8>) -> Result<(), Fault> {
+        let joined = self.join(word(question, 1), word(question, 2))?;
+        put(said, if joined { b"joined" } else { b"taken" })
     }
 
     fn say_first(&self, of: &[u8], said: &mut Vec<u8>) -> Result<(), Fault> {
@@ -208,19 +221,23 @@ impl Board {
 }
 
 impl Judge for Board {
-    fn row(&mut self, question: &[u8], wanted: &[u8], said: &mut Vec<u8>) -> Result<bool, Fault> {
-        self.say(question, said)?;
-        Ok(said.as_slice() == wanted)
+    fn row(&mut self, question: &[u8], _wanted: &[u8], said: &mut Vec<u8>) -> Result<(), Fault> {
+        self.say(question, said)
     }
 }
 
 // The widths of the words from the second on; `1*1001` is a width so many times.
-fn widths_of_words(alloc: Global, words: &[u8]) -> Result<Vec<u8>, Fault> {
-    let mut widths = Vec::new(alloc);
+fn put_all_widths(widths: &mut Vec<u8>, words: &[u8]) -> Result<(), Fault> {
     for word in words.split(|c| *c == b' ').skip(1) {
-        put_widths(&mut widths, word)?;
+        put_widths(widths, word)?;
     }
-    Ok(widths)
+    Ok(())
+}
+
+fn board_of_words(alloc: Global, words: &[u8]) -> Result<Board, Fault> {
+    let mut widths = Vec::new(alloc);
+    put_all_widths(&mut widths, words)?;
+    board_of(alloc, widths)
 }
 
 fn put_widths(widths: &mut Vec<u8>, word: &[u8]) -> Result<(), Fault> {
@@ -239,8 +256,7 @@ pub fn judge_joins(
     block: &[u8],
     report: &mut Report,
 ) -> Result<(), Fault> {
-    let widths = widths_of_words(alloc, line)?;
-    let mut board = board_of(alloc, widths)?;
+    let mut board = board_of_words(alloc, line)?;
     each_row(&mut board, block, report)
 }
 
@@ -302,24 +318,28 @@ static WAYS: [(&[u8], Way); 4] = [
 
 impl Cut {
     fn made(&self, question: &[u8], of: &Lhs) -> Result<Lhs, Fault> {
-        match named(&WAYS, word(question, 0)).ok_or(Fault::Form)? {
+        match first_named(&WAYS, question)? {
             Way::Unite => normal(of),
-            Way::Slice => slice(of, size(word(question, 2))?, size(word(question, 3))?),
+            Way::Slice => slice(of, size_at(question, 2)?, size_at(question, 3)?),
             Way::Concat => concat(self.alloc, of, word(question, 2)),
             Way::Copy => copy(of),
         }
     }
 }
 
+fn put_cut(said: &mut Vec<u8>, made: &Lhs) -> Result<(), Fault> {
+    if made.segs().is_empty() {
+        put(said, b"-")
+    } else {
+        put_lhs(said, made)
+    }
+}
+
 impl Judge for Cut {
-    fn row(&mut self, question: &[u8], wanted: &[u8], said: &mut Vec<u8>) -> Result<bool, Fault> {
+    fn row(&mut self, question: &[u8], _wanted: &[u8], said: &mut Vec<u8>) -> Result<(), Fault> {
         let of = lhs(self.alloc, word(question, 1))?;
         let made = self.made(question, &of);
         let (_, made) = both(of, made)?;
-        put_lhs(said, &made)?;
-        if said.is_empty() {
-            put(said, b"-")?;
-        }
-        Ok(said.as_slice() == wanted)
+        put_cut(said, &made)
     }
 }

@@ -6,12 +6,11 @@ mod joins;
 mod lists;
 mod trees;
 
-use case_rows::{Bench, Fault, Report, each_row, judge_text, named, word};
+use case_rows::{Bench, Fault, Report, each_row, judge_files, named, word};
 use joins::{Cut, judge_joins};
 use lists::{Calls, judge_ring};
 use std::alloc::Global;
-use std::io::Write;
-use std::{env, fs, io};
+use std::io;
 use trees::Trees;
 
 #[derive(Clone, Copy)]
@@ -38,6 +37,10 @@ struct Keys {
 }
 
 impl Bench for Keys {
+    fn new(alloc: Global) -> Keys {
+        Keys { alloc }
+    }
+
     fn key(&mut self, line: &[u8], block: &[u8], report: &mut Report) -> Result<(), Fault> {
         match named(&KEYS, word(line, 0)) {
             Some(Key::Ring) => judge_ring(self.alloc, line, block, report),
@@ -50,20 +53,6 @@ impl Bench for Keys {
     }
 }
 
-fn judge_file(rt: &HostRuntime, name: &str, report: &mut Report) -> io::Result<()> {
-    let text = fs::read(rt, name)?;
-    let mut keys = Keys { alloc: rt.alloc() };
-    match judge_text(&mut keys, name.as_bytes(), &text, report) {
-        Ok(()) => Ok(()),
-        Err(_) => Err(io::ErrorKind::OutOfMemory.into()),
-    }
-}
-
 fn main(rt: HostRuntime) -> io::Result<()> {
-    let mut report = Report::new(rt.alloc());
-    for name in env::args(&rt)?.skip(1) {
-        judge_file(&rt, name.as_str(), &mut report)?;
-    }
-    rt.stdout().write_all(report.out())?;
-    Ok(())
+    judge_files::<Keys>(&rt)
 }

@@ -5,11 +5,21 @@ use case_rows::{Fault, Judge, part, put_number, size, small};
 use items::{Boxed, Items, both};
 use std::alloc::{AllocError, Global};
 
-#[derive(Drop)]
 enum Tree {
     Leaf(u8),
     Node(Items<Tree>),
     Pair(Boxed<Tree>, Boxed<Tree>),
+}
+
+impl Drop for Tree {
+    #[cycle(tree_drop)]
+    fn drop(self) {
+        match self {
+            Tree::Leaf(_) => {}
+            Tree::Node(_) => {}
+            Tree::Pair(_, _) => {}
+        }
+    }
 }
 
 // The sum of the leaves, modulo 256.
@@ -73,7 +83,7 @@ fn put_tree(alloc: Global, word: &[u8], stack: &mut Items<Tree>) -> Result<(), F
         b"list" => list(alloc, stack, size(part(word, b'.', 1))?),
         _ => leaf(word),
     };
-    Ok(push(stack, tree)?)
+    push(stack, tree)
 }
 
 fn leaf(word: &[u8]) -> Result<Tree, Fault> {
@@ -108,11 +118,10 @@ pub struct Trees {
 }
 
 impl Judge for Trees {
-    fn row(&mut self, question: &[u8], wanted: &[u8], said: &mut Vec<u8>) -> Result<bool, Fault> {
+    fn row(&mut self, question: &[u8], _wanted: &[u8], said: &mut Vec<u8>) -> Result<(), Fault> {
         let mut stack = Items::new(self.alloc);
         let put = put_trees(self.alloc, question, &mut stack);
         let (stack, _) = both(stack, put)?;
-        put_total(&stack, said)?;
-        Ok(said.as_slice() == wanted)
+        put_total(&stack, said)
     }
 }

@@ -5,7 +5,7 @@
 //! between two indices, what is added, and the width.
 
 use crate::vectors::digits;
-use crate::words::{Fault, named, part, signed, small};
+use case_rows::{Fault, named, part, signed, small};
 use fourvec::Spot;
 use std::alloc::Global;
 use svex_arena::{Arena, Bin, Node, Shape, Un, VarName};
@@ -71,9 +71,9 @@ static CHOICES: [(&[u8], Choice); 4] = [
     (b"dyn_put", Choice::DynPut),
 ];
 
-// The kinds of variables.
+/// The kinds of variables.
 #[derive(Clone, Copy)]
-enum Kind {
+pub enum Kind {
     Now,
     Prev,
     Stim,
@@ -89,10 +89,15 @@ static KINDS: [(&[u8], Kind); 5] = [
     (b"sampled", Kind::Sampled),
 ];
 
+/// The kind of a name.
+pub fn kind_of(name: &[u8]) -> Option<Kind> {
+    named(&KINDS, name)
+}
+
 // A variable by its kind and number.
 fn variable(name: &[u8]) -> Option<VarName> {
     let letters = name.iter().position(|c| *c <= b'9').unwrap_or(name.len());
-    let kind = named(&KINDS, name.get(..letters)?)?;
+    let kind = kind_of(name.get(..letters)?)?;
     let at = usize::from(small(name.get(letters..)?)?);
     Some(match kind {
         Kind::Now => VarName::Now(at),

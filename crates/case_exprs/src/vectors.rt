@@ -3,7 +3,7 @@
 
 ghost use Rattle.std.specs.Prelude.{◌≡◌, length, IfSome};
 
-use crate::words::{Fault, small};
+use case_rows::{Fault, small};
 use fourvec::{Bit, Four};
 
 #[tactic(auto, using(fourvec::proofs::Basic::views))]
@@ -62,6 +62,17 @@ pub fn digits(word: &[u8]) -> Option<Four> {
         }
     }
     value
+}
+
+/// Puts the vectors of words behind those of a list.
+pub fn read_vectors(list: &mut Vec<Four>, words: &[u8]) -> Result<(), Fault> {
+    for word in words.split(|c| *c == b' ') {
+        if !word.is_empty() {
+            let next = digits(word).ok_or(Fault::Form)?;
+            list.push(next)?;
+        }
+    }
+    Ok(())
 }
 
 fn code_of(bit: Bit) -> u8 {
