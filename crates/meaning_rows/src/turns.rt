@@ -145,7 +145,7 @@ fn put_all(
 
 fn put_over(alloc: Global, rows: &[u8], scope: &Scope, out: &mut Vec<u8>) -> Result<(), TextErr> {
     let mut names = Names::new(alloc);
-    names.push_scope(scope, scope.len())?;
+    names.push_scope(scope, scope.len(), scope.len())?;
     put_all(alloc, rows, &mut names, out)
 }
 
