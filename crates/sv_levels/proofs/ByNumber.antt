@@ -1,8 +1,8 @@
 -- Modules by number and by name.
-use Rattle.std.proofs.Common.{◌≡◌, ℕ, zero, suc, ◌+◌, ◌<◌, Bool, true, false, List, [], ◌∷◌, length, map, get_or, Option, Some, None, Result, Ok, Err, refl, sym, ap, ◌∙◌, subst, arith, if◌then◌else◌, Bor}
+use Rattle.std.proofs.Common.{◌≡◌, ℕ, zero, suc, ◌+◌, ◌<◌, ◌≤◌, Bool, true, false, List, [], ◌∷◌, length, map, get_or, Option, Some, None, Result, Ok, Err, refl, sym, ap, ◌∙◌, subst, arith, if◌then◌else◌, Bor}
 use Rattle.std.specs.Option.{option_map}
 use Rattle.std.specs.List.{slice_get, range_with_len}
-use Rattle.std.proofs.lemmas.Option.{slice_get-map, slice_get_read}
+use Rattle.std.proofs.lemmas.Option.{slice_get-map, slice_get_past, slice_get_read}
 use Rattle.sv_outside.specs.declared.refusal.TextErr.{TextErr}
 use Rattle.sv_outside.specs.declared.refusal.TextErr.TheVariants.{No, Memory}
 use Rattle.sv_tree.specs.declared.design.Module.{Module}
@@ -14,7 +14,7 @@ use Rattle.sv_hierarchy.specs.Libraries.{IsLibraryOf}
 use Rattle.sv_hierarchy.specs.Scopes as m
 use Rattle.sv_hierarchy.specs.Scopes.{unused, module_named}
 use Rattle.sv_loops.specs.Answers.{Answers}
-use Rattle.sv_levels.specs.Library.{KnowsNumber, known_is}
+use Rattle.sv_levels.specs.Library.{known_is}
 use Rattle.sv_levels.specs.declared.library.Known.{Known}
 use Rattle.sv_levels.specs.declared.tasks.Child.{Child}
 
@@ -117,20 +117,37 @@ module_is all c x e = rw e refl
 module_missing : (all : m.Library) (c : m.Child) → m.module_named c.of_module.text all ≡ None → m.module_of all c ≡ Err (fault unknown_module c.of_module.place)
 module_missing all c e = rw e refl
 
--- the module that has the name is the one of the number that is found for it
-pub module_at : (modules : List Module) (all : m.Library) (c : m.Child) (n : ℕ) (k : m.Known) → IsLibraryOf modules all → option_map (λ (x : m.Known). x.number) (m.module_named c.of_module.text all) ≡ Some n →
-    slice_get all n ≡ Some k → m.module_of all c ≡ Ok k
-module_at modules all c n k h e g =
-    let x = named_is (m.module_named c.of_module.text all) n e in
-    let a : slice_get all x.0.number ≡ Some x.0 = own_number modules all x.0 h (among_named c.of_module.text all x.0 x.1) in
-    let b : Some x.0 ≡ Some k = sym a ∙ ap (λ (j : ℕ). slice_get all j) x.2 ∙ g in
-    module_is all c x.0 x.1 ∙ (let y : x.0 ≡ k = cc in ap Ok y)
+-- the module of the number that is found for a name is the one that has it
+pub named_at : (modules : List Module) (all : m.Library) (name : Name) (n : ℕ) → IsLibraryOf modules all → option_map (λ (x : m.Known). x.number) (m.module_named name all) ≡ Some n → slice_get all n ≡ m.module_named name all
+named_at modules all name n h e =
+    let x = named_is (m.module_named name all) n e in
+    ap (λ (j : ℕ). slice_get all j) (sym x.2) ∙ own_number modules all x.0 h (among_named name all x.0 x.1) ∙ sym x.1
 
-pub module_told : (modules : List Module) (all : m.Library) (c : m.Child) (n : ℕ) (r : Result Known TextErr) → IsLibraryOf modules all → option_map (λ (x : m.Known). x.number) (m.module_named c.of_module.text all) ≡ Some n →
-    KnowsNumber all n r → Answers (λ (k : m.Known) (known : Known). k ≡ known_is known) (m.module_of all c) r
-module_told modules all c n (Ok k) h e g = subst (λ (j : Judged m.Known). Answers (λ (x : m.Known) (known : Known). x ≡ known_is known) j (Ok k)) (sym (module_at modules all c n (known_is k) h e g)) refl
-module_told modules all c n (Err (No x)) h e g = absurd g
-module_told modules all c n (Err Memory) h e g = answers_memory (λ (k : m.Known) (known : Known). k ≡ known_is known) (m.module_of all c)
+pub not_named : (all : m.Library) (name : Name) → option_map (λ (x : m.Known). x.number) (m.module_named name all) ≡ None → None ≡ m.module_named name all
+not_named all name e = sym (unnamed_is (m.module_named name all) e)
 
-pub module_none : (all : m.Library) (c : m.Child) → option_map (λ (x : m.Known). x.number) (m.module_named c.of_module.text all) ≡ None → m.module_of all c ≡ Err (fault unknown_module c.of_module.place)
-module_none all c e = module_missing all c (unnamed_is (m.module_named c.of_module.text all) e)
+abbrev pub IsModule : m.Known → Known → Type 0
+IsModule k known = k ≡ known_is known
+
+pub module_told : (all : m.Library) (c : m.Child) (name : Name) (k : Known) → name ≡ c.of_module.text → Some (known_is k) ≡ m.module_named name all → Answers IsModule (m.module_of all c) (Ok k)
+module_told all c name k e h =
+    subst (λ (j : Judged m.Known). Answers IsModule j (Ok k)) (sym (module_is all c (known_is k) (ap (λ (n : Name). m.module_named n all) (sym e) ∙ sym h))) refl
+
+pub module_none : (all : m.Library) (c : m.Child) (name : Name) → name ≡ c.of_module.text → None ≡ m.module_named name all → m.module_of all c ≡ Err (fault unknown_module c.of_module.place)
+module_none all c name e h = module_missing all c (ap (λ (n : Name). m.module_named n all) (sym e) ∙ sym h)
+
+-- ---- no module of a number
+
+nothing_there : {A : Type 0} (f : m.Known → A) (all : m.Library) (n : ℕ) → slice_get (map f all) n ≡ None → None ≡ slice_get all n
+nothing_there f all n h = go (slice_get all n) (sym (slice_get-map f all n) ∙ h)
+  where
+    go : (o : Option m.Known) → option_map f o ≡ None → None ≡ o
+    go None e = refl
+    go (Some k) e = cc
+
+pub no_tree : (listed : List (Bor Module)) (modules : List Module) (all : m.Library) (n : ℕ) → IsLibraryOf modules all → map (λ (x : Bor Module). x.now) listed ≡ modules → length listed ≤ n → None ≡ slice_get all n
+no_tree listed modules all n h e l =
+    nothing_there tree_of all n (ap (λ (x : List Module). slice_get x n) (h.trees ∙ sym e) ∙ slice_get-map (λ (x : Bor Module). x.now) listed n ∙ ap (option_map (λ (x : Bor Module). x.now)) (slice_get_past listed n l))
+
+pub no_above : (all : m.Library) (above : List ℕ) (n : ℕ) → map (λ (k : m.Known). k.above) all ≡ above → slice_get above n ≡ None → None ≡ slice_get all n
+no_above all above n e h = nothing_there above_of all n (ap (λ (x : List ℕ). slice_get x n) e ∙ h)

@@ -5,7 +5,7 @@ use Rattle.std.specs.Result.{IfOk, OnOk}
 use Rattle.std.proofs.lemmas.List.{length-map, map-append}
 use Rattle.std.proofs.lemmas.Option.{slice_get-map, slice_get_past, slice_get_read}
 use Rattle.sv_names.specs.declared.layout.What.{What}
-use Rattle.sv_names.specs.Kinds.{Entry, entry_is, scope_is}
+use Rattle.sv_names.specs.Kinds.{Entry, entry_is, entries_are}
 use Rattle.sv_meaning.specs.Layouts.{Name}
 use Rattle.sv_hierarchy.specs.Scopes as m
 use Rattle.sv_levels.specs.declared.levels.Front.{Front}
@@ -55,16 +55,16 @@ level_missed (z ∷ list) (suc n) f h = ap (λ u. level_is z ∷ u) (level_misse
 pub const_added : (list : List Level) (n : ℕ) (x : Level) (name : Name) (what : What) (new : List Entry) → slice_get list n ≡ Some x → new ≡ x.consts ++ (name, what) ∷ [] →
     map level_is (set list n (record x { consts = new })) ≡ m.with_level n (m.with_const (entry_is (name, what))) (map level_is list)
 const_added list n x name what new h e =
-    let g : scope_is new ≡ scope_is x.consts ++ entry_is (name, what) ∷ [] = ap scope_is e ∙ map-append entry_is x.consts ((name, what) ∷ []) in
+    let g : entries_are new ≡ entries_are x.consts ++ entry_is (name, what) ∷ [] = ap entries_are e ∙ map-append entry_is x.consts ((name, what) ∷ []) in
     level_set list n x (record x { consts = new }) (m.with_const (entry_is (name, what))) h
-    (λ k. record { path = x.path; module_number = (level_is x).module_number; parent = x.parent; around = (level_is x).around; nets = scope_is x.nets; consts = g k })
+    (λ k. record { path = x.path; module_number = (level_is x).module_number; parent = x.parent; around = (level_is x).around; nets = entries_are x.nets; consts = g k })
 
 pub net_added : (list : List Level) (n : ℕ) (x : Level) (name : Name) (what : What) (new : List Entry) → slice_get list n ≡ Some x → new ≡ x.nets ++ (name, what) ∷ [] →
     map level_is (set list n (record x { nets = new })) ≡ m.with_level n (m.with_net (entry_is (name, what))) (map level_is list)
 net_added list n x name what new h e =
-    let g : scope_is new ≡ scope_is x.nets ++ entry_is (name, what) ∷ [] = ap scope_is e ∙ map-append entry_is x.nets ((name, what) ∷ []) in
+    let g : entries_are new ≡ entries_are x.nets ++ entry_is (name, what) ∷ [] = ap entries_are e ∙ map-append entry_is x.nets ((name, what) ∷ []) in
     level_set list n x (record x { nets = new }) (m.with_net (entry_is (name, what))) h
-    (λ k. record { path = x.path; module_number = (level_is x).module_number; parent = x.parent; around = (level_is x).around; nets = g k; consts = scope_is x.consts })
+    (λ k. record { path = x.path; module_number = (level_is x).module_number; parent = x.parent; around = (level_is x).around; nets = g k; consts = entries_are x.consts })
 
 -- the place behind what is declared in it
 pub front_found : (list : List Level) (n : ℕ) (x : Level) (i j : ℕ) → slice_get list n ≡ Some x → i ≡ length x.nets → j ≡ length x.consts →

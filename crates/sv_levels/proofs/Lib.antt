@@ -4,4 +4,5 @@ pub mod LevelsHeld
 pub mod LevelsSeen
 pub mod PortsIndexed
 pub mod PortsLists
+pub mod Signs
 pub mod Wired

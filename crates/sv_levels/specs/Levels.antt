@@ -1,7 +1,7 @@
 -- Scopes as code holds them.
 use Rattle.std.specs.Prelude.{ℕ, List, length, map}
-use Rattle.sv_names.specs.Kinds.{scope_is}
-use Rattle.sv_meaning.specs.Layouts.{Scope}
+use Rattle.sv_names.specs.Kinds.{entries_are}
+use Rattle.sv_meaning.specs.Layouts.{Entry, Scope}
 use Rattle.sv_hierarchy.specs.Scopes as m
 use Rattle.sv_levels.specs.declared.levels.Front.{Front}
 use Rattle.sv_levels.specs.declared.levels.Instance.{Instance}
@@ -17,8 +17,8 @@ level_is x = record {
   module_number = x.module;
   parent = x.parent;
   around = map front_is x.around;
-  nets = scope_is x.nets;
-  consts = scope_is x.consts;
+  nets = entries_are x.nets;
+  consts = entries_are x.consts;
 }
 
 abbrev pub levels_are : Levels → List m.Level
@@ -28,11 +28,15 @@ levels_are levels = map level_is levels.list.items
 abbrev pub front_of : List m.Level → ℕ → m.Front
 front_of all n = record { level = n; nets = length (m.level_at all n).nets; consts = length (m.level_at all n).consts }
 
-abbrev pub seen_frames : List m.Level → List Front → Scope
+abbrev pub seen_frames : List m.Level → List Front → List Entry
 seen_frames all fronts = m.seen_along all (map front_is fronts)
 
-abbrev pub live_frames : List m.Level → List Front → Scope
+abbrev pub live_frames : List m.Level → List Front → List Entry
 live_frames all fronts = m.live_along all (map front_is fronts)
+
+-- with what a constant expression sees of them
+abbrev pub live_scope : List m.Level → List Front → Scope
+live_scope all fronts = record { all = live_frames all fronts; above = seen_frames all fronts }
 
 -- an instance or block, with all names that it sees at its end
 abbrev pub instance_is : List m.Level → Instance → m.Instance

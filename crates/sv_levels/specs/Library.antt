@@ -1,8 +1,6 @@
 -- The modules of a text as code holds them.
-use Rattle.std.specs.Prelude.{◌≡◌, ℕ, false, List, map, slice_get, Some, Result, Ok, Err}
+use Rattle.std.specs.Prelude.{◌≡◌, ℕ, false, List, map, slice_get, Option, option_map, Ok}
 use Rattle.std.specs.Global.{Vec}
-use Rattle.sv_outside.specs.declared.refusal.TextErr.{TextErr}
-use Rattle.sv_outside.specs.declared.refusal.TextErr.TheVariants.{No, Memory}
 use Rattle.sv_tree.specs.declared.design.Module.{Module}
 use Rattle.sv_meaning.specs.Faults.{Judged, ◌>>=◌}
 use Rattle.sv_meaning.specs.Layouts.{Scope}
@@ -24,11 +22,9 @@ pub record IsLibrary (library : Library) (all : m.Library) : Type 0 where
   pub modules : IsLibraryOf (modules_of library.modules) all
   pub above : map (λ (k : m.Known). k.above) all ≡ library.above
 
--- the module of a number
-abbrev pub KnowsNumber : m.Library → ℕ → Result Known TextErr → Type 0
-KnowsNumber all n (Ok k) = slice_get all n ≡ Some (known_is k)
-KnowsNumber all n (Err (No r)) = ⊥
-KnowsNumber all n (Err Memory) = Unit {0}
+-- the module of a number, if there is one
+abbrev pub KnowsNumber : m.Library → ℕ → Option Known → Type 0
+KnowsNumber all n found = option_map known_is found ≡ slice_get all n
 
 -- connections as code lists them
 abbrev pub IsListed : List Connection → Vec Listed → Type 0

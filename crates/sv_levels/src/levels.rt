@@ -1,10 +1,11 @@
 // The scopes of a design, each with its names.
 ghost use Rattle.std.specs.Prelude.{◌≡◌, [], ◌∷◌, ◌++◌, length, map, slice_get, take, IfOk, OnOk, option_map};
-ghost use Rattle.sv_names.specs.Kinds.{WhatIsSound, entry_is, scope_is};
-ghost use Rattle.sv_names.specs.Names.{frames_of, loops_of, names_are};
+ghost use Rattle.sv_names.specs.Kinds.{WhatIsSound, entry_is, entries_are};
+ghost use Rattle.sv_names.specs.Names.{above_of, frames_of, loops_of, names_are};
+ghost use Rattle.sv_meaning.specs.Layouts.{scope_of};
 ghost use Rattle.sv_hierarchy.specs.Scopes.{behind, fronts_at, instances_from, level_at, live_at, prefix_of, seen_at, with_const, with_level, with_net};
 ghost use Rattle.sv_levels.specs.Levels.{instance_is};
-ghost use Rattle.sv_levels.specs.Levels.{front_is, front_of, level_is, levels_are, live_frames, seen_frames};
+ghost use Rattle.sv_levels.specs.Levels.{front_is, front_of, level_is, levels_are, live_scope, seen_frames};
 
 use crate::held::let_go;
 use items::Items;
@@ -211,7 +212,8 @@ impl Levels {
         seen_along(alloc, &self.list, fronts.as_slice())
     }
 
-    /// What all else at a place sees: all nets and variables of the scopes around it, and the constants and types above it.
+    /// What all else at a place sees: all nets and variables of the scopes around it, and the constants and types above it. Its
+    /// constant expressions see what is declared above it.
     pub fn live(&self, alloc: Global, at: Front) -> Result<Names<'_>, AllocError>
         ensures names { IfOk result (λ names. names_are names ≡ live_at (levels_are self.now) (front_is at)) }
         ensures loops { IfOk result (λ names. loops_of names ≡ []) }
@@ -244,20 +246,21 @@ fn nets_of(levels: &[Level], level: usize) -> usize
     }
 }
 
-// The names of a front of a scope, of which so many nets are seen.
+// The names of a front of a scope, of which so many nets are seen; those of the front are declared above.
 fn enter<'a>(
     names: &mut Names<'a>,
     levels: &'a [Level],
     front: Front,
     nets: usize,
 ) -> Result<(), AllocError>
-    ensures frames { OnOk result (scope_is (frames_of names.new) ≡ scope_is (frames_of names.old) ++ (take nets (level_at (map level_is levels.now) front.level).nets ++ take front.consts (level_at (map level_is levels.now) front.level).consts)) }
+    ensures frames { OnOk result (entries_are (frames_of names.new) ≡ entries_are (frames_of names.old) ++ (take nets (level_at (map level_is levels.now) front.level).nets ++ take front.consts (level_at (map level_is levels.now) front.level).consts)) }
+    ensures above { OnOk result (entries_are (above_of names.new) ≡ entries_are (above_of names.old) ++ (take front.nets (level_at (map level_is levels.now) front.level).nets ++ take front.consts (level_at (map level_is levels.now) front.level).consts)) }
     ensures loops { OnOk result (loops_of names.new ≡ loops_of names.old) }
 {
     match levels.get(front.level) {
         Some(level) => {
-            names.push_scope(&level.nets, nets)?;
-            names.push_scope(&level.consts, front.consts)
+            names.push_scope(&level.nets, nets, front.nets)?;
+            names.push_scope(&level.consts, front.consts, front.consts)
         }
         None => Ok(()),
     }
@@ -269,7 +272,7 @@ fn seen_along<'a>(
     levels: &'a [Level],
     fronts: &[Front],
 ) -> Result<Names<'a>, AllocError>
-    ensures names { IfOk result (λ names. names_are names ≡ seen_frames (map level_is levels.now) fronts.now) }
+    ensures names { IfOk result (λ names. names_are names ≡ scope_of (seen_frames (map level_is levels.now) fronts.now)) }
     ensures loops { IfOk result (λ names. loops_of names ≡ []) }
 {
     let mut names = Names::new(alloc);
@@ -279,13 +282,13 @@ fn seen_along<'a>(
     Ok(names)
 }
 
-// The names of fronts of scopes, with all nets of each.
+// The names of fronts of scopes, with all nets of each, of which a constant expression sees those above.
 fn live_along<'a>(
     alloc: Global,
     levels: &'a [Level],
     fronts: &[Front],
 ) -> Result<Names<'a>, AllocError>
-    ensures names { IfOk result (λ names. names_are names ≡ live_frames (map level_is levels.now) fronts.now) }
+    ensures names { IfOk result (λ names. names_are names ≡ live_scope (map level_is levels.now) fronts.now) }
     ensures loops { IfOk result (λ names. loops_of names ≡ []) }
 {
     let mut names = Names::new(alloc);

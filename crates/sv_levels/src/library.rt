@@ -1,5 +1,5 @@
 // The modules of a text, and what an instance gives to one (IEEE 1800-2017, 23.3).
-ghost use Rattle.std.specs.Prelude.{◌≡◌};
+ghost use Rattle.std.specs.Prelude.{◌≡◌, option_map};
 ghost use Rattle.sv_meaning.specs.Layouts.{Scope as Seen};
 ghost use Rattle.sv_meaning.specs.Params.{connections};
 ghost use Rattle.sv_loops.specs.Answers.{Answers};
@@ -94,26 +94,34 @@ pub fn wiring_of<'a>(
 }
 
 impl<'a> Library<'a> {
-    /// The module of a number. Any other is answered as want of memory.
-    pub fn known(&self, number: usize) -> Result<Known<'a>, TextErr>
+    /// The module of a number, if there are so many.
+    pub fn known(&self, number: usize) -> Option<Known<'a>>
         ensures { (all : m.Library) → IsLibrary self.now all → KnowsNumber all number result }
     {
-        match (self.modules.list().get(number), self.above.get(number)) {
-            (Some(tree), Some(above)) => Ok(Known {
-                tree: *tree,
-                number,
-                above: *above,
-            }),
-            _ => Err(TextErr::Memory),
-        }
+        let tree = self.modules.list().get(number)?;
+        let above = self.above.get(number)?;
+        Some(Known {
+            tree: *tree,
+            number,
+            above: *above,
+        })
+    }
+
+    // The module of a name, if there is one.
+    fn named(&self, name: &[u8]) -> Option<Known<'a>>
+        ensures { (all : m.Library) → IsLibrary self.now all → option_map known_is result ≡ m.module_named name.now all }
+    {
+        let number = self.modules.find(name)?;
+        self.known(number)
     }
 
     /// The module of an instance, or E11 at its name.
+    #[tactic(auto, using(crate::proofs::ByNumber::module_none))]
     pub fn module_of(&self, child: &Child<'a>) -> Result<Known<'a>, TextErr>
         ensures { (all : m.Library) → IsLibrary self.now all → Answers (λ k known. k ≡ known_is known) (m.module_of all (child_is child.now)) result }
     {
-        match self.modules.find(child.of_module.text.bytes()) {
-            Some(number) => self.known(number),
+        match self.named(child.of_module.text.bytes()) {
+            Some(known) => Ok(known),
             None => Err(TextErr::No(refusal(11, child.of_module.place))),
         }
     }

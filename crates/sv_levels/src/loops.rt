@@ -1,6 +1,6 @@
 // The variables of generate loops (IEEE 1800-2017, 27.4).
 ghost use Rattle.std.specs.Prelude.{◌≡◌, false, [], ◌∷◌, IfOk};
-ghost use Rattle.sv_names.specs.Kinds.{scope_is};
+ghost use Rattle.sv_names.specs.Kinds.{entries_are};
 ghost use Rattle.sv_names.specs.Names.{names_are};
 ghost use Rattle.sv_tree.specs.declared.word.Word.{Word as Spelt};
 ghost use Rattle.sv_meaning.specs.Deeds.{index_entry};
@@ -55,7 +55,7 @@ impl Drop for Turns {
 
 /// The variable of a loop in a turn, as the first name of its block.
 pub fn index_scope(alloc: Global, variable: &Word, bits: Four) -> Result<Scope, AllocError>
-    ensures { IfOk result (λ scope. scope_is scope ≡ index_entry variable.now.text bits ∷ []) }
+    ensures { IfOk result (λ scope. entries_are scope ≡ index_entry variable.now.text bits ∷ []) }
 {
     let mut scope = Scope::new(alloc);
     let name = variable.text.copy()?;

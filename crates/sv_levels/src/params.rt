@@ -3,7 +3,7 @@ ghost use Rattle.std.specs.Prelude.{◌≡◌, None, Option, MatchOption, IfOk, 
 ghost use Rattle.std.specs.Option.{option_copied};
 ghost use Rattle.sv_tree.specs.declared.design.ParamType.{ParamType as TypeOfParam};
 ghost use Rattle.sv_tree.specs.declared.design.ParamWord.{ParamWord as WordOfParam};
-ghost use Rattle.sv_names.specs.Names.{names_are};
+ghost use Rattle.sv_names.specs.Names.{constants_are};
 ghost use Rattle.sv_meaning.specs.Params.{name_alone, param_value};
 ghost use Rattle.sv_meaning.specs.Values.{mean};
 ghost use Rattle.sv_types.specs.Values.{JudgesValue};
@@ -32,7 +32,7 @@ pub fn value_of(
     value: Actual<'_>,
     value_names: &Names<'_>,
 ) -> Result<Known, TextErr>
-    ensures { JudgesValue (param_value (names_are names.now) (option_copied form.entry) (mean (names_are value_names.now) (actual_is value.entry))) result }
+    ensures { JudgesValue (param_value (constants_are names.now) (option_copied form.entry) (mean (constants_are value_names.now) (actual_is value.entry))) result }
 {
     match value {
         Actual::Written(expr) => param_value(alloc, form, names, expr, value_names),
@@ -48,7 +48,7 @@ fn value_named(
     word: &Word,
     value_names: &Names<'_>,
 ) -> Result<Known, TextErr>
-    ensures { JudgesValue (param_value (names_are names.now) (option_copied form.entry) (mean (names_are value_names.now) (name_alone word.now))) result }
+    ensures { JudgesValue (param_value (constants_are names.now) (option_copied form.entry) (mean (constants_are value_names.now) (name_alone word.now))) result }
 {
     let text = word.text.copy()?;
     let place = word.place;

@@ -1,16 +1,14 @@
 // Names that the text does not spell.
-ghost use Rattle.std.specs.Prelude.{◌≡◌, IfErr, IfOk, IfSome};
+ghost use Rattle.std.specs.Prelude.{◌≡◌, ◌<◌, ◌≤◌, negsuc, length, IfOk};
 ghost use Rattle.std.specs.Option.{option_copied};
-ghost use Rattle.fourvec.specs.Bits.{signed};
-ghost use Rattle.sv_outside.specs.declared.refusal.TextErr.TheVariants.{Memory};
+ghost use Rattle.fourvec.specs.Bits.{is_negative, signed};
 ghost use Rattle.sv_hierarchy.specs.Scopes.{block_name, block_place, turn_name};
 
-use fourvec::Four;
+use fourvec::{Bit, Four};
 use itoa::Buffer;
 use std::alloc::{AllocError, Global};
-use sv_outside::{Name, Place, TextErr};
+use sv_outside::{Name, Place};
 use sv_tree::Word;
-use sv_typing::small;
 
 /// The name of a block: its label, or that of the construct with a number (27.6).
 pub fn block_name(alloc: Global, label: Option<&Word>, number: usize) -> Result<Name, AllocError>
@@ -37,30 +35,44 @@ pub fn block_place(label: Option<&Word>, start: Place) -> Place
     }
 }
 
-// The number of a vector that is wholly 0 and 1.
-fn number_of(bits: &Four) -> Option<i64>
-    ensures { IfSome result (λ n. n ≡ signed bits.now) }
+// The number below zero that stands so far below -1.
+fn below_zero(distance: u128) -> i128
+    requires { distance < 170141183460469231731687303715884105728 }
+    ensures { result ≡ negsuc distance }
 {
-    if bits.is_bool() {
-        small(bits, true)
+    -1 - distance as i128
+}
+
+// Whether the highest bit is 1.
+#[tactic(auto, using(fourvec::proofs::Signed::negative_read))]
+fn is_negative(bits: &Four) -> bool
+    ensures is { result ≡ is_negative bits.now }
+    ensures most { length bits.now ≤ 128 }
+{
+    bits.bit(bits.width() - 1) == Bit::One
+}
+
+// The signed number of a vector, in which a bit that is no 1 counts as 0.
+fn number_of(bits: &Four) -> i128
+    ensures { result ≡ signed bits.now }
+{
+    let number = bits.unfloat().low();
+    if is_negative(bits) {
+        below_zero((u128::MAX >> (128 - bits.width())) - number)
     } else {
-        None
+        number as i128
     }
 }
 
-/// The name of a turn's block, by the value of the loop's variable. That is wholly 0 and 1 and has 32 bits; any other is
-/// answered as want of memory.
-pub fn turn_name(alloc: Global, block: &[u8], bits: &Four) -> Result<Name, TextErr>
-    ensures is { IfOk result (λ name. name ≡ turn_name block.now bits.now) }
-    ensures memory { IfErr result (λ why. why ≡ Memory) }
+/// The name of a turn's block, by the signed value of the loop's variable (27.4).
+pub fn turn_name(alloc: Global, block: &[u8], bits: &Four) -> Result<Name, AllocError>
+    ensures { IfOk result (λ name. name ≡ turn_name block.now bits.now) }
 {
-    let Some(number) = number_of(bits) else {
-        return Err(TextErr::Memory);
-    };
+    let number = number_of(bits);
     let mut buffer = Buffer::new();
     let mut bytes = block.to_vec(alloc)?;
     bytes.push(b'[')?;
     bytes.extend_from_slice(buffer.format(number).as_bytes())?;
     bytes.push(b']')?;
-    Ok(Name::new(alloc, &bytes)?)
+    Name::new(alloc, &bytes)
 }
