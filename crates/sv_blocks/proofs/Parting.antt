@@ -25,7 +25,7 @@ use Rattle.sv_typed.specs.declared.tree.Typed.{Typed}
 use Rattle.sv_typed.specs.declared.tree.PickPlace.TheBlock.{shape-the_row-Typed-0, hidden-the_row-Typed-0}
 use Rattle.sv_typed.specs.Typed.{own, names_of, form_names, pick_place, place_names, spot_place}
 use Rattle.sv_typed.proofs.Worth as worths
-use Rattle.sv_lower.specs.declared.parts.Place.{Place}
+use Rattle.fourvec.specs.declared.selects.Reach.{Reach}
 use Rattle.sv_lower.specs.Nodes.{bits_at_node, IsMade, FromOne, FromTwo, FromThree}
 use Rattle.sv_lower.specs.Lowering.{each_signal, no_signal}
 use Rattle.sv_lower.proofs.Nameless.{nameless}
@@ -38,7 +38,7 @@ use Rattle.sv_blocks.specs.Parts.{spotted_place, spotted_test, SpotIsIn, SpotIsW
 
 -- ---- where parts begin
 
-pub spots_fixed : (scene : Scene) (old : List Shape) (nodes : List ℕ) (p : Pick) (i : ℤ) (at : Place) → p.place ≡ place.Fixed i → reached at.below at.far ≡ i → Spots scene old old nodes p (At at)
+pub spots_fixed : (scene : Scene) (old : List Shape) (nodes : List ℕ) (p : Pick) (i : ℤ) (at : Reach) → p.place ≡ place.Fixed i → reached at.below at.far ≡ i → Spots scene old old nodes p (At at)
 spots_fixed scene old nodes p i at e d = record {
   there = tt;
   wide = tt;
@@ -46,7 +46,7 @@ spots_fixed scene old nodes p i at e d = record {
   mentions = λ q a h. refl;
 }
 
-pub spots_known : (scene : Scene) (old : List Shape) (nodes : List ℕ) (p : Pick) (x a : Typed) (spot : Spot) (at : Place) → p.place ≡ place.Moving a spot → x ≡ a
+pub spots_known : (scene : Scene) (old : List Shape) (nodes : List ℕ) (p : Pick) (x a : Typed) (spot : Spot) (at : Reach) → p.place ≡ place.Moving a spot → x ≡ a
     → ((read : Read) → spot_place spot (own x read) ≡ Some (reached at.below at.far)) → Spots scene old old nodes p (At at)
 spots_known scene old nodes p x a spot at e d h = record {
   there = tt;
@@ -69,7 +69,7 @@ spots_moving scene old new nodes p x a spot at e d w h = record {
 }
 
 -- the place of an index that names no signal
-known_place : (index : Typed) (spot : Spot) (value : List Bit) (k b : Bool) (p : Place) → b ≡ true → (b ≡ true → each_signal no_signal index ≡ true) → value ≡ own index nowhere → k ≡ is_known value → k ≡ true → place_of spot value ≡ reached p.below p.far
+known_place : (index : Typed) (spot : Spot) (value : List Bit) (k b : Bool) (p : Reach) → b ≡ true → (b ≡ true → each_signal no_signal index ≡ true) → value ≡ own index nowhere → k ≡ is_known value → k ≡ true → place_of spot value ≡ reached p.below p.far
     → (read : Read) → spot_place spot (own index read) ≡ Some (reached p.below p.far)
 known_place index spot value k b p t none is e f z read =
     ap (λ v. spot_place spot v) (nameless index read index.width index.signed (none t) ∙ sym is)
@@ -77,7 +77,7 @@ known_place index spot value k b p t none is e f z read =
 
 -- ---- parts that are read
 
-pub reads_at : (old new : List Shape) (s : Spotted) (at : Place) (w of n : ℕ) → s ≡ At at → FromOne old new (λ v. window v (reached at.below at.far) w) of w n → ReadsPart old new s w of n
+pub reads_at : (old new : List Shape) (s : Spotted) (at : Reach) (w of n : ℕ) → s ≡ At at → FromOne old new (λ v. window v (reached at.below at.far) w) of w n → ReadsPart old new s w of n
 reads_at old new s at w of n e h =
     let P : Spotted → Type 0 = λ x. ReadsPart old new x w of n in
     subst P (sym e) (record { within = h.within; width = h.width; value = h.value; mentions = λ p t m. h.mentions p m })
@@ -97,7 +97,7 @@ reads_moving old new s at spot w of n e wide h =
 
 -- ---- parts that are put
 
-pub puts_at : (old new : List Shape) (s : Spotted) (at : Place) (of part n : ℕ) → s ≡ At at → FromTwo old new (λ v put. overlaid v (reached at.below at.far) put) of part (width_at old of) n → PutsPart old new s of part n
+pub puts_at : (old new : List Shape) (s : Spotted) (at : Reach) (of part n : ℕ) → s ≡ At at → FromTwo old new (λ v put. overlaid v (reached at.below at.far) put) of part (width_at old of) n → PutsPart old new s of part n
 puts_at old new s at of part n e h =
     let P : Spotted → Type 0 = λ x. PutsPart old new x of part n in
     subst P (sym e) (record { within = h.within; width = h.width; value = h.value; mentions = λ p t m k. h.mentions p m k })
@@ -216,7 +216,7 @@ pub rest_room : (old mid : List Shape) (of high low from size : ℕ) → Extends
 rest_room old mid of high low from size e l w v le s m = let a = width-extends old mid low e l in omega arith
 
 -- the place of an index, if it is found
-pub known_places : (index : Typed) (spot : Spot) (value : List Bit) (k b : Bool) (o : Option Place) → b ≡ true → (b ≡ true → each_signal no_signal index ≡ true) → value ≡ own index nowhere → k ≡ is_known value → k ≡ true
+pub known_places : (index : Typed) (spot : Spot) (value : List Bit) (k b : Bool) (o : Option Reach) → b ≡ true → (b ≡ true → each_signal no_signal index ≡ true) → value ≡ own index nowhere → k ≡ is_known value → k ≡ true
     → IfSome o (λ p. place_of spot value ≡ reached p.below p.far) → IfSome o (λ p. (read : Read) → spot_place spot (own index read) ≡ Some (reached p.below p.far))
 known_places index spot value k b None t none is e f h = tt
 known_places index spot value k b (Some p) t none is e f h = known_place index spot value k b p t none is e f h
