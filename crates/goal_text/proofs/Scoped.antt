@@ -79,6 +79,12 @@ module _ {A : Type 0} (made : A → Vector) (o : Origin) where
 
 -- ---- names over scopes
 
+pub one_front : (x y t : List Entry) → x ≡ y ++ t → y ≡ [] → x ≡ t
+one_front x y t h g = h ∙ ap (λ z. z ++ t) g
+
+pub two_fronts : (x y z s t : List Entry) → x ≡ y ++ t → y ≡ z ++ s → z ≡ [] → x ≡ s ++ t
+two_fronts x y z s t h g k = h ∙ ap (λ w. w ++ t) (one_front y z s g k)
+
 entries_one : (loops front scope : List Entry) (n : ℕ) → n ≡ length scope → front ≡ take n scope → loops ≡ [] → entries_are (front ++ loops) ≡ entries_are scope
 entries_one loops front scope n len e none =
     ap (λ l. entries_are (l ++ loops)) (e ∙ take_all n scope (omega arith)) ∙ ap (λ l. entries_are (scope ++ l)) none ∙ ap entries_are (append-nil scope)

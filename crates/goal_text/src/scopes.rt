@@ -83,17 +83,16 @@ pub fn sampled(alloc: Global, samples: &[Sample]) -> Result<Scope, AllocError>
 }
 
 /// What hypotheses name: variables.
-#[tactic(auto, using(crate::proofs::Scoped::one_scope))]
 pub fn hyp_names<'a>(alloc: Global, variables: &'a Scope) -> Result<Names<'a>, AllocError>
     ensures { IfOk result (λ names. names_are names ≡ scope_of (entries_are variables.now)) }
 {
+    let count = variables.len();
     let mut names = Names::new(alloc);
-    names.push_scope(variables, variables.len(), variables.len())?;
+    names.push_scope(variables, count, count)?;
     Ok(names)
 }
 
 /// What claims name: variables and samples.
-#[tactic(auto, using(crate::proofs::Scoped::two_scopes))]
 pub fn claim_names<'a>(
     alloc: Global,
     variables: &'a Scope,
@@ -101,8 +100,9 @@ pub fn claim_names<'a>(
 ) -> Result<Names<'a>, AllocError>
     ensures { IfOk result (λ names. names_are names ≡ scope_of (entries_are variables.now ++ entries_are samples.now)) }
 {
+    let (count, sampled) = (variables.len(), samples.len());
     let mut names = Names::new(alloc);
-    names.push_scope(variables, variables.len(), variables.len())?;
-    names.push_scope(samples, samples.len(), samples.len())?;
+    names.push_scope(variables, count, count)?;
+    names.push_scope(samples, sampled, sampled)?;
     Ok(names)
 }
