@@ -1,10 +1,9 @@
 -- Bodies of generate constructs, conditions, loops and regions are read as they are spelled, where their items are.
-use Rattle.std.proofs.Common.{◌≡◌, ℕ, suc, ◌<◌, ◌≤◌, Bool, true, false, List, [], ◌∷◌, ◌++◌, length, Option, Some, None, refl, sym, ◌∙◌, ap, subst, append_assoc, length-append, arith}
+use Rattle.std.proofs.Common.{◌≡◌, ℕ, suc, ◌<◌, ◌≤◌, true, false, List, [], ◌∷◌, ◌++◌, length, Option, Some, None, refl, sym, ◌∙◌, ap, subst, append_assoc, length-append, arith}
 use Rattle.sv_outside.specs.declared.refusal.Place.{Place}
 use Rattle.sv_outside.specs.declared.text.Token.{Token}
 use Rattle.sv_tree.specs.declared.word.Word.{Word}
 use Rattle.sv_tree.specs.declared.exprs.Expr.{Expr}
-use Rattle.sv_tree.specs.declared.stmts.Step.{Step}
 use Rattle.sv_tree.specs.declared.stmts.Block.{Block}
 use Rattle.sv_tree.specs.declared.design.Item.{Item}
 use Rattle.sv_tree.specs.declared.design.Item.TheVariants as it
@@ -27,26 +26,26 @@ use Rattle.sv_word_parser.specs.declared.openers.ItemOpener.{ItemOpener}
 use Rattle.sv_word_parser.specs.declared.openers.ItemOpener.TheVariants as item_by
 use Rattle.sv_word_parser.specs.Combined.{sort_test}
 use Rattle.sv_word_parser.specs.Words.{item_by_word, item_by_sort}
-use Rattle.sv_stmt_parser.specs.Stmts.{is_given, Turns}
 use Rattle.sv_item_parser.specs.Items.{made_gen_block, made_cond, made_loop}
 use Rattle.sv_type_parser.proofs.Rules.{Shut, some_key, key_begins, IsFirst, first_of_key, first_of_name, told_sort, no_mark, no_key}
 use Rattle.sv_stmt_parser.proofs.Steps.{NoColon}
 use Rattle.sv_item_parser.proofs.Items.{DoneItem, DoneGen, counted_done_gen, OtherGen, ItemClass}
 use Rattle.sv_item_parser.proofs.Gens.{item_begins, item_told_no_colon, item_no_begin, cond_to, loop_to, region_to, gen_block_to, gen_block_from, single_to, single_from, item_view}
+use Rattle.sv_tree.specs.declared.stmts.Step.{Step}
 use Rattle.sv_tree.specs.declared.stmts.BlockKind.{BlockKind}
 use Rattle.sv_tree.specs.declared.stmts.BlockKind.TheVariants as kind_of
 use Rattle.sv_tree.specs.Spelling.{Begins}
-use Rattle.sv_tree.specs.Nesting.{Nesting, in_generate, each_depths, label_depths}
-use Rattle.sv_tree.specs.NestingDesign.{stmt_depths, kind_depths, block_depths}
+use Rattle.sv_tree.specs.Nesting.{Nesting, in_generate, each_depths, label_depths, expr_depths}
+use Rattle.sv_tree.specs.NestingDesign.{step_depths, stmt_depths, kind_depths, block_depths}
 use Rattle.sv_tree.proofs.CountedDesign.{length_in_generate}
 use Rattle.sv_cursor.specs.Parsers.{Parser, ◌<$>◌, pure, refuse}
 use Rattle.sv_cursor.proofs.Readers.{IsReader, IsMoved, Meets, then_meets, equal_reader, less_reader, choose_reader, refuse_reader}
 use Rattle.sv_stmt_parser.specs.Targets.{end_label}
-use Rattle.sv_item_parser.specs.Items.{place_test, items, gen_rest, gen_block, single, gen, maybe_gen, gen_if, gen_loop, region}
-use Rattle.sv_type_parser.proofs.Rules.{Rule, the_mark, the_key, placed, before, opening, closing, seq, seq_by, seq_up, optional, several, shut, rule_of, Way, ReadBy, reader_of, way_reader}
+use Rattle.sv_item_parser.specs.Items.{place_test, items, gen_rest, gen_block, single, gen, maybe_gen, cond_head, gen_if, LoopHead, head_turns, loop_head, gen_loop, region}
+use Rattle.sv_type_parser.proofs.Rules.{Rule, the_mark, the_key, placed, before, opening, closing, seq, seq_by, seq_up, optional, several, shut, rule_of, name_rule, Way, ReadBy, reader_of, way_reader}
 use Rattle.sv_type_parser.proofs.Limits.{Over, expression_rule, end_mark, generated}
-use Rattle.sv_stmt_parser.proofs.Steps.{block_label_rule, end_label_reads, end_label_moved}
-use Rattle.sv_stmt_parser.proofs.Stmts.{variable_rule}
+use Rattle.sv_stmt_parser.proofs.Steps.{block_label_rule, end_label_reads, end_label_moved, step_tree_rule}
+use Rattle.sv_expr_reader.proofs.Tokens.{Any}
 
 -- what is told of the first token, and a whole item
 abbrev pub Begun : ItemOpener → Item → Spelled
@@ -227,12 +226,19 @@ module _ (h d : ℕ) (le : d ≤ 200) (f : Parser Item) (reads : IsReader (Over 
   abbrev other_rule : Rule B d (Option Gen)
   other_rule = record { spelled = Shut (keyword_test k.Else) OtherGen; nests = maybe_rule.nests; stops = NoColon; parser = maybe_gen f; reads = else_reads; moved = maybe_rule.moved }
 
+  abbrev cond_head_tuple : Rule B d Expr
+  cond_head_tuple = before (the_mark B m.LeftParen) (closing (expression_rule 201 h 201 d le) (the_mark B m.RightParen) (end_mark m.RightParen refl))
+
+  cond_head_reads : IsReader B d cond_head_tuple.spelled cond_head_tuple.spelled cond_head_tuple.nests Any cond_head
+  unfolding cond_head
+  cond_head_reads = cond_head_tuple.reads
+
+  abbrev cond_head_rule : Rule B d Expr
+  cond_head_rule = record { spelled = cond_head_tuple.spelled; nests = cond_head_tuple.nests; stops = Any; parser = cond_head; reads = cond_head_reads; moved = cond_head_tuple.moved }
+
   abbrev cond_rule : Rule B (suc d) (Place × (Expr × (Gen × Option Gen)))
   cond_rule =
-      seq_up (placed (the_key B k.If))
-      (before (the_mark B m.LeftParen)
-      (seq (expression_rule 201 h 201 d le) (before (the_mark B m.RightParen) (seq gen_rule other_rule (λ x y i o v stops. other_no_colon y i o v stops))) (λ x y i o v stops. end_mark m.RightParen refl i v.0 v.1)))
-      (λ x y i o v stops. tt) (λ x i o v. omega arith)
+      seq_up (placed (the_key B k.If)) (seq cond_head_rule (seq gen_rule other_rule (λ x y i o v stops. other_no_colon y i o v stops)) (λ x y i o v stops. tt)) (λ x y i o v stops. tt) (λ x i o v. omega arith)
 
   cond_nested : (c : Place × (Expr × (Gen × Option Gen))) → in_generate (cond_rule.nests c) ≡ item_depths (made_cond c)
   cond_nested (p, (c, (x, None))) = sym (made.nests_if p c x None ∙ ap in_generate (simp append_assoc))
@@ -244,17 +250,36 @@ module _ (h d : ℕ) (le : d ≤ 200) (f : Parser Item) (reads : IsReader (Over 
       let r = generated 201 h 201 cond_rule in
       equal_reader (Over 201 (suc h) 201) r.nests item_depths made_cond cond_nested (suc d) r.spelled r.spelled DoneItem (Begun item_by.If) NoColon r.parser r.reads cond_to (classed item_by.If)
 
-  abbrev loop_rule : Rule B (suc d) (Place × (Option Place × (Word × Turns Gen)))
-  loop_rule =
-      seq_up (placed (the_key B k.For))
-      (before (the_mark B m.LeftParen)
-      (seq (optional (keyword_test k.Genvar) (placed (the_key B k.Genvar)) (λ p i o v. key_begins k.Genvar i o (some_key (keyword_text k.Genvar) p i o v))) (variable_rule 201 h 201 d le gen_rule)
-      (λ x y i o v stops. (name_no_genvar i (first_of_name y.0 i v.0 v.1), tt))))
-      (λ x y i o v stops. tt) (λ x i o v. omega arith)
+  abbrev turns_rule : Word → Rule B d (Expr × (Expr × Step))
+  turns_rule v =
+      before (the_mark B m.Assign)
+      (seq (expression_rule 201 h 201 d le)
+      (before (the_mark B m.Semicolon)
+      (seq (expression_rule 201 h 201 d le) (before (the_mark B m.Semicolon) (closing (step_tree_rule 201 h 201 d le v) (the_mark B m.RightParen) (end_mark m.RightParen refl)))
+      (λ x y i o v stops. end_mark m.Semicolon refl i v.0 v.1)))
+      (λ x y i o v stops. end_mark m.Semicolon refl i v.0 v.1))
 
-  loop_nested : (c : Place × (Option Place × (Word × Turns Gen))) → in_generate (loop_rule.nests c) ≡ item_depths (made_loop c)
-  loop_nested (p, (None, c)) = sym (made.nests_for p false c.0 c.1.0 c.1.1.0 c.1.1.1.0 c.1.1.1.1 ∙ ap in_generate (simp append_assoc))
-  loop_nested (p, (Some q, c)) = sym (made.nests_for p true c.0 c.1.0 c.1.1.0 c.1.1.1.0 c.1.1.1.1 ∙ ap in_generate (simp append_assoc))
+  abbrev loop_head_tuple : Rule B d LoopHead
+  loop_head_tuple =
+      before (the_mark B m.LeftParen)
+      (seq (optional (keyword_test k.Genvar) (placed (the_key B k.Genvar)) (λ p i o v. key_begins k.Genvar i o (some_key (keyword_text k.Genvar) p i o v)))
+      (seq_by (name_rule B d) (λ v c. (turns_rule v).spelled c) (λ c. one_token ++ (expr_depths c.0 ++ (one_token ++ (expr_depths c.1.0 ++ (one_token ++ (step_depths c.1.1 ++ one_token)))))) Any
+      head_turns (λ v. (turns_rule v).reads) (λ v. (turns_rule v).moved) (λ v c i o w stops. tt))
+      (λ x y i o v stops. (name_no_genvar i (first_of_name y.0 i v.0 v.1), tt)))
+
+  loop_head_reads : IsReader B d loop_head_tuple.spelled loop_head_tuple.spelled loop_head_tuple.nests Any loop_head
+  unfolding loop_head
+  loop_head_reads = loop_head_tuple.reads
+
+  abbrev loop_head_rule : Rule B d LoopHead
+  loop_head_rule = record { spelled = loop_head_tuple.spelled; nests = loop_head_tuple.nests; stops = Any; parser = loop_head; reads = loop_head_reads; moved = loop_head_tuple.moved }
+
+  abbrev loop_rule : Rule B (suc d) (Place × (LoopHead × Gen))
+  loop_rule = seq_up (placed (the_key B k.For)) (seq loop_head_rule gen_rule (λ x y i o v stops. tt)) (λ x y i o v stops. tt) (λ x i o v. omega arith)
+
+  loop_nested : (c : Place × (LoopHead × Gen)) → in_generate (loop_rule.nests c) ≡ item_depths (made_loop c)
+  loop_nested (p, ((None, (v, (start, (test, next)))), x)) = sym (made.nests_for p false v start test next x ∙ ap in_generate (simp append_assoc))
+  loop_nested (p, ((Some q, (v, (start, (test, next)))), x)) = sym (made.nests_for p true v start test next x ∙ ap in_generate (simp append_assoc))
 
   pub loop_reads : IsReader (Over 201 (suc h) 201) (suc d) DoneItem (Begun item_by.For) item_depths NoColon (gen_loop f)
   unfolding gen_loop

@@ -26,8 +26,8 @@ use Rattle.sv_word_parser.specs.declared.openers.ItemOpener.{ItemOpener}
 use Rattle.sv_word_parser.specs.declared.openers.ItemOpener.TheVariants as item_by
 use Rattle.sv_word_parser.specs.Combined.{sort_test}
 use Rattle.sv_word_parser.specs.Words.{item_by_sort}
-use Rattle.sv_stmt_parser.specs.Stmts.{is_given, Turns}
-use Rattle.sv_item_parser.specs.Items.{made_gen_block, made_cond, made_loop}
+use Rattle.sv_stmt_parser.specs.Stmts.{is_given}
+use Rattle.sv_item_parser.specs.Items.{LoopHead, made_gen_block, made_cond, made_loop}
 use Rattle.sv_type_parser.proofs.Rules.{placed_key, some_key, key_begins, first_of_key, first_of_key_at, told_sort, no_mark, no_key}
 use Rattle.sv_stmt_parser.proofs.Steps.{NoColon}
 use Rattle.sv_stmt_parser.proofs.Begins.{NoElse}
@@ -131,11 +131,13 @@ closed_none c o e (inr h) = h
 pub cond_to : (c : Place × (Expr × (Gen × Option Gen))) (i o : List Token) → CondSpelled c i o → DoneItem (made_cond c) i o
 unfolding keyword_text mark_text
 cond_to (p, (c, (x, None))) i o h =
-    let a = h.2.2.2.2 in
-    (made.to_if p c x None i o (h.0, h.1, (h.2.0, h.2.1, (h.2.2.0, h.2.2.1, (h.2.2.2.0, h.2.2.2.1, (a.0, a.1.0, a.2.1))))), inr (subst NoElse a.2.1 a.2.0))
+    let b = h.2.1 in
+    let a = h.2.2 in
+    (made.to_if p c x None i o (h.0, h.1, (b.0, b.1, (b.2.0, b.2.1, (h.2.0, b.2.2, (a.0, a.1.0, a.2.1))))), inr (subst NoElse a.2.1 a.2.0))
 cond_to (p, (c, (x, Some y))) i o h =
-    let a = h.2.2.2.2 in (
-      made.to_if p c x (Some y) i o (h.0, h.1, (h.2.0, h.2.1, (h.2.2.0, h.2.2.1, (h.2.2.2.0, h.2.2.2.1, (a.0, a.1.0, (closed_before (is_closed_gen x) a.0 a.2.0 a.1.1 a.2.1, (a.2.0, a.2.1, a.2.2.0))))))),
+    let b = h.2.1 in
+    let a = h.2.2 in (
+      made.to_if p c x (Some y) i o (h.0, h.1, (b.0, b.1, (b.2.0, b.2.1, (h.2.0, b.2.2, (a.0, a.1.0, (closed_before (is_closed_gen x) a.0 a.2.0 a.1.1 a.2.1, (a.2.0, a.2.1, a.2.2.0))))))),
       subst (λ b. Closed b o) (sym (made.closed_if p c x (Some y))) a.2.2.1,
     )
 
@@ -144,12 +146,14 @@ unfolding keyword_text mark_text
 cond_from p c x None i o h =
     let g = made.of_if p c x None i o h.0 in
     let n = closed_none (is_closed (it.If p c x None)) o (made.closed_if p c x None) h.1 in
-    let a = g.2.2.2.2 in
-    (g.0, g.1, (g.2.0, g.2.1, (g.2.2.0, g.2.2.1, (g.2.2.2.0, g.2.2.2.1, (a.0, (a.1, inr (subst NoElse (sym a.2) n)), (subst NoElse (sym a.2) n, a.2))))))
+    let b = g.2.2.2 in
+    let a = b.2 in
+    (g.0, g.1, (b.0, (g.2.0, g.2.1, (g.2.2.0, g.2.2.1, b.1)), (a.0, (a.1, inr (subst NoElse (sym a.2) n)), (subst NoElse (sym a.2) n, a.2))))
 cond_from p c x (Some y) i o h =
     let g = made.of_if p c x (Some y) i o h.0 in
-    let a = g.2.2.2.2 in
-    (g.0, g.1, (g.2.0, g.2.1, (g.2.2.0, g.2.2.1, (g.2.2.2.0, g.2.2.2.1, (a.0, (a.1, inl a.2.0), (a.2.1.0, a.2.1.1, (a.2.1.2, subst (λ b. Closed b o) (made.closed_if p c x (Some y)) h.1)))))))
+    let b = g.2.2.2 in
+    let a = b.2 in
+    (g.0, g.1, (b.0, (g.2.0, g.2.1, (g.2.2.0, g.2.2.1, b.1)), (a.0, (a.1, inl a.2.0), (a.2.1.0, a.2.1.1, (a.2.1.2, subst (λ b. Closed b o) (made.closed_if p c x (Some y)) h.1)))))
 
 -- ---- loops
 
@@ -163,67 +167,29 @@ unfolding keyword_text
 header_from true i o h = let p = placed_key (keyword_text k.Genvar) i o h in (Some p.0, refl, p.1)
 header_from false i o h = (None, refl, h)
 
-pub loop_to : (c : Place × (Option Place × (Word × Turns Gen))) (i o : List Token) → LoopSpelled c i o → DoneItem (made_loop c) i o
+pub loop_to : (c : Place × (LoopHead × Gen)) (i o : List Token) → LoopSpelled c i o → DoneItem (made_loop c) i o
 unfolding keyword_text mark_text
 loop_to c i o h =
-    let b = h.2.2.2.2 in
-    let a = b.2.2.2.2.2.2 in (
-      made.to_for c.0 (is_given c.1.0) c.1.1.0 c.1.1.1.0 c.1.1.1.1.0 c.1.1.1.1.1.0 c.1.1.1.1.1.1 i o
-          (h.0, h.1, (h.2.0, h.2.1, (h.2.2.0, header_to c.1.0 h.2.0 h.2.2.0 h.2.2.1, (h.2.2.2.0, h.2.2.2.1, (b.0, b.1, (b.2.0, b.2.1, (b.2.2.0, b.2.2.1, (b.2.2.2.0, b.2.2.2.1, (b.2.2.2.2.0, b.2.2.2.2.1, (b.2.2.2.2.2.0, b.2.2.2.2.2.1, (a.0, a.1, a.2.0))))))))))),
-      subst (λ q. Closed q o) (sym (made.closed_for c.0 (is_given c.1.0) c.1.1.0 c.1.1.1.0 c.1.1.1.1.0 c.1.1.1.1.1.0 c.1.1.1.1.1.1)) a.2.1,
+    let a = h.2.1 in
+    let b = a.2.2.2 in
+    let e = b.2.2.2.2.2 in (
+      made.to_for c.0 (is_given c.1.0.0) c.1.0.1.0 c.1.0.1.1.0 c.1.0.1.1.1.0 c.1.0.1.1.1.1 c.1.1 i o
+          (h.0, h.1, (a.0, a.1, (a.2.0, header_to c.1.0.0 a.0 a.2.0 a.2.1, (a.2.2.0, a.2.2.1, (b.0, b.1, (b.2.0, b.2.1, (b.2.2.0, b.2.2.1, (b.2.2.2.0, b.2.2.2.1, (b.2.2.2.2.0, b.2.2.2.2.1, (e.0, e.1, (h.2.0, e.2, h.2.2.0))))))))))),
+      subst (λ q. Closed q o) (sym (made.closed_for c.0 (is_given c.1.0.0) c.1.0.1.0 c.1.0.1.1.0 c.1.0.1.1.1.0 c.1.0.1.1.1.1 c.1.1)) h.2.2.1,
     )
 
 loop_from : (p : Place) (header : Bool) (v : Word) (start test : Expr) (next : Step) (x : Gen) (i o : List Token) → DoneItem (it.For p header v start test next x) i o
-    → (c : Place × (Option Place × (Word × Turns Gen))) × (made_loop c ≡ it.For p header v start test next x) × LoopSpelled c i o
+    → (c : Place × (LoopHead × Gen)) × (made_loop c ≡ it.For p header v start test next x) × LoopSpelled c i o
 unfolding keyword_text mark_text
 loop_from p header v start test next x i o h =
     let g = made.of_for p header v start test next x i o h.0 in
     let q = header_from header g.2.0 g.2.2.0 g.2.2.1 in
     let b = g.2.2.2.2 in
-    let a = b.2.2.2.2.2.2 in (
-      (p, (q.0, (v, (start, (test, (next, x)))))),
+    let e = b.2.2.2.2.2 in
+    let a = e.2 in (
+      (p, ((q.0, (v, (start, (test, next)))), x)),
       ap (λ header. it.For p header v start test next x) q.1,
-      (
-        g.0,
-        g.1,
-        (
-          g.2.0,
-          g.2.1,
-          (
-            g.2.2.0,
-            q.2,
-            (
-              g.2.2.2.0,
-              g.2.2.2.1,
-              (
-                b.0,
-                b.1,
-                (
-                  b.2.0,
-                  b.2.1,
-                  (
-                    b.2.2.0,
-                    b.2.2.1,
-                    (
-                      b.2.2.2.0,
-                      b.2.2.2.1,
-                      (
-                        b.2.2.2.2.0,
-                        b.2.2.2.2.1,
-                        (
-                          b.2.2.2.2.2.0,
-                          b.2.2.2.2.2.1,
-                          (a.0, a.1, (a.2, subst (λ q. Closed q o) (made.closed_for p header v start test next x) h.1)),
-                        ),
-                      ),
-                    ),
-                  ),
-                ),
-              ),
-            ),
-          ),
-        ),
-      ),
+      (g.0, g.1, (a.0, (g.2.0, g.2.1, (g.2.2.0, q.2, (g.2.2.2.0, g.2.2.2.1, (b.0, b.1, (b.2.0, b.2.1, (b.2.2.0, b.2.2.1, (b.2.2.2.0, b.2.2.2.1, (b.2.2.2.2.0, b.2.2.2.2.1, (e.0, e.1, a.1))))))))), (a.2, subst (λ q. Closed q o) (made.closed_for p header v start test next x) h.1))),
     )
 
 -- ---- regions and blocks

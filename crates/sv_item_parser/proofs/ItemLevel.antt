@@ -1,6 +1,5 @@
 -- Items are read as they are spelled, at each depth.
-use Rattle.std.proofs.Common.{◌≡◌, ℕ, zero, suc, ◌+◌, ◌<◌, ◌≤◌, inl, inr, true, false, List, [], ◌∷◌, ◌++◌, length, Option, Some, None, Err, refl, sym, ◌∙◌, ap, subst, append_assoc, length-append, arith}
-use Rattle.sv_outside.specs.declared.refusal.Place.{Place}
+use Rattle.std.proofs.Common.{◌≡◌, ℕ, zero, suc, ◌+◌, ◌<◌, ◌≤◌, inl, inr, true, List, [], ◌∷◌, ◌++◌, length, Some, None, Err, refl, sym, ◌∙◌, ap, subst, append_assoc, length-append, arith}
 use Rattle.sv_outside.specs.declared.text.Token.{Token}
 use Rattle.sv_tree.specs.declared.word.Word.{Word}
 use Rattle.sv_tree.specs.declared.forms.TypeTree.{TypeTree}
@@ -12,35 +11,35 @@ use Rattle.sv_tree.specs.declared.design.Param.{Param}
 use Rattle.sv_tree.specs.declared.design.NetWord.{NetWord}
 use Rattle.sv_tree.specs.declared.design.Item.{Item}
 use Rattle.sv_tree.specs.declared.design.Item.TheVariants as it
-use Rattle.sv_tree.specs.Spelling.{Spelled, ◌⨟◌, when, mark as mark_spelled, key, name, each, commas, after_commas}
+use Rattle.sv_tree.specs.Spelling.{◌⨟◌, mark as mark_spelled, key, name, each, commas, after_commas}
 use Rattle.sv_tree.specs.GrammarDesign.{SpellsPair, is_closed}
 use Rattle.sv_stmt_parser.specs.Stmts.{is_given}
 use Rattle.sv_tree.specs.Nesting.{Nesting, Depths, one as one_token, in_type, in_generate, each_depths, commas_depths, word_depths}
-use Rattle.sv_tree.specs.NestingDesign.{range_depths, pair_depths, item_depths, items_depths}
+use Rattle.sv_tree.specs.NestingDesign.{range_depths, pair_depths, item_depths}
 use Rattle.sv_tree.proofs.MadeForms as made_forms
 use Rattle.sv_tree.proofs.MadeDesign as made
-use Rattle.sv_tree.proofs.Counted.{counted_when, length_in_type}
+use Rattle.sv_tree.proofs.Counted.{length_in_type}
 use Rattle.sv_tree.proofs.CountedDesign.{counted_pair}
 use Rattle.sv_cursor.specs.declared.error.ParseErr.TheVariants.{Syntax}
 use Rattle.sv_cursor.specs.declared.sort.Keyword.TheVariants as k
 use Rattle.sv_cursor.specs.declared.sort.Mark.TheVariants as m
 use Rattle.sv_cursor.specs.declared.sort.Sort.TheVariants as so
 use Rattle.sv_cursor.specs.Sorts.{mark_text, keyword_text}
-use Rattle.sv_cursor.specs.Tests.{same_mark, mark_test, keyword_test, keyword}
-use Rattle.sv_cursor.specs.Parsers.{Outcome, Parser, and_then, ◌>>=◌, pure, refuse, too_deep, told, branch, many}
-use Rattle.sv_cursor.proofs.Readers.{IsReader, IsMoved, BadAt, Agrees, meets_weaker, less_reader, choose_reader, refuse_reader, deep_reader}
+use Rattle.sv_cursor.specs.Tests.{same_mark, mark_test}
+use Rattle.sv_cursor.specs.Parsers.{Outcome, Parser, refuse, too_deep, told, branch, many}
+use Rattle.sv_cursor.proofs.Readers.{IsReader, IsMoved, BadAt, choose_reader, refuse_reader, deep_reader}
 use Rattle.sv_expr_reader.proofs.Tokens.{Stops}
 use Rattle.sv_word_parser.specs.declared.openers.ItemOpener.{ItemOpener}
 use Rattle.sv_word_parser.specs.declared.openers.ItemOpener.TheVariants as item_by
 use Rattle.sv_instance_parser.specs.declared.tails.NameTail.{NameTail}
 use Rattle.sv_instance_parser.specs.declared.tails.NameTail.TheVariants as name_tail
 use Rattle.sv_instance_parser.specs.declared.tails.PlainTail.TheVariants as plain_tail
-use Rattle.sv_word_parser.specs.Combined.{◌◂◌, sort_test}
+use Rattle.sv_word_parser.specs.Combined.{sort_test}
 use Rattle.sv_word_parser.specs.Words.{item_by_sort}
 use Rattle.sv_type_parser.specs.Params.{TypedName}
 use Rattle.sv_instance_parser.specs.Instances.{made_inst, made_named_item, named_item, more_names}
 use Rattle.sv_item_parser.specs.Items.{made_net, net, made_variable, variable, genvar, made_pair, pair, assigns, region, gen_loop, gen_if, item_for, item_level, item}
-use Rattle.sv_type_parser.proofs.Rules.{Rule, the_mark, the_key, before, seq, closing, several, tree_reads, rule_of, list_rule, renested, Way, ReadBy, way_reader, name_rule, IsFirst, first_of_mark, no_mark}
+use Rattle.sv_type_parser.proofs.Rules.{Rule, the_mark, the_key, before, seq, closing, tree_reads, rule_of, list_rule, renested, Way, way_reader, name_rule, IsFirst, first_of_mark, no_mark}
 use Rattle.sv_type_parser.proofs.Words.{net_rule}
 use Rattle.sv_type_parser.proofs.Limits.{Over, first_end, end_mark}
 use Rattle.sv_type_parser.proofs.Types.{type_stops_name, names_first, names_end}
@@ -249,7 +248,7 @@ loop_deep x i o v =
     let c = (classed item_by.For x i o v).0 in
     let e = (classed item_by.For x i o v).1 in
     subst (λ x. BadAt (Over 201 1 201) (item_depths x) 0) e
-    (subst (λ l. BadAt (Over 201 1 201) l 0) (sym (made.nests_for c.0 (is_given c.1.0) c.1.1.0 c.1.1.1.0 c.1.1.1.1.0 c.1.1.1.1.1.0 c.1.1.1.1.1.1)) (over_first _ (simp length-append (omega arith))))
+    (subst (λ l. BadAt (Over 201 1 201) l 0) (sym (made.nests_for c.0 (is_given c.1.0.0) c.1.0.1.0 c.1.0.1.1.0 c.1.0.1.1.1.0 c.1.0.1.1.1.1 c.1.1)) (over_first _ (simp length-append (omega arith))))
 
 pub cond_deep : (x : Item) (i o : List Token) → Begun item_by.If x i o → BadAt (Over 201 1 201) (item_depths x) 0
 cond_deep x i o v =

@@ -9,6 +9,7 @@ use Rattle.sv_tree.specs.declared.forms.TypeTree.{TypeTree}
 use Rattle.sv_tree.specs.declared.forms.TypeTree.TheVariants as ty
 use Rattle.sv_tree.specs.declared.forms.Typedef.{Typedef}
 use Rattle.sv_tree.specs.declared.stmts.Block.{Block}
+use Rattle.sv_tree.specs.declared.stmts.Step.{Step}
 use Rattle.sv_tree.specs.declared.design.AssignPair.{AssignPair}
 use Rattle.sv_tree.specs.declared.design.ParamWord.{ParamWord}
 use Rattle.sv_tree.specs.declared.design.ParamWord.TheVariants as param_word
@@ -50,9 +51,8 @@ use Rattle.sv_instance_parser.specs.declared.tails.PlainTail.TheVariants as plai
 use Rattle.sv_word_parser.specs.Combined.{sort_test}
 use Rattle.sv_word_parser.specs.Words.{type_by_word, word_type_by_sort, always_by_word, item_by_word, item_by_sort}
 use Rattle.sv_type_parser.specs.Params.{TypedName}
-use Rattle.sv_stmt_parser.specs.Stmts.{Turns}
 use Rattle.sv_instance_parser.specs.Instances.{made_inst, made_named_item}
-use Rattle.sv_item_parser.specs.Items.{made_net, made_variable, made_cond, made_loop}
+use Rattle.sv_item_parser.specs.Items.{made_net, made_variable, LoopHead, made_cond, made_loop}
 use Rattle.sv_type_parser.proofs.Rules.{Shut, IsFirst, first_of_key, first_of_name, told_sort}
 use Rattle.sv_type_parser.proofs.Words.{net_first, net_word_name, param_first, param_word_name}
 use Rattle.sv_type_parser.proofs.Types.{type_split}
@@ -89,15 +89,20 @@ NamedSpelled c = name c.0 ⨟ TailSpelled c.1
 abbrev pub OtherGen : Gen → Spelled
 OtherGen y = key (keyword_text k.Else) ⨟ DoneGen y
 
+abbrev pub CondHead : Expr → Spelled
+CondHead c = mark_spelled (mark_text m.LeftParen) ⨟ (Spells 0 c ⨟ mark_spelled (mark_text m.RightParen))
+
 abbrev pub CondSpelled : Place × (Expr × (Gen × Option Gen)) → Spelled
-CondSpelled c =
-    key_at (keyword_text k.If) c.0 ⨟ (mark_spelled (mark_text m.LeftParen) ⨟ (Spells 0 c.1.0 ⨟ (mark_spelled (mark_text m.RightParen) ⨟ (DoneGen c.1.1.0 ⨟ Shut (keyword_test k.Else) OtherGen c.1.1.1))))
+CondSpelled c = key_at (keyword_text k.If) c.0 ⨟ (CondHead c.1.0 ⨟ (DoneGen c.1.1.0 ⨟ Shut (keyword_test k.Else) OtherGen c.1.1.1))
 
-abbrev pub GenTurns : Word → Turns Gen → Spelled
-GenTurns v c = mark_spelled (mark_text m.Assign) ⨟ (Spells 0 c.0 ⨟ (Semicolon ⨟ (Spells 0 c.1.0 ⨟ (Semicolon ⨟ (SpellsStep v c.1.1.0 ⨟ (mark_spelled (mark_text m.RightParen) ⨟ DoneGen c.1.1.1))))))
+abbrev pub HeadTurns : Word → Expr × (Expr × Step) → Spelled
+HeadTurns v c = mark_spelled (mark_text m.Assign) ⨟ (Spells 0 c.0 ⨟ (Semicolon ⨟ (Spells 0 c.1.0 ⨟ (Semicolon ⨟ (SpellsStep v c.1.1 ⨟ mark_spelled (mark_text m.RightParen))))))
 
-abbrev pub LoopSpelled : Place × (Option Place × (Word × Turns Gen)) → Spelled
-LoopSpelled c = key_at (keyword_text k.For) c.0 ⨟ (mark_spelled (mark_text m.LeftParen) ⨟ (maybe (key_at (keyword_text k.Genvar)) c.1.0 ⨟ (name c.1.1.0 ⨟ GenTurns c.1.1.0 c.1.1.1)))
+abbrev pub HeadSpelled : LoopHead → Spelled
+HeadSpelled c = mark_spelled (mark_text m.LeftParen) ⨟ (maybe (key_at (keyword_text k.Genvar)) c.0 ⨟ (name c.1.0 ⨟ HeadTurns c.1.0 c.1.1))
+
+abbrev pub LoopSpelled : Place × (LoopHead × Gen) → Spelled
+LoopSpelled c = key_at (keyword_text k.For) c.0 ⨟ (HeadSpelled c.1.0 ⨟ DoneGen c.1.1)
 
 abbrev pub RegionSpelled : List Item → Spelled
 RegionSpelled all = key (keyword_text k.Generate) ⨟ (each DoneItem all ⨟ key (keyword_text k.Endgenerate))
@@ -112,7 +117,7 @@ ItemClass item_by.Genvar x i o = (c : List Word) × (it.Genvar c ≡ x) × (key 
 ItemClass item_by.Assign x i o = (c : List AssignPair) × (it.Assign c ≡ x) × (key (keyword_text k.Assign) ⨟ (commas SpellsPair c ⨟ Semicolon)) i o
 ItemClass item_by.Always x i o = (c : Block) × (it.Always c ≡ x) × DoneBlock c i o
 ItemClass item_by.Name x i o = (c : Word × NameTail) × (made_named_item c ≡ x) × NamedSpelled c i o
-ItemClass item_by.For x i o = (c : Place × (Option Place × (Word × Turns Gen))) × (made_loop c ≡ x) × LoopSpelled c i o
+ItemClass item_by.For x i o = (c : Place × (LoopHead × Gen)) × (made_loop c ≡ x) × LoopSpelled c i o
 ItemClass item_by.If x i o = (c : Place × (Expr × (Gen × Option Gen))) × (made_cond c ≡ x) × CondSpelled c i o
 ItemClass item_by.Generate x i o = (c : List Item) × (it.Generate c ≡ x) × RegionSpelled c i o
 

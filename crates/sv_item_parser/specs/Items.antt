@@ -7,6 +7,7 @@ use Rattle.sv_tree.specs.declared.exprs.Expr.{Expr}
 use Rattle.sv_tree.specs.declared.forms.TypeTree.{TypeTree}
 use Rattle.sv_tree.specs.declared.stmts.Lvalue.{Lvalue}
 use Rattle.sv_tree.specs.declared.stmts.Edge.{Edge}
+use Rattle.sv_tree.specs.declared.stmts.Step.{Step}
 use Rattle.sv_tree.specs.declared.stmts.Event.{Event}
 use Rattle.sv_tree.specs.declared.stmts.BlockKind.{BlockKind}
 use Rattle.sv_tree.specs.declared.stmts.BlockKind.TheVariants as kind_of
@@ -32,8 +33,8 @@ use Rattle.sv_word_parser.specs.Combined.{◌▸◌, ◌◂◌, word_test, sort_
 use Rattle.sv_word_parser.specs.Words.{net_by_word, edge_by_word, always_by_word, item_by_sort}
 use Rattle.sv_type_parser.specs.Forms.{expression, given, names, form, typedef}
 use Rattle.sv_type_parser.specs.Params.{TypedName, typed_name, param}
-use Rattle.sv_stmt_parser.specs.Targets.{lvalue, block_label, end_label}
-use Rattle.sv_stmt_parser.specs.Stmts.{is_given, Turns, turns, stmt}
+use Rattle.sv_stmt_parser.specs.Targets.{lvalue, step, block_label, end_label}
+use Rattle.sv_stmt_parser.specs.Stmts.{is_given, stmt}
 use Rattle.sv_instance_parser.specs.Instances.{more_names, named_item}
 
 -- ---- blocks
@@ -124,14 +125,29 @@ place_of a = Some a.place
 unfoldable pub place_test : Token → Option Place
 place_test a = place_of a
 
+-- the start, the test and the step of a loop, up to the `)`
+abbrev pub head_turns : Word → Parser (Expr × (Expr × Step))
+head_turns v = mark m.Assign ▸ (expression ⊗ (mark m.Semicolon ▸ (expression ⊗ (mark m.Semicolon ▸ (step v ◂ mark m.RightParen)))))
+
+-- behind the `for` of a loop
+abbrev pub LoopHead : Type 0
+LoopHead = Option Place × (Word × (Expr × (Expr × Step)))
+
+unfoldable pub loop_head : Parser LoopHead
+loop_head = mark m.LeftParen ▸ (maybe_read (keyword_test key.Genvar) (keyword key.Genvar) ⊗ (token id_test ▷ head_turns))
+
+-- behind the `if` of a condition
+unfoldable pub cond_head : Parser Expr
+cond_head = mark m.LeftParen ▸ (expression ◂ mark m.RightParen)
+
 abbrev pub made_gen_block : Place × (Option Word × (List Item × Option Word)) → Gen
 made_gen_block c = ge.Block c.0 c.1.0 c.1.1.0 c.1.1.1
 
 abbrev pub made_cond : Place × (Expr × (Gen × Option Gen)) → Item
 made_cond c = it.If c.0 c.1.0 c.1.1.0 c.1.1.1
 
-abbrev pub made_loop : Place × (Option Place × (Word × Turns Gen)) → Item
-made_loop c = it.For c.0 (is_given c.1.0) c.1.1.0 c.1.1.1.0 c.1.1.1.1.0 c.1.1.1.1.1.0 c.1.1.1.1.1.1
+abbrev pub made_loop : Place × (LoopHead × Gen) → Item
+made_loop c = it.For c.0 (is_given c.1.0.0) c.1.0.1.0 c.1.0.1.1.0 c.1.0.1.1.1.0 c.1.0.1.1.1.1 c.1.1
 
 -- A function value reads the items in an item.
 module _ (item : Parser Item) where
@@ -157,10 +173,10 @@ module _ (item : Parser Item) where
   maybe_gen = maybe_read (keyword_test key.Else) (keyword key.Else ▸ gen)
 
   unfoldable pub gen_if : Parser Item
-  gen_if = made_cond <$> (keyword key.If ⊗ (mark m.LeftParen ▸ (expression ⊗ (mark m.RightParen ▸ (gen ⊗ maybe_gen)))))
+  gen_if = made_cond <$> (keyword key.If ⊗ (cond_head ⊗ (gen ⊗ maybe_gen)))
 
   unfoldable pub gen_loop : Parser Item
-  gen_loop = made_loop <$> (keyword key.For ⊗ (mark m.LeftParen ▸ (maybe_read (keyword_test key.Genvar) (keyword key.Genvar) ⊗ (token id_test ▷ turns gen))))
+  gen_loop = made_loop <$> (keyword key.For ⊗ (loop_head ⊗ gen))
 
 -- Function values read loops, conditions and regions.
 module _ (loop cond generated : Parser Item) where

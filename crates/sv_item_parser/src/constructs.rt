@@ -2,45 +2,25 @@
 // in them as a parameter, so that each is proved by itself; the reader of an item gives itself to them, with one construct
 // less to hold a token.
 ghost use Rattle.std.specs.Prelude.{◌≡◌};
-ghost use Rattle.sv_cursor.specs.Parsers as parser;
-ghost use Rattle.sv_cursor.specs.Parsers.{Reads, ◌⊗◌, ◌▷◌};
-ghost use Rattle.sv_cursor.specs.Tests as test;
-ghost use Rattle.sv_word_parser.specs.Combined.{◌▸◌};
+ghost use Rattle.sv_cursor.specs.Parsers.{Reads, ◌⊗◌};
+ghost use Rattle.sv_item_parser.specs.Growing.{Adds};
 ghost use Rattle.sv_item_parser.specs.Items as spec;
-ghost use Rattle.sv_type_parser.specs.Lists as list;
 ghost use Rattle.sv_type_parser.specs.Lists.{Nests};
-ghost use Rattle.sv_stmt_parser.specs.Loops as loops;
-ghost use Rattle.sv_stmt_parser.specs.Stmts as stmts;
 
+use crate::heads::{LoopHead, cond_head, loop_head};
 use crate::module_items::{flat_item, item_next, sees_item};
 use items::{Boxed, Items, both};
 use std::alloc::Global;
-use sv_cursor::{Cursor, Keyword, Mark, ParseErr};
+use sv_cursor::{Cursor, Keyword, ParseErr};
 use sv_outside::Place;
-use sv_stmt_parser::{block_label, end_label, is_given, step};
-use sv_tree::{Expr, Gen, Item, Step, Word};
-use sv_type_parser::expression;
+use sv_stmt_parser::{block_label, end_label, is_given};
+use sv_tree::{Gen, Item, Word};
 use sv_word_parser::ItemOpener;
 
-fn maybe_genvar(tokens: &mut Cursor<'_>) -> Result<Option<Place>, ParseErr>
-    ensures { Reads (parser.maybe_read (test.keyword_test Keyword.Genvar) (test.keyword Keyword.Genvar) tokens.old) result tokens.new }
+fn loop_of(place: Place, head: LoopHead, body: Boxed<Gen>) -> Item
+    ensures { result ≡ spec.made_loop (place, (head, body)) }
 {
-    match tokens.peek_keyword(Keyword::Genvar) {
-        Some(_) => {
-            let place = tokens.keyword(Keyword::Genvar)?;
-            Ok(Some(place))
-        }
-        None => Ok(None),
-    }
-}
-
-// The start, the test, the step and the body of a loop.
-type Turns = (Expr, (Expr, (Step, Boxed<Gen>)));
-
-fn loop_of(place: Place, word: Option<Place>, variable: Word, turns: Turns) -> Item
-    ensures { result ≡ spec.made_loop (place, (word, (variable, turns))) }
-{
-    let (start, (condition, (step, body))) = turns;
+    let (word, (variable, (start, (condition, step)))) = head;
     Item::For(
         place,
         is_given(word),
@@ -70,6 +50,25 @@ impl<F: Fn(Global, &mut Cursor<'_>, u8) -> Result<Item, ParseErr>> Generates<F> 
         (self.item)(self.alloc, tokens, self.depth)
     }
 
+    fn boxed_item(&self, tokens: &mut Cursor<'_>) -> Result<Boxed<Item>, ParseErr>
+        requires { Nests (spec.item self.now.depth) self.now.depth (F.pre self.now.item) (F.post self.now.item) }
+        ensures { Reads (spec.item self.now.depth tokens.old) result tokens.new }
+    {
+        let inner = self.item(tokens)?;
+        let inner = Boxed::new(self.alloc, inner)?;
+        Ok(inner)
+    }
+
+    // Reads one item more, so that none is held in the loop over items.
+    fn add_item(&self, tokens: &mut Cursor<'_>, found: &mut Items<Item>) -> Result<(), ParseErr>
+        requires { Nests (spec.item self.now.depth) self.now.depth (F.pre self.now.item) (F.post self.now.item) }
+        ensures { Adds (spec.item self.now.depth) found.old tokens.old result found.new tokens.new }
+    {
+        let part = self.item(tokens)?;
+        found.push(part)?;
+        Ok(())
+    }
+
     fn items(&self, tokens: &mut Cursor<'_>) -> Result<Items<Item>, ParseErr>
         requires { Nests (spec.item self.now.depth) self.now.depth (F.pre self.now.item) (F.post self.now.item) }
         ensures { Reads (spec.items (spec.item self.now.depth) tokens.old) result tokens.new }
@@ -79,8 +78,7 @@ impl<F: Fn(Global, &mut Cursor<'_>, u8) -> Result<Item, ParseErr>> Generates<F> 
             if !sees_item(tokens) {
                 return Ok(found);
             }
-            let part = self.item(tokens)?;
-            found.push(part)?;
+            self.add_item(tokens, &mut found)?;
         }
         Ok(found)
     }
@@ -94,7 +92,7 @@ impl<F: Fn(Global, &mut Cursor<'_>, u8) -> Result<Item, ParseErr>> Generates<F> 
         ensures { Reads (spec.gen_rest (spec.item self.now.depth) name.now tokens.old) result tokens.new }
     {
         let all = self.items(tokens)?;
-        let (all, _) = both(all, tokens.keyword(Keyword::End))?;
+        tokens.keyword(Keyword::End)?;
         both(all, end_label(self.alloc, tokens, name))
     }
 
@@ -117,8 +115,8 @@ impl<F: Fn(Global, &mut Cursor<'_>, u8) -> Result<Item, ParseErr>> Generates<F> 
     {
         match tokens.place() {
             Some(place) => {
-                let inner = self.item(tokens)?;
-                Ok(Gen::Single(place, Boxed::new(self.alloc, inner)?))
+                let inner = self.boxed_item(tokens)?;
+                Ok(Gen::Single(place, inner))
             }
             None => Err(tokens.refuse()),
         }
@@ -144,38 +142,29 @@ impl<F: Fn(Global, &mut Cursor<'_>, u8) -> Result<Item, ParseErr>> Generates<F> 
         Ok(inner)
     }
 
-    #[tactic(auto, unfolding(sv_type_parser::specs::Lists::behind_else))]
-    fn else_part(&self, tokens: &mut Cursor<'_>) -> Result<Boxed<Gen>, ParseErr>
-        requires { Nests (spec.item self.now.depth) self.now.depth (F.pre self.now.item) (F.post self.now.item) }
-        ensures { Reads (list.behind_else (spec.gen (spec.item self.now.depth)) tokens.old) result tokens.new }
-    {
-        tokens.keyword(Keyword::Else)?;
-        self.body(tokens)
-    }
-
-    #[tactic(auto, unfolding(crate::specs::Items::maybe_gen, sv_type_parser::specs::Lists::behind_else))]
+    #[tactic(auto, unfolding(crate::specs::Items::maybe_gen))]
     fn maybe_else(&self, tokens: &mut Cursor<'_>) -> Result<Option<Boxed<Gen>>, ParseErr>
         requires { Nests (spec.item self.now.depth) self.now.depth (F.pre self.now.item) (F.post self.now.item) }
         ensures { Reads (spec.maybe_gen (spec.item self.now.depth) tokens.old) result tokens.new }
     {
         match tokens.peek_keyword(Keyword::Else) {
             Some(_) => {
-                let inner = self.else_part(tokens)?;
+                tokens.keyword(Keyword::Else)?;
+                let inner = self.body(tokens)?;
                 Ok(Some(inner))
             }
             None => Ok(None),
         }
     }
 
-    // From the `)` behind the condition on.
-    fn behind_condition(
+    // The branches of a condition.
+    fn branches(
         &self,
         tokens: &mut Cursor<'_>,
     ) -> Result<(Boxed<Gen>, Option<Boxed<Gen>>), ParseErr>
         requires { Nests (spec.item self.now.depth) self.now.depth (F.pre self.now.item) (F.post self.now.item) }
-        ensures { Reads ((test.mark Mark.RightParen ▸ (spec.gen (spec.item self.now.depth) ⊗ spec.maybe_gen (spec.item self.now.depth))) tokens.old) result tokens.new }
+        ensures { Reads ((spec.gen (spec.item self.now.depth) ⊗ spec.maybe_gen (spec.item self.now.depth)) tokens.old) result tokens.new }
     {
-        tokens.mark(Mark::RightParen)?;
         let first = self.body(tokens)?;
         both(first, self.maybe_else(tokens))
     }
@@ -187,59 +176,9 @@ impl<F: Fn(Global, &mut Cursor<'_>, u8) -> Result<Item, ParseErr>> Generates<F> 
         ensures { Reads (spec.gen_if (spec.item self.now.depth) tokens.old) result tokens.new }
     {
         let place = tokens.keyword(Keyword::If)?;
-        tokens.mark(Mark::LeftParen)?;
-        let condition = expression(self.alloc, tokens)?;
-        let (condition, (first, second)) = both(condition, self.behind_condition(tokens))?;
+        let condition = cond_head(self.alloc, tokens)?;
+        let (condition, (first, second)) = both(condition, self.branches(tokens))?;
         Ok(Item::If(place, condition, first, second))
-    }
-
-    #[tactic(auto, unfolding(sv_stmt_parser::specs::Loops::stepped))]
-    fn stepped(
-        &self,
-        tokens: &mut Cursor<'_>,
-        variable: &Word,
-    ) -> Result<(Step, Boxed<Gen>), ParseErr>
-        requires { Nests (spec.item self.now.depth) self.now.depth (F.pre self.now.item) (F.post self.now.item) }
-        ensures { Reads (loops.stepped (spec.gen (spec.item self.now.depth)) variable.now tokens.old) result tokens.new }
-    {
-        let by = step(self.alloc, tokens, variable)?;
-        let (by, _) = both(by, tokens.mark(Mark::RightParen))?;
-        both(by, self.body(tokens))
-    }
-
-    #[tactic(auto, unfolding(sv_stmt_parser::specs::Loops::tested))]
-    fn tested(
-        &self,
-        tokens: &mut Cursor<'_>,
-        variable: &Word,
-    ) -> Result<(Expr, (Step, Boxed<Gen>)), ParseErr>
-        requires { Nests (spec.item self.now.depth) self.now.depth (F.pre self.now.item) (F.post self.now.item) }
-        ensures { Reads (loops.tested (spec.gen (spec.item self.now.depth)) variable.now tokens.old) result tokens.new }
-    {
-        let condition = expression(self.alloc, tokens)?;
-        let (condition, _) = both(condition, tokens.mark(Mark::Semicolon))?;
-        both(condition, self.stepped(tokens, variable))
-    }
-
-    #[tactic(auto, unfolding(sv_stmt_parser::specs::Loops::stepped, sv_stmt_parser::specs::Loops::tested))]
-    fn turns(&self, tokens: &mut Cursor<'_>, variable: &Word) -> Result<Turns, ParseErr>
-        requires { Nests (spec.item self.now.depth) self.now.depth (F.pre self.now.item) (F.post self.now.item) }
-        ensures { Reads (stmts.turns (spec.gen (spec.item self.now.depth)) variable.now tokens.old) result tokens.new }
-    {
-        tokens.mark(Mark::Assign)?;
-        let start = expression(self.alloc, tokens)?;
-        let (start, _) = both(start, tokens.mark(Mark::Semicolon))?;
-        both(start, self.tested(tokens, variable))
-    }
-
-    // The variable of a loop, and what stands behind it.
-    fn with_variable(&self, tokens: &mut Cursor<'_>) -> Result<(Word, Turns), ParseErr>
-        requires { Nests (spec.item self.now.depth) self.now.depth (F.pre self.now.item) (F.post self.now.item) }
-        ensures { Reads ((parser.token test.id_test ▷ stmts.turns (spec.gen (spec.item self.now.depth))) tokens.old) result tokens.new }
-    {
-        let variable = tokens.id(self.alloc)?;
-        let rest = self.turns(tokens, &variable);
-        both(variable, rest)
     }
 
     /// A generate loop (A.4.2, loop_generate_construct).
@@ -249,10 +188,9 @@ impl<F: Fn(Global, &mut Cursor<'_>, u8) -> Result<Item, ParseErr>> Generates<F> 
         ensures { Reads (spec.gen_loop (spec.item self.now.depth) tokens.old) result tokens.new }
     {
         let place = tokens.keyword(Keyword::For)?;
-        tokens.mark(Mark::LeftParen)?;
-        let word = maybe_genvar(tokens)?;
-        let (variable, turns) = self.with_variable(tokens)?;
-        Ok(loop_of(place, word, variable, turns))
+        let head = loop_head(self.alloc, tokens)?;
+        let (head, body) = both(head, self.body(tokens))?;
+        Ok(loop_of(place, head, body))
     }
 
     /// A generate region (A.4.2, generate_region).

@@ -4,6 +4,7 @@
 #![tactic(auto)]
 
 mod constructs;
+mod heads;
 mod module_items;
 mod tails;
 

@@ -1,4 +1,4 @@
-use Rattle.std.proofs.Common.{◌≡◌, ◌-◌, ap, sym, ◌∙◌, Err, arith}
+use Rattle.std.proofs.Common.{◌-◌, ap, sym, ◌∙◌, Err, arith}
 use Rattle.sv_item_parser.proofs.ItemLevel.{no_item_begins, flat_begins, held_begins}
 use Rattle.sv_item_parser.proofs.constructs.+item.Goals as goal
 

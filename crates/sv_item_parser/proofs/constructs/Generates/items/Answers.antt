@@ -19,14 +19,14 @@ returns g c = many_stops (sort_test item_by_sort) (item c.args.self.now.depth) _
 pub returns-then-not-sees_item : goal.returns-then-not-sees_item
 returns-then-not-sees_item g c = many_ends (sort_test item_by_sort) (item c.args.self.now.depth) _ c.loop-turn.found _ c.loop-turn.tokens (sym c.sees_item.ensures ∙ c.if-not-sees_item.true) c.loop-turn.invariant
 
-pub returns-in_err-part : goal.returns-in_err-part
-returns-in_err-part g c =
-    handed _ c.from_residual.result c.in_err-part.field-0.0 c.item.new.tokens c.from_residual.ensures.1
+pub returns-in_err-add_item : goal.returns-in_err-add_item
+returns-in_err-add_item g c =
+    handed _ c.from_residual.result c.in_err-add_item.field-0.0 c.add_item.new.tokens c.from_residual.ensures.1
     (many_fails (sort_test item_by_sort) (item c.args.self.now.depth) _ c.loop-turn.found _ (c.left-turn-end.result - (c.loop-turn._turn + 1))
-    c.loop-turn.tokens c.item.new.tokens c.in_err-part.field-0.0 (omega arith) (sym c.sees_item.ensures ∙ c.if-not-sees_item.false) c.loop-turn.invariant c.in_err-part.ensures)
+    c.loop-turn.tokens c.add_item.new.tokens c.in_err-add_item.field-0.0 (omega arith) (sym c.sees_item.ensures ∙ c.if-not-sees_item.false) c.loop-turn.invariant c.in_err-add_item.ensures)
 
 pub loop-turn-preserved : goal.loop-turn-preserved
 loop-turn-preserved g c =
-    rw c.in_ok-push.ensures.ok
+    rw c.in_ok-add_item.ensures.2
     (many_goes (sort_test item_by_sort) (item c.args.self.now.depth) _ c.loop-turn.found _ (c.left-turn-end.result - (c.loop-turn._turn + 1))
-    c.loop-turn.tokens c.item.new.tokens c.in_ok-part.part (omega arith) (sym c.sees_item.ensures ∙ c.if-not-sees_item.false) c.loop-turn.invariant c.in_ok-part.ensures)
+    c.loop-turn.tokens c.add_item.new.tokens c.in_ok-add_item.ensures.0 (omega arith) (sym c.sees_item.ensures ∙ c.if-not-sees_item.false) c.loop-turn.invariant c.in_ok-add_item.ensures.1)
