@@ -11,7 +11,7 @@ use Rattle.sv_tree.specs.declared.design.Param.{Param}
 use Rattle.sv_tree.specs.declared.design.NetWord.{NetWord}
 use Rattle.sv_tree.specs.declared.design.Item.{Item}
 use Rattle.sv_tree.specs.declared.design.Item.TheVariants as it
-use Rattle.sv_tree.specs.Spelling.{◌⨟◌, mark as mark_spelled, key, name, each, commas, after_commas}
+use Rattle.sv_tree.specs.Spelling.{◌⨟◌, mark as mark_spelled, key, name, commas, after_commas}
 use Rattle.sv_tree.specs.GrammarDesign.{SpellsPair, is_closed}
 use Rattle.sv_stmt_parser.specs.Stmts.{is_given}
 use Rattle.sv_tree.specs.Nesting.{Nesting, Depths, one as one_token, in_type, in_generate, each_depths, commas_depths, word_depths}
@@ -26,7 +26,7 @@ use Rattle.sv_cursor.specs.declared.sort.Mark.TheVariants as m
 use Rattle.sv_cursor.specs.declared.sort.Sort.TheVariants as so
 use Rattle.sv_cursor.specs.Sorts.{mark_text, keyword_text}
 use Rattle.sv_cursor.specs.Tests.{same_mark, mark_test}
-use Rattle.sv_cursor.specs.Parsers.{Outcome, Parser, refuse, too_deep, told, branch, many}
+use Rattle.sv_cursor.specs.Parsers.{Outcome, Parser, refuse, too_deep, told, branch}
 use Rattle.sv_cursor.proofs.Readers.{IsReader, IsMoved, BadAt, choose_reader, refuse_reader, deep_reader}
 use Rattle.sv_expr_reader.proofs.Tokens.{Stops}
 use Rattle.sv_word_parser.specs.declared.openers.ItemOpener.{ItemOpener}
