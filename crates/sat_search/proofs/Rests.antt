@@ -1,5 +1,5 @@
 -- One watch list after another is worked off: what is still to be looked at.
-use Rattle.std.proofs.Common.{◌≡◌, ◌≢◌, ℕ, ◌<◌, ◌≤◌, ◌+◌, ◌⊎◌, inl, inr, Bool, true, false, not, nat_eq, cond, List, [], ◌∷◌, ◌++◌, length, get_or, set, take, drop, reverse, Option, Some, None, sym, refl, ap, ◌∙◌, arith, subst, ⊎_elim, get_or-set_same, get_or-set_other, drop-cons, add-one, length-append}
+use Rattle.std.proofs.Common.{◌≡◌, ◌≢◌, ℕ, ◌<◌, ◌≤◌, ◌+◌, ◌⊎◌, inl, inr, Bool, not, nat_eq, cond, List, [], ◌∷◌, ◌++◌, length, get_or, set, take, drop, reverse, Option, Some, None, sym, refl, ap, ◌∙◌, arith, subst, ⊎_elim, get_or-set_same, get_or-set_other, drop-cons, add-one, length-append}
 use Rattle.std.specs.List.{Contains}
 use Rattle.std.proofs.lemmas.Bool.{cases_eq, ne_eqb, eq-eqb}
 use Rattle.std.proofs.lemmas.Option.{none-some}

@@ -3,7 +3,7 @@ use Rattle.std.proofs.Common.{◌≡◌, ◌≢◌, ℕ, suc, ◌<◌, ◌≤◌
 use Rattle.std.specs.List.{All, Contains}
 use Rattle.std.proofs.lemmas.Bool.{cases_eq, eq-eqb}
 use Rattle.std.proofs.lemmas.List.{take_all, take-append-le, drop_all, append-nil, length-map}
-use Rattle.std.proofs.lemmas.List.{get_or-map, map-set, set-get_or, map-append, take_more_set, drop-set-lt}
+use Rattle.std.proofs.lemmas.List.{map-append, take_more_set, drop-set-lt}
 use Rattle.std.proofs.lemmas.List.Elements.{All-set, All-push, All-append, All-take, All-drop, Contains-append_left, Contains-append_right, Contains-append_cases}
 use Rattle.cnf.specs.declared.Dim.{Dim}
 use Rattle.cnf.specs.Clauses.{negate, assume, denied, Valuation, valuation, IsFalsified}

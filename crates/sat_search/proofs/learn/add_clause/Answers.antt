@@ -1,4 +1,4 @@
-use Rattle.std.proofs.Common.{◌≡◌, ℕ, ◌<◌, ◌+◌, ◌*◌, ◌∷◌, ◌++◌, [], ◌∙◌, length, List, sym, subst, ap, arith, length-append}
+use Rattle.std.proofs.Common.{ℕ, ◌<◌, ◌+◌, ◌*◌, ◌∷◌, ◌++◌, [], ◌∙◌, length, List, sym, subst, ap, arith, length-append}
 use Rattle.std.proofs.lemmas.Result.{IfOk-from_err}
 use Rattle.sat_state.specs.declared.watch.Pair.{Pair}
 use Rattle.sat_state.specs.declared.watch.Watch.{Watch}

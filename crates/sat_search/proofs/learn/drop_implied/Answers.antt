@@ -69,3 +69,9 @@ returns-in_err-push-in-Some c =
       enough = IfOk-from_err _ _ e;
       traced = IfOk-from_err _ _ e;
     }
+
+pub returns-then-not-seen-e-clause-enough : goal.returns-then-not-seen-e-clause-enough
+returns-then-not-seen-e-clause-enough c = c.requires.enough
+
+pub returns-then-not-seen-e-clause-traced : goal.returns-then-not-seen-e-clause-traced
+returns-then-not-seen-e-clause-traced c = c.requires.traced

@@ -7,7 +7,6 @@ use Rattle.cnf.specs.Clauses.{negate, valuation}
 use Rattle.refute_check.specs.Entry.{Entry}
 use Rattle.sat_state.specs.declared.trail.Assigned.{Assigned}
 use Rattle.sat_state.specs.declared.watch.Pair.{Pair}
-use Rattle.sat_state.specs.declared.watch.Watch.{Watch}
 use Rattle.sat_state.specs.Watch.{first_pair, rows, with_pair}
 use Rattle.sat_search.specs.Learn.{no_assigned}
 use Rattle.sat_search.specs.Lesson.{IsReady, IsHalfway}
