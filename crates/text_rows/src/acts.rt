@@ -17,16 +17,66 @@ use crate::cases::{Case, is, parts};
 use crate::directives::print_preprocessed;
 use crate::edges::{print_full, print_own_reads, print_reads, print_sink, print_stream};
 use crate::printed::Printed;
+use crate::report::System;
 use crate::texts::{
     FILE, print_error, print_identifier, print_lines, print_literal, print_places, print_tokens,
     tokens_of,
 };
 use crate::trees::{print_expression, print_source, print_spelling};
+use case_rows::named;
 use std::alloc::AllocError;
-use sv_outside::{Files, Tokens};
+use sv_outside::Tokens;
+
+/// What is done.
+#[derive(Clone, Copy)]
+pub enum Key {
+    Tokens,
+    Places,
+    Lines,
+    End,
+    Expression,
+    Source,
+    Spell,
+    Literal,
+    Identifier,
+    Preprocess,
+    Placed,
+    Reads,
+    Real,
+    Sink,
+    Put,
+    Stream,
+    Full,
+    Other,
+}
+
+static KEYS: [(&[u8], Key); 17] = [
+    (b"tokens", Key::Tokens),
+    (b"places", Key::Places),
+    (b"lines", Key::Lines),
+    (b"end", Key::End),
+    (b"expression", Key::Expression),
+    (b"source", Key::Source),
+    (b"spell", Key::Spell),
+    (b"literal", Key::Literal),
+    (b"identifier", Key::Identifier),
+    (b"preprocess", Key::Preprocess),
+    (b"placed", Key::Placed),
+    (b"reads", Key::Reads),
+    (b"real", Key::Real),
+    (b"sink", Key::Sink),
+    (b"put", Key::Put),
+    (b"stream", Key::Stream),
+    (b"full", Key::Full),
+];
+
+/// The key of a word.
+pub fn key_of(word: &[u8]) -> Key {
+    named(&KEYS, word).unwrap_or(Key::Other)
+}
 
 /// Does what the case says.
-pub fn act<F: Files>(case: &Case, files: &mut F, out: &mut Printed) -> Result<(), AllocError> {
+pub fn act(case: &Case, files: &mut System, out: &mut Printed) -> Result<(), AllocError> {
     if case.is_each {
         let lines = parts(case.alloc, case.text(), b'\n')?;
         act_on_lines(case, &lines, out)
@@ -44,36 +94,31 @@ fn act_on_lines(case: &Case, lines: &[&[u8]], out: &mut Printed) -> Result<(), A
     Ok(())
 }
 
-fn act_on_files<F: Files>(case: &Case, files: &mut F, out: &mut Printed) -> Result<(), AllocError> {
-    let key = case.key.as_slice();
-    if is(key, "preprocess") || is(key, "placed") {
-        print_preprocessed(case, is(key, "placed"), out)
-    } else if is(key, "reads") {
-        print_own_reads(case, out)
-    } else if is(key, "real") {
-        print_reads(case.alloc, &case.words, files, out)
-    } else if is(key, "sink") || is(key, "put") {
-        print_sink(case, is(key, "put"), out)
-    } else if is(key, "stream") {
-        print_stream(case, out)
-    } else if is(key, "full") {
-        print_full(case, out)
-    } else {
-        act_on_text(case, case.text(), out)
+fn act_on_files(case: &Case, files: &mut System, out: &mut Printed) -> Result<(), AllocError> {
+    match case.key {
+        Key::Preprocess => print_preprocessed(case, false, out),
+        Key::Placed => print_preprocessed(case, true, out),
+        Key::Reads => print_own_reads(case, out),
+        Key::Real => print_reads(case.alloc, &case.words, files, out),
+        Key::Sink => print_sink(case, false, out),
+        Key::Put => print_sink(case, true, out),
+        Key::Stream => print_stream(case, out),
+        Key::Full => print_full(case, out),
+        _ => act_on_text(case, case.text(), out),
     }
 }
 
 fn act_on_text(case: &Case, text: &[u8], out: &mut Printed) -> Result<(), AllocError> {
     out.of_file(FILE);
-    if is(case.key.as_slice(), "literal") {
-        return print_literal(text, out);
+    match case.key {
+        Key::Literal => print_literal(text, out),
+        Key::Identifier => print_identifier(text, out),
+        Key::Lines => print_lines(case.alloc, text, out),
+        _ => act_on_tokens_of(case, text, out),
     }
-    if is(case.key.as_slice(), "identifier") {
-        return print_identifier(text, out);
-    }
-    if is(case.key.as_slice(), "lines") {
-        return print_lines(case.alloc, text, out);
-    }
+}
+
+fn act_on_tokens_of(case: &Case, text: &[u8], out: &mut Printed) -> Result<(), AllocError> {
     match tokens_of(case.alloc, text) {
         Ok(tokens) => act_on_tokens(case, &tokens, out),
         Err(error) => print_error(error, false, out),
@@ -81,28 +126,20 @@ fn act_on_text(case: &Case, text: &[u8], out: &mut Printed) -> Result<(), AllocE
 }
 
 fn act_on_tokens(case: &Case, tokens: &Tokens, out: &mut Printed) -> Result<(), AllocError> {
-    let key = case.key.as_slice();
-    if is(key, "tokens") {
-        print_tokens(&tokens.list, out)
-    } else if is(key, "places") {
-        print_places(&tokens.list, out)
-    } else if is(key, "end") {
-        out.place(tokens.end)
-    } else {
-        act_on_trees(case, tokens, out)
+    match case.key {
+        Key::Tokens => print_tokens(&tokens.list, out),
+        Key::Places => print_places(&tokens.list, out),
+        Key::End => out.place(tokens.end),
+        _ => act_on_trees(case, tokens, out),
     }
 }
 
 fn act_on_trees(case: &Case, tokens: &Tokens, out: &mut Printed) -> Result<(), AllocError> {
-    let key = case.key.as_slice();
     let is_brief = is(case.words.as_slice(), "brief");
-    if is(key, "expression") {
-        print_expression(case.alloc, tokens, is_brief, out)
-    } else if is(key, "source") {
-        print_source(case.alloc, tokens, is_brief, out)
-    } else if is(key, "spell") {
-        print_spelling(case.alloc, tokens, out)
-    } else {
-        out.text(b"no such key")
+    match case.key {
+        Key::Expression => print_expression(case.alloc, tokens, is_brief, out),
+        Key::Source => print_source(case.alloc, tokens, is_brief, out),
+        Key::Spell => print_spelling(case.alloc, tokens, out),
+        _ => out.text(b"no such key"),
     }
 }

@@ -14,22 +14,28 @@
 //   whole           that file is one text
 //   KEY WORDS       what is done, which acts.rt tells
 //   # text          a remark; an empty line is passed over
+use crate::acts::{Key, key_of};
+use case_rows::named;
 use std::alloc::{AllocError, Global};
 use sv_outside::Name;
 
 /// A file of a case.
-#[derive(Drop)]
 pub struct File {
     pub name: Name,
     pub text: Vec<u8>,
 }
 
+impl Drop for File {
+    fn drop(self) {
+        let File { name: _, text: _ } = self;
+    }
+}
+
 /// What is known of a case, from the lines read so far.
-#[derive(Drop)]
 pub struct Case {
     pub alloc: Global,
     pub name: Vec<u8>,
-    pub key: Vec<u8>,
+    pub key: Key,
     pub words: Vec<u8>,
     pub files: Vec<File>,
     pub out: Vec<u8>,
@@ -39,6 +45,24 @@ pub struct Case {
     pub is_each: bool,
     // Whether contents are of what is printed, and not of the last file.
     is_out: bool,
+}
+
+impl Drop for Case {
+    fn drop(self) {
+        let Case {
+            alloc: _,
+            name: _,
+            key: _,
+            words: _,
+            files: _,
+            out: _,
+            failing_reads: _,
+            failing_writes: _,
+            most: _,
+            is_each: _,
+            is_out: _,
+        } = self;
+    }
 }
 
 /// The parts between two bytes of that kind. Behind the last of these is none where the text ends.
@@ -98,12 +122,42 @@ fn read_numbers(alloc: Global, line: &[u8], numbers: &mut Vec<u64>) -> Result<()
     push_numbers(&words, numbers)
 }
 
+// What a line begins with that is no key.
+#[derive(Clone, Copy)]
+enum Mark {
+    File,
+    Also,
+    Out,
+    Gone,
+    Repeat,
+    Case,
+    Read,
+    Write,
+    Most,
+    Each,
+    Whole,
+}
+
+static MARKS: [(&[u8], Mark); 11] = [
+    (b"file", Mark::File),
+    (b"also", Mark::Also),
+    (b"out", Mark::Out),
+    (b"gone", Mark::Gone),
+    (b"repeat", Mark::Repeat),
+    (b"case", Mark::Case),
+    (b"read", Mark::Read),
+    (b"write", Mark::Write),
+    (b"most", Mark::Most),
+    (b"each", Mark::Each),
+    (b"whole", Mark::Whole),
+];
+
 impl Case {
     pub fn new(alloc: Global) -> Case {
         Case {
             alloc,
             name: Vec::new(alloc),
-            key: Vec::new(alloc),
+            key: Key::Other,
             words: Vec::new(alloc),
             files: Vec::new(alloc),
             out: Vec::new(alloc),
@@ -142,42 +196,46 @@ impl Case {
     }
 
     fn take_word(&mut self, word: &[u8], rest: &[u8]) -> Result<(), AllocError> {
-        if is(word, "file") {
-            self.remove(rest);
-            self.begin_file(rest)
-        } else if is(word, "also") {
-            self.begin_file(rest)
-        } else if is(word, "out") {
-            self.is_out = true;
-            self.out.clear();
-            Ok(())
-        } else if is(word, "gone") {
-            self.remove(rest);
-            Ok(())
-        } else if is(word, "repeat") {
-            let (times, text) = word_and_rest(rest);
-            self.repeat(number(times), text)
-        } else {
-            self.set(word, rest)
+        match named(&MARKS, word) {
+            Some(mark) => self.take_mark(mark, rest),
+            None => self.set_key(word, rest),
         }
     }
 
-    fn set(&mut self, word: &[u8], rest: &[u8]) -> Result<(), AllocError> {
-        if is(word, "case") {
-            self.begin(rest)
-        } else if is(word, "read") {
-            self.fail_reads(rest)
-        } else if is(word, "write") {
-            self.fail_writes(rest)
-        } else if is(word, "most") {
-            self.most = usize::try_from(number(rest)).unwrap_or(1);
-            Ok(())
-        } else if is(word, "each") || is(word, "whole") {
-            self.is_each = is(word, "each");
-            Ok(())
-        } else {
-            self.set_key(word, rest)
+    fn take_mark(&mut self, mark: Mark, rest: &[u8]) -> Result<(), AllocError> {
+        match mark {
+            Mark::File => self.begin_anew(rest),
+            Mark::Also => self.begin_file(rest),
+            Mark::Repeat => self.repeat(rest),
+            Mark::Case => self.begin(rest),
+            Mark::Read => self.fail_reads(rest),
+            Mark::Write => self.fail_writes(rest),
+            _ => {
+                self.set(mark, rest);
+                Ok(())
+            }
         }
+    }
+
+    // What takes no memory.
+    fn set(&mut self, mark: Mark, rest: &[u8]) {
+        match mark {
+            Mark::Out => self.begin_out(),
+            Mark::Gone => self.remove(rest),
+            Mark::Most => self.most = usize::try_from(number(rest)).unwrap_or(1),
+            Mark::Each => self.is_each = true,
+            _ => self.is_each = false,
+        }
+    }
+
+    fn begin_out(&mut self) {
+        self.is_out = true;
+        self.out.clear();
+    }
+
+    fn begin_anew(&mut self, name: &[u8]) -> Result<(), AllocError> {
+        self.remove(name);
+        self.begin_file(name)
     }
 
     fn begin(&mut self, name: &[u8]) -> Result<(), AllocError> {
@@ -193,18 +251,17 @@ impl Case {
     }
 
     fn set_key(&mut self, key: &[u8], words: &[u8]) -> Result<(), AllocError> {
-        replace(&mut self.key, key)?;
+        self.key = key_of(key);
         replace(&mut self.words, words)
     }
 
     fn begin_file(&mut self, name: &[u8]) -> Result<(), AllocError> {
         self.is_out = false;
-        let name = Name::new(self.alloc, name)?;
-        self.files.push(File {
-            name,
+        let file = File {
+            name: Name::new(self.alloc, name)?,
             text: Vec::new(self.alloc),
-        })?;
-        Ok(())
+        };
+        Ok(self.files.push(file)?)
     }
 
     fn remove(&mut self, name: &[u8]) {
@@ -214,9 +271,10 @@ impl Case {
         }
     }
 
-    fn repeat(&mut self, times: u64, text: &[u8]) -> Result<(), AllocError> {
+    fn repeat(&mut self, rest: &[u8]) -> Result<(), AllocError> {
+        let (times, text) = word_and_rest(rest);
         let mut piece = text.to_vec(self.alloc)?;
-        self.add_times(times, &mut piece)
+        self.add_times(number(times), &mut piece)
     }
 
     // By doubling the piece, since texts of 16 MiB are made so.

@@ -13,7 +13,8 @@ mod shown;
 mod texts;
 mod trees;
 
-use report::run;
+use items::both;
+use report::Report;
 use std::alloc::AllocError;
 use std::env;
 use std::io::ErrorKind;
@@ -35,18 +36,18 @@ fn words(rt: &HostRuntime) -> Result<Vec<String>, AllocError> {
     }
 }
 
-// Whether all was printed.
-fn is_printed(rt: &HostRuntime) -> Result<bool, AllocError> {
+// Runs the files that the words name.
+fn run_words(rt: &HostRuntime, report: &mut Report) -> Result<(), AllocError> {
     let words = words(rt)?;
-    let mut files = RealFiles::new(rt.clone()?);
-    let printed = run(rt.alloc(), &words, &mut files)?;
-    let mut out = RealSink::new(rt.stdout());
-    Ok(put_all(&mut out, printed.bytes()).is_ok())
+    let (words, own) = both(words, rt.clone())?;
+    let mut files = RealFiles::new(own);
+    report.run_files(rt.alloc(), &words, &mut files)
 }
 
 fn main(rt: HostRuntime) -> ExitCode {
-    match is_printed(&rt) {
-        Ok(true) => ExitCode::SUCCESS,
-        _ => ExitCode::FAILURE,
-    }
+    let mut report = Report::new(rt.alloc());
+    let done = run_words(&rt, &mut report).is_ok();
+    let mut out = RealSink::new(rt.stdout());
+    let printed = done && put_all(&mut out, report.bytes()).is_ok();
+    ExitCode::from(if printed { 0 } else { 1 })
 }

@@ -1,19 +1,23 @@
 // What is printed.
+use case_rows::put_size;
 use std::alloc::{AllocError, Global};
 use sv_outside::Place;
 
 /// Bytes, one behind the other, and the number of the file whose places are printed without it.
-#[derive(Drop)]
 pub struct Printed {
-    alloc: Global,
     bytes: Vec<u8>,
     file: usize,
+}
+
+impl Drop for Printed {
+    fn drop(self) {
+        let Printed { bytes: _, file: _ } = self;
+    }
 }
 
 impl Printed {
     pub fn new(alloc: Global) -> Printed {
         Printed {
-            alloc,
             bytes: Vec::new(alloc),
             file: 0,
         }
@@ -49,8 +53,10 @@ impl Printed {
     }
 
     pub fn number(&mut self, number: usize) -> Result<(), AllocError> {
-        let digits = format!(in self.alloc; "{number}")?;
-        self.bytes.extend_from_slice(digits.as_bytes())
+        match put_size(&mut self.bytes, number) {
+            Ok(()) => Ok(()),
+            Err(_) => Err(AllocError),
+        }
     }
 
     /// `LINE:COLUMN`, behind `FILE/` where that is another file.

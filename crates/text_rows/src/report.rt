@@ -2,40 +2,48 @@
 use crate::acts::act;
 use crate::cases::{Case, is, parts, word_and_rest};
 use crate::printed::Printed;
-use items::both;
 use std::alloc::{AllocError, Global};
-use sv_outside::{Files, Name};
+use sv_outside::{Files, Name, RealFiles};
 
-// What is printed of all files, and of one file how many cases there were, and how many others than they should be.
-#[derive(Drop)]
-struct Report {
+/// The files of the system.
+pub type System = RealFiles<HostRuntime>;
+
+/// What is printed of all files, and of one file how many cases there were, and how many others than they should be.
+pub struct Report {
     printed: Printed,
     cases: usize,
     others: usize,
 }
 
-/// Runs the files of cases with these names.
-pub fn run<F: Files>(
-    alloc: Global,
-    names: &[String],
-    files: &mut F,
-) -> Result<Printed, AllocError> {
-    let mut report = Report {
-        printed: Printed::new(alloc),
-        cases: 0,
-        others: 0,
-    };
-    let told = report.run_files(alloc, names, files);
-    let (report, _) = both(report, told)?;
-    Ok(report.printed)
+impl Drop for Report {
+    fn drop(self) {
+        let Report {
+            printed: _,
+            cases: _,
+            others: _,
+        } = self;
+    }
 }
 
 impl Report {
-    fn run_files<F: Files>(
+    pub fn new(alloc: Global) -> Report {
+        Report {
+            printed: Printed::new(alloc),
+            cases: 0,
+            others: 0,
+        }
+    }
+
+    pub fn bytes(&self) -> &[u8] {
+        self.printed.bytes()
+    }
+
+    /// Runs the files of cases with these names.
+    pub fn run_files(
         &mut self,
         alloc: Global,
         names: &[String],
-        files: &mut F,
+        files: &mut System,
     ) -> Result<(), AllocError> {
         for name in names {
             self.run_file(alloc, name.as_bytes(), files)?;
@@ -44,37 +52,37 @@ impl Report {
         Ok(())
     }
 
-    fn run_file<F: Files>(
+    fn run_file(
         &mut self,
         alloc: Global,
         name: &[u8],
-        files: &mut F,
+        files: &mut System,
     ) -> Result<(), AllocError> {
         self.cases = 0;
         self.others = 0;
-        let read = files.read(alloc, &Name::new(alloc, name)?);
-        match read {
+        let path = Name::new(alloc, name)?;
+        match files.read(alloc, &path) {
             Ok(text) => self.run_text(alloc, &text, files),
             Err(_) => self.differs(name, b"", b"a file of cases\n"),
         }
     }
 
-    fn run_text<F: Files>(
+    fn run_text(
         &mut self,
         alloc: Global,
         text: &[u8],
-        files: &mut F,
+        files: &mut System,
     ) -> Result<(), AllocError> {
         let lines = parts(alloc, text, b'\n')?;
         let mut case = Case::new(alloc);
         self.run_lines(&lines, &mut case, files)
     }
 
-    fn run_lines<F: Files>(
+    fn run_lines(
         &mut self,
         lines: &[&[u8]],
         case: &mut Case,
-        files: &mut F,
+        files: &mut System,
     ) -> Result<(), AllocError> {
         for line in lines {
             self.run_line(line, case, files)?;
@@ -82,11 +90,11 @@ impl Report {
         self.judge(case, files)
     }
 
-    fn run_line<F: Files>(
+    fn run_line(
         &mut self,
         line: &[u8],
         case: &mut Case,
-        files: &mut F,
+        files: &mut System,
     ) -> Result<(), AllocError> {
         let (word, _) = word_and_rest(line);
         if is(word, "case") {
@@ -96,7 +104,7 @@ impl Report {
     }
 
     // Runs the case that was read, where there is one.
-    fn judge<F: Files>(&mut self, case: &Case, files: &mut F) -> Result<(), AllocError> {
+    fn judge(&mut self, case: &Case, files: &mut System) -> Result<(), AllocError> {
         if case.name.is_empty() {
             return Ok(());
         }
@@ -105,10 +113,10 @@ impl Report {
         self.compare(case, files, &mut printed)
     }
 
-    fn compare<F: Files>(
+    fn compare(
         &mut self,
         case: &Case,
-        files: &mut F,
+        files: &mut System,
         printed: &mut Printed,
     ) -> Result<(), AllocError> {
         act(case, files, printed)?;
