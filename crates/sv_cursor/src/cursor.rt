@@ -1,4 +1,6 @@
-// A cursor over tokens, each of which is sorted once.
+// A cursor over tokens, with the sort of the next one beside it. A token is sorted once, when the cursor comes to stand before
+// it, however many rules look at it then. Refusals are counted in tokens that are left, not from the front, so that a rule says
+// the same of its tokens whatever stands before them.
 ghost use Rattle.std.specs.Prelude.{◌≡◌, length, IfOk};
 ghost use Rattle.sv_cursor.specs.Parsers as spec;
 ghost use Rattle.sv_cursor.specs.Parsers.{Reads};

@@ -1,4 +1,6 @@
-// What the grammar tells tokens apart by.
+// What the grammar tells tokens apart by: the keywords, the marks, the names of system functions, identifiers and literals
+// (IEEE 1800-2017, 5.5, 5.6 and annex B). A rule compares a small value in place of a text. Words and marks that no rule reads
+// are all one sort, `Other`, as the end of the tokens is, since every rule refuses each of them.
 use sv_tree::SystemName;
 
 /// A keyword of the grammar (IEEE 1800-2017, annex B).

@@ -1,4 +1,6 @@
-// The sort of a token, by tables of texts.
+// The sort of a token, by tables of texts. The tables are constants that the definitions cite too, so that the words of the
+// grammar stand once; a text is looked for from the front, and each token is looked up once, when a cursor comes to it. Whether
+// a word that is no keyword is an identifier is asked of `sv_outside`, which knows the reserved words that no rule reads.
 ghost use Rattle.std.specs.Prelude.{◌≡◌, map, MatchOption};
 ghost use Rattle.std.specs.Str.{bytes_eq};
 ghost use Rattle.sv_cursor.specs.Sorts as spec;

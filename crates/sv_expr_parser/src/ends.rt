@@ -1,4 +1,6 @@
-// Where an expression can end.
+// Where an expression can end, as far as brackets and `?` tell: where none is open and the last token may end an operand. That
+// is a condition that every expression meets and one pass over the tokens tells, so that the search for the longest expression
+// tries few fronts; which of these are expressions only the reader says.
 ghost use Rattle.std.specs.Prelude.{ℕ, ◌≡◌, ◌+◌, ◌<◌, ◌≤◌, ◌^◌, length};
 ghost use Rattle.sv_expr_parser.specs.Ends as spec;
 ghost use Rattle.sv_expr_parser.specs.Ends.{CanEnd};

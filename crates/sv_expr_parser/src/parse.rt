@@ -1,4 +1,6 @@
-// The longest expression from a token on.
+// The longest expression from a token on, with its end, or why there is none (IEEE 1800-2017, A.8.3). Reading goes on as far as
+// it can, and where it is refused at a token, the longest expression ends before that. So shorter fronts are tried from there
+// down, at the last places where an expression can end, and the tokens are read about twice and not once for each front.
 ghost use Rattle.std.specs.Prelude.{◌≤◌, length};
 ghost use Rattle.sv_cursor.specs.Parsers.{Reads};
 ghost use Rattle.sv_expr_parser.specs.Parsed.{IsFront, IsLongest, IsParsed, NoneBeyond, Refuses, RefusesFront};

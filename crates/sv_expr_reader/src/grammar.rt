@@ -1,4 +1,7 @@
-// The rules that hold expressions take the reader of those as a parameter, so that each is proved by itself.
+// The rules of expressions without operators between two parts: primaries, selects, casts, braces and prefixes (IEEE 1800-2017,
+// A.8). Expressions hold expressions, so the rules that hold them take the reader of those as a parameter: each is proved by
+// itself over any reader, and the cycle is closed once, elsewhere. A depth goes down with each expression that holds another,
+// so that the recursion ends.
 ghost use Rattle.std.specs.Prelude.{◌≡◌, ◌∷◌, ◌++◌, [], is_some, IfOk};
 ghost use Rattle.sv_cursor.specs.Parsers as parser;
 ghost use Rattle.sv_cursor.specs.Parsers.{Reads, ◌⊗◌};

@@ -1,4 +1,6 @@
-// How many expressions hold the token of an expression that most hold.
+// How many expressions hold the token of an expression that most hold. The reader needs it where an operator follows, since the
+// left operand lies one deeper then. Heights stop at 255, which is more than may be nested, and where a first operand's height
+// is known it is taken and not counted again, so that a chain of operators is looked at once.
 ghost use Rattle.std.specs.Prelude.{◌≡◌};
 ghost use Rattle.sv_expr_reader.specs.Climbing as climbing;
 ghost use Rattle.sv_expr_reader.specs.Heights.{capped, capped_all, capped_chain, capped_select, last};

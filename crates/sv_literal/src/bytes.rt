@@ -1,4 +1,6 @@
-// Which bytes stand where in a literal.
+// Which bytes stand where in a literal: digits of each base, unknown digits, bases, signs, and what may begin and go on a value
+// (IEEE 1800-2017, 5.7.1). Each test has a function and a definition of its own, so that the proofs of whole literals speak of
+// these and never of a byte's number.
 ghost use Rattle.std.specs.Prelude.{◌≡◌, ◌||◌};
 ghost use Rattle.std.specs.Char.{digit_value};
 ghost use Rattle.sv_outside.specs.Words as word;

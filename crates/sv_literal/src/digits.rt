@@ -1,4 +1,7 @@
-// What the digits of a literal give. A loop takes a fixed number of steps on words for each.
+// What the digits of a literal give: numbers of decimal digits, and bits of digits of the other bases. A loop takes a fixed
+// number of steps on words for each digit and keeps no list of bits: 128 bits are all that a vector holds, so one loop keeps
+// the last 128, and another, of 32 bits, whether a bit that is not 0 was pushed out. Decimal digits have two loops, up to a cap
+// and modulo 2 ^ 128: the one tells a size or a range, the other the bits.
 ghost use Rattle.std.specs.Prelude.{◌≡◌, ◌||◌, ◌-◌, ◌%◌, ◌^◌, ◌<◌, ◌≤◌, ◌∷◌, [], ◌++◌, length, min, not, take, drop, replicate};
 ghost use Rattle.fourvec.specs.Bits.{vector, all_zero};
 ghost use Rattle.sv_literal.specs.Value as value;

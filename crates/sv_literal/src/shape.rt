@@ -1,4 +1,5 @@
-// Which texts are literals, and the parts of one.
+// Which texts are literals, and the parts of one: the size, the sign, the base and the digits (IEEE 1800-2017, 5.7.1). A text
+// is only cut here and no digit is evaluated, so each answer is a slice of the text or a truth, and nothing takes memory.
 ghost use Rattle.std.specs.Prelude.{◌≡◌, ◌≤◌, drop, length, slice_index};
 ghost use Rattle.std.specs.List.{list_all, prefix_len};
 ghost use Rattle.sv_outside.specs.Literals as form;

@@ -1,4 +1,6 @@
-// Files and a sink in memory, some of whose calls fail.
+// Files and a sink in memory, some of whose calls fail. Contracts speak of what files and sinks tell, and real ones tell
+// nothing, so it is through these that clauses on contents say something. Which calls fail is given by their numbers, from 1. A
+// read copies the contents and may want memory; the sink takes its room at once, so that no write does.
 ghost use Rattle.std.specs.Prelude.{◌≡◌, ◌≤◌, ◌<◌, ◌^◌, [], ℕ, List, Some, None, Ok, Err, if◌then◌else◌, ◌==◌, length, take, map, option_map, IfOk, IfErr, IfSome, OnOk, OnErr, IsErrOf};
 ghost use Rattle.std.specs.Result.{result_ok};
 ghost use Rattle.std.specs.List.{list_any};

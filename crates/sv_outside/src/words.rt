@@ -1,4 +1,7 @@
-// Which words are identifiers, and which are reserved.
+// Which words are identifiers, and which are reserved (IEEE 1800-2017, 5.6 and annex B). The reserved words stand in a table by
+// their first letter, so that a word is compared with few of them, and under a letter those of the grammar come first, since
+// they are met most. Keywords of the annex that name nothing in the grammar and are not listed as out of scope are identifiers
+// here, so the table lacks them.
 ghost use Rattle.std.specs.Prelude.{◌≡◌, map};
 ghost use Rattle.std.specs.List.{list_any, list_all, range_with_len};
 ghost use Rattle.std.specs.Str.{bytes_eq};

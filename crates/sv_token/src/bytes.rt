@@ -1,4 +1,6 @@
-// Which bytes stand where in a token.
+// Which bytes stand where in a token, and which marks of one, two and three bytes there are. Each test that the scanner asks
+// has a definition in the forms of tokens, so that its proofs speak of these and never of a byte's number. Marks of two bytes
+// are told in four short groups, by what they are used for.
 ghost use Rattle.std.specs.Prelude.{◌≡◌, ◌∷◌, [], ℕ, Bool};
 ghost use Rattle.std.specs.List.{list_any};
 ghost use Rattle.std.specs.Str.{bytes_eq};

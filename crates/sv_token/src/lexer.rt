@@ -1,4 +1,6 @@
-// Cuts a text into tokens.
+// Cuts a text into tokens, and counts places and lines. It stands at a token or a gap and takes the longest form that begins
+// there, so what is cut is decided from the left without going back. Each token is made with its line, for the directives,
+// which end with their line; `lex` drops the lines afterwards, so that the loop and its proof stand once.
 ghost use Rattle.std.specs.Prelude.{◌≡◌, ◌≤◌, ◌<◌, ◌+◌, ◌^◌, length, take, drop, map, ℕ, List, if◌then◌else◌, IfOk, IfErr, IsErr};
 ghost use Rattle.sv_outside.specs.declared.refusal.Refusal.{Refusal};
 ghost use Rattle.sv_outside.specs.declared.text.Token.{Token};

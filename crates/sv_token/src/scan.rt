@@ -1,4 +1,7 @@
-// The length of each form at the front of a text.
+// The length of each form of token at the front of a text: words, literals, quoted texts, directives and marks, and comments. A
+// form answers 0 where it does not begin there, and its runs are taken as far as they go, so the length is that of the longest
+// match. The kinds are tried one after another: only a `'` begins two of them, and there a literal is tried before the mark,
+// which is shorter.
 ghost use Rattle.std.specs.Prelude.{◌≡◌, ◌≤◌, ◌∷◌, [], ℕ, length, not, option_map};
 ghost use Rattle.sv_token.specs.Cut.{run, comment_length, is_end_of_line, opens};
 ghost use Rattle.sv_outside.specs.Words as word;

@@ -1,4 +1,6 @@
-// Modules, their parameters, ports and items.
+// Modules, their parameters, ports, instances and items, and whole texts (IEEE 1800-2017, A.1, A.2.1, A.4 and A.6.1). Each
+// production is a type and each alternative a variant, so that a tree holds what was written, also where two writings mean the
+// same. What repeats or nests is held by `Items` and `Boxed`, which contracts see as their contents.
 use crate::{Block, Expr, Lvalue, Range, Sign, Step, TypeTree, Typedef, WholeWord, Word};
 use items::{Boxed, Items};
 use sv_outside::Place;

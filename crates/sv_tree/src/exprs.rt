@@ -1,4 +1,6 @@
-// Expressions.
+// Expressions and selects (IEEE 1800-2017, A.8). Parentheses, and the two spellings of one operator, have variants of their
+// own, since a tree is tied to the tokens that spell it: from a tree they can be written again. A node keeps the place of its
+// operator, word or bracket, where a refusal may have to stand.
 use crate::Word;
 use items::{Boxed, Items};
 use sv_outside::Place;

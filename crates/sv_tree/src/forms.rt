@@ -1,4 +1,5 @@
-// Types.
+// Types, with their ranges, members and enumerators (IEEE 1800-2017, A.2.1.3, A.2.2.1 and A.2.5). A type is kept as it is
+// written: which layout it has depends on constants and on names, so that is found in the crates of the meaning.
 use crate::{Expr, Sign, Word};
 use items::{Boxed, Items};
 use sv_outside::Place;

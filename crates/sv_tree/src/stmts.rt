@@ -1,4 +1,6 @@
-// Blocks and statements.
+// Targets, statements, and the blocks that hold them (IEEE 1800-2017, A.6 and A.8.5). A statement keeps all that was written,
+// labels and the marks of steps too, since the tree is tied to its tokens. An arm of a case statement has one or more labels or
+// is the default, so the kinds of arms are one list in the order of the text.
 use crate::{Expr, Select, WholeWord, Word};
 use items::{Boxed, Items};
 use sv_outside::Place;

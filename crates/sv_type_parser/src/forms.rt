@@ -1,4 +1,6 @@
-// Types. The rules that hold types take the reader of those as a parameter, so that each is proved by itself.
+// Types, ranges and enumerators are read (IEEE 1800-2017, A.2.1.3, A.2.2.1 and A.2.5). The next token tells which kind of type
+// begins. Only members of structures hold types: their rules take the reader of types as a parameter, so that each is proved by
+// itself, and `form` closes the cycle with one depth less.
 ghost use Rattle.std.specs.Prelude.{◌≡◌, is_some};
 ghost use Rattle.sv_cursor.specs.Parsers as parser;
 ghost use Rattle.sv_cursor.specs.Parsers.{Reads, told};

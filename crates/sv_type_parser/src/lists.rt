@@ -1,4 +1,6 @@
-// Lists with commas between their parts.
+// Lists with commas between their parts: expressions and names, and how deep the grammar may nest. A first part is read and
+// then the rest in a loop of at most as many turns as tokens are left, and the two are put together. The limit of nesting is
+// this project's rule; trees are walked and dropped by their own depth, so there has to be one.
 ghost use Rattle.std.specs.Prelude.{◌≡◌, ◌∷◌, IfOk};
 ghost use Rattle.sv_cursor.specs.Parsers as parser;
 ghost use Rattle.sv_cursor.specs.Parsers.{Reads};

@@ -1,4 +1,6 @@
-// Parameters, names with types, and ports.
+// Parameters, names with types, and ports are read (IEEE 1800-2017, A.1.3, A.2.1.1 and A.2.4). A type may be left out before a
+// name, and a type may be a name itself: of two names the first is the type's, which shows only behind it. So the first name is
+// read in either case, and what follows decides.
 ghost use Rattle.std.specs.Prelude.{◌≡◌};
 ghost use Rattle.sv_cursor.specs.Parsers as parser;
 ghost use Rattle.sv_cursor.specs.Parsers.{Reads, told};

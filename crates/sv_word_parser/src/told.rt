@@ -1,4 +1,6 @@
-// The words and marks of the grammar, each told by the next token.
+// The words and marks that the grammar chooses by, each told by the next token alone (IEEE 1800-2017, annex A). For each there
+// are up to three calls: what comes next, the same taken, and the same where it is there. A choice looks first and takes
+// afterwards, so no rule ever goes back, and each call reads at most one token.
 ghost use Rattle.std.specs.Prelude.{◌≡◌, is_some};
 ghost use Rattle.sv_cursor.specs.Parsers as parser;
 ghost use Rattle.sv_cursor.specs.Parsers.{Reads, told};
