@@ -1,4 +1,6 @@
-// Instances, and what else begins with a name.
+// What begins with a name is read: instances with their connections, and variables of a named type (IEEE 1800-2017, A.2.1.3 and
+// A.4.1.1). Which of them it is shows at the token behind the first name, or at the one behind the second. So the names are
+// read first and a tail behind them, and the item is put together from both, without reading a token twice.
 ghost use Rattle.std.specs.Prelude.{◌≡◌, IfOk};
 ghost use Rattle.sv_cursor.specs.Parsers as parser;
 ghost use Rattle.sv_cursor.specs.Parsers.{Reads, told};

@@ -1,4 +1,6 @@
-// The turns of a loop.
+// The turns of a loop, as the values that its variable has in them (IEEE 1800-2017, 12.7.1 and 27.4). For the condition and the
+// step the variable stands above the names of the place and is taken off at once, so that the names are as before on every way
+// out. Turns are listed before a body is looked at: they do not depend on it, since no statement assigns the variable.
 ghost use Rattle.std.specs.Prelude.{◌≡◌, ◌∷◌, [], ◌++◌, List, length, IfOk, IfErr, OnOk, OnErr};
 ghost use Rattle.sv_outside.specs.declared.refusal.TextErr.TheVariants.{Memory};
 ghost use Rattle.sv_meaning.specs.Deeds.{turns, turns_from, holds_at, next_value, with_index, most_turns};

@@ -1,4 +1,6 @@
-// Steps from one value of a loop's variable to the next.
+// Steps from one value of a loop's variable to the next, modulo 2 ^ 32 (IEEE 1800-2017, 12.7.1 and 27.4). Steps by one are
+// plain sums. `+=` and `-=` are the typed sum of the variable and an expression, so that sizes and signs come from the same
+// rules as everywhere; the variable enters it as a constant, for which no name is looked up.
 ghost use Rattle.std.specs.Prelude.{◌≡◌, [], Some, true, length, IfOk};
 ghost use Rattle.sv_tree.specs.declared.word.Word.{Word};
 ghost use Rattle.sv_meaning.specs.Layouts.{number_is};

@@ -1,4 +1,7 @@
-// Connections of ports, and overrides of parameters.
+// Connections of ports, and overrides of parameters: the same rules serve both (IEEE 1800-2017, 23.3.2 and 23.10.2). By name
+// each has to be known and to come once, by order there may be no more than there are names. Names are looked for in hash sets,
+// so the work is linear; and each connection has a name, by order that of the declaration, so that callers need not ask how it
+// was written.
 ghost use Rattle.std.specs.Prelude.{◌≡◌, [], map, IfOk};
 ghost use Rattle.std.specs.Option.{option_copied};
 ghost use Rattle.sv_meaning.specs.Layouts.{Scope};

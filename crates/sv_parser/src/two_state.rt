@@ -1,5 +1,6 @@
-// The types `int` and `bit`, which have no unknown values (IEEE 1800-2017, 6.11) and stand only in parameters and in the
-// loops of blocks.
+// The types `int` and `bit`, which have no unknown values (IEEE 1800-2017, 6.11) and stand only in parameters and in the loops
+// of blocks. Where reading stops at such a word, its refusal depends on whether `logic` could stand there, so the tokens before
+// it are read once more with `logic` behind them. That costs a second reading of the text, but only on the way to a refusal.
 ghost use Rattle.std.specs.Prelude.{◌≡◌, IfOk};
 ghost use Rattle.sv_parser.specs.Source as text;
 ghost use Rattle.sv_parser.specs.TwoState as spec;

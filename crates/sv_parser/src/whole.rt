@@ -1,4 +1,7 @@
-// The tree of a whole text.
+// The tree of a whole text, or the refusal with its number and place. Reading itself answers only where it stops, or which
+// token lies too deep; which number is refused there is found afterwards from the tokens round that place, so that the readers
+// below need to know nothing of numbers. The tokens that are left are turned into a place here, since only here all of them are
+// known.
 ghost use Rattle.std.specs.Prelude.{◌≡◌, ◌-◌, Err, IfOk, List, length};
 ghost use Rattle.sv_cursor.specs.Refusals as places;
 ghost use Rattle.sv_parser.specs.Answers.{Decides};

@@ -1,4 +1,6 @@
-// Modules and whole texts (A.1).
+// Modules and whole texts are written (A.1). Modules stand in no other part, so what is here is no cycle and calls the writers
+// of items, types and parameters. Lists that are empty are told apart, since parentheses with nothing in them stand for some
+// parts of the header and are left out for others.
 ghost use Rattle.std.specs.Prelude.{◌≡◌, IfOk};
 ghost use Rattle.sv_write.specs.Writing as writing;
 ghost use Rattle.sv_spell.specs.Modules as spec;

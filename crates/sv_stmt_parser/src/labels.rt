@@ -1,4 +1,6 @@
-// Names that repeat another: the labels of ends, and the variable in the step of a loop.
+// Names that repeat another: the labels of ends, and the variable in the step of a loop (IEEE 1800-2017, A.4.2, A.6.3 and
+// A.6.8). That they are the same name is a rule of the grammar here, so a tree that is read needs no check afterwards. The
+// refusal is made before the name is read, and so stands at the name that differs.
 ghost use Rattle.std.specs.Prelude.{◌≡◌, length};
 ghost use Rattle.std.specs.Str.{bytes_eq};
 ghost use Rattle.sv_cursor.specs.Parsers as parser;

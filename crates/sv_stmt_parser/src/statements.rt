@@ -1,5 +1,7 @@
-// Statements. The rules that hold statements take the reader of those as a parameter, so that each is proved by
-// itself.
+// Statements are read: assignments, blocks, branches and loops (IEEE 1800-2017, A.6). The rules that hold statements take the
+// reader of those as a parameter, so that each is proved by itself, and `stmt` closes the cycle with one depth less. Arms
+// before the default, the default and the arms behind it are read one after another and then joined, so that a second default
+// is refused at its word.
 ghost use Rattle.std.specs.Prelude.{◌≡◌, ◌∷◌, ◌++◌, is_some, IfOk};
 ghost use Rattle.sv_cursor.specs.Parsers as parser;
 ghost use Rattle.sv_cursor.specs.Parsers.{Reads, ◌⊗◌, ◌▷◌, told};

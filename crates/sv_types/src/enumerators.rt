@@ -1,4 +1,6 @@
-// The constants of enumerations (IEEE 1800-2017, 6.19).
+// The constants of enumerations (IEEE 1800-2017, 6.19). Each one is seen by the values of those behind it, so it is put above
+// the names as it is found, and the caller takes all of them off at the end. The number that a label without a value gets is
+// counted past the base's width, so that an enumerator that does not fit is refused at its own name.
 ghost use Rattle.std.specs.Prelude.{◌≡◌, ◌≤◌, ℕ, pos, IsTrue, IfOk, OnOk, OnErr, [], ◌∷◌, ◌++◌};
 ghost use Rattle.std.specs.Option.{option_copied};
 ghost use Rattle.fourvec.specs.Bits.{is_known};

@@ -1,4 +1,7 @@
-// Layouts of types, with the constants that they declare (IEEE 1800-2017, 6.19, 7.2 and 7.4).
+// Layouts of types, with the constants that they declare (IEEE 1800-2017, 6.19, 7.2 and 7.4). Types hold types through members,
+// so two functions are a cycle, which takes trees apart; what is made of the parts stands outside of it. Enumerators are seen
+// by what follows them in the type: they stand above the names while it is judged, and are taken off at the end whatever was
+// found.
 ghost use Rattle.std.specs.Prelude.{◌≡◌, ◌≤◌, true, List, [], Ok, IfOk, All, map};
 ghost use Rattle.std.specs.Option.{option_copied};
 ghost use Rattle.sv_names.specs.Kinds.{layout_is, IsSound, FieldIsSound, members_of};

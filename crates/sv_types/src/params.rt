@@ -1,4 +1,6 @@
-// The values of parameters (IEEE 1800-2017, 6.20.2).
+// The values of parameters (IEEE 1800-2017, 6.20.2). A type is judged by the names of its declaration and the value by names of
+// its own, since an override is read where the instance stands. With no type the value keeps its own size and sign, with a sign
+// alone its size, and else it is converted as by an assignment, in the wider of both sizes and then cut.
 ghost use Rattle.std.specs.Prelude.{◌≡◌, ◌≤◌, true, Some, IfOk, ℤ};
 ghost use Rattle.std.specs.Option.{option_copied};
 ghost use Rattle.sv_typing.specs.Judging.{Judges, Fixes};

@@ -1,5 +1,7 @@
-//! How many elements a range selects, and where they begin. Bounds have 32 bits, so that sums and products of places fit 64 bits
-//! and nothing overflows.
+//! How many elements a range selects, and where they begin (IEEE 1800-2017, 11.5.1). Bounds have 32 bits, so that sums and
+//! products of places fit 64 bits and nothing overflows. A range that goes against the declared way is refused before its size
+//! is looked at. Places count from the declared right bound, whichever way the declaration goes, so that they are places of
+//! bits.
 ghost use Rattle.std.specs.Prelude.{◌≡◌, ◌≤◌, ◌*◌, IsTrue, nat_le, pos, unsigned_abs, ◌&&◌, if◌then◌else◌};
 ghost use Rattle.fourvec.specs.Bits.{is_known, is_negative};
 ghost use Rattle.sv_meaning.specs.Meanings.{goes_along, is_bound, whole};

@@ -1,4 +1,6 @@
-// Instances and items of modules (A.1.4, A.4).
+// Instances and items of modules are written (A.1.4, A.4). Each part is put behind what is written already, in one list of
+// kinds and texts, so that nothing is copied between levels. Items hold items through generate constructs, so `item`, `items`,
+// `body` and `maybe_else` are one cycle, and all that holds no items stands outside of it.
 ghost use Rattle.std.specs.Prelude.{◌≡◌, IfOk};
 ghost use Rattle.sv_write.specs.Design as spec;
 ghost use Rattle.sv_write.specs.Exprs as exprs_spec;

@@ -1,4 +1,6 @@
-// Expressions and selects (A.8).
+// Expressions and selects are written (A.8). A tree has its parentheses as nodes of their own, so that none is added here: the
+// tokens are just those that spell the tree. The texts of marks stand in tables beside the cycle of expressions, which then has
+// one case for each production.
 ghost use Rattle.std.specs.Prelude.{◌≡◌, IfOk};
 ghost use Rattle.sv_tree.specs.GrammarExprs as texts;
 ghost use Rattle.sv_write.specs.Exprs as spec;

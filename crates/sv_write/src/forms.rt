@@ -1,4 +1,6 @@
-// Types, parameters and ports (A.2, A.1.3).
+// Types, parameters and ports are written (A.2, A.1.3). A part that may be missing or repeated is a `Part`, so that options and
+// lists are written by the same few calls. Types hold types through the members of structures: those four functions are a
+// cycle, and the words, ranges and enumerators stand outside of it.
 ghost use Rattle.std.specs.Prelude.{◌≡◌, IfOk};
 ghost use Rattle.sv_write.specs.Exprs as exprs_spec;
 ghost use Rattle.sv_write.specs.Forms as spec;

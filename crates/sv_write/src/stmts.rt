@@ -1,4 +1,6 @@
-// Targets, statements and blocks (A.6, A.8.5).
+// Targets, statements and blocks are written (A.6, A.8.5). What stands before the statements that a statement holds (the head
+// of an `if`, of a case statement or of a loop, and labels) is written by functions of their own, so that the cycle of
+// statements only puts heads and bodies one behind the other.
 ghost use Rattle.std.specs.Prelude.{◌≡◌, IfOk};
 ghost use Rattle.sv_write.specs.Exprs as exprs_spec;
 ghost use Rattle.sv_write.specs.Forms as forms_spec;

@@ -1,4 +1,6 @@
-// What is printed of files and sinks.
+// What is printed of files and sinks: the reads and writes of a case, in memory and on a stream, with those that fail. Each
+// call is printed in a line of its own, so that a case shows the order of answers too. Long contents are printed by their
+// length alone, which keeps cases with large files short.
 use crate::cases::{Case, File, parts};
 use crate::printed::Printed;
 use items::both;

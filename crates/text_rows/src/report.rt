@@ -1,4 +1,6 @@
-// Files of cases, one after another.
+// Files of cases are run one after another, and what differs is told. A case is run when the next one begins or the file ends,
+// since only then all of its lines are read. A file that can not be read counts as a difference, so that a wrong name never
+// passes as no cases.
 use crate::acts::act;
 use crate::cases::{Case, is, parts, word_and_rest};
 use crate::printed::Printed;

@@ -1,4 +1,6 @@
-// Trees with parentheses around each operation; parentheses of the text are written as angles.
+// Trees of expressions with parentheses round each operation; parentheses of the text are written as angles. So a row shows how
+// operators bind and which parentheses stood in the text, and the two can not be mistaken for each other. What has one part in
+// brackets or parentheses is shown by few calls, and what has several parts by a function of its own.
 use crate::printed::Printed;
 use std::alloc::AllocError;
 use sv_tree::{BinaryOp, Expr, RangeMark, Select, Sign, SystemName, UnaryOp};

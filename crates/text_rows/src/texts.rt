@@ -1,4 +1,6 @@
-// What is printed of a text.
+// What is printed of a text: tokens with their kinds, places and lines, refusals, identifiers, and values of literals. A kind
+// is one letter before the text, so that a row of tokens stays readable. Brief refusals give the line alone, for cases in which
+// the column says nothing.
 use crate::printed::Printed;
 use fourvec::{Bit, Four};
 use std::alloc::{AllocError, Global};

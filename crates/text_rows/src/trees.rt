@@ -1,4 +1,6 @@
-// What is printed of trees.
+// What is printed of trees: an expression with how many tokens it takes, whether a text is read, and how a tree is spelled. A
+// spelling is read and written a second time, and both lines are printed, so that a case shows that the tree was not changed on
+// the way.
 use crate::printed::Printed;
 use crate::shown::show;
 use crate::texts::{print_error, print_lexeme, tokens_of};
