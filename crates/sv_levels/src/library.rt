@@ -1,4 +1,6 @@
-// The modules of a text, and what an instance gives to one (IEEE 1800-2017, 23.3).
+// The modules of a text by number, and what an instance gives to one (IEEE 1800-2017, 23.3). Of the file level a module sees
+// what is declared above it, so a count of names is kept for each module beside the list. Parameters and ports are judged here,
+// before an instance is opened, so that E17 and E18 come before anything below it.
 ghost use Rattle.std.specs.Prelude.{◌≡◌, option_map};
 ghost use Rattle.sv_meaning.specs.Layouts.{Scope as Seen};
 ghost use Rattle.sv_meaning.specs.Params.{connections};

@@ -1,4 +1,6 @@
-// Parameters (IEEE 1800-2017, 6.20).
+// Parameters: which expression gives a value, of which type, at which names (IEEE 1800-2017, 6.20). An override keeps its
+// expression and the place where it is read and is evaluated only where the parameter is declared, since the type stands there.
+// Overrides are found by a hash index of their names, so that a list of parameters takes linear time.
 ghost use Rattle.std.specs.Prelude.{◌≡◌, None, Option, MatchOption, IfOk, map};
 ghost use Rattle.std.specs.Option.{option_copied};
 ghost use Rattle.sv_tree.specs.declared.design.ParamType.{ParamType as TypeOfParam};

@@ -1,4 +1,6 @@
-// The ports of an instance, and what they are connected to (IEEE 1800-2017, 23.2.2 and 23.3.2).
+// The ports of an instance, and what they are connected to (IEEE 1800-2017, 23.2.2 and 23.3.2). Each connection becomes a task
+// at the place of the instance, where its expression is read, and is carried out later with all other tasks. Ports are found by
+// a hash index of their names, and tasks follow the order of the connections. Only the inputs of the top are read from outside.
 ghost use Rattle.std.specs.Prelude.{◌≡◌, ◌&&◌, [], ◌∷◌, ◌++◌, map, Some, IfOk, IfSome, OnOk, option_map};
 ghost use Rattle.std.specs.Option.{option_copied};
 ghost use Rattle.sv_names.specs.Kinds.{IsSound};

@@ -1,4 +1,6 @@
-// The scopes of a source.
+// The scopes of a source: the file level, then the top, and all that is below it (IEEE 1800-2017, 23). The walk is given a
+// depth of 32 levels, so that it ends. What it leaves is handed out as plain lists, and what a place sees is made from its
+// counts when it is asked for, so that no list of names is kept for each place.
 ghost use Rattle.std.specs.Prelude.{◌≡◌, [], length, map, slice_get, IfOk, option_map};
 ghost use Rattle.std.specs.Option.{option_copied};
 ghost use Rattle.sv_loops.specs.Answers.{Answers};

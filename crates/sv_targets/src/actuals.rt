@@ -1,4 +1,7 @@
-// Actuals of ports as targets (IEEE 1800-2017, 23.3.3).
+// Actuals of ports as targets (IEEE 1800-2017, 23.3.3). An actual is parsed as an expression, so what may be a target is told
+// here: names with selects, and braces of these. Each refusal of another form stands where the whole actual begins, whichever
+// part of it is at fault. An index of an input's actual is read among all names of its place, since the port may also take its
+// value; that of any other is a constant expression.
 ghost use Rattle.std.specs.Prelude.{◌≡◌, map};
 ghost use Rattle.sv_names.specs.Names.{names_are};
 ghost use Rattle.sv_meaning.specs.Designs.{as_targets, actual_faults, part_faults, index_scope};

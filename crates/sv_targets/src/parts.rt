@@ -1,4 +1,6 @@
-// Targets whose selects are constant as parts of wires (IEEE 1800-2017, 10.3.2 and 23.3.3).
+// Targets whose selects are constant as parts of wires (IEEE 1800-2017, 10.3.2 and 23.3.3). The bits that a target names are
+// listed as slots first, and then runs of slots that are there become parts. Bits out of range are no part of any run, so each
+// part says where in the target it lies; a value is cut by these places and nothing is written where there is no bit.
 ghost use Rattle.std.specs.Prelude.{◌≡◌, ◌≤◌, ◌<◌, All, IfOk, List, [], length, slice_index_or, ◌+◌};
 ghost use Rattle.sv_names.specs.Names.{names_are};
 ghost use Rattle.lhs_alias.specs.Segs.{lhs_bits, AreSegs};

@@ -1,4 +1,7 @@
-// The bits that constant selects name, by their places (IEEE 1800-2017, 11.5.1).
+// The bits that constant selects name, by their places (IEEE 1800-2017, 11.5.1). A target is a row of slots, each a bit of a
+// wire or none, and a select picks slots of the row before it. So selects of selects need no sums of places, and what lies out
+// of range is told bit by bit. Where a select's place is not known, the row before it stays, since any of its bits may be
+// meant.
 ghost use Rattle.std.specs.Prelude.{◌≡◌, ◌≤◌, ◌<◌, ◌+ℤ◌, All, IfOk, length, pos, replicate, slice_get, None};
 ghost use Rattle.fourvec.specs.Spots.{reached};
 ghost use Rattle.sv_meaning.specs.Targets as t;

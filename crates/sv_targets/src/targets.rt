@@ -1,4 +1,6 @@
-// Targets of assignments (IEEE 1800-2017, 10.3.2, 10.4 and 11.5.1).
+// Targets of assignments: names with their selects, and braces of these (IEEE 1800-2017, 10.3.2, 10.4 and 11.5.1). Targets hold
+// targets, so two functions are a cycle, and what judges a name or a width stands outside of it. How an index is judged is a
+// parameter, since a block may select by any value, and a continuous assignment by constants alone.
 ghost use Rattle.std.specs.Prelude.{◌≡◌, Some, List, [], ◌∷◌, ◌++◌, map, min, Ok};
 ghost use Rattle.std.specs.Option.{option_copied};
 ghost use Rattle.sv_names.specs.Kinds.{layout_is, what_is, IsSound, WhatIsSound};

@@ -1,4 +1,7 @@
-// Generate blocks are begun (IEEE 1800-2017, 27).
+// Generate blocks are begun: branches of conditionals, and the turns of loops (IEEE 1800-2017, 27). A block is a level whose
+// fronts are those of its place. The turns of a loop share one name, which is declared once and only where there are turns; the
+// variable stands as the first of a turn's nets, so that it is seen as any name is. What begins a block is here, outside of the
+// cycle of items.
 ghost use Rattle.std.specs.Prelude.{◌≡◌, IfOk};
 ghost use Rattle.std.specs.Option.{option_copied};
 ghost use Rattle.sv_names.specs.Kinds.{scope_is};

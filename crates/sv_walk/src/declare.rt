@@ -1,4 +1,7 @@
-// Declarations of constants, types, nets and variables (IEEE 1800-2017, 6.5, 6.18, 6.19).
+// Declarations of constants, types, nets and variables (IEEE 1800-2017, 6.5, 6.18, 6.19). A type or a value is judged before
+// its name is declared, so that a declaration never sees itself. Nets and constants go into different lists of the level, but
+// their names into one set, by which a name that is taken is refused. Bits are counted as wires are added, so that a design
+// that is too large is refused at the wire.
 ghost use Rattle.std.specs.Prelude.{◌≡◌, ◌+◌, false, IfOk, OnOk};
 ghost use Rattle.std.specs.Option.{option_copied};
 ghost use Rattle.sv_names.specs.Kinds.{IsSound, WhatIsSound, layout_is, what_is};

@@ -1,4 +1,6 @@
-// Instances are opened (IEEE 1800-2017, 23.3).
+// Instances are opened (IEEE 1800-2017, 23.3). The items of an instance are read to their end first and its children noted, and
+// then each child is opened whole, so that its wires and tasks come before those of all that is below it. The recursion goes
+// down by a count of levels, which ends it also where modules instantiate themselves.
 ghost use Rattle.std.specs.Prelude.{◌≡◌, map, IfOk};
 ghost use Rattle.sv_loops.specs.Answers.{Answers};
 ghost use Rattle.sv_modules.specs.Connections.{connection_is};

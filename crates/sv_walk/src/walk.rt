@@ -1,4 +1,7 @@
-// The items of modules and generate blocks (IEEE 1800-2017, 23.2.4 and 27).
+// The items of modules and generate blocks, one after another (IEEE 1800-2017, 23.2.4 and 27). It is one cycle of four
+// functions, since generate constructs hold items. All that needs no items stands outside: declarations, conditions, turns and
+// the beginnings of blocks. A conditional alone in a branch belongs to the construct round it and makes no block of its own
+// (27.5).
 ghost use Rattle.sv_hierarchy.specs.Scopes.{act, turn_walk, under};
 ghost use Rattle.sv_walk.specs.Items.{items_walk};
 ghost use Rattle.sv_walk.specs.Walks.{Walks};

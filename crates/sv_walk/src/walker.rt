@@ -1,4 +1,6 @@
-// Where a walk through the items of a design stands.
+// Where a walk through the items of a design stands. What is found is kept in one record, and what belongs to the scope that is
+// read (the names that are taken, the count of its generate constructs, its overrides) in another, which is let go with the
+// scope. So a block is begun by a new `Open`, and nothing has to be restored behind it.
 ghost use Rattle.std.specs.Prelude.{◌≡◌, [], map, IfOk};
 ghost use Rattle.sv_meaning.specs.Layouts.{Name as Bytes};
 ghost use Rattle.sv_meaning.specs.Names.{has_name};
