@@ -1,4 +1,6 @@
-//! What is made of a flat design once, before it is settled.
+//! What is made of a flat design once, before it is settled: the places of bits in one row, the class of each bit, and the
+//! gifts, by which each bit of a driver or a stimulus goes to the class of a bit. All of this stays the same from phase to
+//! phase. It is written out bit by bit, so that a pass over it asks for no segment, no join and no memory.
 
 ghost use Rattle.std.specs.Prelude.{◌≡◌, ℕ, ◌+◌, ◌<◌, ◌≤◌, ◌^◌, List, [], ◌∷◌, ◌++◌, length, map, All, IfOk, OnOk, if◌then◌else◌};
 ghost use Rattle.lhs_alias.specs.Segs.{seg_bits, lhs_bits, AreSegs, IsSeg};

@@ -1,4 +1,6 @@
-//! Takes all the memory of a simulation.
+//! Takes all the memory of a simulation: the tables of a flat design, and room for three valuations. The tables follow from one
+//! another: places, classes, gifts, nets, and the gifts of each net. The joins are let go at the end, since the tables say all
+//! of them that settling asks. A valuation begins with X at every bit.
 
 ghost use Rattle.std.specs.Prelude.{◌≡◌, ◌<◌, ◌≤◌, ◌^◌, [], length, All, IfOk, OnOk};
 ghost use Rattle.lhs_alias.specs.Joined.{Stands, starts_of, all_bits, widths_of as joined_widths};

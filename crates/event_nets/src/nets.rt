@@ -1,4 +1,6 @@
-//! The nets of a flat design, by the places of bits in the row of all bits.
+//! The nets of a flat design: maximal runs of driven bits in one wire that are the first of their classes. A net is named by
+//! the place of its lowest bit, which is written down at each of its bits, so that a bit tells its net in one step. Runs are
+//! found in one walk over the row, each bit by the one below it.
 
 ghost use Rattle.std.specs.Prelude.{◌≡◌, ◌==◌, ℕ, ◌+◌, ◌<◌, ◌≤◌, false, ◌++◌, length, map, filter, sum, All, IfOk, OnOk, slice_index_or, [], ◌∷◌, if◌then◌else◌};
 ghost use Rattle.std.specs.List.{list_any, range_with_len};

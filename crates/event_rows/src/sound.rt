@@ -1,4 +1,6 @@
-//! Whether a flat design is well formed.
+//! Whether a flat design is well formed, tested while the program runs. The calls of `event_sim` ask for this, and rows of
+//! designs that were written by hand promise nothing, so the program asks before it simulates. Whether nodes name wires alone
+//! is found for all nodes in one walk up, since children have lower numbers.
 
 ghost use Rattle.std.specs.Prelude.{◌≡◌, ℕ, ◌<◌, ◌≤◌, ◌&&◌, ◌==◌, false, length, map, slice_index_or, All, IsTrue, IfOk};
 ghost use Rattle.lhs_alias.specs.Pairs.{HaveOwnChildren};

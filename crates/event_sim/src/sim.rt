@@ -1,4 +1,7 @@
-//! A simulation.
+//! A simulation: a valuation of the wires in one phase, which settles from X at every bit. A pass evaluates every node once,
+//! since children have lower numbers, tells each class what is given to it, and takes the resolutions; sweeps end where nothing
+//! changes. A single step does the same for one net, over the nodes that it needs alone. Only `new` takes memory, so that a run
+//! of many phases can not fail.
 
 ghost use Rattle.std.specs.Prelude.{◌≡◌, ◌≢◌, ℕ, ◌<◌, ◌≤◌, true, false, List, [], ◌∷◌, length, map, slice_index_or, None, Some, IfOk};
 ghost use Rattle.fourvec.specs.declared.Bit.TheVariants.{Unknown};

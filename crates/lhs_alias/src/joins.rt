@@ -1,3 +1,7 @@
+// The bits of wires, and which of them ports join (IEEE 1800-2017, 23.3.3). Bits of all wires stand in one row, so that a class
+// is one of numbers, and a bit stands for its class by the class's first bit. A list of bits is walked first to see whether one
+// is joined already, then to mark it, and only then are classes united: so a refused join leaves all as it was, and no list has
+// to be kept.
 ghost use Rattle.std.specs.Prelude.{◌≡◌, ◌≢◌, ℕ, ◌+◌, ◌<◌, ◌≤◌, ◌^◌, ◌⊎◌, ◌&&◌, true, false, not, List, [], ◌∷◌, ◌++◌, length, map, IsTrue, IfOk, OnOk, OnErr, All, Any, Contains, Err};
 ghost use Rattle.std.specs.Bool.{OnTrue, OnFalse};
 ghost use Rattle.std.specs.List.{zip, AllZip, list_any};

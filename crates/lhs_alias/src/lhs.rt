@@ -1,3 +1,7 @@
+// Lists of segments of wires, the most significant first, as targets are written (IEEE 1800-2017, 10.3.2). Contracts see the
+// segments. A segment is a run of bits, so that a wire of 128 bits is one and not 128; cutting out a part goes from the least
+// significant segment up and so makes its list backwards, which is turned round at the end. Of the calls only `normal` unites
+// segments that adjoin; the others keep what was given.
 ghost use Rattle.std.specs.Prelude.{◌≡◌, ◌↔◌, ℕ, ◌+◌, ◌-◌, ◌<◌, ◌≤◌, ◌^◌, List, [], ◌∷◌, ◌++◌, length, take, drop, reverse, min, map, sum, IsTrue, IfOk, OnOk, OnErr};
 ghost use Rattle.lhs_alias.specs.Segs.{seg_bits, lhs_bits, IsSeg, AreSegs, Adjoin, IsUnited};
 ghost use Rattle.lhs_alias.specs.Lies.{LiesIn, LieIn};

@@ -1,4 +1,6 @@
-// The turns of loops behind turns that were made before.
+// The turns of loops behind turns that were made before: each row gives a count and a statement, and is told with the count
+// behind it or the refusal. The count before is given and not made by loops, so that a short text comes to the limit. A
+// statement is put into a module of its own, so that it is read as any text is.
 ghost use Rattle.sv_names.specs.Kinds.{IsSound};
 
 use crate::counts::tokens_of;

@@ -1,4 +1,6 @@
-// The marks of assignments in blocks.
+// The marks of assignments in blocks are judged: `<=` in clocked blocks and `=` in others, which is this tool's rule. It is a
+// walk of its own, before the statements are typed, because it also judges statements that no turn of a loop reaches, while
+// typing goes through the turns that there are. A walk asks for no names and takes no memory.
 ghost use Rattle.std.specs.Prelude.{◌≡◌, [], ◌++◌, IfOk, IfErr};
 ghost use Rattle.sv_meaning.specs.Faults.{Faults};
 ghost use Rattle.sv_meaning.specs.Blocks.{marks, mark_faults, is_mark};

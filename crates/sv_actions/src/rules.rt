@@ -1,4 +1,6 @@
-// What statements do, put together of what their parts do.
+// What statements do, put together of what their parts do: one rule for each kind of statement (IEEE 1800-2017, 10.4, 12.4 and
+// 12.5). A rule takes the answers for the parts, also where they are refusals, and hands on a refusal. So the rules hold no
+// statements and stand outside of the cycle that takes statements apart.
 ghost use Rattle.std.specs.Prelude.{◌≡◌, ℕ, false, [], ◌∷◌, List, ◌≤◌, All, IfOk, IfErr};
 ghost use Rattle.sv_outside.specs.declared.refusal.TextErr.TheVariants.{Memory};
 ghost use Rattle.sv_meaning.specs.Faults.{Faults};

@@ -1,4 +1,8 @@
-// Statements become actions.
+// Statements become actions, with names, sizes and targets resolved and loops unrolled (IEEE 1800-2017, 10.4, 12.4, 12.5 and
+// 12.7.1). Statements hold statements, so it is one cycle of functions, which only takes trees apart and hands the parts to the
+// rules. The count of turns goes through it as a number from one statement to the next, since all loops of a design share one
+// limit. The arms of a case statement are gone through twice, for those with labels and for the default, since the default
+// comes last wherever it stands.
 ghost use Rattle.std.specs.Prelude.{◌≡◌, ℕ, ◌++◌, List, IfOk};
 ghost use Rattle.fourvec.specs.declared.Bit.{Bit};
 ghost use Rattle.sv_meaning.specs.Layouts.{NamedSignal};

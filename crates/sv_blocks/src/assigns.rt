@@ -1,4 +1,6 @@
-// Assignments in blocks (IEEE 1800-2017, 10.4).
+// Assignments in blocks (IEEE 1800-2017, 10.4 and 10.7). The value is one node, as wide as all targets together, and each
+// target gets its part of it, from the most significant down. A target is put into the whole node of its wire, so that the
+// store has one node for each wire, whatever parts of it are written.
 ghost use Rattle.std.specs.Prelude.{◌≡◌, ℕ, ◌<◌, ◌≤◌, max, take, All, length, IfOk, OnOk};
 ghost use Rattle.fourvec.specs.declared.Bit.{Bit};
 ghost use Rattle.svex_shape.specs.declared.shape.VarName.{VarName};

@@ -1,4 +1,6 @@
-// The bits that actions write, in the order of the text.
+// The bits that actions write, in the order of the text, each once at the last place where it is written. That is the order of
+// a block's drivers. A bit is seen to be the last by going backwards and marking what is met, and the marks are kept: they also
+// tell which bits names read from the store.
 ghost use Rattle.std.specs.Prelude.{◌≡◌, ℕ, ◌<◌, length, false, List, ◌∷◌, ◌++◌, All, IfOk, OnOk};
 ghost use Rattle.lhs_alias.specs.Segs.{bit};
 ghost use Rattle.sv_actions.specs.Doing.{writes, writes_all, Fits, TargetFits};

@@ -1,4 +1,5 @@
-// Drivers of the bits that a block writes.
+// Drivers of the bits that a block writes. Bits that follow one another in one wire have one driver, a part of the wire's node,
+// so that a block that writes whole vectors has few. A run has at most 128 bits, which is as wide as a node may be.
 ghost use Rattle.std.specs.Prelude.{◌≡◌, All, ◌+◌, ◌<◌, ◌≤◌, length, take, slice_index_or, IsTrue, IfOk};
 ghost use Rattle.lhs_alias.specs.declared.segs.WireBit.{WireBit};
 ghost use Rattle.lhs_alias.specs.Segs.{seg_bits};

@@ -1,4 +1,6 @@
-// What the actions of a block leave in its wires, as drivers.
+// What the actions of a block leave in its wires, as drivers (IEEE 1800-2017, 9.2.2). The actions run over a copy of the nodes
+// at the start, which are still needed at the end: a clocked block gives what it leaves where its event takes place, and else
+// what was there before. A combinational block gives what they leave.
 ghost use Rattle.std.specs.Prelude.{◌≡◌, All, IfOk, None};
 ghost use Rattle.svex_arena.specs.Arenas.{Extends};
 ghost use Rattle.lhs_alias.specs.declared.segs.WireBit.{WireBit};

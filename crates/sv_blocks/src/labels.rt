@@ -1,4 +1,6 @@
-// Labels of case statements (IEEE 1800-2017, 12.5).
+// Labels of case statements: whether one equals what is compared (IEEE 1800-2017, 12.5). In `casez` the Z bits of a label are
+// not compared: both sides are masked there. Only a literal shows its Z bits in the text, so only labels that are literals have
+// a mask. What is compared is lowered for each label anew, which gives the same node, since no two nodes have equal shapes.
 ghost use Rattle.std.specs.Prelude.{◌≡◌, ◌<◌, ◌≤◌, ◌-◌, ◌^◌, ◌++◌, List, All, length, IfOk, IfSome};
 ghost use Rattle.fourvec.specs.declared.Bit.{Bit};
 ghost use Rattle.fourvec.specs.Bits.{each};

@@ -1,4 +1,7 @@
-// Parts of nodes, and nodes with parts put into them (IEEE 1800-2017, 11.5.1).
+// Parts of nodes, and nodes with parts put into them (IEEE 1800-2017, 11.5.1). A place that is constant is worked out here, and
+// the part becomes a slice, or a concatenation of what is kept and what is put; only a place that a node gives becomes a
+// computed part. So designs with constant selects have plain nodes. Bits outside read as X, and what is written there is
+// dropped.
 ghost use Rattle.std.specs.Prelude.{◌≡◌, ◌+◌, ◌<◌, ◌≤◌, ◌++◌, Some, length, take, drop, IfOk, IfSome};
 ghost use Rattle.fourvec.specs.Spots.{reached, overlaid, dyn_put_of};
 ghost use Rattle.svex_shape.specs.Shapes.{width_at};

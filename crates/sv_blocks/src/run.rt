@@ -1,4 +1,6 @@
-// Actions as steps over nodes (IEEE 1800-2017, 10.4, 12.4, 12.5).
+// Actions as steps over nodes (IEEE 1800-2017, 10.4, 12.4, 12.5). Both branches of a choice are run, each from the state before
+// it, and each wire becomes a choice between the two nodes. Arms are run from the last backwards, each over what is left where
+// it is not taken, so that the first arm that matches decides. Actions hold actions, so that these functions are one cycle.
 ghost use Rattle.std.specs.Prelude.{◌≡◌, ◌<◌, All, length, OnOk};
 ghost use Rattle.svex_shape.specs.Shapes.{width_at};
 ghost use Rattle.svex_arena.specs.Arenas.{Extends};

@@ -1,4 +1,6 @@
-// What names of wires read that a combinational block writes (IEEE 1800-2017, 9.2.2.2).
+// What names read of wires that a combinational block writes (IEEE 1800-2017, 9.2.2.2). A bit that the block writes somewhere
+// reads the store, and any other the present phase. Bits of both kinds may lie in one wire: runs of one kind are put side by
+// side, so that a wire of which all bits are written is just its node.
 ghost use Rattle.std.specs.Prelude.{◌≡◌, ℕ, ◌<◌, ◌≤◌, ◌+◌, length, IfOk};
 ghost use Rattle.svex_shape.specs.Shapes.{width_at};
 ghost use Rattle.svex_arena.specs.Arenas.{Extends};

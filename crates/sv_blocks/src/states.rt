@@ -1,4 +1,6 @@
-// States of blocks: their stores, and what names see of these.
+// States of blocks: a node for each wire, and what names see of these. In a combinational block what names see is kept beside
+// the store and changed with it, so that it is made once for each write and not for each name that is read. In a clocked block
+// names read no store, so nothing is kept. A choice between equal nodes makes no node.
 ghost use Rattle.std.specs.Prelude.{◌≡◌, ◌<◌, length, slice_set, IfOk, OnOk, None};
 ghost use Rattle.svex_shape.specs.Shapes.{width_at};
 ghost use Rattle.svex_arena.specs.Arenas.{Extends};

@@ -1,4 +1,6 @@
-// The wires that the statements of a block write.
+// The wires that the statements of a block write, each with a place in the store. They are found by the names of targets alone,
+// whatever the selects are, since a place is needed for each wire that may be written. A list from wires to places grows up to
+// the greatest number that is met, so that a lookup is one step.
 ghost use Rattle.std.specs.Prelude.{◌≡◌, ℕ, ◌<◌, ◌*◌, false, replicate, ◌++◌, All, List, length, slice_index_or, Some, None, IfOk, IfSome, OnOk};
 ghost use Rattle.sv_names.specs.Kinds.{what_is, WhatIsSound};
 ghost use Rattle.sv_names.specs.Names.{names_are};

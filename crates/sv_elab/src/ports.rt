@@ -1,4 +1,7 @@
-// Ports and their actuals (IEEE 1800-2017, 23.3.3).
+// Ports and their actuals (IEEE 1800-2017, 23.3.3). Where the actual is a target as wide as the port, with all selects constant
+// and in range, the bits are joined, whatever the direction, so that both sides are one net. Else an input is driven with the
+// value and an output assigned to the target, each one way. An `inout` can only be joined, so what is told then is what stands
+// against its actual as an expression, or else E19.
 ghost use Rattle.std.specs.Prelude.{◌≡◌, ◌≤◌, ◌∷◌, [], List, false, Some, IsTrue, IfOk};
 ghost use Rattle.svex_arena.specs.Arenas.{Extends};
 ghost use Rattle.driver_resolve.specs.Drivers.{is_wire};

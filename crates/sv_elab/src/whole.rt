@@ -1,4 +1,6 @@
-// The flat design of a source.
+// The flat design of a source: one task after another becomes drivers or a join. Behind each task the drivers give just what
+// the works so far contribute, in the same order, so the two designs are equal list by list and no law of resolution is needed.
+// Joins are made as they come, too, in order to see that no bit is joined twice.
 ghost use Rattle.std.specs.Prelude.{◌≡◌, ℕ, ◌++◌, ◌∷◌, [], List, All, IfOk, IfErr, OnOk};
 ghost use Rattle.std.specs.Option.{option_copied};
 ghost use Rattle.driver_resolve.specs.Drivers.{widths_of};

@@ -1,4 +1,6 @@
-// What is made of one task: an assignment, a block or a connected port.
+// What is made of one task: an assignment, a block or a connected port. Each has the same answer (drivers, perhaps a join, and
+// the turns that were made), so that the loop over tasks has one case. A name that stands for its own port becomes an
+// expression here, so that ports know of one kind of actual.
 ghost use Rattle.std.specs.Prelude.{◌≡◌, List, None, Ok, Err, IfOk};
 ghost use Rattle.driver_resolve.specs.Drivers.{widths_of};
 ghost use Rattle.driver_resolve.specs.declared.driver.Driver.{Driver as Driving};

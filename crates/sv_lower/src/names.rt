@@ -1,4 +1,6 @@
-//! Nodes of constants and signals. What a wire reads depends on where its name stands, so each lookup goes through `Look`.
+//! Nodes of constants and signals. What a wire reads depends on where its name stands (in the present, in a clocked block, or
+//! over what a block has stored), so each lookup goes through `Look`, and one function serves all expressions. A number that a
+//! look has no node for reads as a variable, so no condition on numbers is needed.
 ghost use Rattle.std.specs.Prelude.{◌≡◌, ◌<◌, ◌≤◌, length, IfOk};
 ghost use Rattle.svex_arena.specs.Arenas.{Extends};
 ghost use Rattle.sv_typed.specs.declared.tree.Root.{Root};

@@ -1,4 +1,6 @@
-// Blocks as drivers (IEEE 1800-2017, 9.2.2).
+// Blocks as drivers (IEEE 1800-2017, 9.2.2). The event is judged first, then the marks, and then what the statements do; only
+// after that nodes are made, so that nothing is refused any more where the graph has grown. The scene is made in two steps:
+// places for all wires that targets name, and then marks on the bits that actions write.
 ghost use Rattle.std.specs.Prelude.{◌≡◌, ℕ, Bool, false, ◌+◌, List, [], true, All, Some, is_some, IsTrue, IfOk, IfErr};
 ghost use Rattle.sv_outside.specs.declared.text.Signal.{Signal};
 ghost use Rattle.svex_shape.specs.declared.shape.VarName.{VarName};
