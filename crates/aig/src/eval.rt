@@ -1,4 +1,6 @@
-//! The values of nodes.
+//! The values of nodes. What a literal rests on is marked first, from its node down, and then evaluated from node 0 up, each
+//! node once: operands have lower numbers, so there is no recursion, whatever the depth of the graph. Nodes that are not marked
+//! count as false, and nothing asks for them.
 
 ghost use Rattle.std.specs.Prelude.{◌≡◌, ℕ, ◌+◌, ◌<◌, ◌≤◌, Bool, IfOk, length, slice_index_or, false, true};
 ghost use Rattle.aig.specs.Graph.{gate_at, holds, value, gate_value, IsGraph, count_inputs};

@@ -1,4 +1,6 @@
-//! The graph, and the calls that grow it.
+//! The graph, and the calls that grow it. Beside the gates stands a table of chains, by which a conjunction of the same two
+//! operands is found again and not made twice; the operand with the lower node comes first, so that both orders are one.
+//! Operands that decide the value make no gate. Where memory runs out the graph is as before.
 
 ghost use Rattle.std.specs.Prelude.{◌≡◌, ℕ, ◌+◌, ◌<◌, ◌≤◌, IfOk, IfErr, Bool, false, [], ◌∷◌, ◌++◌, length, List, slice_index_or};
 ghost use Rattle.aig.specs.declared.gate.Gate.TheVariants.{False, Input};

@@ -1,5 +1,6 @@
-//! Vectors as rows of digits, the most significant first. A `_` is passed over, and a part `0*127` between two of them is a digit so many
-//! times.
+//! Vectors as rows of digits, the most significant first. A `_` is passed over, and a part `0*127` between two of them is a
+//! digit so many times, so that wide vectors are short to write. A vector grows by one digit below it and is refused past 128
+//! bits, which is as wide as one may be; no digits at all are no vector.
 
 ghost use Rattle.std.specs.Prelude.{◌≡◌, length, IfSome};
 

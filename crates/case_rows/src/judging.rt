@@ -1,4 +1,6 @@
-//! Cases are judged one after another, and what differs is told.
+//! Cases are judged one after another, and what differs is told. What a key means is the program's own: it hands in a bench,
+//! which is told each key with its block, and a judge, which says what comes for a question. What came is written into one
+//! buffer that is used again for each row, and compared with what is wanted as text.
 
 use crate::words::{Fault, put, put_number, put_three, rows_of, sides, word, words_from};
 use std::alloc::Global;

@@ -1,4 +1,6 @@
-//! Words and numbers.
+//! Words and numbers of case files: parts of lines, decimal numbers, names in tables, and texts put behind one another. Parts
+//! are slices of the file and nothing is copied. A row that can not be read is a fault and no panic, since files are written by
+//! hand; digits are put from the greatest power on, which needs no buffer to turn round.
 
 use std::alloc::{AllocError, AllocFailed};
 

@@ -1,4 +1,6 @@
-//! Arithmetic and comparisons of numbers (11.4.3, 11.4.4), unsigned and two's complement.
+//! Arithmetic and comparisons of numbers (11.4.3, 11.4.4), unsigned and two's complement. One unknown bit makes the whole
+//! result X, as the standard says, so each operator tests that first and is a plain one on words behind it. Signed division
+//! goes through magnitudes, since they fit unsigned words of 128 bits also for the least number.
 
 ghost use Rattle.std.specs.Prelude.{◌≡◌, length};
 ghost use Rattle.fourvec.specs.Bits.{add_of, sub_of, mul_of, div_of, rem_of, neg_of, lt_of, slt_of, sdiv_of, srem_of};

@@ -1,4 +1,7 @@
-//! The operators that work bit by bit, the reductions, and the choices.
+//! The operators that work bit by bit, the reductions, and the choices (11.4.5 to 11.4.11, 6.6.1). A vector is two planes, and
+//! each operator is a formula over both, for all bits at once: X has the upper plane alone and Z the lower alone, so `up | low`
+//! tells where a bit may be 1, and `up & low` where it is. Reductions and equality are made of these, so that what they do with
+//! unknown bits follows from one place.
 
 ghost use Rattle.std.specs.Prelude.{◌≡◌, length};
 ghost use Rattle.fourvec.specs.Bits.{unfloat_of, not_of, and_of, or_of, xor_of, res_of, red_and_of, red_or_of, red_xor_of, truth_of, eq_of, cond_of, pick_of};

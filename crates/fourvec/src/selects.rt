@@ -1,4 +1,7 @@
-//! Parts of a vector at a place that an index vector gives (11.5.1).
+//! Parts of a vector at a place that an index vector gives (11.5.1). A place is a whole number that may lie far outside of the
+//! vector, so it is kept as a distance and a side, and no sum of it overflows. What is read outside is X and what is written
+//! there is dropped. For a write at an unknown place this tool has a rule of its own: a bit stays where every bit that is put
+//! equals it, and becomes X elsewhere, so that a write is monotone.
 
 ghost use Rattle.std.specs.Prelude.{◌≡◌, ◌<◌, ◌≤◌, length, IsTrue, IfSome, IfNone, replicate, unsigned_abs};
 ghost use Rattle.fourvec.specs.Bits.{is_known, each, each_pair, keep_bit};

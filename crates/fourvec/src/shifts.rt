@@ -1,4 +1,6 @@
-//! Parts, extensions and shifts: bits move as they are, X and Z too.
+//! Parts, extensions and shifts: bits move as they are, X and Z too (10.7, 11.4.10, 11.4.12, 11.5.1). Both planes move by the
+//! same number of places. Shifts are made of parts and concatenations, so that contracts on lists of bits follow from two
+//! calls; the number of places is compared with the width first, since a word can not be shifted by all of its bits.
 
 ghost use Rattle.std.specs.Prelude.{◌≡◌, ◌+◌, ◌<◌, ◌≤◌, length};
 ghost use Rattle.fourvec.specs.Bits.{concat_of, slice_of, zext_of, sext_of, shl_of, shr_of, sar_of, moved_up, moved_down};

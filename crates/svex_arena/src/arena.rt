@@ -1,4 +1,7 @@
-//! The arena: nodes by number, no two with equal shapes.
+//! The arena: nodes by number, no two with equal shapes. Shapes, widths and chains are lists of their own with one place for
+//! each node, so that contracts see the list of shapes alone. Buckets are made anew, twice as many as nodes, whenever the nodes
+//! reach their number, so a shape is found in constant time on average. A node is pushed into three lists, and taken back where
+//! one of them gets no memory.
 
 ghost use Rattle.std.specs.Prelude.{◌≡◌, ℕ, ◌<◌, ◌≤◌, ◌+◌, [], ◌∷◌, ◌++◌, length, take, slice_index, IfOk, IfSome, OnOk, OnErr, IsTrue};
 ghost use Rattle.svex_shape.specs.Shapes.{ChildrenBelow, FitsWidths, IsWidth, OnChildren, shape_at, width_at, width_of};

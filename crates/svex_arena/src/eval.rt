@@ -1,4 +1,6 @@
-//! The values of nodes.
+//! The values of nodes. What a root reaches is marked first and then evaluated from the lowest number up: children have lower
+//! numbers, so their values are there, and there is no recursion whose depth a graph could make great. Places of nodes that are
+//! not reached hold a vector that nothing reads.
 
 ghost use Rattle.std.specs.Prelude.{◌≡◌, ℕ, ◌<◌, ◌≤◌, ◌+◌, [], ◌∷◌, length, slice_index_or, IfOk};
 ghost use Rattle.svex_shape.specs.Shapes.{ChildrenBelow, FitsWidths, FitsPair, shape_at};

@@ -1,4 +1,6 @@
-//! Which nodes some roots reach.
+//! Which nodes some roots reach. Children have lower numbers, so one walk from the highest number down marks all: when a node
+//! is come to, each that has it as a child was looked at before. So no stack of open nodes is kept, and the time is that of the
+//! list, however nodes are shared.
 
 ghost use Rattle.std.specs.Prelude.{◌≡◌, ℕ, ◌<◌, ◌≤◌, length, slice_index, slice_index_or, slice_set, replicate, false, true, if◌then◌else◌, IfOk};
 ghost use Rattle.svex_shape.specs.Shapes.{ChildrenBelow, shape_at};

@@ -1,4 +1,6 @@
-//! Replacing variables by nodes.
+//! Replacing variables by nodes, all at once. Nodes are gone through from the lowest number up, and each is answered by what
+//! replaces it or by the node of its shape over its children's answers, so that nodes that are shared stay shared. Only the
+//! nodes that were there at the beginning are gone through: what is put in for a variable is not looked at again.
 
 ghost use Rattle.std.specs.Prelude.{◌≡◌, ℕ, ◌<◌, ◌≤◌, ◌+◌, [], length, slice_index, IfOk, IfSome, None, Option, map, ◌∷◌, ◌++◌};
 ghost use Rattle.svex_shape.specs.Shapes.{ChildrenBelow, FitsWidths, shape_at, width_at};

@@ -1,4 +1,6 @@
-//! The laws of operators on pairs of bits.
+//! The laws of operators on pairs of bits. Each looks at whether an operand is one constant bit throughout or both are the same
+//! node, and answers a shape. An operator but resolution makes X of Z, so what is left of it is the other operand with each Z
+//! taken as X, and not that operand itself.
 
 ghost use Rattle.std.specs.Prelude.{◌≡◌, ◌<◌, ◌≤◌, length};
 ghost use Rattle.svex_shape.specs.declared.shape.Shape.{Shape};

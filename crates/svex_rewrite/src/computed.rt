@@ -1,4 +1,6 @@
-//! The laws of computed parts.
+//! The laws of computed parts. A part of a constant at a constant place is a constant, and one of a node a slice, where all of
+//! it lies within the node; where some of it lies outside it stays computed, since a slice has no X to give. Places are worked
+//! out as numbers not below 0 with sums that are checked, so that a place that is too far is just not known.
 
 ghost use Rattle.std.specs.Prelude.{◌≡◌, ◌<◌, ◌≤◌, ◌+◌, pos, length, IfSome, IsTrue};
 ghost use Rattle.fourvec.specs.Bits.{is_known, is_negative};

@@ -1,4 +1,6 @@
-//! The laws of parts, concatenations and extensions.
+//! The laws of parts, concatenations and extensions. A part is looked for as far down as its bits stand together in one node,
+//! in a loop that goes to children and so ends. Two parts that stand side by side become one part again, so that taking a
+//! vector apart and putting it together leaves no trace.
 
 ghost use Rattle.std.specs.Prelude.{◌≡◌, ◌<◌, ◌≤◌, ◌+◌, length, IfSome};
 ghost use Rattle.svex_shape.specs.declared.shape.Shape.{Shape};

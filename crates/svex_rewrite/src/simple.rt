@@ -1,4 +1,6 @@
-//! Simplifying what a node reaches.
+//! Simplifying what a node reaches. Marked nodes are rewritten from the lowest number up, each once, over the nodes that its
+//! children became, so that shared nodes are rewritten once and there is no recursion. The nodes that are there stay as they
+//! are, since others may name them; simplified ones are added behind.
 
 ghost use Rattle.std.specs.Prelude.{◌≡◌, ℕ, ◌<◌, ◌≤◌, ◌+◌, ◌∷◌, [], ◌++◌, length, slice_index, IfOk};
 ghost use Rattle.svex_arena.specs.Arenas.{IsArena, Extends};

@@ -1,4 +1,6 @@
-//! What a node computes from its children.
+//! What a node computes from its children: the operators, the variables, and when two shapes are equal. A shape names children
+//! by number and holds no tree, so it is copied and compared in constant time. Equality is written out here, case by case,
+//! since a graph in which no two nodes have equal shapes rests on it.
 
 ghost use Rattle.std.specs.Prelude.{◌≡◌, ◌↔◌, IsTrue};
 
