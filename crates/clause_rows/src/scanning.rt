@@ -1,4 +1,6 @@
-//! A plain solver. It tries one value after another and looks at all clauses after each.
+//! A plain solver. It tries one value after another and looks at all clauses after each. It shares no code with the solver that
+//! it is compared with, not even what a clause is under values, and is kept as simple as it can be, without any contract; so it
+//! gives up after a number of turns, and rows are small.
 
 use cnf::{ClauseState, Cnf, Dim};
 use std::alloc::{AllocError, Global};

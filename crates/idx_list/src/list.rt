@@ -1,3 +1,7 @@
+// A doubly linked list of distinct numbers in one vector: the links of a number stand at its own place, so that a number is
+// found, moved and taken out in constant time and without memory. One more place closes the ring, from the end to the first
+// number and from the last to the end, so that no call has a case for an empty list. A number that is not in the list is linked
+// to itself, which tells that it is not.
 ghost use Rattle.std.specs.Prelude.{◌≡◌, ◌≢◌, ◌↔◌, ◌+◌, ◌<◌, ◌≤◌, [], ◌∷◌, ◌++◌, length, All, AllPairs, Contains, IsTrue, IsNone, IfOk, IfSome, IfNone};
 ghost use Rattle.idx_list.specs.Order.{without, IsFirst, IsLast, Follow};
 ghost use Rattle.idx_list.specs.Ring.{end_of, next_of, prev_of, linked, items_of, IsRing};

@@ -1,4 +1,6 @@
-//! The checker of a whole log.
+//! The checker of a whole log. Its room is taken once, for `vars` variables and those that the clauses name, whatever the log
+//! is: a step that names others is not derived and needs no room, so that a log can not bring it to want memory. Steps are
+//! judged to the end also behind an empty one, so that each step of an accepted log is derived.
 
 ghost use Rattle.std.specs.Prelude.{◌≡◌, ℕ, ◌<◌, ◌≤◌, ◌↔◌, None, map, length, replicate, IsTrue, IsOk, IfOk, IfErr, []};
 ghost use Rattle.cnf.specs.Formula.{formula_of};

@@ -1,4 +1,6 @@
-//! The values that variables have while one step is judged.
+//! The values that variables have while one step is judged. A trail of the variables that have one stands beside them, so that
+//! taking them back costs what was set and not the number of variables. The trail has room for all variables from the
+//! beginning, since none is set twice, so only `new` takes memory.
 
 ghost use Rattle.std.specs.Prelude.{◌≡◌, ◌<◌, ◌≤◌, ◌↔◌, None, length, IsTrue, IfOk, replicate, vec_capacity};
 ghost use Rattle.std.specs.Bool.{OnTrue};

@@ -1,4 +1,7 @@
-//! The solver.
+//! The solver: one clause after another is learned, until no conflict is left, the empty clause is learned, or there are as
+//! many steps as the budget. Each learned clause is new, and there are finitely many, so the loop ends also without a budget.
+//! The parts that are borrowed (marks, notes, lists, trail, store) are made in functions around one another, so that each of
+//! these owns few things.
 
 ghost use Rattle.std.specs.Prelude.{◌≡◌, ℕ, ◌*◌, ◌+◌, ◌<◌, ◌≤◌, None, IfOk, IfSome, IsSomeAnd, IsTrue, ◌↔◌, unwrap_or, false, length, map, [], OnOk, Option};
 ghost use Rattle.std.specs.List.{All};

@@ -1,4 +1,7 @@
-//! The watches of the given clauses.
+//! The watches of the given clauses. Two literals that differ are looked for; a clause without two, which may repeat one
+//! literal, is not watched, and its literal is made true before anything else is assigned. So it holds from then on or is the
+//! conflict that is answered, and the search needs no case for short clauses. A clause that is false already is only noted, and
+//! the rest is set up all the same.
 
 ghost use Rattle.std.specs.Prelude.{◌≡◌, ◌≢◌, ℕ, ◌+◌, ◌<◌, ◌≤◌, Option, None, length, OnOk, IfOk, MatchBool, MatchOption, map};
 ghost use Rattle.std.specs.List.{All, Contains};

@@ -1,4 +1,6 @@
-//! Work on one list of watches.
+//! Work on one list of watches, that of a literal that became false. Watches that stay are written over the front of the list
+//! as the walk goes on, so that it needs no second list, and those that move leave a gap that the caller closes. Where a clause
+//! is false the walk ends, and the rest of the list stays as it is.
 
 ghost use Rattle.std.specs.Prelude.{◌+◌, ◌<◌, ◌≤◌, length, OnOk, IfOk};
 ghost use Rattle.std.specs.List.{All};

@@ -1,4 +1,7 @@
-//! For each literal the clauses in which it is watched.
+//! For each literal the clauses in which it is watched. A list that is walked is moved out as a whole and put back, so that
+//! watches can be put into other lists meanwhile. When a clause is added, the list of each of its literals gets room for as
+//! many watches as clauses contain the literal, so that no list grows when a watch moves; this is for speed, and no proof rests
+//! on it.
 
 ghost use Rattle.std.specs.Prelude.{◌≡◌, IfOk, ◌^◌, ◌+◌, ◌*◌, ◌<◌, ◌≤◌, ◌++◌, ◌∷◌, [], OnOk, length, map, slice_set, slice_index_or, take, drop};
 ghost use Rattle.std.specs.List.{All};

@@ -1,4 +1,7 @@
-//! The variables in the order in which they are decided, and a pointer before which none is open.
+//! The variables in the order in which they are decided, and a pointer before which none is open. Stamps fall along the list,
+//! so that two variables are compared without a walk when one is open again. Where the pointer has passed the end, each
+//! variable has a value, so nothing is looked through for that; a variable that moves to the front gets a greater stamp, and
+//! where stamps are used up none moves.
 
 ghost use Rattle.std.specs.Prelude.{◌≡◌, ℕ, ◌+◌, ◌-◌, ◌<◌, ◌≤◌, Bool, Option, Some, None, ◌⊎◌, ◌^◌, List, ◌∷◌, length, IfOk, MatchBool, MatchOption, IfSome, slice_set};
 ghost use Rattle.std.specs.List.{All};

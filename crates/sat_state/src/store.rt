@@ -1,4 +1,6 @@
-//! All clauses in one piece of memory.
+//! All clauses in one piece of memory: the literals one after another, and for each clause where they begin and end. The search
+//! reads clauses all the time, and so they lie close together and packed in 8 bytes a literal; variables of 2^32 and more are
+//! want of memory. Clauses never change and are never taken out, so that a number names one clause for ever.
 
 ghost use Rattle.std.specs.Prelude.{◌≡◌, ◌<◌, ◌≤◌, ◌++◌, ◌∷◌, [], length, map, take, OnOk, OnErr, IfOk};
 ghost use Rattle.refute_check.specs.Accepted.{clause_at};

@@ -1,4 +1,7 @@
-//! Two literals of each clause are watched: while neither is false, the clause is neither false nor unit.
+//! Two literals of each clause are watched: while neither is false, the clause is neither false nor unit, so it is looked at
+//! only when one of them becomes false. What is to be done with it then is decided here, without changing anything. The literal
+//! beside is looked at first, and another one is looked for from the place at which one was found last, and then before it, so
+//! that long clauses are not read from the front each time.
 
 ghost use Rattle.std.specs.Prelude.{◌≡◌, ◌≢◌, ℕ, ◌<◌, ◌≤◌, ◌⊎◌, ◌↔◌, Option, Some, None, not, length, MatchOption, IsTrue, IfOk};
 ghost use Rattle.std.specs.List.{All, Contains};
