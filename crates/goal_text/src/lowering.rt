@@ -1,4 +1,7 @@
-// Goals as nodes.
+// Goals as nodes: each hypothesis and claim becomes the node of its truth, 1 where some bit is 1 (IEEE 1800-2017, 12.4). An
+// expression is typed by itself, with no size from outside, and then lowered; but for a name that repeats another only typing
+// refuses. Hypotheses see the variables of the table alone, so that they can be judged before a run, and claims see its samples
+// too.
 ghost use Rattle.std.specs.Prelude.{◌≡◌, ◌∷◌, [], All, IfErr, IfOk, OnOk};
 ghost use Rattle.std.specs.List.{AllZip};
 ghost use Rattle.goal_text.specs.Faults.{exprs_faults, goal_faults, goals_faults, tree_faults, twice_goal};

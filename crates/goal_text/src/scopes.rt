@@ -1,4 +1,6 @@
-// The variables and samples of a table as names.
+// The variables and samples of a table as names. They are unsigned vectors with a range down to 0, as wires of a source may be,
+// so that goals may select bits of them, and the rules of expressions are those of the source. Two scopes serve both kinds of
+// names: claims see the samples on top of the variables.
 ghost use Rattle.std.specs.Prelude.{◌≡◌, ◌++◌, ◌≤◌, All, IfOk, IsTrue, false};
 ghost use Rattle.goal_text.specs.Scopes.{variable_entries, sample_entries};
 ghost use Rattle.sv_names.specs.Kinds.{layout_is, entries_are, IsSound};

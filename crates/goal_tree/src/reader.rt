@@ -1,4 +1,6 @@
-// The tokens that are left.
+// The tokens that are left of a file of goals. The words of goals are no keywords of the source language, so they are compared
+// as texts here, where the cursor of the source would only say that they are identifiers. Marks, names and expressions are read
+// by that cursor and its reader, made at the place where this one stands.
 ghost use Rattle.std.specs.Prelude.{◌≡◌, is_some, length};
 ghost use Rattle.goal_tree.specs.Reading as spec;
 ghost use Rattle.sv_cursor.specs.Parsers as parser;

@@ -1,4 +1,6 @@
-// The form of a file of goals, read from left to right.
+// The form of a file of goals, read from left to right. Goals hold no goals, so that these are plain loops and no depth is
+// needed but that of expressions. Each loop ends where its word does not come next, and has at most as many turns as tokens are
+// left; what is left at the end is refused at the token that no rule reads.
 ghost use Rattle.std.specs.Prelude.{◌≡◌, ◌∷◌, IfOk};
 ghost use Rattle.goal_tree.specs.Reading as spec;
 ghost use Rattle.sv_cursor.specs.Parsers.{Reads};

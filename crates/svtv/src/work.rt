@@ -1,4 +1,6 @@
-// Does the work of the words.
+// Does the work of the words: a command, its work, and the text or the message that it ends with. How the work ends is one
+// value, from which status, text and message follow, so that the three can not contradict each other. Where a message can not
+// be made for want of memory, that is how the work ends, and its own message stands ready.
 ghost use Rattle.std.specs.Prelude.{◌≡◌, ◌≤◌, ℕ, List, map, string_bytes, IfOk};
 ghost use Rattle.std.specs.Option.{option_copied};
 ghost use Rattle.sv_outside.specs.Outside.{Rose};

@@ -1,4 +1,7 @@
-// One case, as the lines of its file give it.
+// One case, as the lines of its file give it: words, files, the calls that fail, and what should come. A case keeps what the
+// one before it gave, so that a file of cases says only what changes. Lines of contents belong to the last part that was begun;
+// a line with no end of line may be given too, so that every text can be written. Lines of no form are counted, so that a slip
+// in a file is seen.
 use std::alloc::{AllocError, Global};
 use std::str;
 

@@ -1,4 +1,6 @@
-// All choices.
+// All choices of a table's variables are tried for a goal, by number, and the first that breaks it ends the search. All can be
+// tried, since a table of a proof has at most 16 variable bits. Whether some choice met the hypotheses is kept on the way: a
+// goal that none meets is vacuous, and not proved.
 ghost use Rattle.std.specs.Prelude.{◌≡◌, ◌<◌, ◌≤◌, ℕ, All, IfOk, List, Option, length};
 ghost use Rattle.flat_net.specs.Flats.{IsFlat};
 ghost use Rattle.fourvec.specs.declared.Bit.{Bit};

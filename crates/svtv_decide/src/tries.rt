@@ -1,4 +1,6 @@
-// One choice.
+// One choice: its hypotheses, and then the claims in its least run. What is true in the least run stays true in every run, so
+// one run for each choice is enough. Hypotheses name variables alone and are judged before the run is made, so that a choice
+// that does not meet them costs no run.
 ghost use Rattle.std.specs.Prelude.{◌≡◌, ◌<◌, ◌≤◌, All, IfOk, length};
 ghost use Rattle.flat_net.specs.Flats.{IsFlat};
 ghost use Rattle.svtv_choices.specs.Choices as c;

@@ -1,4 +1,6 @@
-// The least run, one phase after another.
+// The least run, one phase after another: each settles over the valuation before it and the least stimulus. All room is taken
+// when a runner is made, so a run takes no memory and can not fail, however many choices are tried. X at every bit is kept
+// beside, as what valuations begin with, and copied over them.
 ghost use Rattle.std.specs.Prelude.{◌≡◌, ℕ, slice_get, All, IfOk};
 ghost use Rattle.fourvec.specs.declared.Bit.TheVariants.{Unknown};
 ghost use Rattle.driver_resolve.specs.Drivers.{widths_of};

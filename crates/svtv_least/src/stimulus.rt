@@ -1,4 +1,6 @@
-// The stimulus of a phase.
+// The stimulus of a phase: X at every bit, and over that what the rows drive. What no row drives and what is free is X, since a
+// least stimulus lies below all that the table allows. No wire has two rows, so the order of rows says nothing; they are gone
+// through from the last on, as the definition has each row in front of those behind it.
 ghost use Rattle.std.specs.Prelude.{◌≡◌, ℕ, ◌<◌, ◌≤◌, ◌∷◌, [], length, map, slice_index_or, All, IfOk, Some};
 ghost use Rattle.fourvec.specs.declared.Bit.TheVariants.{Unknown};
 ghost use Rattle.fourvec.specs.Bits.{all_x};

@@ -1,4 +1,6 @@
-// The report of verdicts, and the text of samples.
+// The report of verdicts, and the text of samples. A goal has a line, and where it failed one for each variable of the choice
+// and each sample of its run, so that the failure can be seen. The texts are put behind one another in one vector, and only
+// want of memory can end it. The samples of a simulation are the same lines without what stands before them there.
 ghost use Rattle.std.specs.Prelude.{◌≡◌, ◌++◌, [], IfOk, OnOk, codes, length, map};
 ghost use Rattle.svtv_report.specs.Seen.{verdict_is};
 ghost use Rattle.svtv_report.specs.Texts as t;

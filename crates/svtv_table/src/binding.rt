@@ -1,4 +1,6 @@
-// Binds a table to the wires of a design.
+// Binds a table to the wires of a design. Variables are gathered from all rows first, since a sample may not bear the name of a
+// variable of a later row either; then rows are bound in their order, so that the first fault is told. Which wires have an `in`
+// row is kept as a truth for each wire, so that a second row is seen in one step.
 ghost use Rattle.std.specs.Prelude.{◌≡◌, ◌<◌, ◌+◌, ◌^◌, ◌∷◌, [], ◌++◌, All, Some, map, length, slice_set, slice_index_or, true, false, IfOk, OnOk, IfErr};
 ghost use Rattle.std.specs.List.{IsDistinct};
 ghost use Rattle.std.specs.Str.{bytes_eq};

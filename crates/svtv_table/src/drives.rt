@@ -1,4 +1,6 @@
-// What drives an input in each phase.
+// What drives an input in each phase. A row is read from left to right with two things kept: the cell that counts, which an
+// empty cell leaves as it was, and the drive of the phase before, whose complement `~` is. A cell that names a variable is
+// judged by its width where it is written, and not again where empty cells repeat it.
 ghost use Rattle.std.specs.Prelude.{◌≡◌, ◌≤◌, ◌<◌, ◌+◌, ◌^◌, [], ℕ, List, Option, replicate, length, IfOk, IfErr, OnOk};
 ghost use Rattle.fourvec.specs.declared.Bit.TheVariants.{Floating};
 ghost use Rattle.svtv_table.specs.Binding.{HasWidth, cell_differs, drive_faults, phase_faults};

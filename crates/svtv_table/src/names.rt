@@ -1,4 +1,6 @@
-// The wires of a design and the variables of a table, by name.
+// The wires of a design and the variables of a table, by name. Both are found by hash indices, in which the first of a name
+// counts, so that binding takes linear time. A variable is numbered where an `in` row names it first and gets the width of that
+// row's wire; whether other rows fit is judged when they are bound.
 ghost use Rattle.std.specs.Prelude.{◌≡◌, ◌≤◌, ◌<◌, map, length, All, IfOk, IfSome, OnOk};
 ghost use Rattle.svtv_table.specs.Binding.{HasWidth, declared_in, variables_of};
 ghost use Rattle.svtv_table.specs.Indexing.{Indexes, wide, with_var, with_vars};

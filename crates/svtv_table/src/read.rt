@@ -1,4 +1,6 @@
-// Reads a table.
+// Reads a table: records of a kind, a path and cells, as many in each as in the first. The CSV reader hands over records of any
+// length, so that a record of another length is a fault at that record. A cell is read by the kind of its row alone; what
+// depends on the design, widths and names, is left to binding.
 ghost use Rattle.std.specs.Prelude.{◌≡◌, ◌≤◌, ◌<◌, ◌+◌, ◌^◌, [], List, ℕ, length, map, drop, IfOk, IfErr, OnOk};
 ghost use Rattle.csv.specs.Records.{fields_of};
 ghost use Rattle.svtv_table.specs.Faults.{Stops, StopsText, at_each};

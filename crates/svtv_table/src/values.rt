@@ -1,4 +1,6 @@
-// Reads the values of a table's variables.
+// Reads the values of a table's variables: a record for each, with a name and a literal of 0 and 1. Records may stand in any
+// order, so values are put into places that are empty at first, by which a second record and a missing one are seen. A variable
+// without a record is told at 1:1, since no record stands for it.
 ghost use Rattle.std.specs.Prelude.{◌≡◌, ◌<◌, ◌+◌, ◌^◌, [], ℕ, List, All, Some, None, true, not, is_some, unwrap_or, map, replicate, length, IfOk, OnOk, IfErr};
 ghost use Rattle.std.specs.List.{IsDistinct, list_all};
 ghost use Rattle.std.specs.Str.{bytes_eq};

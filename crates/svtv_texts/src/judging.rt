@@ -1,4 +1,6 @@
-// Goals decided in order, and the report.
+// Goals decided in order, and the report. One runner serves all goals, since it depends on the design and the table alone.
+// Verdicts, names and samples are gathered in lists of equal length and printed afterwards, so that what is decided is a plain
+// datum of which contracts speak, and the text is made of it.
 ghost use Rattle.std.specs.Prelude.{◌≡◌, ◌≤◌, ◌<◌, ℕ, List, Option, IfOk, All, length, map};
 ghost use Rattle.std.specs.List.{AllZip, list_all};
 ghost use Rattle.flat_net.specs.Flats.{IsFlat};

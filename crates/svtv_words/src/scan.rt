@@ -1,4 +1,6 @@
-// The words behind the verb, read from the left.
+// The words behind the verb, read from the left. What the next word may be is a state of three (anything, the text of an
+// option, or a positional behind `--`), and each word changes it and what was found. So options may stand anywhere, and what a
+// word means depends on the words before it alone. Nothing is copied: what is found are slices of the words.
 ghost use Rattle.std.specs.Prelude.{◌≡◌, map, string_bytes, option_map, option_copied};
 ghost use Rattle.svtv_words.specs.Commands.{form_of};
 ghost use Rattle.svtv_words.specs.Reading as spec;

@@ -1,4 +1,6 @@
-// The options, and what one word says of them.
+// The options, and what one word says of them. What differs between options stands in small tables (the word, whether it takes
+// a text, which texts are good), and one rule reads them for all. A text behind `=` may begin with `-`; a next word that begins
+// so and goes on is no text, so that a forgotten text is not taken from the option behind it.
 ghost use Rattle.std.specs.Prelude.{◌≡◌, ℕ, ◌≤◌, length, true, option_copied, option_map};
 ghost use Rattle.std.specs.List.{list_all};
 ghost use Rattle.svtv_words.specs.Commands.{option_text, takes_text, is_digit, number_behind};
