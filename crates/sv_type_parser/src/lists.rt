@@ -18,10 +18,6 @@ use sv_word_parser::sees;
 /// How many expressions, statements, generate constructs or types may hold a token (this project's rule).
 pub const MOST_NESTING: u8 = 200;
 
-/// How many braces of a target or generate regions may be open. They count for no nesting, but a tree goes down its own
-/// depth when it is dropped, so more of them are want of memory.
-pub const MOST_OPEN: usize = 1_000;
-
 /// A part, and those that follow it.
 pub fn with_first<A: Drop>(alloc: Global, first: A, more: Items<A>) -> Result<Items<A>, AllocError>
     ensures { IfOk result (λ all. all ≡ first ∷ more) }
