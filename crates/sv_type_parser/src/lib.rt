@@ -8,6 +8,7 @@
 mod forms;
 mod lists;
 mod parameters;
+mod parts;
 
 pub use forms::{ended_names, form, given, range, ranges, typedef};
 pub use lists::{MOST_NESTING, expression, expressions, more_names, names, with_first};
