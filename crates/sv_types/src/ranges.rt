@@ -1,4 +1,6 @@
-// Layouts of packed ranges (IEEE 1800-2017, 7.4.1).
+//! Layouts of packed ranges (IEEE 1800-2017, 7.4.1). Each range is judged over the result of what lies within it, so that the loop
+//! from the innermost range outwards keeps one `Result` and has no exit. The depth of the elements is found once, and then ranges
+//! are counted.
 ghost use Rattle.std.specs.Prelude.{◌≡◌, ◌≤◌, ◌+◌, ◌*◌, ◌&&◌, ◌==◌, IsTrue, IfOk, ℤ, min, nat_le, nat_lt, false, List, [], ◌∷◌};
 ghost use Rattle.std.specs.Option.{option_copied};
 ghost use Rattle.sv_typing.specs.Judging.{Fixes};
