@@ -104,16 +104,12 @@ fn push_node(
     ensures widths_kept { OnErr result (widths.new.items ≡ widths.old.items) }
     ensures older_kept { OnErr result (older.new.items ≡ older.old.items) }
 {
-    shapes.push(*shape)?;
-    if widths.push(width).is_err() {
-        let _ = shapes.pop();
-        return Err(AllocError);
-    }
-    if older.push(0).is_err() {
-        let _ = widths.pop();
-        let _ = shapes.pop();
-        return Err(AllocError);
-    }
+    shapes.reserve(1)?;
+    widths.reserve(1)?;
+    older.reserve(1)?;
+    shapes.push_reserved(*shape);
+    widths.push_reserved(width);
+    older.push_reserved(0);
     Ok(())
 }
 
@@ -238,7 +234,6 @@ impl Arena {
     }
 
     /// The node of a shape: the one that has it, or else a new one, numbered by the old length. Takes constant time on average.
-    #[tactic(auto, using(crate::proofs::Keeping::extends_self, crate::proofs::Keeping::extends_push))]
     pub fn intern(&mut self, alloc: Global, shape: Shape) -> Result<Node, AllocError>
         requires children { ChildrenBelow (length self.old) shape }
         requires fits { FitsWidths (width_at self.old) shape }
