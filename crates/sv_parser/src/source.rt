@@ -1,6 +1,6 @@
-// Modules and whole texts are read (IEEE 1800-2017, A.1.2 and A.1.3). What stands behind a part is read by a function of its
-// own, and `both` joins the two, so that nothing is held where a refusal is handed on. Modules do not nest, so no reader has to
-// be handed in here, and the parts of a text are a plain loop.
+// Modules and whole texts are read (IEEE 1800-2017, A.1.2 and A.1.3). What stands behind a part of a module is read by a
+// function of its own, and the tree is put together from the parts at the end. Modules do not nest, so no reader has to be
+// handed in here, and the parts of a text are a plain loop.
 ghost use Rattle.std.specs.Prelude.{◌≡◌, is_some};
 ghost use Rattle.sv_cursor.specs.Parsers as parser;
 ghost use Rattle.sv_cursor.specs.Parsers.{Reads, told, ◌⊗◌};

@@ -19,7 +19,6 @@ use Rattle.sv_modules.specs.Listed.{modules_of}
 use Rattle.sv_modules.specs.declared.numbered.Modules.{Modules}
 use Rattle.sv_meaning.specs.Params.{Connection}
 use Rattle.sv_levels.specs.Levels.{levels_are}
-use Rattle.sv_levels.specs.Library.{KnowsNumber}
 use Rattle.sv_scope.specs.Scoped.{IsRead, IsScoped, IsWalked, Reads}
 use Rattle.sv_levels.specs.Tasks.{work_is}
 use Rattle.sv_walk.specs.Walks.{state_of}
@@ -51,6 +50,17 @@ top_at modules all top n k h a e = go (m.top_module all top) refl a
         let same : Some x ≡ Some k = sym own ∙ ap (λ (l : ℕ). slice_get all l) b ∙ e in
         i ∙ (let y : x ≡ k = cc in ap Ok y)
     go (Err all) i b = absurd b
+
+-- the number of a top is that of a module
+pub top_is_there : (modules : List Module) (all : m.Library) (top : Option Name) (n : ℕ) → IsLibraryOf modules all → Answers (λ (x : m.Known) (i : ℕ). x.number ≡ i) (m.top_module all top) (Ok n) → None ≡ slice_get all n → ⊥
+top_is_there modules all top n h a e = go (m.top_module all top) refl a
+  where
+    go : (j : Judged m.Known) → m.top_module all top ≡ j → Answers (λ (x : m.Known) (i : ℕ). x.number ≡ i) j (Ok n) → ⊥
+    go (Ok x) i b =
+        let own : slice_get all x.number ≡ Some x = own_number modules all x h (top_among all top x i) in
+        let same : None ≡ Some x = e ∙ ap (λ (l : ℕ). slice_get all l) (sym b) ∙ own in
+        cc
+    go (Err why) i b = absurd b
 
 -- ---- instances
 
@@ -125,10 +135,6 @@ pub modules_are : (parts : List SourcePart) (start st : m.State) (all : m.Librar
 modules_are parts start st all modules h a =
     let once : modules_of modules ≡ modules_in parts = subst (λ (fs : Faults). Answers (λ (x : List Module) (y : Modules). modules_of y ≡ x) (provided fs (modules_in parts)) (Ok modules)) (library_once parts start st all h) a in
     subst (λ (ms : List Module). IsLibraryOf ms all) (sym once) (library_is parts start st all h)
-
-pub known_refused : {A D : Type 0} (s : A → D → Type 0) (j : Judged A) (all : m.Library) (n : ℕ) (e : TextErr) → KnowsNumber all n (Err e) → Answers s j (Err e)
-known_refused s j all n (No why) h = absurd h
-known_refused s j all n Memory h = answers_memory s j
 
 pub top_refused : {B D : Type 0} (r : m.Known → B → Type 0) (s : m.State → D → Type 0) (source : Source) (top : Option Name) (all : m.Library) (st : m.State) (e : TextErr) → m.library source.parts [] m.file_state ≡ Ok (all, st) →
     Answers r (m.top_module all top) (Err e) → Answers s (m.scopes source top) (Err e)

@@ -18,12 +18,20 @@ use std::alloc::{AllocError, Global};
 use sv_levels::{Front, Instance, Known, Levels, Library, Work};
 use sv_modules::{Modules, top_of};
 use sv_names::Names;
-use sv_outside::{Name, Signal, TextErr};
+use sv_outside::{Name, Place, Signal, TextErr};
 use sv_tree::Source;
+use sv_typing::refusal;
 use sv_walk::{Open, Walker};
 
 /// How many levels instances nest below the top.
 const DEEPEST: usize = 32;
+
+/// The start of the design's file.
+const START: Place = Place {
+    file: 0,
+    line: 1,
+    column: 1,
+};
 
 /// The instances and generate blocks of a design, its wires by number, and what contributes to them or joins them.
 #[derive(Drop)]
@@ -69,7 +77,7 @@ fn filed<'a>(
     Ok((file, Library { modules, above }))
 }
 
-// The top among the modules of a source, with all that is below it.
+// The top among the modules of a source, with all that is below it. Each number of a top is that of a module.
 fn topped<'a>(
     walker: &mut Walker<'a>,
     file: &Open<'a>,
@@ -79,8 +87,10 @@ fn topped<'a>(
     ensures { FromSome library.now (option_copied top.entry) walker.old file.now walker.new result }
 {
     let number = top_of(walker.alloc, &library.modules, top)?;
-    let known = library.known(number)?;
-    from_top(walker, file, library, known)
+    match library.known(number) {
+        Some(known) => from_top(walker, file, library, known),
+        None => Err(TextErr::No(refusal(11, START))),
+    }
 }
 
 // Finds all that a source has.

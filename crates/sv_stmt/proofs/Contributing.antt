@@ -1,12 +1,10 @@
 -- What blocks contribute, by their scenes.
-use Rattle.std.proofs.Common.{◌≡◌, ◌≢◌, ℕ, zero, suc, ◌+◌, ◌<◌, ◌≤◌, eqb, Bool, true, false, cond, not, ◌&&◌, ◌||◌, List, [], ◌∷◌, ◌++◌, length, map, filter, get_or, Option, Some, None, refl, sym, ap, ◌∙◌, ◌⊎◌, inl, inr, subst, arith, IsTrue, nat_lt}
+use Rattle.std.proofs.Common.{◌≡◌, ℕ, zero, suc, ◌+◌, ◌<◌, ◌≤◌, eqb, Bool, true, false, cond, not, ◌&&◌, ◌||◌, List, [], ◌∷◌, ◌++◌, length, filter, get_or, Option, Some, None, refl, sym, ap, ◌∙◌, inl, inr, subst, arith, IsTrue, nat_lt}
 use Rattle.std.specs.Prelude.{slice_get}
 use Rattle.std.specs.List.{All, Contains}
 use Rattle.std.proofs.lemmas.List.Elements.{Contains-append_left, Contains-append_right}
-use Rattle.std.proofs.lemmas.Bool.{cases_lt, cases_eq, cases_Bool}
+use Rattle.std.proofs.lemmas.Bool.{cases_eq, cases_Bool}
 use Rattle.std.proofs.lemmas.Bool.Decides.{nat_tests}
-use Rattle.fourvec.specs.declared.Bit.{Bit}
-use Rattle.fourvec.specs.declared.Bit.TheVariants.{Unknown}
 use Rattle.fourvec.proofs.Order.{both}
 use Rattle.fourvec.proofs.Tables.{left_of, right_of}
 use Rattle.lhs_alias.specs.declared.segs.WireBit.{WireBit}
@@ -19,25 +17,25 @@ use Rattle.svex_shape.specs.declared.shape.VarName.TheVariants.{Now, Prev}
 use Rattle.svex_shape.specs.declared.shape.Shape.{Shape}
 use Rattle.svex_shape.specs.Values.{each_variable}
 use Rattle.driver_resolve.specs.declared.driver.Driver.{Driver}
-use Rattle.driver_resolve.specs.Drivers.{Phase, bits_in, IsDriver, is_wire, is_of_wires, widths_of, drivers_give}
-use Rattle.sv_meaning.specs.Layouts.{Read, Scope, Origin, of_wires, of_choice, of_samples, NamedSignal, Declared}
+use Rattle.driver_resolve.specs.Drivers.{Phase, bits_in, IsDriver, is_wire, is_of_wires, widths_of}
+use Rattle.sv_meaning.specs.Layouts.{Scope, Origin, of_wires, of_choice, of_samples, NamedSignal, Declared}
 use Rattle.sv_meaning.specs.Deeds.{merged}
-use Rattle.sv_meaning.specs.Blocks.{has_bit, distinct, all_unknown, comb_look, clocked_look, trigger_bit, reads}
+use Rattle.sv_meaning.specs.Blocks.{has_bit, distinct, all_unknown, comb_look, clocked_look, trigger_bit}
 use Rattle.sv_meaning.specs.Designs.{wire_before, wires_named, is_read_now, bits_of_wire, width_of_wire, has_all}
 use Rattle.sv_actions.specs.declared.action.Action.{Action}
 use Rattle.sv_actions.specs.Doing.{run_all, writes_all, names_all}
 use Rattle.sv_stores.specs.declared.scene.Scene.{Scene}
 use Rattle.sv_blocks.specs.declared.ends.Clock.{Clock}
 use Rattle.sv_blocks.specs.declared.bits.Marked.{Marked}
-use Rattle.svex_arena.specs.Substs.{given_or, entry_at}
+use Rattle.svex_arena.specs.Substs.{given_or}
 use Rattle.sv_stores.specs.Scenes.{place_in, width_in, mark_at, is_written, are_marked, is_whole, base, wire_bit, reads_in, wire_test, name_test, Allows, IsScene}
 use Rattle.sv_actions.specs.Texts.{wire_signal}
-use Rattle.sv_blocks.specs.Declaring.{SceneAmong, SameWires, IsBegun, IsMarked}
+use Rattle.sv_blocks.specs.Declaring.{SceneAmong, IsBegun, IsMarked}
 use Rattle.sv_blocks.specs.Driving.{given, SceneFits, IsPlaced}
 use Rattle.sv_blocks.specs.Ending.{clock_wire, end_store, EventHolds, Finishes}
 use Rattle.sv_stmt.specs.Blocks.{AreDeclared, AreWires, Reads, clock_signals, block_end, now_names, named_in, Contributes}
 use Rattle.sv_blocks.proofs.Marking.{same_scene}
-use Rattle.sv_stores.proofs.Stores.{written_at, written_none, reads_comb}
+use Rattle.sv_stores.proofs.Stores.{written_at, written_none}
 
 -- ---- what names read in a phase
 

@@ -1,5 +1,5 @@
 -- The signals that sound actions name have a bit at least.
-use Rattle.std.proofs.Common.{◌≡◌, ℕ, zero, suc, ◌+◌, ◌<◌, ◌≤◌, List, [], ◌∷◌, ◌++◌, length, sym, ap, ◌⊎◌, inl, inr, subst, arith}
+use Rattle.std.proofs.Common.{ℕ, zero, suc, ◌≤◌, List, [], ◌∷◌, ◌++◌, inl, inr, subst, arith}
 use Rattle.std.specs.List.{Contains, All}
 use Rattle.std.proofs.lemmas.List.Elements.{Contains-append_cases, All-head, All-tail}
 use mathlib.Core.Former.{Count}
@@ -14,7 +14,7 @@ use Rattle.sv_typed.specs.Typed.{origin_is, root_names, root_width, form_names, 
 use Rattle.sv_targets.specs.declared.targets.TypedTarget.{TypedTarget}
 use Rattle.sv_actions.specs.declared.action.Case.{Case}
 use Rattle.sv_actions.specs.declared.action.Action.{Action, Assign, Choose', Match', Row_of-Action, end_of-Action, more_of-Action, Row_of-Arm, end_of-Arm, more_of-Arm}
-use Rattle.sv_actions.specs.Doing.{target_names, names, names_row, names_arms, names_all, TargetFits, LabelFits, CaseFits, Fits, FitsRow, FitsArms}
+use Rattle.sv_actions.specs.Doing.{target_names, names, names_row, names_arms, names_all, TargetFits, LabelFits, Fits, FitsRow, FitsArms}
 
 abbrev pub HaveBits : List NamedSignal → Type 0
 HaveBits names = (s : NamedSignal) → Contains names s → 1 ≤ s.width

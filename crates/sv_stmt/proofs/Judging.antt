@@ -1,5 +1,5 @@
 -- Blocks and what stands against them, by their parts.
-use Rattle.std.proofs.Common.{◌≡◌, ◌≢◌, ℕ, zero, suc, ◌+◌, ◌<◌, ◌≤◌, eqb, Bool, true, false, cond, not, List, [], ◌∷◌, ◌++◌, length, map, filter, get_or, Option, Some, None, Result, Ok, Err, refl, sym, ap, ◌∙◌, ◌⊎◌, inl, inr, subst, arith, IsTrue}
+use Rattle.std.proofs.Common.{◌≡◌, ◌≢◌, ℕ, zero, suc, eqb, Bool, true, false, cond, not, List, [], ◌∷◌, ◌++◌, filter, Option, Some, None, refl, sym, ap, ◌∙◌, ◌⊎◌, inl, inr, subst, arith, IsTrue}
 use Rattle.std.specs.Prelude.{◌==◌}
 use Rattle.std.specs.List.{All, Contains}
 use Rattle.std.proofs.lemmas.List.Elements.{Contains-append_left, Contains-append_right, Contains-append_cases}
@@ -18,19 +18,19 @@ use Rattle.sv_tree.specs.declared.stmts.Stmt.{Stmt}
 use Rattle.sv_tree.specs.declared.stmts.Event.{Event}
 use Rattle.sv_tree.specs.declared.stmts.Block.{Block}
 use Rattle.sv_outside.specs.declared.refusal.Place.{Place}
-use Rattle.sv_outside.specs.declared.refusal.TextErr.TheVariants.{No, Memory}
+use Rattle.sv_outside.specs.declared.refusal.TextErr.TheVariants.{No}
 use Rattle.sv_names.specs.declared.layout.Layout.{Layout as Laid}
 use Rattle.sv_names.specs.declared.layout.What.{What}
 use Rattle.sv_names.specs.declared.layout.What.TheVariants as kind
 use Rattle.sv_names.specs.Kinds.{layout_is, what_is, WhatIsSound, IsSound}
 use Rattle.sv_names.proofs.Sound.{sound_width}
 use Rattle.sv_meaning.specs.Faults.{Faults, fault, fault_if, unknown_name, bad_width}
-use Rattle.sv_meaning.specs.Layouts.{Scope, What as Meant, Origin, of_wires, of_choice, of_samples, signal_is, width, find, NamedSignal, Declared}
+use Rattle.sv_meaning.specs.Layouts.{Scope, What as Meant, Origin, of_wires, of_choice, of_samples, signal_is, width, find, NamedSignal}
 use Rattle.sv_meaning.specs.Deeds.{Deed, deed, merged}
-use Rattle.sv_meaning.specs.Blocks.{Manner, comb, clocked, distinct, all_unknown, comb_look, clocked_look, trigger_bit, block_value, marks, clock_of, by_clock, event_manner, clock_faults}
+use Rattle.sv_meaning.specs.Blocks.{Manner, distinct, all_unknown, comb_look, clocked_look, trigger_bit, block_value, marks, clock_of, by_clock, event_manner, clock_faults}
 use Rattle.sv_meaning.specs.Designs.{wire_before, wires_named, is_read_now, block_gives, block_names}
 use Rattle.sv_actions.specs.declared.action.Action.{Action}
-use Rattle.sv_actions.specs.Doing.{run_all, writes_all, names_all}
+use Rattle.sv_actions.specs.Doing.{writes_all, names_all}
 use Rattle.sv_actions.specs.Typing.{Does}
 use Rattle.sv_blocks.specs.declared.ends.Clock.{Clock}
 use Rattle.sv_actions.specs.Texts.{wire_signal, signal_of, target_signals, event_signals, signals_of}

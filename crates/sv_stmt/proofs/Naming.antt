@@ -1,7 +1,7 @@
 -- The signals that statements and actions name are declared, and have a bit at least.
-use Rattle.std.proofs.Common.{◌≡◌, ℕ, zero, suc, ◌+◌, ◌<◌, ◌≤◌, Bool, true, false, cond, List, [], ◌∷◌, ◌++◌, length, map, get_or, Option, Some, None, Ok, Err, refl, sym, ap, ◌∙◌, ◌⊎◌, inl, inr, subst, arith, append_assoc}
-use Rattle.std.specs.List.{Contains, All}
-use Rattle.std.proofs.lemmas.List.Elements.{Contains-append_left, Contains-append_right, Contains-append_cases, All-head, All-tail}
+use Rattle.std.proofs.Common.{◌≡◌, ℕ, zero, suc, Bool, true, List, [], ◌∷◌, ◌++◌, map, Option, Some, None, Ok, Err, refl, sym, ap, ◌∙◌, inl, inr, subst, arith, append_assoc}
+use Rattle.std.specs.List.{Contains}
+use Rattle.std.proofs.lemmas.List.Elements.{Contains-append_cases}
 use mathlib.Core.Former.{Count}
 use Rattle.fourvec.specs.declared.Bit.{Bit}
 use Rattle.sv_tree.specs.declared.exprs.Expr.{Expr}
@@ -17,7 +17,7 @@ use Rattle.sv_meaning.specs.Layouts as m
 use Rattle.sv_meaning.specs.Meanings.{Meaning, all_indices, indices}
 use Rattle.sv_meaning.specs.Values.{mean, step}
 use Rattle.sv_meaning.specs.Targets.{Target, target_of, targets, targets_of}
-use Rattle.sv_meaning.specs.Deeds.{Deed, deed, deed_else, deeds, arms, with_index, in_turns, in_turn, turns, target_names, CaseArm, labels_of, all_names, case_chain, case_of, longest, all_signed, is_casez}
+use Rattle.sv_meaning.specs.Deeds.{Deed, deed, deed_else, deeds, arms, with_index, in_turns, in_turn, turns, target_names, CaseArm, labels_of, all_names, case_chain, is_casez}
 use Rattle.sv_meaning.proofs.Declaring.{names-declared}
 use Rattle.sv_tree.specs.declared.exprs.RangeMark.TheVariants as mark
 use Rattle.sv_stmt.specs.Blocks.{AreDeclared}
@@ -157,7 +157,7 @@ mutual
       two at ((mean at x).names ++ all_names (labels_of (arms all at).0)) _ (two at (mean at x).names (all_names (labels_of (arms all at).0)) (names-declared at x) (labels_names at (labels_of (arms all at).0) (arms_labels at (arms all at).0 each.0)))
       (chain_names at (is_casez word) _ _ (mean at x) (arms all at).0 (arms all at).1 each.0 each.1)
   deed_declared at (For' p form name start test next r (more_of-Stmt body end_of-Stmt)) =
-      in_turns_names at p (λ bits. deed body (with_index at name.text bits)) (turns p at name.text start test next) (λ bits s h. index_only at name.text bits s (deed_declared (with_index at name.text bits) body s h))
+      in_turns_names at p (λ bits. deed body (with_index at name.text bits)) (turns p (constant_scope at) name.text start test next) (λ bits s h. index_only at name.text bits s (deed_declared (with_index at name.text bits) body s h))
   deed_declared at (Assign to mark p x) = two at (mean at x).names (target_names (targets at at to)) (names-declared at x) (lvalue_names at to)
 
   else_declared : (at : Scope) (x : Held-Stmt-If-3) → AreDeclared at (deed_else x at).names

@@ -1,26 +1,25 @@
 -- The wires of a scene have the widths that names declare, and each target of a block has a place there.
-use Rattle.std.proofs.Common.{◌≡◌, ℕ, zero, suc, ◌+◌, ◌<◌, ◌≤◌, Bool, true, List, [], ◌∷◌, length, map, get_or, Option, Some, None, Result, Ok, Err, refl, sym, ap, ◌∙◌, subst, arith, IsTrue, eqb, nat_lt, nat_le}
+use Rattle.std.proofs.Common.{◌≡◌, ℕ, zero, suc, true, List, [], ◌∷◌, length, get_or, Option, Some, None, Result, Ok, Err, refl, sym, ap, ◌∙◌, subst, arith, IsTrue, eqb, nat_lt, nat_le}
 use Rattle.std.specs.Prelude.{is_some}
 use Rattle.std.specs.Result.{IfOk}
 use Rattle.std.specs.List.{All, AllByRecursion, Contains}
 use Rattle.std.proofs.lemmas.List.Elements.{recursion_from_All}
 use Rattle.std.proofs.lemmas.Bool.Decides.{nat_tests}
-use Rattle.fourvec.proofs.Tables.{left_of, right_of}
+use Rattle.fourvec.proofs.Tables.{right_of}
 use Rattle.lhs_alias.specs.declared.segs.WireBit.{WireBit}
 use Rattle.svex_arena.specs.Substs.{given_or, entry_at}
-use Rattle.driver_resolve.specs.Drivers.{is_wire}
 use Rattle.sv_tree.specs.declared.stmts.Stmt.{Stmt}
 use Rattle.sv_meaning.specs.Layouts.{Scope, Origin, of_wires, of_choice, of_samples, NamedSignal, Declared}
 use Rattle.sv_actions.specs.declared.action.Action.{Action}
 use Rattle.sv_actions.specs.Texts.{wire_signal, target_signals}
 use Rattle.sv_actions.specs.Doing.{Aims, names_all}
 use Rattle.sv_stores.specs.declared.scene.Scene.{Scene}
-use Rattle.sv_stores.specs.Scenes.{place_in, width_in, is_narrow, Narrow, IsScene}
+use Rattle.sv_stores.specs.Scenes.{place_in, width_in, is_narrow}
 use Rattle.sv_blocks.specs.declared.wires.Wire.{Wire}
 use Rattle.sv_blocks.specs.declared.bits.Marked.{Marked}
-use Rattle.sv_blocks.specs.Declaring.{wire_is, wires_are, IsThere, SameWires, IsBegun, IsMarked}
-use Rattle.sv_blocks.specs.Fitting.{HasPlace, Sits}
-use Rattle.sv_blocks.proofs.Marking.{same_scene, same_place}
+use Rattle.sv_blocks.specs.Declaring.{wires_are, IsThere, SameWires, IsBegun, IsMarked}
+use Rattle.sv_blocks.specs.Fitting.{Sits}
+use Rattle.sv_blocks.proofs.Marking.{same_place}
 use Rattle.sv_blocks.proofs.Sitting.{Placed, sit_all}
 use Rattle.sv_stmt.specs.Blocks.{AreDeclared, AreThere, AreWires, OneWidth}
 use Rattle.sv_stmt.proofs.Rooted.{targets_declared}

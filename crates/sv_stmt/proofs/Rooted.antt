@@ -1,31 +1,17 @@
 -- Each signal that targets and events name is declared.
-use Rattle.std.proofs.Common.{◌≡◌, ℕ, ◌+◌, ◌<◌, ◌≤◌, zero, suc, Bool, List, [], ◌∷◌, ◌++◌, length, take, get_or, Option, Some, None, Result, Ok, Err, refl, sym, ap, ◌∙◌, ◌⊎◌, inl, inr, subst, arith, append_assoc}
+use Rattle.std.proofs.Common.{◌≡◌, zero, suc, Bool, List, [], ◌∷◌, ◌++◌, Option, Some, None, refl, ap, inl, inr, subst, arith}
 use Rattle.std.specs.List.{Contains}
 use Rattle.std.proofs.lemmas.List.Elements.{Contains-append_cases}
 use mathlib.Core.Former.{Count}
-use Rattle.sv_outside.specs.declared.refusal.Place.{Place}
-use Rattle.sv_tree.specs.declared.word.Word.{Word}
-use Rattle.sv_tree.specs.declared.exprs.Expr.{Expr}
-use Rattle.sv_tree.specs.declared.exprs.Select.{Select}
-use Rattle.sv_tree.specs.declared.forms.WholeWord.{WholeWord}
 use Rattle.sv_tree.specs.declared.stmts.Lvalue.{Lvalue, Name, Concat', Row_of-Lvalue, end_of-Lvalue, more_of-Lvalue}
-use Rattle.sv_tree.specs.declared.stmts.Lvalue.TheVariants as lv
-use Rattle.sv_tree.specs.declared.stmts.Lvalue.TheBlock.{shape-the_row-Lvalue-0, hidden-the_row-Lvalue-0}
-use Rattle.sv_tree.specs.declared.stmts.Uniq.{Uniq}
-use Rattle.sv_tree.specs.declared.stmts.CaseWord.{CaseWord}
-use Rattle.sv_tree.specs.declared.stmts.AssignMark.{AssignMark}
-use Rattle.sv_tree.specs.declared.stmts.Step.{Step}
 use Rattle.sv_tree.specs.declared.stmts.Stmt.{Stmt, Empty, Block', If', Case', For', Assign, Row_of-Stmt, end_of-Stmt, more_of-Stmt, Row_of-Arm, end_of-Arm, more_of-Arm, Held-Stmt-If-3, None', Some'}
-use Rattle.sv_tree.specs.declared.stmts.Stmt.TheVariants as st
-use Rattle.sv_tree.specs.declared.stmts.Arm.TheBlock.{shape-the_row-Stmt-0, hidden-the_row-Stmt-0, shape-the_row-Stmt-1, hidden-the_row-Stmt-1, shape-the_row-Arm-2, hidden-the_row-Arm-2}
-use Rattle.sv_tree.specs.declared.stmts.Arm.{Arm, Labels', Default'}
-use Rattle.sv_tree.specs.declared.stmts.Arm.TheVariants as ar
+use Rattle.sv_tree.specs.declared.stmts.Arm.{Labels', Default'}
 use Rattle.sv_tree.specs.declared.stmts.BlockKind.{BlockKind}
 use Rattle.sv_tree.specs.declared.stmts.BlockKind.TheVariants as kind
-use Rattle.sv_meaning.specs.Layouts.{Name as Text, Entry, Scope, What, signal_is, number_is, type_is, genvar_is, of_wires, of_choice, of_samples, width, find, last_of, or_else, NamedSignal, Declared}
-use Rattle.std.specs.Prelude.{bytes_eq, OnOk}
+use Rattle.sv_meaning.specs.Layouts.{Name as Text, Entry, Scope, What, signal_is, number_is, type_is, genvar_is, of_wires, of_choice, of_samples, find, last_of, or_else, NamedSignal, Declared}
+use Rattle.std.specs.Prelude.{bytes_eq}
 use Rattle.std.proofs.Common.{cond, true, false}
-use Rattle.sv_actions.specs.Texts.{wire_signal, signal_of, root_signals, all_root_signals, target_signals, else_signals, signals_in, arms_signals, event_signals, of_each, other_signals, arm_signals}
+use Rattle.sv_actions.specs.Texts.{signal_of, root_signals, all_root_signals, target_signals, else_signals, signals_in, arms_signals, event_signals}
 use Rattle.sv_stmt.specs.Blocks.{AreDeclared}
 
 abbrev pub Signals : Type 0

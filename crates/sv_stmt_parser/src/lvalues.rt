@@ -112,7 +112,7 @@ impl<F: Fn(Global, &mut Cursor<'_>, u8) -> Result<Lvalue, ParseErr>> Braces<F> {
     {
         let place = tokens.mark(Mark::LeftBrace)?;
         let all = self.parts(tokens)?;
-        let (all, _) = both(all, tokens.mark(Mark::RightBrace))?;
+        tokens.mark(Mark::RightBrace)?;
         Ok(Lvalue::Concat(place, all))
     }
 

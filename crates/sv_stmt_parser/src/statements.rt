@@ -82,7 +82,7 @@ fn assigned(alloc: Global, tokens: &mut Cursor<'_>) -> Result<((AssignMark, Plac
 {
     let mark = take_assign(tokens)?;
     let value = expression(alloc, tokens)?;
-    let (value, _) = both(value, tokens.mark(Mark::Semicolon))?;
+    tokens.mark(Mark::Semicolon)?;
     Ok((mark, value))
 }
 
@@ -91,7 +91,7 @@ fn assign(alloc: Global, tokens: &mut Cursor<'_>) -> Result<Stmt, ParseErr>
     ensures { Reads (spec.assign tokens.old) result tokens.new }
 {
     let target = lvalue(alloc, tokens)?;
-    let (target, ((mark, place), value)) = both(target, assigned(alloc, tokens))?;
+    let ((mark, place), value) = assigned(alloc, tokens)?;
     Ok(Stmt::Assign(target, mark, place, value))
 }
 
@@ -263,7 +263,7 @@ impl<F: Fn(Global, &mut Cursor<'_>, u8) -> Result<Stmt, ParseErr>> Statements<F>
         ensures { Reads (spec.block_rest (spec.stmt self.now.depth) name.now tokens.old) result tokens.new }
     {
         let all = self.stmts(tokens)?;
-        let (all, _) = both(all, tokens.keyword(Keyword::End))?;
+        tokens.keyword(Keyword::End)?;
         both(all, end_label(self.alloc, tokens, name))
     }
 
@@ -274,8 +274,7 @@ impl<F: Fn(Global, &mut Cursor<'_>, u8) -> Result<Stmt, ParseErr>> Statements<F>
     {
         let place = tokens.keyword(Keyword::Begin)?;
         let name = block_label(self.alloc, tokens)?;
-        let rest = self.block_rest(tokens, &name);
-        let (name, (all, label)) = both(name, rest)?;
+        let (all, label) = self.block_rest(tokens, &name)?;
         Ok(Stmt::Block(place, name, all, label))
     }
 
@@ -325,7 +324,7 @@ impl<F: Fn(Global, &mut Cursor<'_>, u8) -> Result<Stmt, ParseErr>> Statements<F>
         tokens.keyword(Keyword::If)?;
         tokens.mark(Mark::LeftParen)?;
         let condition = expression(self.alloc, tokens)?;
-        let (condition, (first, second)) = both(condition, self.behind_condition(tokens))?;
+        let (first, second) = self.behind_condition(tokens)?;
         Ok(BranchTail::If(condition, first, second))
     }
 
@@ -335,8 +334,8 @@ impl<F: Fn(Global, &mut Cursor<'_>, u8) -> Result<Stmt, ParseErr>> Statements<F>
         ensures { Reads (spec.labelled (spec.stmt self.now.depth) tokens.old) result tokens.new }
     {
         let labels = expressions(self.alloc, tokens)?;
-        let (labels, _) = both(labels, tokens.mark(Mark::Colon))?;
-        let (labels, body) = both(labels, self.body(tokens))?;
+        tokens.mark(Mark::Colon)?;
+        let body = self.body(tokens)?;
         Ok(Arm::Labels(labels, body))
     }
 
@@ -411,9 +410,7 @@ impl<F: Fn(Global, &mut Cursor<'_>, u8) -> Result<Stmt, ParseErr>> Statements<F>
         ensures { Reads (spec.arms (spec.stmt self.now.depth) tokens.old) result tokens.new }
     {
         let before = self.all_labelled(tokens)?;
-        let rest = self.behind_labelled(tokens, before.as_slice());
-        let (before, rest) = both(before, rest)?;
-        match rest {
+        match self.behind_labelled(tokens, before.as_slice())? {
             Some((default, behind)) => {
                 let all = joined(self.alloc, before, default, behind)?;
                 Ok(all)
@@ -441,7 +438,7 @@ impl<F: Fn(Global, &mut Cursor<'_>, u8) -> Result<Stmt, ParseErr>> Statements<F>
         let word = take_case(tokens)?;
         tokens.mark(Mark::LeftParen)?;
         let value = expression(self.alloc, tokens)?;
-        let (value, all) = both(value, self.behind_compared(tokens))?;
+        let all = self.behind_compared(tokens)?;
         Ok(BranchTail::Case(word, value, all))
     }
 
@@ -482,7 +479,7 @@ impl<F: Fn(Global, &mut Cursor<'_>, u8) -> Result<Stmt, ParseErr>> Statements<F>
         ensures { Reads (loops.stepped (spec.stmt self.now.depth) variable.now tokens.old) result tokens.new }
     {
         let by = step(self.alloc, tokens, variable)?;
-        let (by, _) = both(by, tokens.mark(Mark::RightParen))?;
+        tokens.mark(Mark::RightParen)?;
         both(by, self.body(tokens))
     }
 
@@ -496,7 +493,7 @@ impl<F: Fn(Global, &mut Cursor<'_>, u8) -> Result<Stmt, ParseErr>> Statements<F>
         ensures { Reads (loops.tested (spec.stmt self.now.depth) variable.now tokens.old) result tokens.new }
     {
         let condition = expression(self.alloc, tokens)?;
-        let (condition, _) = both(condition, tokens.mark(Mark::Semicolon))?;
+        tokens.mark(Mark::Semicolon)?;
         both(condition, self.stepped(tokens, variable))
     }
 
@@ -507,7 +504,7 @@ impl<F: Fn(Global, &mut Cursor<'_>, u8) -> Result<Stmt, ParseErr>> Statements<F>
     {
         tokens.mark(Mark::Assign)?;
         let start = expression(self.alloc, tokens)?;
-        let (start, _) = both(start, tokens.mark(Mark::Semicolon))?;
+        tokens.mark(Mark::Semicolon)?;
         both(start, self.tested(tokens, variable))
     }
 

@@ -10,8 +10,8 @@ ghost use Rattle.sv_targets.specs.Slots.{IsNear, Picked, target_slots, slots_of}
 ghost use Rattle.sv_targets.specs.Targets.{TargetIsSound};
 
 use crate::places::{Spotted, spot_of};
-use fourvec::Reach;
 use crate::targets::TypedTarget;
+use fourvec::Reach;
 use items::Items;
 use lhs_alias::WireBit;
 use std::alloc::{AllocError, Global};

@@ -3,7 +3,7 @@
 // itself, and `form` closes the cycle with one depth less.
 ghost use Rattle.std.specs.Prelude.{◌≡◌, is_some};
 ghost use Rattle.sv_cursor.specs.Parsers as parser;
-ghost use Rattle.sv_cursor.specs.Parsers.{Reads, told};
+ghost use Rattle.sv_cursor.specs.Parsers.{Reads, ◌⊗◌, told};
 ghost use Rattle.sv_cursor.specs.Tests as test;
 ghost use Rattle.sv_word_parser.specs.Combined.{◌▸◌, ◌◂◌, listed, sort_test};
 ghost use Rattle.sv_type_parser.specs.Forms as spec;
@@ -11,7 +11,8 @@ ghost use Rattle.sv_type_parser.specs.Lists as list;
 ghost use Rattle.sv_type_parser.specs.Lists.{Nests};
 ghost use Rattle.sv_word_parser.specs.Words as words;
 
-use crate::lists::{MOST_NESTING, expression, names, with_first};
+use crate::lists::{MOST_NESTING, expression, with_first};
+use crate::parts::{Part, all_parts, ended_parts};
 use items::{Boxed, Items, both};
 use std::alloc::Global;
 use sv_cursor::{Cursor, Keyword, Mark, ParseErr, Sort};
@@ -24,7 +25,7 @@ fn right_end(alloc: Global, tokens: &mut Cursor<'_>) -> Result<Expr, ParseErr>
 {
     tokens.mark(Mark::Colon)?;
     let right = expression(alloc, tokens)?;
-    let (right, _) = both(right, tokens.mark(Mark::RightBracket))?;
+    tokens.mark(Mark::RightBracket)?;
     Ok(right)
 }
 
@@ -35,7 +36,7 @@ pub fn range(alloc: Global, tokens: &mut Cursor<'_>) -> Result<Range, ParseErr>
 {
     let place = tokens.mark(Mark::LeftBracket)?;
     let left = expression(alloc, tokens)?;
-    let (left, right) = both(left, right_end(alloc, tokens))?;
+    let right = right_end(alloc, tokens)?;
     Ok(Range { place, left, right })
 }
 
@@ -94,40 +95,16 @@ fn enum_label(alloc: Global, tokens: &mut Cursor<'_>) -> Result<EnumLabel, Parse
     ensures { Reads (spec.enum_label tokens.old) result tokens.new }
 {
     let name = tokens.id(alloc)?;
-    let (name, value) = both(name, maybe_given(alloc, tokens))?;
+    let value = maybe_given(alloc, tokens)?;
     Ok(EnumLabel { name, value })
 }
 
-#[tactic(auto, unfolding(crate::specs::Lists::behind_comma))]
-fn comma_label(alloc: Global, tokens: &mut Cursor<'_>) -> Result<EnumLabel, ParseErr>
-    ensures { Reads (list.behind_comma spec.enum_label tokens.old) result tokens.new }
-{
-    tokens.mark(Mark::Comma)?;
-    enum_label(alloc, tokens)
-}
+impl Part for EnumLabel {
+    ghost parser = { spec.enum_label };
 
-fn more_labels(alloc: Global, tokens: &mut Cursor<'_>) -> Result<Items<EnumLabel>, ParseErr>
-    ensures { Reads (list.more spec.enum_label tokens.old) result tokens.new }
-{
-    let mut found = Items::new(alloc);
-    for _turn in 0..tokens.left() {
-        if !sees(tokens, Mark::Comma) {
-            return Ok(found);
-        }
-        let part = comma_label(alloc, tokens)?;
-        found.push(part)?;
+    fn read(alloc: Global, tokens: &mut Cursor<'_>) -> Result<EnumLabel, ParseErr> {
+        enum_label(alloc, tokens)
     }
-    Ok(found)
-}
-
-#[tactic(auto, unfolding(crate::specs::Lists::more, crate::specs::Lists::behind_comma))]
-fn labels(alloc: Global, tokens: &mut Cursor<'_>) -> Result<Items<EnumLabel>, ParseErr>
-    ensures { Reads (listed spec.enum_label tokens.old) result tokens.new }
-{
-    let first = enum_label(alloc, tokens)?;
-    let (first, more) = both(first, more_labels(alloc, tokens))?;
-    let all = with_first(alloc, first, more)?;
-    Ok(all)
 }
 
 // ---- types that hold no types
@@ -174,20 +151,31 @@ fn braced_labels(alloc: Global, tokens: &mut Cursor<'_>) -> Result<Items<EnumLab
     ensures { Reads (list.braced (listed spec.enum_label) tokens.old) result tokens.new }
 {
     tokens.mark(Mark::LeftBrace)?;
-    let all = labels(alloc, tokens)?;
+    let all = all_parts(alloc, tokens)?;
     tokens.mark(Mark::RightBrace)?;
     Ok(all)
 }
 
-#[tactic(auto, unfolding(crate::specs::Forms::enumeration, crate::specs::Forms::maybe_sign, crate::specs::Forms::range_if))]
+// The range of an enumeration, and the enumerators.
+#[tactic(auto, unfolding(crate::specs::Forms::range_if))]
+fn enum_body(
+    alloc: Global,
+    tokens: &mut Cursor<'_>,
+) -> Result<(Option<Range>, Items<EnumLabel>), ParseErr>
+    ensures { Reads ((parser.maybe_read (test.mark_test Mark.LeftBracket) spec.range ⊗ list.braced (listed spec.enum_label)) tokens.old) result tokens.new }
+{
+    let base = maybe_range(alloc, tokens)?;
+    both(base, braced_labels(alloc, tokens))
+}
+
+#[tactic(auto, unfolding(crate::specs::Forms::enumeration, crate::specs::Forms::maybe_sign))]
 fn enumeration(alloc: Global, tokens: &mut Cursor<'_>) -> Result<TypeTree, ParseErr>
     ensures { Reads (spec.enumeration tokens.old) result tokens.new }
 {
     tokens.keyword(Keyword::Enum)?;
     let word = take_bits(tokens)?;
     let sign = maybe_sign(tokens)?;
-    let base = maybe_range(alloc, tokens)?;
-    let (base, all) = both(base, braced_labels(alloc, tokens))?;
+    let (base, all) = enum_body(alloc, tokens)?;
     Ok(TypeTree::Enum(word, sign, base, all))
 }
 
@@ -288,12 +276,11 @@ fn sees_type(tokens: &Cursor<'_>) -> bool
 }
 
 /// Names, and the semicolon behind them.
+#[tactic(auto, unfolding(crate::specs::Forms::names))]
 pub fn ended_names(alloc: Global, tokens: &mut Cursor<'_>) -> Result<Items<Word>, ParseErr>
     ensures { Reads ((spec.names ◂ test.mark Mark.Semicolon) tokens.old) result tokens.new }
 {
-    let all = names(alloc, tokens)?;
-    tokens.mark(Mark::Semicolon)?;
-    Ok(all)
+    ended_parts(alloc, tokens)
 }
 
 // The ranges behind the members of a structure.
@@ -305,7 +292,7 @@ fn ranges_behind(alloc: Global, tokens: &mut Cursor<'_>) -> Result<Items<Range>,
 }
 
 /// The rules of types, over a reader of the types of members.
-#[derive(Clone, Copy)]
+#[derive(Drop)]
 struct Types<F> {
     alloc: Global,
     /// How many types may hold a token of a part.
@@ -315,21 +302,15 @@ struct Types<F> {
 }
 
 impl<F: Fn(Global, &mut Cursor<'_>, u8) -> Result<TypeTree, ParseErr>> Types<F> {
-    fn form(&self, tokens: &mut Cursor<'_>) -> Result<TypeTree, ParseErr>
-        requires { Nests (spec.form self.now.depth) self.now.depth (F.pre self.now.form) (F.post self.now.form) }
-        ensures { Reads (spec.form self.now.depth tokens.old) result tokens.new }
-    {
-        (self.form)(self.alloc, tokens, self.depth)
-    }
-
     #[tactic(auto, unfolding(crate::specs::Forms::member))]
     fn member(&self, tokens: &mut Cursor<'_>) -> Result<Member, ParseErr>
         requires { Nests (spec.form self.now.depth) self.now.depth (F.pre self.now.form) (F.post self.now.form) }
         ensures { Reads (spec.member (spec.form self.now.depth) tokens.old) result tokens.new }
     {
-        let form = self.form(tokens)?;
-        let (form, all) = both(form, ended_names(self.alloc, tokens))?;
-        Ok(Member::Of(Boxed::new(self.alloc, form)?, all))
+        let form = (self.form)(self.alloc, tokens, self.depth)?;
+        let form = Boxed::new(self.alloc, form)?;
+        let all = ended_names(self.alloc, tokens)?;
+        Ok(Member::Of(form, all))
     }
 
     fn more_members(&self, tokens: &mut Cursor<'_>) -> Result<Items<Member>, ParseErr>
@@ -358,6 +339,16 @@ impl<F: Fn(Global, &mut Cursor<'_>, u8) -> Result<TypeTree, ParseErr>> Types<F> 
         Ok(all)
     }
 
+    // The members of a structure in braces, and the ranges behind them.
+    fn body(&self, tokens: &mut Cursor<'_>) -> Result<(Items<Member>, Items<Range>), ParseErr>
+        requires { Nests (spec.form self.now.depth) self.now.depth (F.pre self.now.form) (F.post self.now.form) }
+        ensures { Reads ((test.mark Mark.LeftBrace ▸ (spec.members (spec.form self.now.depth) ⊗ (test.mark Mark.RightBrace ▸ spec.ranges))) tokens.old) result tokens.new }
+    {
+        tokens.mark(Mark::LeftBrace)?;
+        let all = self.members(tokens)?;
+        both(all, ranges_behind(self.alloc, tokens))
+    }
+
     #[tactic(auto, unfolding(crate::specs::Forms::structure, crate::specs::Forms::maybe_sign))]
     fn structure(&self, tokens: &mut Cursor<'_>) -> Result<TypeTree, ParseErr>
         requires { Nests (spec.form self.now.depth) self.now.depth (F.pre self.now.form) (F.post self.now.form) }
@@ -366,9 +357,7 @@ impl<F: Fn(Global, &mut Cursor<'_>, u8) -> Result<TypeTree, ParseErr>> Types<F> 
         tokens.keyword(Keyword::Struct)?;
         tokens.keyword(Keyword::Packed)?;
         let sign = maybe_sign(tokens)?;
-        tokens.mark(Mark::LeftBrace)?;
-        let all = self.members(tokens)?;
-        let (all, behind) = both(all, ranges_behind(self.alloc, tokens))?;
+        let (all, behind) = self.body(tokens)?;
         Ok(TypeTree::Struct(sign, all, behind))
     }
 
@@ -430,6 +419,6 @@ pub fn typedef(alloc: Global, tokens: &mut Cursor<'_>) -> Result<Typedef, ParseE
 {
     tokens.keyword(Keyword::Typedef)?;
     let shape = form(alloc, tokens, MOST_NESTING)?;
-    let (shape, name) = both(shape, ended_name(alloc, tokens))?;
+    let name = ended_name(alloc, tokens)?;
     Ok(Typedef { form: shape, name })
 }

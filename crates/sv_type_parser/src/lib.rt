@@ -8,7 +8,8 @@
 mod forms;
 mod lists;
 mod parameters;
+mod parts;
 
 pub use forms::{ended_names, form, given, range, ranges, typedef};
-pub use lists::{MOST_NESTING, MOST_OPEN, expression, expressions, more_names, names, with_first};
+pub use lists::{MOST_NESTING, expression, expressions, more_names, names, with_first};
 pub use parameters::{par_port, param, port, typed_name};

@@ -1,6 +1,4 @@
-// Lists with commas between their parts: expressions and names, and how deep the grammar may nest. A first part is read and
-// then the rest in a loop of at most as many turns as tokens are left, and the two are put together. The limit of nesting is
-// this project's rule; trees are walked and dropped by their own depth, so there has to be one.
+// Lists with commas between their parts.
 ghost use Rattle.std.specs.Prelude.{◌≡◌, ◌∷◌, IfOk};
 ghost use Rattle.sv_cursor.specs.Parsers as parser;
 ghost use Rattle.sv_cursor.specs.Parsers.{Reads};
@@ -10,19 +8,15 @@ ghost use Rattle.sv_word_parser.specs.Combined.{listed};
 ghost use Rattle.sv_type_parser.specs.Forms as spec;
 ghost use Rattle.sv_type_parser.specs.Lists as list;
 
-use items::{Items, both};
+use crate::parts::{all_parts, more_parts};
+use items::Items;
 use std::alloc::{AllocError, Global};
-use sv_cursor::{Cursor, Mark, ParseErr};
+use sv_cursor::{Cursor, ParseErr};
 use sv_expr_reader::expr;
 use sv_tree::{Expr, Word};
-use sv_word_parser::sees;
 
 /// How many expressions, statements, generate constructs or types may hold a token (this project's rule).
 pub const MOST_NESTING: u8 = 200;
-
-/// How many braces of a target or generate regions may be open. They count for no nesting, but a tree goes down its own
-/// depth when it is dropped, so more of them are want of memory.
-pub const MOST_OPEN: usize = 1_000;
 
 /// A part, and those that follow it.
 pub fn with_first<A: Drop>(alloc: Global, first: A, more: Items<A>) -> Result<Items<A>, AllocError>
@@ -41,69 +35,24 @@ pub fn expression(alloc: Global, tokens: &mut Cursor<'_>) -> Result<Expr, ParseE
     expr(alloc, tokens, MOST_NESTING + 1, 0)
 }
 
-#[tactic(auto, unfolding(crate::specs::Lists::behind_comma))]
-fn comma_expression(alloc: Global, tokens: &mut Cursor<'_>) -> Result<Expr, ParseErr>
-    ensures { Reads (list.behind_comma spec.expression tokens.old) result tokens.new }
-{
-    tokens.mark(Mark::Comma)?;
-    expression(alloc, tokens)
-}
-
-fn more_expressions(alloc: Global, tokens: &mut Cursor<'_>) -> Result<Items<Expr>, ParseErr>
-    ensures { Reads (list.more spec.expression tokens.old) result tokens.new }
-{
-    let mut found = Items::new(alloc);
-    for _turn in 0..tokens.left() {
-        if !sees(tokens, Mark::Comma) {
-            return Ok(found);
-        }
-        let part = comma_expression(alloc, tokens)?;
-        found.push(part)?;
-    }
-    Ok(found)
-}
-
 /// One or more expressions, with commas between them.
-#[tactic(auto, unfolding(crate::specs::Lists::more, crate::specs::Lists::behind_comma))]
 pub fn expressions(alloc: Global, tokens: &mut Cursor<'_>) -> Result<Items<Expr>, ParseErr>
     ensures { Reads (listed spec.expression tokens.old) result tokens.new }
 {
-    let first = expression(alloc, tokens)?;
-    let (first, more) = both(first, more_expressions(alloc, tokens))?;
-    let all = with_first(alloc, first, more)?;
-    Ok(all)
-}
-
-#[tactic(auto, unfolding(crate::specs::Lists::behind_comma))]
-fn comma_name(alloc: Global, tokens: &mut Cursor<'_>) -> Result<Word, ParseErr>
-    ensures { Reads (list.behind_comma (parser.token test.id_test) tokens.old) result tokens.new }
-{
-    tokens.mark(Mark::Comma)?;
-    tokens.id(alloc)
+    all_parts(alloc, tokens)
 }
 
 /// The names behind the first.
 pub fn more_names(alloc: Global, tokens: &mut Cursor<'_>) -> Result<Items<Word>, ParseErr>
     ensures { Reads (list.more (parser.token test.id_test) tokens.old) result tokens.new }
 {
-    let mut found = Items::new(alloc);
-    for _turn in 0..tokens.left() {
-        if !sees(tokens, Mark::Comma) {
-            return Ok(found);
-        }
-        let part = comma_name(alloc, tokens)?;
-        found.push(part)?;
-    }
-    Ok(found)
+    more_parts(alloc, tokens)
 }
 
 /// One or more names, with commas between them.
-#[tactic(auto, unfolding(crate::specs::Lists::more, crate::specs::Lists::behind_comma, crate::specs::Forms::names))]
+#[tactic(auto, unfolding(crate::specs::Forms::names))]
 pub fn names(alloc: Global, tokens: &mut Cursor<'_>) -> Result<Items<Word>, ParseErr>
     ensures { Reads (spec.names tokens.old) result tokens.new }
 {
-    let first = tokens.id(alloc)?;
-    let (first, more) = both(first, more_names(alloc, tokens))?;
-    let all = with_first(alloc, first, more)?;
-    Ok(all)
+    all_parts(alloc, tokens)
 }

@@ -3,20 +3,22 @@
 // read in either case, and what follows decides.
 ghost use Rattle.std.specs.Prelude.{◌≡◌};
 ghost use Rattle.sv_cursor.specs.Parsers as parser;
-ghost use Rattle.sv_cursor.specs.Parsers.{Reads, told};
-ghost use Rattle.sv_word_parser.specs.Combined.{listed, sort_test};
-ghost use Rattle.sv_type_parser.specs.Lists as list;
+ghost use Rattle.sv_cursor.specs.Parsers.{Reads, ◌⊗◌, told};
+ghost use Rattle.sv_cursor.specs.Tests as test;
+ghost use Rattle.sv_word_parser.specs.Combined.{sort_test};
+ghost use Rattle.sv_type_parser.specs.Forms as forms;
 ghost use Rattle.sv_type_parser.specs.Params as spec;
 ghost use Rattle.sv_word_parser.specs.Words as words;
 
 use crate::forms::{behind_next, form, given, maybe_range, range, ranges, word_type_next};
-use crate::lists::{MOST_NESTING, with_first};
+use crate::lists::MOST_NESTING;
+use crate::parts::{Part, ended_parts};
 use items::{Items, both};
 use std::alloc::Global;
 use sv_cursor::{Cursor, Keyword, Mark, ParseErr, Sort};
-use sv_tree::{ParPort, Param, ParamItem, ParamType, Port, Range, TypeTree, Word};
+use sv_tree::{Expr, ParPort, Param, ParamItem, ParamType, Port, Range, TypeTree, Word};
 use sv_word_parser::{
-    ParamOpener, maybe_net, maybe_param, maybe_sign, maybe_way, sees, take_param, take_param_bits,
+    ParamOpener, maybe_net, maybe_param, maybe_sign, maybe_way, take_param, take_param_bits,
     take_sign, take_whole,
 };
 
@@ -114,23 +116,13 @@ fn param_type_next(tokens: &Cursor<'_>) -> Option<ParamOpener>
     param_type_of(tokens.sort())
 }
 
-#[tactic(auto, unfolding(crate::specs::Params::param_type))]
-fn param_type(alloc: Global, tokens: &mut Cursor<'_>) -> Result<ParamType, ParseErr>
-    ensures { Reads (spec.param_type tokens.old) result tokens.new }
-{
-    match param_type_next(tokens) {
-        Some(opener) => param_type_for(alloc, tokens, opener),
-        None => Err(tokens.refuse()),
-    }
-}
-
-#[tactic(auto, unfolding(crate::specs::Params::maybe_param_type))]
+#[tactic(auto, unfolding(crate::specs::Params::maybe_param_type, crate::specs::Params::param_type))]
 fn maybe_param_type(alloc: Global, tokens: &mut Cursor<'_>) -> Result<Option<ParamType>, ParseErr>
     ensures { Reads (spec.maybe_param_type tokens.old) result tokens.new }
 {
     match param_type_next(tokens) {
-        Some(_) => {
-            let form = param_type(alloc, tokens)?;
+        Some(opener) => {
+            let form = param_type_for(alloc, tokens, opener)?;
             Ok(Some(form))
         }
         None => Ok(None),
@@ -139,6 +131,14 @@ fn maybe_param_type(alloc: Global, tokens: &mut Cursor<'_>) -> Result<Option<Par
 
 // ---- parameters
 
+// A name, `=` and an expression.
+fn named_value(alloc: Global, tokens: &mut Cursor<'_>) -> Result<(Word, Expr), ParseErr>
+    ensures { Reads ((parser.token test.id_test ⊗ forms.given) tokens.old) result tokens.new }
+{
+    let name = tokens.id(alloc)?;
+    both(name, given(alloc, tokens))
+}
+
 /// A parameter of a module's header (A.1.3, parameter_port_declaration).
 #[tactic(auto, unfolding(crate::specs::Params::par_port))]
 pub fn par_port(alloc: Global, tokens: &mut Cursor<'_>) -> Result<ParPort, ParseErr>
@@ -146,8 +146,7 @@ pub fn par_port(alloc: Global, tokens: &mut Cursor<'_>) -> Result<ParPort, Parse
 {
     let word = maybe_param(tokens)?;
     let form = maybe_param_type(alloc, tokens)?;
-    let (form, name) = both(form, tokens.id(alloc))?;
-    let ((form, name), value) = both((form, name), given(alloc, tokens))?;
+    let (form, (name, value)) = both(form, named_value(alloc, tokens))?;
     Ok(ParPort {
         word,
         form,
@@ -160,41 +159,16 @@ pub fn par_port(alloc: Global, tokens: &mut Cursor<'_>) -> Result<ParPort, Parse
 fn param_item(alloc: Global, tokens: &mut Cursor<'_>) -> Result<ParamItem, ParseErr>
     ensures { Reads (spec.param_item tokens.old) result tokens.new }
 {
-    let name = tokens.id(alloc)?;
-    let (name, value) = both(name, given(alloc, tokens))?;
+    let (name, value) = named_value(alloc, tokens)?;
     Ok(ParamItem { name, value })
 }
 
-#[tactic(auto, unfolding(crate::specs::Lists::behind_comma))]
-fn comma_param_item(alloc: Global, tokens: &mut Cursor<'_>) -> Result<ParamItem, ParseErr>
-    ensures { Reads (list.behind_comma spec.param_item tokens.old) result tokens.new }
-{
-    tokens.mark(Mark::Comma)?;
-    param_item(alloc, tokens)
-}
+impl Part for ParamItem {
+    ghost parser = { spec.param_item };
 
-fn more_param_items(alloc: Global, tokens: &mut Cursor<'_>) -> Result<Items<ParamItem>, ParseErr>
-    ensures { Reads (list.more spec.param_item tokens.old) result tokens.new }
-{
-    let mut found = Items::new(alloc);
-    for _turn in 0..tokens.left() {
-        if !sees(tokens, Mark::Comma) {
-            return Ok(found);
-        }
-        let part = comma_param_item(alloc, tokens)?;
-        found.push(part)?;
+    fn read(alloc: Global, tokens: &mut Cursor<'_>) -> Result<ParamItem, ParseErr> {
+        param_item(alloc, tokens)
     }
-    Ok(found)
-}
-
-#[tactic(auto, unfolding(crate::specs::Lists::more, crate::specs::Lists::behind_comma))]
-fn param_items(alloc: Global, tokens: &mut Cursor<'_>) -> Result<Items<ParamItem>, ParseErr>
-    ensures { Reads (listed spec.param_item tokens.old) result tokens.new }
-{
-    let first = param_item(alloc, tokens)?;
-    let (first, more) = both(first, more_param_items(alloc, tokens))?;
-    let all = with_first(alloc, first, more)?;
-    Ok(all)
 }
 
 /// A declaration of parameters (A.2.1.1, parameter_declaration and local_parameter_declaration).
@@ -204,8 +178,7 @@ pub fn param(alloc: Global, tokens: &mut Cursor<'_>) -> Result<Param, ParseErr>
 {
     let word = take_param(tokens)?;
     let form = maybe_param_type(alloc, tokens)?;
-    let (form, list) = both(form, param_items(alloc, tokens))?;
-    let ((form, list), _) = both((form, list), tokens.mark(Mark::Semicolon))?;
+    let (form, list) = both(form, ended_parts(alloc, tokens))?;
     Ok(Param { word, form, list })
 }
 
@@ -251,7 +224,7 @@ fn typed(alloc: Global, tokens: &mut Cursor<'_>) -> Result<(Option<TypeTree>, Wo
     ensures { Reads (spec.typed tokens.old) result tokens.new }
 {
     let shape = form(alloc, tokens, MOST_NESTING)?;
-    let (shape, name) = both(shape, tokens.id(alloc))?;
+    let name = tokens.id(alloc)?;
     Ok((Some(shape), name))
 }
 

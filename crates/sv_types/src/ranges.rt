@@ -1,6 +1,6 @@
-// Layouts of packed ranges (IEEE 1800-2017, 7.4.1). Ranges are laid round elements from the right, so that the outermost comes
-// last and alone has the sign of the whole. The depth of the elements is found once and then counted on, so that a long row of
-// ranges takes linear time; layouts are copied and dropped on the stack, so more than 1,000 levels are refused.
+//! Layouts of packed ranges (IEEE 1800-2017, 7.4.1). Each range is judged over the result of what lies within it, so that the loop
+//! from the innermost range outwards keeps one `Result` and has no exit. The depth of the elements is found once, and then ranges
+//! are counted.
 ghost use Rattle.std.specs.Prelude.{◌≡◌, ◌≤◌, ◌+◌, ◌*◌, ◌&&◌, ◌==◌, IsTrue, IfOk, ℤ, min, nat_le, nat_lt, false, List, [], ◌∷◌};
 ghost use Rattle.std.specs.Option.{option_copied};
 ghost use Rattle.sv_typing.specs.Judging.{Fixes};

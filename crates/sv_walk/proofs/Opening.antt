@@ -20,7 +20,7 @@ use Rattle.sv_hierarchy.specs.Scopes.{walk_all, child}
 use Rattle.sv_loops.specs.Answers.{Answers}
 use Rattle.sv_modules.specs.Connections.{connection_is}
 use Rattle.sv_modules.specs.Naming.{holds}
-use Rattle.sv_names.specs.Kinds.{scope_is}
+use Rattle.sv_names.specs.Kinds.{entries_are}
 use Rattle.sv_levels.specs.Levels.{front_is, level_is, levels_are}
 use Rattle.sv_levels.specs.declared.library.Wiring.{Wiring}
 use Rattle.sv_levels.proofs.Wired.{passed_on, refused_first}
@@ -245,7 +245,7 @@ unfolding has_name
 begun_is w levels children o current k path parent given x h p n q a b c e l g i t =
     let taken : holds o.taken ≡ m.nothing_taken = fun_ext t in
     let all : levels_are levels ≡ levels_are w.levels ++ record { path = path; module_number = k.number; parent = parent; around = record { level = 0; nets = 0; consts = k.above } ∷ []; nets = []; consts = [] } ∷ []
-    = h ∙ (λ z. levels_are w.levels ++ record { path = p z; module_number = n z; parent = q z; around = a z; nets = scope_is (b z); consts = scope_is (c z) } ∷ []) in
+    = h ∙ (λ z. levels_are w.levels ++ record { path = p z; module_number = n z; parent = q z; around = a z; nets = entries_are (b z); consts = entries_are (c z) } ∷ []) in
     λ z. record {
       levels = all z;
       me = l z;
@@ -265,7 +265,7 @@ unfolding has_name
 file_is w levels o x none h p n q a b c l g i t =
     let taken : holds o.taken ≡ m.nothing_taken = fun_ext t in
     let all : levels_are levels ≡ m.no_level ∷ []
-    = h ∙ (λ z. none.levels z ++ record { path = p z; module_number = n z; parent = q z; around = map front_is (a z); nets = scope_is (b z); consts = scope_is (c z) } ∷ []) in
+    = h ∙ (λ z. none.levels z ++ record { path = p z; module_number = n z; parent = q z; around = map front_is (a z); nets = entries_are (b z); consts = entries_are (c z) } ∷ []) in
     λ z. record {
       levels = all z;
       me = l z;

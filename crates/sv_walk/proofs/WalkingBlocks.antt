@@ -12,7 +12,7 @@ use Rattle.sv_tree.specs.declared.exprs.Expr.{Expr}
 use Rattle.sv_tree.specs.declared.stmts.Step.{Step}
 use Rattle.sv_tree.specs.declared.design.Gen.{Gen}
 use Rattle.sv_meaning.specs.Faults.{Faults, Judged, provided, ◌>>=◌, fault, fault_if, is_clear, twice, unknown_name}
-use Rattle.sv_meaning.specs.Layouts.{Name, Scope, What, find, number_is, type_is, signal_is, genvar_is}
+use Rattle.sv_meaning.specs.Layouts.{Name, Entry, Scope, What, find, number_is, type_is, signal_is, genvar_is}
 use Rattle.sv_meaning.specs.Names.{has_name}
 use Rattle.sv_meaning.specs.Deeds.{index_entry, turn_faults, turns}
 use Rattle.sv_loops.specs.Answers.{Answers, Gives}
@@ -36,7 +36,7 @@ unfolding has_name
 none_taken f h n = h n
 
 -- a block is begun
-pub begun_state : (s t : State) (part : Name) (nets : Scope) (x : Level) → t.levels ≡ s.levels ++ x ∷ [] →
+pub begun_state : (s t : State) (part : Name) (nets : List Entry) (x : Level) → t.levels ≡ s.levels ++ x ∷ [] →
     x.path ≡ path_of s part → x.module_number ≡ (mine s).module_number → x.parent ≡ s.me → x.around ≡ fronts_at s.levels (here s) → x.nets ≡ nets → x.consts ≡ [] →
     t.me ≡ length s.levels → ((n : Name) → t.taken n ≡ has_name n []) → t.constructs ≡ 0 → t.overridden ≡ [] →
     t.bits ≡ s.bits → t.turns ≡ s.turns → t.wires ≡ s.wires → t.works ≡ s.works → t.children ≡ s.children → t ≡ inner part nets s
@@ -55,7 +55,7 @@ left_ends q e (Err all) (Ok y) h = absurd h
 left_ends q e (Err all) (Err (No f)) h = h
 left_ends q e (Err all) (Err Memory) h = tt
 
-pub enclosed_ends : {A : Type 0} (part : Name) (more : Scope) (body : Walk) (q b e : State) (r : Result A TextErr) → b ≡ inner part more q → Ends e (body b) r → Ends (outer q e) (enclosed part more body q) r
+pub enclosed_ends : {A : Type 0} (part : Name) (more : List Entry) (body : Walk) (q b e : State) (r : Result A TextErr) → b ≡ inner part more q → Ends e (body b) r → Ends (outer q e) (enclosed part more body q) r
 enclosed_ends part more body q b e r g h = left_ends q e (body (inner part more q)) r (subst (λ x. Ends e (body x) r) g h)
 
 pub block_ends : {A : Type 0} (label : Option Word) (p : Place) (n : ℕ) (body : Walk) (s q b e : State) (r : Result A TextErr) →
@@ -84,7 +84,7 @@ pub answered : {A B : Type 0} (f : B → A) (j : Judged A) (y : B) → Answers (
 answered f (Ok x) y h = ap Ok h
 answered f (Err all) y h = absurd h
 
-turn_by : (fs : Faults) (name : Name) (more : Scope) (body : Walk) (s b : State) → (provided fs (record s { turns = suc s.turns }) >>= λ x. Ok (inner name more x)) ≡ Ok b →
+turn_by : (fs : Faults) (name : Name) (more : List Entry) (body : Walk) (s b : State) → (provided fs (record s { turns = suc s.turns }) >>= λ x. Ok (inner name more x)) ≡ Ok b →
     (provided fs (record s { turns = suc s.turns }) >>= enclosed name more body) ≡ (body b >>= λ last. Ok (outer s last))
 turn_by [] name more body s b h =
     let t : inner name more (record s { turns = suc s.turns }) ≡ b = cc in
@@ -232,7 +232,7 @@ provided_clear (f ∷ fs) x h = cc
 
 -- ---- turns are opened
 
-pub turn_opened : (p : Place) (g v : Name) (bits : List Bit) (s x b : State) (part : Name) (nets : Scope) → count_turn p s ≡ Ok x → b ≡ inner part nets x → part ≡ turn_name g bits → nets ≡ index_entry v bits ∷ [] → opened_turn p g v bits s ≡ Ok b
+pub turn_opened : (p : Place) (g v : Name) (bits : List Bit) (s x b : State) (part : Name) (nets : List Entry) → count_turn p s ≡ Ok x → b ≡ inner part nets x → part ≡ turn_name g bits → nets ≡ index_entry v bits ∷ [] → opened_turn p g v bits s ≡ Ok b
 turn_opened p g v bits s x b part nets h k e f =
     ap (λ (j : Judged State). j >>= λ y. Ok (inner (turn_name g bits) (index_entry v bits ∷ []) y)) h ∙ ap Ok (sym (k ∙ λ i. inner (e i) (f i) x))
 

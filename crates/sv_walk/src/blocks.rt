@@ -4,7 +4,7 @@
 // cycle of items.
 ghost use Rattle.std.specs.Prelude.{◌≡◌, IfOk};
 ghost use Rattle.std.specs.Option.{option_copied};
-ghost use Rattle.sv_names.specs.Kinds.{scope_is};
+ghost use Rattle.sv_names.specs.Kinds.{entries_are};
 ghost use Rattle.sv_loops.specs.Answers.{Answers};
 ghost use Rattle.sv_hierarchy.specs.Scopes.{count_turn, inner, under};
 ghost use Rattle.sv_tree.specs.declared.design.Item.{Item as Tree};
@@ -65,7 +65,7 @@ impl<'a> Walker<'a> {
         part: &[u8],
         nets: Scope,
     ) -> Result<Open<'a>, AllocError>
-        ensures { IfOk result (λ block. state_of self.new block ≡ inner part.now (scope_is nets) (state_of self.old current.now)) }
+        ensures { IfOk result (λ block. state_of self.new block ≡ inner part.now (entries_are nets) (state_of self.old current.now)) }
     {
         let at = self.here(current);
         let path = self.levels.path(self.alloc, current.level, part)?;

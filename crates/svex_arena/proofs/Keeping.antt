@@ -1,13 +1,14 @@
 -- What an arena keeps as it grows.
 use Rattle.std.proofs.Common.{◌≡◌, ℕ, suc, ◌+◌, ◌<◌, ◌≤◌, List, [], ◌∷◌, ◌++◌, length, refl, sym, ap, ◌∙◌, subst, inl, inr, arith}
-use Rattle.std.specs.Prelude.{slice_index}
+use Rattle.std.specs.Prelude.{slice_index, Result, Ok, Err, IfOk, OnErr}
+use Rattle.std.proofs.lemmas.Result.{IfOk-weaker}
 use Rattle.std.proofs.lemmas.Bool.{cases_eq}
 use Rattle.std.proofs.lemmas.List.{length-append, get_or_append_left}
 use Rattle.std.proofs.Math.Seq.{get_or-append_seam}
 use Rattle.svex_shape.specs.declared.shape.Shape.{Shape}
 use Rattle.svex_shape.specs.declared.shape.Shape.TheVariants.{Const}
 use Rattle.svex_shape.specs.Shapes.{ChildrenBelow, FitsWidths, IsWidth, shape_at, width_at, width_of}
-use Rattle.svex_arena.specs.Arenas.{IsArena, IsKept, Extends}
+use Rattle.svex_arena.specs.Arenas.{IsArena, IsKept, Interned, Extends}
 use Rattle.svex_arena.specs.Buckets.{bucket_of, bucket_at, IsChained, HasNone}
 use Rattle.svex_arena.proofs.Numbering.{map_children}
 use Rattle.svex_arena.proofs.Steps.{width-step, width_reads, width-extends, fits_same}
@@ -29,6 +30,21 @@ extends_push shapes s = record {
   longer = omega (arith, length_pushed shapes s);
   same = λ k l. get_or_append_left shapes (s ∷ []) (Const []) k l;
 }
+
+pub interned_extends : (old : List Shape) (s : Shape) (new : List Shape) (n : ℕ) → Interned old s new n → Extends old new
+interned_extends old s new n i = elim i.2 [
+  | inl same ↦ subst (λ (xs : List Shape). Extends old xs) (sym same) (extends_self old)
+  | inr more ↦ subst (λ (xs : List Shape). Extends old xs) (sym more.0) (extends_push old s)
+]
+
+-- ---- results
+
+pub if_ok : {T E : Type 0} (r : Result T E) (P Q : T → Type 0) → IfOk r P → ((x : T) → P x → Q x) → IfOk r Q
+if_ok r P Q h f = IfOk-weaker r P Q f h
+
+pub on_err : {T E : Type 0} (r : Result T E) (P : Type 0) → P → OnErr r P
+on_err (Ok x) P h = tt
+on_err (Err y) P h = h
 
 pub pushed_at : (shapes : List Shape) (s : Shape) → shape_at (shapes ++ s ∷ []) (length shapes) ≡ s
 pushed_at shapes s = get_or-append_seam shapes s [] (Const [])

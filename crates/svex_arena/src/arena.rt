@@ -1,7 +1,7 @@
 //! The arena: nodes by number, no two with equal shapes. Shapes, widths and chains are lists of their own with one place for
 //! each node, so that contracts see the list of shapes alone. Buckets are made anew, twice as many as nodes, whenever the nodes
-//! reach their number, so a shape is found in constant time on average. A node is pushed into three lists, and taken back where
-//! one of them gets no memory.
+//! reach their number, so a shape is found in constant time on average. Room in all three lists is made before a node is put
+//! into them, so that none is left half added.
 
 ghost use Rattle.std.specs.Prelude.{◌≡◌, ℕ, ◌<◌, ◌≤◌, ◌+◌, [], ◌∷◌, ◌++◌, length, take, slice_index, IfOk, IfSome, OnOk, OnErr, IsTrue};
 ghost use Rattle.svex_shape.specs.Shapes.{ChildrenBelow, FitsWidths, IsWidth, OnChildren, shape_at, width_at, width_of};
@@ -107,16 +107,12 @@ fn push_node(
     ensures widths_kept { OnErr result (widths.new.items ≡ widths.old.items) }
     ensures older_kept { OnErr result (older.new.items ≡ older.old.items) }
 {
-    shapes.push(*shape)?;
-    if widths.push(width).is_err() {
-        let _ = shapes.pop();
-        return Err(AllocError);
-    }
-    if older.push(0).is_err() {
-        let _ = widths.pop();
-        let _ = shapes.pop();
-        return Err(AllocError);
-    }
+    shapes.reserve(1)?;
+    widths.reserve(1)?;
+    older.reserve(1)?;
+    shapes.push_reserved(*shape);
+    widths.push_reserved(width);
+    older.push_reserved(0);
     Ok(())
 }
 
@@ -241,7 +237,6 @@ impl Arena {
     }
 
     /// The node of a shape: the one that has it, or else a new one, numbered by the old length. Takes constant time on average.
-    #[tactic(auto, using(crate::proofs::Keeping::extends_self, crate::proofs::Keeping::extends_push))]
     pub fn intern(&mut self, alloc: Global, shape: Shape) -> Result<Node, AllocError>
         requires children { ChildrenBelow (length self.old) shape }
         requires fits { FitsWidths (width_at self.old) shape }

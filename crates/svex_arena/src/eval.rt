@@ -56,6 +56,14 @@ pub fn binary(op: &Bin, a: &Four, b: &Four) -> Four
     }
 }
 
+// The value of a node.
+fn value(done: &[Four], node: Node) -> &Four
+    requires { node < length done.now }
+    ensures { result.now ≡ value_in done.now node }
+{
+    &done[node.index()]
+}
+
 /// The value of a shape over the values of its children.
 #[tactic(auto, unfolding(svex_shape::specs::Values::value_of))]
 pub fn shape_value(shape: &Shape, env: &Env, done: &[Four]) -> Four
@@ -66,16 +74,16 @@ pub fn shape_value(shape: &Shape, env: &Env, done: &[Four]) -> Four
     match shape {
         Shape::Const(value) => *value,
         Shape::Var(name, width) => env.read(name, *width),
-        Shape::Unary(op, a) => unary(op, &done[a.index()]),
-        Shape::Binary(op, a, b) => binary(op, &done[a.index()], &done[b.index()]),
-        Shape::Cond(c, a, b) => done[c.index()].cond(&done[a.index()], &done[b.index()]),
-        Shape::Pick(c, a, b) => done[c.index()].pick(&done[a.index()], &done[b.index()]),
-        Shape::Slice { of, lo, width } => done[of.index()].slice(*lo, *width),
-        Shape::Zext(a, width) => done[a.index()].zext(*width),
-        Shape::Sext(a, width) => done[a.index()].sext(*width),
-        Shape::DynSlice { of, at, spot } => done[of.index()].dyn_slice(&done[at.index()], spot),
+        Shape::Unary(op, a) => unary(op, value(done, *a)),
+        Shape::Binary(op, a, b) => binary(op, value(done, *a), value(done, *b)),
+        Shape::Cond(c, a, b) => value(done, *c).cond(value(done, *a), value(done, *b)),
+        Shape::Pick(c, a, b) => value(done, *c).pick(value(done, *a), value(done, *b)),
+        Shape::Slice { of, lo, width } => value(done, *of).slice(*lo, *width),
+        Shape::Zext(a, width) => value(done, *a).zext(*width),
+        Shape::Sext(a, width) => value(done, *a).sext(*width),
+        Shape::DynSlice { of, at, spot } => value(done, *of).dyn_slice(value(done, *at), spot),
         Shape::DynPut { of, at, spot, put } => {
-            done[of.index()].dyn_put(&done[at.index()], spot, &done[put.index()])
+            value(done, *of).dyn_put(value(done, *at), spot, value(done, *put))
         }
     }
 }

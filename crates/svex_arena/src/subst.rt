@@ -70,6 +70,14 @@ impl Subst {
     }
 }
 
+// The answer for a node.
+fn answer(done: &[Node], node: Node) -> Node
+    requires { node < length done.now }
+    ensures { result ≡ slice_index done.now node }
+{
+    done[node.index()]
+}
+
 /// A shape over other children.
 pub fn rename(shape: &Shape, done: &[Node]) -> Shape
     requires { ChildrenBelow (length done.now) shape.now }
@@ -78,27 +86,27 @@ pub fn rename(shape: &Shape, done: &[Node]) -> Shape
     match shape {
         Shape::Const(value) => Shape::Const(*value),
         Shape::Var(name, width) => Shape::Var(*name, *width),
-        Shape::Unary(op, a) => Shape::Unary(*op, done[a.index()]),
-        Shape::Binary(op, a, b) => Shape::Binary(*op, done[a.index()], done[b.index()]),
-        Shape::Cond(c, a, b) => Shape::Cond(done[c.index()], done[a.index()], done[b.index()]),
-        Shape::Pick(c, a, b) => Shape::Pick(done[c.index()], done[a.index()], done[b.index()]),
+        Shape::Unary(op, a) => Shape::Unary(*op, answer(done, *a)),
+        Shape::Binary(op, a, b) => Shape::Binary(*op, answer(done, *a), answer(done, *b)),
+        Shape::Cond(c, a, b) => Shape::Cond(answer(done, *c), answer(done, *a), answer(done, *b)),
+        Shape::Pick(c, a, b) => Shape::Pick(answer(done, *c), answer(done, *a), answer(done, *b)),
         Shape::Slice { of, lo, width } => Shape::Slice {
-            of: done[of.index()],
+            of: answer(done, *of),
             lo: *lo,
             width: *width,
         },
-        Shape::Zext(a, width) => Shape::Zext(done[a.index()], *width),
-        Shape::Sext(a, width) => Shape::Sext(done[a.index()], *width),
+        Shape::Zext(a, width) => Shape::Zext(answer(done, *a), *width),
+        Shape::Sext(a, width) => Shape::Sext(answer(done, *a), *width),
         Shape::DynSlice { of, at, spot } => Shape::DynSlice {
-            of: done[of.index()],
-            at: done[at.index()],
+            of: answer(done, *of),
+            at: answer(done, *at),
             spot: *spot,
         },
         Shape::DynPut { of, at, spot, put } => Shape::DynPut {
-            of: done[of.index()],
-            at: done[at.index()],
+            of: answer(done, *of),
+            at: answer(done, *at),
             spot: *spot,
-            put: done[put.index()],
+            put: answer(done, *put),
         },
     }
 }
@@ -130,7 +138,6 @@ fn replacement(arena: &Arena, len: usize, by: &Subst, shape: &Shape) -> Option<N
 }
 
 // The answer for the next node, where it is marked.
-#[tactic(auto, using(crate::proofs::Substituting::next_unmarked, crate::proofs::Substituting::next_replaced, crate::proofs::Substituting::next_interned, crate::proofs::Substituting::next_children, crate::proofs::Substituting::next_fits, crate::proofs::Keeping::extends_self))]
 fn next_answer(
     arena: &mut Arena,
     alloc: Global,
@@ -156,7 +163,6 @@ fn next_answer(
 }
 
 // The answers for the marked nodes, one after another.
-#[tactic(auto, using(crate::proofs::Keeping::extends_self, crate::proofs::Keeping::extends_on))]
 fn answer_all(
     arena: &mut Arena,
     alloc: Global,
@@ -178,7 +184,6 @@ fn answer_all(
 }
 
 // The answers for the roots.
-#[tactic(auto, using(crate::proofs::Substituting::picked_none, crate::proofs::Substituting::picked_more))]
 fn pick(alloc: Global, roots: &[Node], done: &[Node]) -> Result<Vec<Node>, AllocError>
     requires { (i : ℕ) → i < length roots.now → slice_index roots.now i < length done.now }
     ensures { IfOk result (λ v. IsPicked done.now roots.now v.items (length roots.now)) }
@@ -213,7 +218,6 @@ fn substitute_marked(
 impl Arena {
     /// The roots' nodes once the variables are replaced, all at once. A variable for which no node is named stays, and so does one
     /// whose node is not in the arena or has another width than the variable.
-    #[tactic(auto, using(crate::proofs::Substituting::nothing_answered, crate::proofs::Substituting::reached_answered, crate::proofs::Substituting::roots_replaced, crate::proofs::Substituting::roots_replaced_by_named))]
     pub fn substitute(
         &mut self,
         alloc: Global,

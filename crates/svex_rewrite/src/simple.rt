@@ -12,7 +12,7 @@ use std::alloc::{AllocError, Global};
 use svex_arena::{Arena, Node, rename};
 
 // The node that stands for the next node, where it is marked.
-#[tactic(auto, using(crate::proofs::Simplifying::next_unmarked, crate::proofs::Simplifying::next_made, crate::proofs::Simplifying::next_over, svex_arena::proofs::Keeping::extends_self))]
+#[tactic(auto, using(crate::proofs::Simplifying::next_unmarked, crate::proofs::Simplifying::next_over))]
 fn next_simple(
     arena: &mut Arena,
     alloc: Global,
@@ -36,7 +36,6 @@ fn next_simple(
 }
 
 // The nodes that stand for the first nodes that are marked, from the lowest number up.
-#[tactic(auto, using(svex_arena::proofs::Keeping::extends_self, svex_arena::proofs::Keeping::extends_on))]
 fn simplify_first(
     arena: &mut Arena,
     alloc: Global,

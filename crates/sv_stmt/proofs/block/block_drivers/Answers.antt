@@ -1,4 +1,4 @@
-use Rattle.std.proofs.Common.{◌≡◌, List, [], ◌++◌, All, sym, ap, ◌∙◌, subst}
+use Rattle.std.proofs.Common.{List, ◌++◌, All, sym, ◌∙◌, subst}
 use Rattle.std.proofs.lemmas.Result.{err_from_is_err_and}
 use Rattle.sv_typing.specs.Judging.{IsCause}
 use Rattle.sv_names.specs.Names.{names_are}

@@ -1,4 +1,4 @@
-use Rattle.std.proofs.Common.{◌≡◌, refl, ap}
+use Rattle.std.proofs.Common.{refl, ap}
 use Rattle.sv_outside.specs.declared.refusal.TextErr.TheVariants.{No}
 use Rattle.sv_stmt.proofs.Judging.{clock_fits, clock_wide}
 use Rattle.sv_stmt.proofs.block.clock_in.Goals as goal

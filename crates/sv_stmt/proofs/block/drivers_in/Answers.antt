@@ -1,7 +1,6 @@
-use Rattle.std.proofs.Common.{◌≡◌, List, All, sym, ap, ◌∙◌, subst}
+use Rattle.std.proofs.Common.{List, All, sym, ◌∙◌, subst}
 use Rattle.lhs_alias.specs.declared.segs.WireBit.{WireBit}
 use Rattle.sv_names.specs.Names.{names_are}
-use Rattle.sv_meaning.specs.Blocks.{distinct}
 use Rattle.sv_actions.specs.Doing.{writes_all}
 use Rattle.sv_actions.specs.Texts.{target_signals}
 use Rattle.sv_blocks.specs.Fitting.{BitSits}

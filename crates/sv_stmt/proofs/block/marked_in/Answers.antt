@@ -1,4 +1,4 @@
-use Rattle.std.proofs.Common.{◌≡◌, List, ◌++◌, All, sym, ap, ◌∙◌, subst}
+use Rattle.std.proofs.Common.{List, ◌++◌, All, sym, ap, ◌∙◌, subst}
 use Rattle.lhs_alias.specs.declared.segs.WireBit.{WireBit}
 use Rattle.sv_actions.specs.Doing.{writes_all}
 use Rattle.sv_blocks.specs.Fitting.{BitSits}

@@ -1,7 +1,6 @@
 use Rattle.std.proofs.Common.{◌≡◌, List, ◌++◌, All, sym, ap, ◌∙◌, subst}
 use Rattle.sv_names.specs.Names.{names_are}
 use Rattle.sv_actions.specs.Texts.{target_signals}
-use Rattle.sv_stores.specs.declared.scene.Scene.{Scene}
 use Rattle.sv_blocks.specs.declared.wires.Wire.{Wire}
 use Rattle.sv_blocks.specs.Declaring.{IsAmong, wires_are}
 use Rattle.sv_blocks.proofs.Wiring.{among_all}

@@ -1,7 +1,13 @@
 use Rattle.std.proofs.lemmas.Result.{err_from_is_err_and}
 use Rattle.sv_types.proofs.Membership.{fields_of_result, fields_refused}
-use Rattle.sv_types.proofs.Shapes.{form_of_result, joined_ok, joined_cause}
+use Rattle.sv_types.proofs.Shapes.{form_of_result, form_refused, joined_ok, joined_cause, joined_left}
 use Rattle.sv_types.proofs.forms.joined.Goals as goal
+
+pub returns-in_err-layout : goal.returns-in_err-layout
+returns-in_err-layout c = λ j a b d above h.
+    let p = err_from_is_err_and c.from_residual.result c.from_residual.ensures.1 in
+    let e = c.in_err-layout.field-0.0 in
+    rw (p.1, p.2) (joined_left j a b d c.args.listed c.args.words.now e above (form_refused j b d c.args.formed e c.in_err-layout.was h))
 
 pub returns-in_err-bits : goal.returns-in_err-bits
 returns-in_err-bits c = λ j a b d above h.

@@ -1,12 +1,12 @@
-use Rattle.std.proofs.Common.{◌≡◌, ◌<◌, ◌+◌, ◌∷◌, [], ◌++◌, ℕ, List, length, sym, ap, ◌∙◌, subst, arith, rules}
+use Rattle.std.proofs.Common.{◌≡◌, refl, inl, inr, ◌<◌, ◌+◌, ◌∷◌, [], ◌++◌, ℕ, List, length, sym, ap, ◌∙◌, subst, arith, rules}
 use Rattle.std.specs.Prelude.{slice_index}
 use Rattle.std.proofs.lemmas.Result.{IfOk-from_err}
 use Rattle.std.proofs.lemmas.List.{length_push}
 use Rattle.svex_shape.specs.declared.shape.Shape.{Shape}
 use Rattle.svex_arena.specs.Arenas.{IsArena, IsKept}
 use Rattle.svex_arena.specs.Buckets.{IsChained, HasNone}
-use Rattle.svex_shape.specs.Shapes.{ChildrenBelow, FitsWidths, width_of, width_at}
-use Rattle.svex_arena.proofs.Keeping.{chained_kept, kept_again, kept_more}
+use Rattle.svex_shape.specs.Shapes.{ChildrenBelow, FitsWidths, width_of, width_at, shape_at}
+use Rattle.svex_arena.proofs.Keeping.{chained_kept, kept_again, kept_more, pushed_at, on_err}
 use Rattle.svex_arena.proofs.arena.intern_in.Goals as goal
 
 pub make_room-requires : goal.make_room-requires
@@ -93,3 +93,49 @@ returns-clause-kept c =
     subst (λ xs. IsKept xs c.push_node.new.widths.items older newest) (sym more.shapes)
     (subst (λ ws. IsKept (shapes ++ s ∷ []) ws older newest) (sym more.widths)
     (kept_more shapes widths older newest s w k.arena k.wide k.sized c.requires.children c.requires.fits is c.width_over-width.ensures.some c.width_over-width.ensures.most none linked chained))
+
+pub link_last-requires-clause-room : goal.link_last-requires-clause-room
+link_last-requires-clause-room c =
+    let older = c.make_room.new.older.items in
+    let at : c.len-node.result ≡ length c.args.shapes.now.items = search rules in
+    omega (arith, at, ap length c.in_ok-push_node.ensures.older, length_push older 0, c.make_room.ensures.linked, c.requires.kept.linked)
+
+pub link_last-requires-clause-some : goal.link_last-requires-clause-some
+link_last-requires-clause-some c = c.in_ok-make_room.ensures.some
+
+pub link_last-requires-clause-within : goal.link_last-requires-clause-within
+link_last-requires-clause-within c =
+    let shapes = c.args.shapes.now.items in
+    let at : c.len-node.result ≡ length shapes = search rules in
+    omega (arith, at, ap length (c.deref-7.ensures.value ∙ c.in_ok-push_node.ensures.shapes), length_push shapes c.args.shape.now)
+
+pub returns-clause-is : goal.returns-clause-is
+returns-clause-is c =
+    let shapes = c.args.shapes.now.items in
+    let s = c.args.shape.now in
+    let more = c.in_ok-push_node.ensures.shapes in
+    let at : c.len-node.result ≡ length shapes = search rules in (
+      omega (arith, at, ap length more, length_push shapes s),
+      ap (λ (xs : List Shape). shape_at xs c.len-node.result) more ∙ ap (λ (n : ℕ). shape_at (shapes ++ s ∷ []) n) at ∙ pushed_at shapes s,
+      inr (more, at),
+    )
+
+pub returns-clause-err : goal.returns-clause-err
+returns-clause-err c = tt
+
+pub returns-in-Some-clause-is : goal.returns-in-Some-clause-is
+returns-in-Some-clause-is c =
+    let node = c.in-Some.node in (
+      subst (λ (xs : List Shape). node < length xs) c.deref-2.ensures.value c.in-Some.ensures.within,
+      subst (λ (xs : List Shape). shape_at xs node ≡ c.args.shape.now) c.deref-2.ensures.value c.in-Some.ensures.found,
+      inl refl,
+    )
+
+pub returns-in-Some-clause-err : goal.returns-in-Some-clause-err
+returns-in-Some-clause-err c = tt
+
+pub returns-in_err-make_room-clause-err : goal.returns-in_err-make_room-clause-err
+returns-in_err-make_room-clause-err c = on_err _ _ refl
+
+pub returns-in_err-push_node-clause-err : goal.returns-in_err-push_node-clause-err
+returns-in_err-push_node-clause-err c = on_err _ _ c.in_err-push_node.ensures.shapes_kept

@@ -1,5 +1,5 @@
 use Rattle.std.proofs.Common.{◌≡◌, ◌∙◌, ◌∷◌, [], Ok}
-use Rattle.sv_names.specs.Kinds.{scope_is}
+use Rattle.sv_names.specs.Kinds.{entries_are}
 use Rattle.sv_meaning.specs.Deeds.{index_entry}
 use Rattle.sv_hierarchy.specs.Scopes.{State, count_turn, inner, turn_name}
 use Rattle.sv_walk.specs.Items.{opened_turn}
@@ -19,5 +19,5 @@ returns c =
     let s = state_of c.args.self.now c.args.current.now in
     let x = state_of c.count_turn.new.self c.args.current.now in
     answers_by (state_of c.begin.new.self) (opened_turn c.args.place c.args.name.now c.args.variable.now.text c.args.bits s) c.in_ok-block.block
-    (turn_opened c.args.place c.args.name.now c.args.variable.now.text c.args.bits s x (state_of c.begin.new.self c.in_ok-block.block) c.bytes.result.now (scope_is c.in_ok-nets.nets)
-    (ended x (count_turn c.args.place s) (tt {0}) (c.in_ok-count_turn.ensures c.args.current.now)) c.in_ok-block.ensures (c.bytes.ensures ∙ c.in_ok-part.ensures.is) c.in_ok-nets.ensures)
+    (turn_opened c.args.place c.args.name.now c.args.variable.now.text c.args.bits s x (state_of c.begin.new.self c.in_ok-block.block) c.bytes.result.now (entries_are c.in_ok-nets.nets)
+    (ended x (count_turn c.args.place s) (tt {0}) (c.in_ok-count_turn.ensures c.args.current.now)) c.in_ok-block.ensures (c.bytes.ensures ∙ c.in_ok-part.ensures) c.in_ok-nets.ensures)

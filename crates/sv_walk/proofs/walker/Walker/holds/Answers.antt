@@ -1,6 +1,6 @@
 use Rattle.std.proofs.Common.{◌∙◌, ap, subst}
 use Rattle.sv_meaning.specs.Deeds.{fixed_truth}
-use Rattle.sv_meaning.specs.Layouts.{Scope}
+use Rattle.sv_meaning.specs.Layouts.{Scope, constant_scope}
 use Rattle.sv_meaning.specs.Values.{mean}
 use Rattle.sv_loops.specs.Answers.{Gives}
 use Rattle.sv_hierarchy.specs.Scopes.{seen_at}
@@ -9,4 +9,4 @@ use Rattle.sv_walk.proofs.walker.Walker.holds.Goals as goal
 
 pub returns : goal.returns
 returns c =
-    subst (λ (at : Scope). Gives (fixed_truth (mean at c.args.test.now)) c.condition-held.result) (c.in_ok-names.ensures.names ∙ ap (seen_at (levels_are c.args.self.now.levels)) c.here-at.ensures) c.condition-held.ensures
+    subst (λ (at : Scope). Gives (fixed_truth (mean at c.args.test.now)) c.condition-held.result) (ap constant_scope (c.in_ok-names.ensures.names ∙ ap (seen_at (levels_are c.args.self.now.levels)) c.here-at.ensures)) c.condition-held.ensures

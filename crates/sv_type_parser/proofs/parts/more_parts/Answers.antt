@@ -1,0 +1,32 @@
+use Rattle.std.proofs.Common.{◌+◌, ◌-◌, length, sym, ◌∙◌, rules, arith}
+use Rattle.std.proofs.lemmas.Grind.{common_steps}
+use Rattle.sv_cursor.specs.Parsers.{many_from}
+use Rattle.sv_cursor.proofs.Turns.{handed, after_none, many_ends, many_stops, many_fails, many_goes}
+use Rattle.sv_cursor.specs.declared.sort.Mark.TheVariants as m
+use Rattle.sv_cursor.specs.Tests.{mark_test}
+use Rattle.sv_type_parser.specs.Lists.{more, behind_comma}
+use Rattle.sv_type_parser.proofs.parts.more_parts.Goals as goal
+
+pub loop-turn-init : goal.loop-turn-init
+unfolding more
+loop-turn-init g c =
+    let e = after_none (many_from (mark_test m.Comma) (behind_comma g.T.Part.parser) (length c.args.tokens.now) c.args.tokens.now) in
+    first_of (search rules, grind (arith, common_steps))
+
+pub returns : goal.returns
+returns g c = many_stops (mark_test m.Comma) (behind_comma g.T.Part.parser) _ c.loop-turn.found _ c.loop-turn.tokens (omega arith) c.loop-turn.invariant
+
+pub returns-then-not-sees : goal.returns-then-not-sees
+returns-then-not-sees g c = many_ends (mark_test m.Comma) (behind_comma g.T.Part.parser) _ c.loop-turn.found _ c.loop-turn.tokens (sym c.sees.ensures ∙ c.if-not-sees.true) c.loop-turn.invariant
+
+pub returns-in_err-part : goal.returns-in_err-part
+returns-in_err-part g c =
+    handed _ c.from_residual.result c.in_err-part.field-0.0 c.comma_part.new.tokens c.from_residual.ensures.1
+    (many_fails (mark_test m.Comma) (behind_comma g.T.Part.parser) _ c.loop-turn.found _ (c.left-turn-end.result - (c.loop-turn._turn + 1))
+    c.loop-turn.tokens c.comma_part.new.tokens c.in_err-part.field-0.0 (omega arith) (sym c.sees.ensures ∙ c.if-not-sees.false) c.loop-turn.invariant c.in_err-part.ensures)
+
+pub loop-turn-preserved : goal.loop-turn-preserved
+loop-turn-preserved g c =
+    rw c.in_ok-push.ensures.ok
+    (many_goes (mark_test m.Comma) (behind_comma g.T.Part.parser) _ c.loop-turn.found _ (c.left-turn-end.result - (c.loop-turn._turn + 1))
+    c.loop-turn.tokens c.comma_part.new.tokens c.in_ok-part.part (omega arith) (sym c.sees.ensures ∙ c.if-not-sees.false) c.loop-turn.invariant c.in_ok-part.ensures)

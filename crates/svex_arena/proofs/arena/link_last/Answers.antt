@@ -1,0 +1,17 @@
+use Rattle.std.proofs.Common.{ℕ, List, length, sym, ap, subst, arith}
+use Rattle.svex_arena.specs.Buckets.{IsChained}
+use Rattle.svex_arena.proofs.arena.link_last.Goals as goal
+
+pub link-requires-clause-chained : goal.link-requires-clause-chained
+link-requires-clause-chained c =
+    subst (λ (o : List ℕ). IsChained c.args.node c.args.shapes.now o c.deref_mut-2.result.now) (sym c.deref_mut.ensures.value)
+    (subst (λ (n : List ℕ). IsChained c.args.node c.args.shapes.now c.args.older.now.items n) (sym c.deref_mut-2.ensures.value) c.requires.chained)
+
+pub link-requires-clause-room : goal.link-requires-clause-room
+link-requires-clause-room c = omega (arith, c.requires.room, ap (λ (l : List ℕ). length l) c.deref_mut.ensures.value)
+
+pub link-requires-clause-some : goal.link-requires-clause-some
+link-requires-clause-some c = omega (arith, c.requires.some, ap (λ (l : List ℕ). length l) c.deref_mut-2.ensures.value)
+
+pub link-requires-clause-within : goal.link-requires-clause-within
+link-requires-clause-within c = c.requires.within
