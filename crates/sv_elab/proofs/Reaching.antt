@@ -1,10 +1,10 @@
 -- The bits that a target names are bits of the wires that its names stand for.
-use Rattle.std.proofs.Common.{◌≡◌, ℕ, zero, suc, ◌+◌, ◌-◌, ◌<◌, ◌≤◌, Bool, true, false, ◌&&◌, eqb, List, [], ◌∷◌, ◌++◌, length, map, replicate, get_or, Option, Some, None, refl, sym, ap, ◌∙◌, subst, arith, IsTrue, append_assoc, cond}
-use Rattle.std.specs.Prelude.{ℤ, pos, negsuc, ◌+ℤ◌, slice_get, slice_index, nat_lt, bytes_eq}
-use Rattle.std.specs.List.{All, AllByRecursion, Contains, zip, range_with_len}
+use Rattle.std.proofs.Common.{inl, ◌≡◌, ℕ, zero, suc, ◌+◌, ◌-◌, ◌<◌, ◌≤◌, Bool, true, false, eqb, List, [], ◌∷◌, ◌++◌, length, map, replicate, get_or, Option, Some, None, refl, sym, ap, ◌∙◌, subst, arith, IsTrue, append_assoc, cond}
+use Rattle.std.specs.Prelude.{ℤ, pos, negsuc, ◌+ℤ◌, slice_get, nat_lt, bytes_eq}
+use Rattle.std.specs.List.{All, Contains, zip, range_with_len}
 use Rattle.std.proofs.lemmas.List.{append-nil}
 use Rattle.std.proofs.lemmas.Bool.Decides.{nat_tests}
-use Rattle.std.proofs.lemmas.List.Elements.{All-from_recursion, recursion_from_All, All-head, All-tail, All-nil, All-cons}
+use Rattle.std.proofs.lemmas.List.Elements.{All-head, All-tail, All-nil, All-cons}
 use Rattle.fourvec.proofs.Tables.{left_of, right_of}
 use Rattle.sv_tree.specs.declared.exprs.Expr.{Expr, Literal, Name', Concat', Repeat', Row_of-Expr, end_of-Expr, more_of-Expr}
 use mathlib.Core.Former.{Count}
@@ -18,10 +18,10 @@ use Rattle.lhs_alias.specs.Pairs.{Falls, FallTo}
 use Rattle.driver_resolve.specs.Drivers.{is_wire}
 use Rattle.sv_meaning.specs.Patterns.{paren, cast_literal, cast_name, cast_paren, cast_sign, system, unary, binary, choose}
 use Rattle.sv_meaning.specs.Faults.{Faults, or_then}
-use Rattle.sv_meaning.specs.Layouts.{Name, Layout, width, Scope, What, signal_is, number_is, type_is, genvar_is, of_wires, of_choice, of_samples, find, last_of, or_else, NamedSignal, Declared, Entry}
+use Rattle.sv_meaning.specs.Layouts.{Name, Layout, width, Scope, What, signal_is, number_is, type_is, genvar_is, of_wires, of_choice, of_samples, find, last_of, or_else, Declared, Entry}
 use Rattle.sv_meaning.specs.Meanings.{Step, Part as Stepped, step_in, with_part, fixed_faults}
 use Rattle.sv_meaning.specs.Values.{mean, steps}
-use Rattle.sv_meaning.specs.Targets.{Target, target_of, target_faults, wide_target, bit_names, flat, slot_at, slots_from, with_place, fixed_place, chain_slots, slots, present}
+use Rattle.sv_meaning.specs.Targets.{Target, target_of, target_faults, wide_target, bit_names, flat, slot_at, slots_from, with_place, fixed_place, chain_slots, slots}
 use Rattle.sv_meaning.specs.Designs.{as_targets, all_as_targets, actual_faults, part_faults, all_part_faults}
 use Rattle.sv_targets.specs.declared.parts.Part.{Part}
 use Rattle.sv_targets.specs.declared.parts.Target as lowered

@@ -1,4 +1,4 @@
-use Rattle.std.proofs.Common.{◌≡◌, ◌∙◌, List, length, min, eqb, ap, refl, sym}
+use Rattle.std.proofs.Common.{◌∙◌, List, length, min, eqb, ap, refl, sym}
 use Rattle.sv_targets.specs.declared.parts.Part.{Part}
 use Rattle.sv_elab.specs.Working.{parts_bits}
 use Rattle.sv_elab.proofs.Joining.{counted, fixed_there, same_test}

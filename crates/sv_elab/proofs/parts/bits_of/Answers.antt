@@ -1,7 +1,7 @@
 use Rattle.std.proofs.Common.{◌+◌, length, drop, min, get_or, arith}
 use Rattle.lhs_alias.specs.Segs.{lhs_bits}
 use Rattle.lhs_alias.specs.declared.segs.Seg.{Seg}
-use Rattle.sv_elab.proofs.Parting.{bits_more, bits_end, sum_more, sum_end}
+use Rattle.sv_elab.proofs.Parting.{bits_more, sum_more}
 use Rattle.sv_elab.proofs.parts.bits_of.Goals as goal
 
 pub segs-preserved : goal.segs-preserved

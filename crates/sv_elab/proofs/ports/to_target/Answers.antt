@@ -8,6 +8,7 @@ use Rattle.sv_names.specs.Names.{names_are}
 use Rattle.sv_meaning.specs.Designs as d
 use Rattle.sv_meaning.specs.Designs.{actual_faults, as_targets, is_joined, index_scope}
 use Rattle.sv_targets.specs.declared.parts.Part.{Part}
+use Rattle.sv_targets.specs.Slots.{IsLowered}
 use Rattle.sv_elab.specs.Working.{JoinsTo, IsWorked, JudgesWork, parts_bits}
 use Rattle.sv_elab.proofs.Reaching.{actual_lies, actual_below}
 use Rattle.sv_elab.proofs.Working.{joined_by, joined_port, refused_port, supplied_port}
@@ -32,7 +33,7 @@ pub returns-in-Input-clause-is : goal.returns-in-Input-clause-is
 returns-in-Input-clause-is c = λ wires x s k g.
     let at = names_are c.args.names.now in
     let actual = c.args.actual.now in
-    let h = c.requires.target in
+    let h = subst (λ (z : Way). IsLowered (actual_faults (index_scope z at) at actual) (as_targets (index_scope z at) at actual) c.args.target.now) c.in-Input.is c.requires.target in
     let apart : is_joined (index_scope ways.Input at) at x actual ≡ false = joined_by (index_scope ways.Input at) at x actual c.args.target.now c.args.port.width c.is_joined.result h k (c.is_joined.ensures.is (actual_faults (index_scope ways.Input at) at actual) (as_targets (index_scope ways.Input at) at actual) h) ∙ c.if-is_joined.false in
     subst (λ (z : Way). JudgesWork wires (d.port at z c.args.port.wire x actual) c.args.made c.input.new.arena c.given.result) (sym c.in-Input.is)
     (supplied_port at ways.Input c.args.port.wire x actual wires c.args.widths.now c.args.made c.input.new.arena c.input.result c.given.result apart s c.given.ensures.ok c.given.ensures.err (c.input.ensures.is x k))
@@ -41,7 +42,7 @@ pub returns-in_ok-all-in-Output-clause-is : goal.returns-in_ok-all-in-Output-cla
 returns-in_ok-all-in-Output-clause-is c = λ wires x s k g.
     let at = names_are c.args.names.now in
     let actual = c.args.actual.now in
-    let h = c.requires.target in
+    let h = subst (λ (z : Way). IsLowered (actual_faults (index_scope z at) at actual) (as_targets (index_scope z at) at actual) c.args.target.now) c.in-Output.is c.requires.target in
     let apart : is_joined (index_scope ways.Output at) at x actual ≡ false = joined_by (index_scope ways.Output at) at x actual c.args.target.now c.args.port.width c.is_joined.result h k (c.is_joined.ensures.is (actual_faults (index_scope ways.Output at) at actual) (as_targets (index_scope ways.Output at) at actual) h) ∙ c.if-is_joined.false in
     subst (λ (z : Way). JudgesWork wires (d.port at z c.args.port.wire x actual) c.args.made c.output.new.arena c.given-in-Output.result) (sym c.in-Output.is)
     (supplied_port at ways.Output c.args.port.wire x actual wires c.args.widths.now c.args.made c.output.new.arena (Ok c.in_ok-all-in-Output.all) c.given-in-Output.result apart s c.given-in-Output.ensures.ok c.given-in-Output.ensures.err
@@ -51,7 +52,7 @@ pub returns-in-Inout-clause-is : goal.returns-in-Inout-clause-is
 returns-in-Inout-clause-is c = λ wires x s k g.
     let at = names_are c.args.names.now in
     let actual = c.args.actual.now in
-    let h = c.requires.target in
+    let h = subst (λ (z : Way). IsLowered (actual_faults (index_scope z at) at actual) (as_targets (index_scope z at) at actual) c.args.target.now) c.in-Inout.is c.requires.target in
     let apart : is_joined (index_scope ways.Inout at) at x actual ≡ false = joined_by (index_scope ways.Inout at) at x actual c.args.target.now c.args.port.width c.is_joined.result h k (c.is_joined.ensures.is (actual_faults (index_scope ways.Inout at) at actual) (as_targets (index_scope ways.Inout at) at actual) h) ∙ c.if-is_joined.false in
     subst (λ (z : Way). JudgesWork wires (d.port at z c.args.port.wire x actual) c.args.made c.args.arena.now (Err c.not_joined.result)) (sym c.in-Inout.is)
     (refused_port at ways.Inout c.args.port.wire x actual wires c.args.made c.args.arena.now c.not_joined.result apart c.not_joined.ensures)
