@@ -10,7 +10,6 @@ use Rattle.sv_loops.specs.Answers.{Answers}
 use Rattle.sv_hierarchy.specs.Scopes as m
 use Rattle.sv_levels.specs.declared.library.Library.{Library}
 use Rattle.sv_levels.specs.declared.library.Known.{Known}
-use Rattle.sv_levels.specs.declared.levels.Instance.{Instance}
 use Rattle.sv_scope.specs.declared.whole.DesignScopes.{DesignScopes}
 use Rattle.sv_walk.specs.declared.walker.Walker.{Walker}
 use Rattle.sv_walk.specs.declared.walker.Open.{Open}

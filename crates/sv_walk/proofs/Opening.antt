@@ -25,7 +25,6 @@ use Rattle.sv_levels.specs.Levels.{front_is, level_is, levels_are}
 use Rattle.sv_levels.specs.declared.library.Wiring.{Wiring}
 use Rattle.sv_levels.proofs.Wired.{passed_on, refused_first}
 use Rattle.sv_levels.specs.Library.{IsWiring, wiring, child_alone}
-use Rattle.sv_levels.specs.declared.library.Known.{Known}
 use Rattle.sv_levels.specs.declared.levels.Front.{Front}
 use Rattle.sv_levels.specs.declared.levels.Level.{Level}
 use Rattle.sv_levels.specs.declared.levels.Levels.{Levels}

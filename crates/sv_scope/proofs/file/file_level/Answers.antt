@@ -1,4 +1,4 @@
-use Rattle.std.proofs.Common.{◌≡◌, ◌+◌, [], ℕ, List, map, refl, arith}
+use Rattle.std.proofs.Common.{◌≡◌, [], ℕ, List, map, refl, arith}
 use Rattle.sv_hierarchy.specs.Scopes as m
 use Rattle.sv_loops.proofs.Chains.{answers_ok}
 use Rattle.sv_scope.proofs.Filed.{Parts, filed_none, filed_next, filed_refused, filed_end}
