@@ -16,7 +16,7 @@ returns-in-Input-clause-is c = λ wires x s k g.
     let at = names_are c.args.names.now in
     let actual = c.args.actual.now in
     let cause : Contains (actual_faults (index_scope ways.Input at) at actual) c.in-Err-No.why =
-        subst (λ (z : Way). Contains (actual_faults (index_scope z at) at actual) c.in-Err-No.why) c.in-Input.is (subst (IsCause (actual_faults (index_scope c.args.port.way at) at actual)) c.in-Err-No.field-0-is c.in-Err-No.ensures) in
+    subst (λ (z : Way). Contains (actual_faults (index_scope z at) at actual) c.in-Err-No.why) c.in-Input.is (subst (IsCause (actual_faults (index_scope c.args.port.way at) at actual)) c.in-Err-No.field-0-is c.in-Err-No.ensures) in
     let apart : is_joined (index_scope ways.Input at) at x actual ≡ false = no_target_apart (index_scope ways.Input at) at x actual c.in-Err-No.why cause in
     subst (λ (z : Way). JudgesWork wires (d.port at z c.args.port.wire x actual) c.args.made c.input.new.arena c.given.result) (sym c.in-Input.is)
     (supplied_port at ways.Input c.args.port.wire x actual wires c.args.widths.now c.args.made c.input.new.arena c.input.result c.given.result apart s c.given.ensures.ok c.given.ensures.err (c.input.ensures.is x k))
@@ -32,7 +32,7 @@ returns-in-Inout-clause-is c = λ wires x s k g.
     let at = names_are c.args.names.now in
     let actual = c.args.actual.now in
     let cause : Contains (actual_faults (index_scope ways.Inout at) at actual) c.in-Err-No.why =
-        subst (λ (z : Way). Contains (actual_faults (index_scope z at) at actual) c.in-Err-No.why) c.in-Inout.is (subst (IsCause (actual_faults (index_scope c.args.port.way at) at actual)) c.in-Err-No.field-0-is c.in-Err-No.ensures) in
+    subst (λ (z : Way). Contains (actual_faults (index_scope z at) at actual) c.in-Err-No.why) c.in-Inout.is (subst (IsCause (actual_faults (index_scope c.args.port.way at) at actual)) c.in-Err-No.field-0-is c.in-Err-No.ensures) in
     let apart : is_joined (index_scope ways.Inout at) at x actual ≡ false = no_target_apart (index_scope ways.Inout at) at x actual c.in-Err-No.why cause in
     subst (λ (z : Way). JudgesWork wires (d.port at z c.args.port.wire x actual) c.args.made c.args.arena.now (Err c.not_joined.result)) (sym c.in-Inout.is)
     (refused_port at ways.Inout c.args.port.wire x actual wires c.args.made c.args.arena.now c.not_joined.result apart c.not_joined.ensures)
