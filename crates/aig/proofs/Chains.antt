@@ -1,11 +1,11 @@
 -- Chains of conjunctions.
-use Rattle.std.proofs.Common.{take, drop, ◌≡◌, ℕ, zero, suc, ◌+◌, ◌-◌, ◌<◌, ◌≤◌, List, [], ◌∷◌, ◌++◌, length, get_or, replicate, refl, sym, ap, ◌∙◌, subst, inl, inr, ⊎_elim, arith}
+use Rattle.std.proofs.Common.{take, drop, ◌≡◌, ℕ, zero, suc, ◌+◌, ◌<◌, ◌≤◌, List, [], ◌∷◌, ◌++◌, length, replicate, refl, sym, ap, ◌∙◌, subst, inl, inr, ⊎_elim, arith}
 use Rattle.std.specs.Prelude.{slice_index, slice_set}
 use Rattle.std.proofs.lemmas.Bool.{cases_eq, cases_lt}
 use Rattle.std.proofs.lemmas.List.{append-nil, drop_all, take_all, length-append, length-set, get_or-set_same, get_or-set_other, get_or_past}
 use Rattle.aig.specs.declared.gate.Lit.{Lit}
 use Rattle.aig.specs.declared.gate.Gate.{Gate}
-use Rattle.aig.specs.declared.gate.Gate.TheVariants.{False, Input, And}
+use Rattle.aig.specs.declared.gate.Gate.TheVariants.{False, And}
 use Rattle.aig.specs.Graph.{gate_at}
 use Rattle.aig.specs.Table.{slot_of, gate_slot, slot_at, IsChained, HasNone, IsAbove, IsOwn}
 

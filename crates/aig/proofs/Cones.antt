@@ -2,11 +2,10 @@
 use Rattle.std.proofs.Common.{◌≡◌, ℕ, ◌+◌, ◌<◌, ⊎_elim, Bool, true, false, not, ◌&&◌, cond, List, [], ◌∷◌, ◌++◌, length, get_or, take, refl, sym, ap, subst, ◌∙◌, arith}
 use Rattle.std.proofs.lemmas.Bool.{cases_eq}
 use Rattle.std.proofs.lemmas.List.{get_or_append_left, get_or_push}
-use Rattle.aig.specs.declared.gate.Lit.{Lit}
 use Rattle.aig.specs.declared.gate.Gate.{Gate}
 use Rattle.aig.specs.declared.gate.Gate.TheVariants.{False, Input, And}
-use Rattle.aig.specs.Graph.{gate_at, holds, gate_value, values, value, is_placed, count_inputs, IsGraph}
-use Rattle.aig.specs.Cone.{AreMarked, Keeps, IsClosed}
+use Rattle.aig.specs.Graph.{gate_at, gate_value, values, is_placed, count_inputs, IsGraph}
+use Rattle.aig.specs.Cone.{AreMarked, IsClosed}
 use Rattle.aig.proofs.Values.{operands, values_at}
 
 -- a gate reads its operands alone

@@ -1,11 +1,11 @@
 -- How graphs grow.
-use Rattle.std.proofs.Common.{◌≡◌, ℕ, suc, ◌+◌, ◌<◌, ⊎_elim, Bool, true, false, ◌&&◌, List, [], ◌∷◌, ◌++◌, length, refl, sym, ap, subst, ◌∙◌, arith}
+use Rattle.std.proofs.Common.{◌≡◌, ℕ, suc, ◌+◌, ◌<◌, ⊎_elim, Bool, true, List, [], ◌∷◌, ◌++◌, length, refl, ap, subst, ◌∙◌, arith}
 use Rattle.std.proofs.lemmas.Bool.{cases_eq, eq-eqb, lt-ltb, and_from}
 use Rattle.std.proofs.lemmas.List.{length_push, get_or_append_left, get_or_push, take-append-le, take_all}
 use Rattle.aig.specs.declared.gate.Lit.{Lit}
 use Rattle.aig.specs.declared.gate.Gate.{Gate}
 use Rattle.aig.specs.declared.gate.Gate.TheVariants.{False, Input, And}
-use Rattle.aig.specs.Graph.{gate_at, holds, Says, Obeys, is_placed, count_inputs, IsGraph, Grows}
+use Rattle.aig.specs.Graph.{Says, Obeys, is_placed, count_inputs, IsGraph, Grows}
 
 pub count_inputs-push_and : (gates : List Gate) (p q : Lit) → count_inputs (gates ++ And p q ∷ []) ≡ count_inputs gates
 unfolding count_inputs

@@ -1,16 +1,15 @@
 -- What a graph and its table keep as they grow.
-use Rattle.std.proofs.Common.{◌≡◌, ℕ, zero, suc, ◌+◌, ◌<◌, ◌≤◌, ◌⊎◌, inl, inr, ⊎_elim, Bool, true, false, not, ◌&&◌, cond, List, [], ◌∷◌, ◌++◌, length, get_or, replicate, refl, sym, ap, subst, ◌∙◌, arith}
-use Rattle.std.specs.Prelude.{slice_index}
-use Rattle.std.proofs.lemmas.Bool.{cases_eq, cases_lt, eq-eqb, lt-ltb, and_from}
-use Rattle.std.proofs.lemmas.List.{length_push, length-replicate, get_or_append_left, get_or_push, get_or_past, take-append-le, take_all}
+use Rattle.std.proofs.Common.{◌≡◌, ◌≢◌, ℕ, Result, Ok, Err, IfOk, IfErr, zero, suc, ◌+◌, ◌<◌, ◌≤◌, ◌⊎◌, inl, inr, ⊎_elim, Bool, true, false, not, ◌&&◌, cond, List, [], ◌∷◌, ◌++◌, length, get_or, replicate, refl, sym, ap, subst, ◌∙◌, arith}
+use Rattle.std.proofs.lemmas.Bool.{cases_eq, cases_lt}
+use Rattle.std.proofs.lemmas.List.{length_push, length-replicate, get_or_append_left, get_or_push, get_or_past}
 use Rattle.aig.specs.declared.gate.Lit.{Lit}
 use Rattle.aig.specs.declared.gate.Gate.{Gate}
 use Rattle.aig.specs.declared.gate.Gate.TheVariants.{False, Input, And}
-use Rattle.aig.specs.Graph.{gate_at, negation, constant_lit, holds, Says, Obeys, Always, values, is_placed, count_inputs, IsGraph, Grows, KeepsValues, IsIn}
+use Rattle.aig.specs.Graph.{gate_at, holds, Says, values, count_inputs, IsGraph, Grows, KeepsValues, IsIn}
 use Rattle.aig.specs.Conjunction.{IsBoth, NeedsNoGate, IsSimplified, IsMadePlain, IsGateOf}
 use Rattle.aig.specs.Table.{IsChained, HasNone, IsHashed, IsLinked, IsKept, IsNodeOf, gate_slot}
-use Rattle.aig.proofs.Growth.{IsGraph-push_and, IsGraph-push_input, start, none_counted, Grows-refl, Grows-push, count_inputs-push_and, count_inputs-push_input}
-use Rattle.aig.proofs.Values.{Obeys-values, always_from, kept_values, value_input}
+use Rattle.aig.proofs.Growth.{IsGraph-push_and, IsGraph-push_input, start, none_counted, Grows-refl, Grows-push, count_inputs-push_input}
+use Rattle.aig.proofs.Values.{always_from, kept_values, value_input}
 use Rattle.aig.proofs.Chains.{chained_same, chained_past, chained_none}
 
 -- ---- the table
@@ -199,3 +198,74 @@ shared_made old new a b c d m plain lt h g = ⊎_elim
     m.grown)
     (λ turned. absurd (let gt : b.node < a.node = h.ordered c.node b a turned in omega arith))
     g.operands
+
+-- ---- a call that finds the node of two operands, or makes it
+
+pub made_within : {E : Type 0} (r : Result Lit E) (old new : List Gate) (a b : Lit) → IfOk r (λ c. IsNodeOf old a b new c.node) → IfOk r (λ c. IsIn new c)
+made_within (Ok c) old new a b m = m.within
+made_within (Err e) old new a b m = tt
+
+pub made_grows : {E : Type 0} (r : Result Lit E) (old new : List Gate) (a b : Lit) → IfOk r (λ c. IsNodeOf old a b new c.node) → IfErr r (λ _. new ≡ old) → Grows old new
+made_grows (Ok c) old new a b m same = grows_made old new a b c.node m
+made_grows (Err e) old new a b m same = subst (λ (g : List Gate). Grows old g) (sym same) (Grows-refl old)
+
+pub made_nodes : {E : Type 0} (r : Result Lit E) (old new : List Gate) (a b : Lit) → IfOk r (λ c. IsNodeOf old a b new c.node) → IfErr r (λ _. new ≡ old) → length new ≤ length old + 1
+made_nodes (Ok c) old new a b m same = ⊎_elim
+    (λ e. omega (arith, ap (λ (g : List Gate). length g) e))
+    (λ made. omega (arith, ap (λ (g : List Gate). length g) made.0, length_push old (And a b)))
+    m.grown
+made_nodes (Err e) old new a b m same = omega (arith, ap (λ (g : List Gate). length g) same)
+
+pub made_simplified : {E : Type 0} (r : Result Lit E) (a b : Lit) → (NeedsNoGate a b → ⊥) → IfOk r (IsSimplified a b)
+made_simplified (Ok c) a b open_pair = simplified_not a b c open_pair
+made_simplified (Err e) a b open_pair = tt
+
+pub made_gate : {E : Type 0} (r : Result Lit E) (old new : List Gate) (a b : Lit) → IfOk r (λ c. IsNodeOf old a b new c.node) → IfOk r (λ c. c.negated ≡ false) → IfOk r (λ c. ¬ NeedsNoGate a b → IsGateOf new a b c)
+made_gate (Ok c) old new a b m plain = λ _. gate_made old new a b c m plain
+made_gate (Err e) old new a b m plain = tt
+
+-- the same of the operands turned
+pub made_gate_turned : {E : Type 0} (r : Result Lit E) (old new : List Gate) (a b : Lit) → IfOk r (λ c. IsNodeOf old b a new c.node) → IfOk r (λ c. c.negated ≡ false) → IfOk r (λ c. ¬ NeedsNoGate a b → IsGateOf new a b c)
+made_gate_turned (Ok c) old new a b m plain = λ _. gate_turned new a b c (gate_made old new b a c m plain)
+made_gate_turned (Err e) old new a b m plain = tt
+
+pub made_shared : {E : Type 0} (r : Result Lit E) (old new : List Gate) (a b : Lit) → IfOk r (λ c. IsNodeOf old a b new c.node) → IfOk r (λ c. c.negated ≡ false) → IfErr r (λ _. new ≡ old) → a.node < b.node → IsHashed old → (c : Lit) → IsGateOf old a b c → (new ≡ old) × IfOk r (λ d. d ≡ c)
+made_shared (Ok d) old new a b m plain same lt h c g = shared_made old new a b c d m plain lt h g
+made_shared (Err e) old new a b m plain same lt h c g = (same, tt)
+
+-- two operands of one node, or of none, decide
+pub two_nodes : (gates : List Gate) (a b : Lit) → IsIn gates a → (NeedsNoGate a b → ⊥) → length gates ≤ 1 → ⊥
+two_nodes gates a b within open_pair few = open_pair (inl (omega arith))
+
+pub kept_grown : (old new : List Gate) → IsGraph old → Grows old new → KeepsValues old new
+kept_grown old new h g = kept_values old new h g.longer g.same
+
+-- operands that do not decide
+pub open_left : (a b : Lit) → (NeedsNoGate a b → ⊥) → 0 < a.node
+open_left a b open_pair = let some : a.node ≢ 0 = λ e. open_pair (inl e) in omega arith
+
+pub open_right : (a b : Lit) → (NeedsNoGate a b → ⊥) → 0 < b.node
+open_right a b open_pair = let some : b.node ≢ 0 = λ e. open_pair (inr (inl e)) in omega arith
+
+pub open_apart : (a b : Lit) → (NeedsNoGate a b → ⊥) → b.node ≤ a.node → b.node < a.node
+open_apart a b open_pair h = let apart : a.node ≢ b.node = λ e. open_pair (inr (inr e)) in omega arith
+
+-- ---- a gate that is pushed and then linked
+
+pub node_pushed : (gates new : List Gate) (a b : Lit) (k : ℕ) → new ≡ gates ++ And a b ∷ [] → k ≡ length gates → HasNone gates (And a b) → IsNodeOf gates a b new k
+node_pushed gates new a b k is e none = record {
+  within = omega (arith, e, ap (λ (g : List Gate). length g) is, length_push gates (And a b));
+  is = ap (λ (g : List Gate). gate_at g k) is ∙ get_or_push gates (And a b) False k (sym e);
+  grown = inr (is, none);
+}
+
+pub chained_pushed : (gates new : List Gate) (g : Gate) (older newest : List ℕ) (k : ℕ) → new ≡ gates ++ g ∷ [] → k ≡ length gates → IsChained (length gates) gates older newest → IsChained k new older newest
+chained_pushed gates new g older newest k is e h =
+    subst (λ (n : ℕ). IsChained n new older newest) (sym e)
+    (subst (λ (x : List Gate). IsChained (length gates) x older newest) (sym is)
+    (chained_same (length gates) gates (gates ++ g ∷ []) older newest (λ j lt. pushed_same gates g j lt) h))
+
+pub linked_pushed : (gates new : List Gate) (a b : Lit) (older newest older' newest' : List ℕ) → new ≡ gates ++ And a b ∷ [] → IsLinked gates older newest → 0 < a.node → a.node < b.node → b.node < length gates → HasNone gates (And a b) → 0 < length newest' → IsChained (length new) new older' newest' → IsLinked new older' newest'
+linked_pushed gates new a b older newest older' newest' is h some lt within none slots c =
+    subst (λ (g : List Gate). IsLinked g older' newest') (sym is)
+    (linked_and gates a b older newest older' newest' h some lt within none slots (subst (λ (g : List Gate). IsChained (length g) g older' newest') is c))

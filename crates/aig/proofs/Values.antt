@@ -2,11 +2,11 @@
 use Rattle.std.proofs.Common.{◌≡◌, ℕ, zero, suc, ◌+◌, ◌<◌, ◌≤◌, ⊎_elim, Bool, true, false, not, ◌&&◌, cond, eqb, ltb, List, [], ◌∷◌, ◌++◌, length, get_or, take, drop, refl, sym, ap, subst, ◌∙◌, arith}
 use Rattle.std.specs.Bool.{beq}
 use Rattle.std.proofs.lemmas.Bool.{ne_eqb, eq-eqb, eqb-true, ltb-true, and_parts, cases_eq}
-use Rattle.std.proofs.lemmas.List.{get_or_append_left, get_or_push, take_more, take-append-drop}
+use Rattle.std.proofs.lemmas.List.{take_more, take-append-drop}
 use Rattle.aig.specs.declared.gate.Lit.{Lit}
 use Rattle.aig.specs.declared.gate.Gate.{Gate}
 use Rattle.aig.specs.declared.gate.Gate.TheVariants.{False, Input, And}
-use Rattle.aig.specs.Graph.{gate_at, holds, Says, Obeys, gate_value, values_to, values, value, is_placed, count_inputs, IsGraph, KeepsValues, Always}
+use Rattle.aig.specs.Graph.{gate_at, Says, Obeys, gate_value, values_to, values, is_placed, count_inputs, IsGraph, KeepsValues, Always}
 
 pub differs : (x n : Bool) → not (beq x n) ≡ cond n (not x) x
 differs true true = refl

@@ -1,5 +1,5 @@
 -- The conjunction of two literals, as a literal.
-use Rattle.std.specs.Prelude.{◌≡◌, ℕ, ◌<◌, ◌≤◌, ◌⊎◌, Bool, true, false, ◌&&◌, List, length, Option, Some, None}
+use Rattle.std.specs.Prelude.{◌≡◌, ℕ, ◌≤◌, ◌⊎◌, Bool, true, false, ◌&&◌, List, Option, Some, None}
 use Rattle.aig.specs.declared.gate.Lit.{Lit}
 use Rattle.aig.specs.declared.gate.Gate.{Gate}
 use Rattle.aig.specs.declared.gate.Gate.TheVariants.{And}

@@ -7,14 +7,14 @@ ghost use Rattle.aig.specs.Conjunction.{IsPlain};
 use std::ops::Not;
 
 /// A node, or its negation.
-#[derive(Clone, Copy, Debug, PartialEq, Eq, PartialOrd, Ord, Hash)]
+#[derive(Clone, Copy, PartialEq, Eq, PartialOrd, Ord)]
 pub struct Lit {
     pub node: usize,
     pub negated: bool,
 }
 
 /// What a node is: false, an input by its number, or true where both operands are.
-#[derive(Clone, Copy, Debug, PartialEq, Eq)]
+#[derive(Clone, Copy, PartialEq, Eq)]
 pub enum Gate {
     False,
     Input(usize),

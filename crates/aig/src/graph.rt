@@ -122,7 +122,6 @@ impl Aig {
 
     /// The conjunction of two literals: a constant or an operand where these decide, the node that has these operands in
     /// either order where there is one, and else a new node. Where memory runs out nothing has changed.
-    #[tactic(auto, using(crate::proofs::Linked::both_plain, crate::proofs::Linked::no_gate, crate::proofs::Linked::both_turned, crate::proofs::Linked::grows_made, crate::proofs::Linked::simplified_not, crate::proofs::Linked::gate_made, crate::proofs::Linked::gate_turned, crate::proofs::Linked::shared_made, crate::proofs::Values::kept_values))]
     pub fn and(&mut self, a: Lit, b: Lit) -> Result<Lit, AllocError>
         requires a_in { IsIn self.old a }
         requires b_in { IsIn self.old b }

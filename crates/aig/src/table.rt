@@ -139,7 +139,6 @@ fn link_last(gates: &[Gate], node: usize, older: &mut Vec<usize>, newest: &mut V
 }
 
 /// The node that is the conjunction of two operands, the lower of which comes first: the one that there is, or a new one.
-#[tactic(auto, using(crate::proofs::Linked::linked_and))]
 pub fn node_of(
     gates: &mut Vec<Gate>,
     older: &mut Vec<usize>,

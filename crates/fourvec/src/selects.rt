@@ -3,8 +3,9 @@
 //! there is dropped. For a write at an unknown place this tool has a rule of its own: a bit stays where every bit that is put
 //! equals it, and becomes X elsewhere, so that a write is monotone.
 
-ghost use Rattle.std.specs.Prelude.{◌≡◌, ◌<◌, ◌≤◌, length, IsTrue, IfSome, IfNone, replicate, unsigned_abs};
-ghost use Rattle.fourvec.specs.Bits.{is_known, each, each_pair, keep_bit};
+ghost use Rattle.std.specs.Prelude.{◌≡◌, ◌<◌, ◌≤◌, ◌+ℤ◌, ◌&&◌, not, if◌then◌else◌, length, IsTrue, IfSome, IfNone, replicate, unsigned_abs, int_lt, pos, ◌^◌};
+ghost use Rattle.std.specs.Bool.{beq};
+ghost use Rattle.fourvec.specs.Bits.{is_known, is_negative, number, signed, each, each_pair, keep_bit};
 ghost use Rattle.fourvec.specs.Spots.{place_of, reached, window, dyn_slice_of, overlaid, kept_bit, dyn_put_of};
 
 use crate::{Bit, Four, Spot, mask};
@@ -14,6 +15,45 @@ use crate::{Bit, Four, Spot, mask};
 pub struct Reach {
     pub below: bool,
     pub far: u128,
+}
+
+// What a spot adds to each index.
+fn shift_of(spot: &Spot) -> Reach
+    ensures below { result.below ≡ int_lt spot.now.add (pos 0) }
+    ensures far { result.far ≡ unsigned_abs spot.now.add }
+    ensures near { result.far ≤ 2 ^ 64 }
+{
+    Reach {
+        below: spot.add < 0,
+        far: spot.add.unsigned_abs() as u128,
+    }
+}
+
+// The sum of two whole numbers. None only where it is 2 ^ 128 or more from 0.
+#[tactic(auto, using(crate::proofs::Places::sums))]
+fn moved(start: Reach, shift: Reach) -> Option<Reach>
+    ensures near { IfSome result (λ r. reached start.below start.far +ℤ reached shift.below shift.far ≡ reached r.below r.far) }
+    ensures far { IfNone result (128 ≤ unsigned_abs (reached start.below start.far +ℤ reached shift.below shift.far)) }
+{
+    if start.below == shift.below {
+        let Some(far) = start.far.checked_add(shift.far) else {
+            return None;
+        };
+        Some(Reach {
+            below: start.below,
+            far,
+        })
+    } else if shift.far <= start.far {
+        Some(Reach {
+            below: start.below,
+            far: start.far - shift.far,
+        })
+    } else {
+        Some(Reach {
+            below: shift.below,
+            far: shift.far - start.far,
+        })
+    }
 }
 
 impl Four {
@@ -58,40 +98,38 @@ impl Four {
         }
     }
 
+    // Whether the number that a spot makes of this index is below 0; of 0 either is told.
+    fn is_turned(&self, spot: &Spot) -> bool
+        requires { IsTrue (is_known self.now) }
+        ensures { result ≡ not (beq (spot.now.signed && is_negative self.now) spot.now.negate) }
+    {
+        (spot.signed && self.is_negative()) != spot.negate
+    }
+
+    // How far that number is from 0.
+    fn distance(&self, spot: &Spot) -> u128
+        requires { IsTrue (is_known self.now) }
+        ensures { result ≡ (if spot.now.signed then unsigned_abs (signed self.now) else number self.now) }
+    {
+        if spot.signed {
+            self.magnitude()
+        } else {
+            self.value()
+        }
+    }
+
     /// Where a spot begins, by this index. None only where that is 128 or more from 0.
-    #[tactic(auto, using(crate::proofs::Places::places))]
     pub fn place(&self, spot: &Spot) -> Option<Reach>
         requires { IsTrue (is_known self.now) }
         ensures near { IfSome result (λ r. place_of spot.now self.now ≡ reached r.below r.far) }
         ensures far { IfNone result (128 ≤ unsigned_abs (place_of spot.now self.now)) }
     {
-        let below = (spot.signed && self.is_negative()) != spot.negate;
-        let count = if spot.signed {
-            self.magnitude()
-        } else {
-            self.value()
-        };
-        let shift = spot.add.unsigned_abs() as u128;
-        let back = spot.add < 0;
-        let Some(far) = count.checked_mul(spot.each as u128) else {
+        let shift = shift_of(spot);
+        let below = self.is_turned(spot);
+        let Some(far) = self.distance(spot).checked_mul(spot.each as u128) else {
             return None;
         };
-        if below == back {
-            let Some(far) = far.checked_add(shift) else {
-                return None;
-            };
-            Some(Reach { below, far })
-        } else if shift <= far {
-            Some(Reach {
-                below,
-                far: far - shift,
-            })
-        } else {
-            Some(Reach {
-                below: back,
-                far: shift - far,
-            })
-        }
+        moved(Reach { below, far }, shift)
     }
 
     // The bits from a place on, X where there is none.

@@ -9,7 +9,7 @@ ghost use Rattle.idx_list.specs.Ring.{end_of, next_of, prev_of, linked, items_of
 use std::alloc::{AllocError, Global};
 use std::marker::Model;
 
-#[derive(Clone, Copy, Debug)]
+#[derive(Clone, Copy)]
 struct Link {
     prev: usize,
     next: usize,
@@ -17,7 +17,7 @@ struct Link {
 
 /// Distinct numbers below a bound, the room, in an order. Only `new` takes memory, and every other
 /// call takes constant time.
-#[derive(Debug, Drop)]
+#[derive(Drop)]
 pub struct IdxList {
     // One link for each number, and one more at the end: the ring goes from it to the first number
     // and back to it from the last. A number that is not in the list is linked to itself.

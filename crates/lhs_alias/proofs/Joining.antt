@@ -1,11 +1,11 @@
 -- What one call of `join` or `canon` leaves and answers, over the row in vectors.
-use Rattle.std.proofs.Common.{◌≡◌, ◌≢◌, ℕ, ◌+◌, ◌<◌, ◌≤◌, ◌⊎◌, Bool, true, false, ◌&&◌, not, List, [], ◌∷◌, ◌++◌, length, get_or, set, map, replicate, refl, sym, ◌∙◌, ap, subst, inl, inr, arith}
+use Rattle.std.proofs.Common.{◌≡◌, ℕ, ◌<◌, ◌≤◌, ◌⊎◌, Bool, true, false, ◌&&◌, not, List, [], ◌∷◌, ◌++◌, length, get_or, map, replicate, refl, sym, ◌∙◌, ap, subst, inl, inr, arith}
 use Rattle.std.specs.Prelude.{All, Any, Contains}
 use Rattle.std.specs.List.{list_any, zip, range_with_len, AllZip}
 use Rattle.std.proofs.lemmas.Bool.{cases_Bool, both_ways}
 use Rattle.std.proofs.lemmas.List.{length-replicate}
 use Rattle.std.proofs.lemmas.List.FromFn.{length-range_with_len}
-use Rattle.std.proofs.lemmas.List.Elements.{All-head, All-tail, All-cons, All-nil, All-weaker, All-contains}
+use Rattle.std.proofs.lemmas.List.Elements.{All-head, All-tail, All-cons, All-nil, All-contains}
 use Rattle.std.proofs.lemmas.Slice.Zip.{firsts-zip, seconds-zip}
 use Rattle.lhs_alias.specs.declared.segs.Seg.{Seg}
 use Rattle.lhs_alias.specs.declared.segs.WireBit.{WireBit}
@@ -13,10 +13,10 @@ use Rattle.lhs_alias.specs.Segs.{bit, lhs_bits}
 use Rattle.lhs_alias.specs.Lies.{IsBitOf, LieIn}
 use Rattle.lhs_alias.specs.Roots.{merged}
 use Rattle.lhs_alias.specs.Pairs.{IsFirst, IsChild, Falls, AreDistinct}
-use Rattle.lhs_alias.specs.Joined.{Kept, widths_of, all_bits, place_of, first_place, first_of, first_bit, is_joined, Stands, starts_of, place_in, HasPlace, IsLaid, is_marked, marked, are_free, all_merged}
+use Rattle.lhs_alias.specs.Joined.{Kept, widths_of, all_bits, first_place, first_of, first_bit, is_joined, Stands, starts_of, place_in, HasPlace, IsLaid, is_marked, marked, are_free, all_merged}
 use Rattle.lhs_alias.proofs.Lying.{lhs_bits-lie}
 use Rattle.lhs_alias.proofs.Marks.{none-marked, some-marked, free-distinct, distinct-free, length-marked}
-use Rattle.lhs_alias.proofs.Row.{places-of_bits, place_in-starts_of, all_bits-lie, place-own, length-all_bits}
+use Rattle.lhs_alias.proofs.Row.{places-of_bits, place_in-starts_of, all_bits-lie, place-own}
 use Rattle.lhs_alias.proofs.Standing.{IsWide, stands-all, stands-none, is_marked-joined}
 use Rattle.lhs_alias.proofs.Trees.{length-merged}
 

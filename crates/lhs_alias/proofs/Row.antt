@@ -1,13 +1,12 @@
 -- The row of all bits: each bit has a place there.
-use Rattle.std.proofs.Common.{◌≡◌, ◌≢◌, ℕ, zero, suc, ◌+◌, ◌-◌, ◌<◌, ◌≤◌, List, [], ◌∷◌, ◌++◌, length, get_or, take, sum, refl, sym, ◌∙◌, ap, subst, inl, inr, arith, append_assoc, length-append, add-zero, zero-add}
-use Rattle.std.specs.Prelude.{All, Contains, slice_index}
-use Rattle.std.proofs.lemmas.Bool.{cases_lt}
+use Rattle.std.proofs.Common.{◌≡◌, ℕ, zero, suc, ◌+◌, ◌-◌, ◌<◌, List, [], ◌∷◌, ◌++◌, length, get_or, take, sum, refl, sym, ◌∙◌, ap, subst, arith, append_assoc, length-append, add-zero, zero-add}
+use Rattle.std.specs.Prelude.{All}
 use Rattle.std.proofs.lemmas.List.{take_more, get_or_append_left, get_or-append_right, append-nil, length-take}
-use Rattle.std.proofs.lemmas.List.Elements.{All-rest, All-weaker, All-append, All-nil, All-contains, All-head, All-tail}
+use Rattle.std.proofs.lemmas.List.Elements.{All-rest, All-weaker, All-append, All-nil}
 use Rattle.std.proofs.lemmas.List.Sums.{sum_by-cons}
 use Rattle.lhs_alias.specs.declared.segs.Seg.{Seg}
 use Rattle.lhs_alias.specs.declared.segs.WireBit.{WireBit}
-use Rattle.lhs_alias.specs.Segs.{bit, seg_bits, lhs_bits}
+use Rattle.lhs_alias.specs.Segs.{bit, seg_bits}
 use Rattle.lhs_alias.specs.Lies.{IsBitOf}
 use Rattle.lhs_alias.specs.Joined.{bits_from, all_bits, place_of, starts_from, starts_of, place_in, HasPlace}
 use Rattle.lhs_alias.proofs.SegBits.{length-seg_bits, get_or-seg_bits}
@@ -163,5 +162,3 @@ places-of_bits widths starts bits n is long all =
       below = omega (arith, ap (λ s. place_in s b) is, place_in-starts_of widths b lies.wire, place-below widths b lies, long);
     })
     bits all
-
-pub ruleset rows = (all_bits-take_more, starts_of-take_more, length-starts_of)

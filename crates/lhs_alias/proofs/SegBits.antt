@@ -1,5 +1,5 @@
 -- The bits of a segment and of a list of segments, piece by piece.
-use Rattle.std.proofs.Common.{◌≡◌, ℕ, zero, suc, ◌+◌, ◌-◌, ◌<◌, ◌≤◌, List, [], ◌∷◌, ◌++◌, length, map, sum, Some, get_or, set, take, drop, min, refl, sym, subst, ◌∙◌, ap, arith, append_assoc, length-append, add-zero, zero-add, add-one, inl, inr}
+use Rattle.std.proofs.Common.{◌≡◌, ◌≢◌, ℕ, zero, suc, ◌+◌, ◌-◌, ◌<◌, ◌≤◌, List, [], ◌∷◌, ◌++◌, length, map, sum, Some, get_or, set, take, drop, min, refl, sym, subst, ◌∙◌, ap, arith, append_assoc, length-append, add-zero, zero-add, add-one, inl, inr}
 use Rattle.std.specs.Prelude.{slice_get, All, reverse}
 use Rattle.std.specs.List.{range_with_len}
 use Rattle.std.proofs.lemmas.List.{append-nil, map-append, length-map, take_more, take_all, drop_at, drop_all, drop_more, drop-append-le, length-drop, get_or_append_left, reverse-append, length_push, get_or_at}
@@ -9,7 +9,7 @@ use Rattle.std.proofs.Math.Nat.{zero-sub, sub-zero}
 use Rattle.std.proofs.lemmas.Bool.{cases_lt}
 use Rattle.lhs_alias.specs.declared.segs.Seg.{Seg}
 use Rattle.lhs_alias.specs.declared.segs.WireBit.{WireBit}
-use Rattle.lhs_alias.specs.Segs.{bit, seg_bits, lhs_bits, Adjoin}
+use Rattle.lhs_alias.specs.Segs.{bit, seg_bits, lhs_bits, Adjoin, IsSeg, AreSegs}
 use Rattle.lhs_alias.specs.Lies.{EndsAbove}
 
 -- a run of numbers in two parts
@@ -64,6 +64,9 @@ length-lhs_bits (s ∷ segs) =
 -- one segment more, from the top
 pub lhs_bits-take_more : (segs : List Seg) (i : ℕ) (d : Seg) → i < length segs → lhs_bits (take (i + 1) segs) ≡ seg_bits (get_or segs i d) ++ lhs_bits (take i segs)
 lhs_bits-take_more segs i d h = ap lhs_bits (take_more segs i d h) ∙ lhs_bits-push (take i segs) (get_or segs i d)
+
+pub lhs_bits-grown : (segs : List Seg) (i : ℕ) (d : Seg) (now before : List WireBit) → now ≡ seg_bits (get_or segs i d) ++ before → before ≡ lhs_bits (take i segs) → i < length segs → now ≡ lhs_bits (take (i + 1) segs)
+lhs_bits-grown segs i d now before is so_far h = is ∙ ap (λ r. seg_bits (get_or segs i d) ++ r) so_far ∙ sym (lhs_bits-take_more segs i d h)
 
 pub take-append : {X : Type 0} (n : ℕ) (xs ys : List X) → take n (xs ++ ys) ≡ take n xs ++ take (n - length xs) ys
 take-append zero xs ys = rw (zero-sub) refl
@@ -174,6 +177,22 @@ All-front {X} P xs front x is all k d h =
     let whole = subst Q is all in
     let near = whole k d (omega (arith, length_push front x)) in
     subst P (get_or_append_left front (x ∷ []) d k h) near
+
+-- what is left of a list past its lowest segment
+pub ends-lower : (segs higher : List Seg) (low : Seg) → segs ≡ higher ++ low ∷ [] → AreSegs segs → AreSegs higher × EndsAbove 0 higher
+ends-lower segs higher low is all =
+    let front : AreSegs higher = All-front IsSeg segs higher low is all in
+    (front, λ d some. omega (arith, (front (length higher - 1) d (omega arith)).some))
+
+-- one bit more of the lowest segment, which was not its last
+pub ends-more : (segs higher : List Seg) (low : Seg) (used : ℕ) → segs ≡ higher ++ low ∷ [] → EndsAbove used segs → used + 1 ≢ low.width → EndsAbove (used + 1) segs
+ends-more segs higher low used is ends more =
+    let below = used-lowest segs higher low used is ends in
+    let long : length segs ≡ length higher + 1 = ap length is ∙ length_push higher low in
+    let P : Seg → Type 0 = λ s. used + 1 < s.width in
+    λ d some.
+    let here : get_or segs (length segs - 1) d ≡ low = ap (λ r. get_or r (length segs - 1) d) is ∙ get_or_at higher low [] d (length segs - 1) (omega arith) in
+    subst P (sym here) (omega (arith, below, more))
 
 pub ruleset lhs_lengths = (length-lhs_bits)
 

@@ -1,20 +1,20 @@
 -- The joins that stand, and one more.
-use Rattle.std.proofs.Common.{◌≡◌, ◌≢◌, ℕ, zero, suc, ◌+◌, ◌<◌, ◌≤◌, ◌↔◌, ◌⊎◌, Bool, true, false, ◌&&◌, not, cond, eqb, List, [], ◌∷◌, ◌++◌, length, get_or, set, map, replicate, refl, sym, ◌∙◌, ap, subst, inl, inr, arith, append_assoc, zero-add}
-use Rattle.std.specs.Prelude.{All, AllPairs, Any, Contains, IsTrue}
-use Rattle.std.specs.List.{list_any, zip, range_with_len, AllZip}
+use Rattle.std.proofs.Common.{◌≡◌, ◌≢◌, ℕ, ◌<◌, ◌≤◌, ◌↔◌, true, false, not, cond, eqb, List, [], ◌∷◌, ◌++◌, length, get_or, set, map, replicate, refl, sym, ◌∙◌, ap, subst, inl, inr, arith, append_assoc, zero-add}
+use Rattle.std.specs.Prelude.{All, Contains, IsTrue}
+use Rattle.std.specs.List.{range_with_len}
 use Rattle.std.proofs.lemmas.Bool.{cases_eq, cond-true, cond-false, eq-eqb, ne_eqb, both_ways, and_parts, not-true}
-use Rattle.std.proofs.lemmas.List.{length-set, get_or-set_same, get_or-set_other, map_push, length-map, append-nil, get_or-replicate, length-replicate, get_or_default}
-use Rattle.std.proofs.lemmas.List.FromFn.{get_or-range_with_len, length-range_with_len}
-use Rattle.std.proofs.lemmas.List.Elements.{All-head, All-tail, All-cons, All-nil, All-weaker, All-push, All-contains, Contains-push, Contains-push_cases, Contains-append_left}
+use Rattle.std.proofs.lemmas.List.{length-set, get_or-set_same, get_or-set_other, map_push, length-map, append-nil, get_or-replicate, get_or_default}
+use Rattle.std.proofs.lemmas.List.FromFn.{get_or-range_with_len}
+use Rattle.std.proofs.lemmas.List.Elements.{All-head, All-tail, All-nil, All-push, All-contains, Contains-push, Contains-push_cases, Contains-append_left}
 use Rattle.std.proofs.lemmas.List.Quantifiers.{all_pairs_push}
 use Rattle.lhs_alias.specs.declared.segs.WireBit.{WireBit}
 use Rattle.lhs_alias.specs.Segs.{bit}
 use Rattle.lhs_alias.specs.Lies.{IsBitOf}
 use Rattle.lhs_alias.specs.Roots.{merged}
-use Rattle.lhs_alias.specs.Pairs.{Linked, itself, up, down, IsFirst, IsChild, Falls, AreDistinct, HaveOwnChildren}
-use Rattle.lhs_alias.specs.Joined.{Kept, widths_of, all_bits, place_of, first_place, first_of, is_joined, Stands, starts_of, place_in, HasPlace, is_marked, marked, are_free, all_merged}
+use Rattle.lhs_alias.specs.Pairs.{Linked, itself, up, IsFirst, IsChild, Falls, AreDistinct}
+use Rattle.lhs_alias.specs.Joined.{Kept, all_bits, place_of, first_place, first_of, is_joined, Stands, starts_of, place_in, is_marked, marked, are_free, all_merged}
 use Rattle.lhs_alias.proofs.Chains.{linked-trans, linked-sym, linked-more, linked-same, linked-keeps, stands-child}
-use Rattle.lhs_alias.proofs.Row.{place-below, bit-at_place, place-own, place_in-starts_of, length-starts_of}
+use Rattle.lhs_alias.proofs.Row.{place-below, bit-at_place, place-own, place_in-starts_of}
 use Rattle.lhs_alias.proofs.Trees.{length-merged, get_or-merged}
 
 -- what is kept after one more join

@@ -1,5 +1,5 @@
 -- The forest when the root of one tree is linked to that of another.
-use Rattle.std.proofs.Common.{◌≡◌, ◌≢◌, ℕ, zero, suc, ◌+◌, ◌<◌, ◌≤◌, ◌⊎◌, cond, eqb, List, length, get_or, set, replicate, map, refl, sym, ◌∙◌, ap, subst, inl, inr, arith, zero-add, Bool, true, false}
+use Rattle.std.proofs.Common.{◌≡◌, ◌≢◌, ℕ, zero, suc, ◌+◌, ◌<◌, ◌≤◌, ◌⊎◌, cond, eqb, List, length, get_or, set, replicate, refl, sym, ◌∙◌, ap, subst, inl, inr, arith, zero-add, Bool, true, false}
 use Rattle.std.specs.List.{range_with_len}
 use Rattle.std.proofs.lemmas.List.{length-set, get_or-set_same, get_or-set_other, ext_get_or, get_or-map, length-map, length-replicate, get_or-replicate}
 use Rattle.std.proofs.lemmas.List.FromFn.{length-map-range_with_len, get_or-map-range_with_len, length-range_with_len, get_or-range_with_len}
@@ -328,3 +328,29 @@ firsts_of-new n =
     get_or-firsts_of numbers numbers k within ∙ ap (λ r. get_or numbers r 0) (root_of-root numbers k (link k (omega arith))))
 
 pub ruleset merges = (length-merged)
+
+-- a root may be linked to another, and the first number of either tree stays
+
+pub linkable_high : (links sizes firsts : List ℕ) (low high : ℕ) → IsForest links sizes firsts → low < length links → high < length links → get_or links low 0 ≡ low → get_or links high 0 ≡ high → low ≢ high → get_or sizes low 0 ≤ get_or sizes high 0 → IsLinkable links sizes low high (get_or firsts high 0)
+linkable_high links sizes firsts low high f low_within high_within low_root high_root apart smaller = record {
+  low_within = low_within;
+  high_within = high_within;
+  low_root = low_root;
+  high_root = high_root;
+  apart = apart;
+  smaller = smaller;
+  first_within = f.within high high_within high_root;
+  first_root = inr (f.first high high_within high_root);
+}
+
+pub linkable_low : (links sizes firsts : List ℕ) (low high : ℕ) → IsForest links sizes firsts → low < length links → high < length links → get_or links low 0 ≡ low → get_or links high 0 ≡ high → low ≢ high → get_or sizes low 0 ≤ get_or sizes high 0 → IsLinkable links sizes low high (get_or firsts low 0)
+linkable_low links sizes firsts low high f low_within high_within low_root high_root apart smaller = record {
+  low_within = low_within;
+  high_within = high_within;
+  low_root = low_root;
+  high_root = high_root;
+  apart = apart;
+  smaller = smaller;
+  first_within = f.within low low_within low_root;
+  first_root = inl (f.first low low_within low_root);
+}

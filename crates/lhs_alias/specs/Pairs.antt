@@ -1,5 +1,5 @@
 -- Pairs of bits that are joined, each a child with its parent, and the classes that they make.
-use Rattle.std.specs.Prelude.{◌≡◌, ◌≢◌, ℕ, ◌<◌, ◌≤◌, List, length, map, All, AllPairs, Contains}
+use Rattle.std.specs.Prelude.{◌≡◌, ◌≢◌, ◌<◌, ◌≤◌, List, length, map, All, AllPairs, Contains}
 use Rattle.std.specs.List.{zip}
 use Rattle.lhs_alias.specs.declared.segs.WireBit.{WireBit}
 

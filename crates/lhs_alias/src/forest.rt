@@ -12,7 +12,7 @@ use std::marker::Model;
 /// of the first numbers. Each class is a tree of links. The smaller of two trees is linked to the
 /// larger, so that a link from any number to its root has at most as many steps as the binary
 /// logarithm of the count.
-#[derive(Debug, Drop)]
+#[derive(Drop)]
 pub struct Forest {
     // the number that each is linked to, itself at a root
     links: Vec<usize>,

@@ -2,14 +2,14 @@
 // is one of numbers, and a bit stands for its class by the class's first bit. A list of bits is walked first to see whether one
 // is joined already, then to mark it, and only then are classes united: so a refused join leaves all as it was, and no list has
 // to be kept.
-ghost use Rattle.std.specs.Prelude.{◌≡◌, ◌≢◌, ℕ, ◌+◌, ◌<◌, ◌≤◌, ◌^◌, ◌⊎◌, ◌&&◌, true, false, not, List, [], ◌∷◌, ◌++◌, length, map, IsTrue, IfOk, OnOk, OnErr, All, Any, Contains, Err};
+ghost use Rattle.std.specs.Prelude.{◌≡◌, ◌≢◌, ℕ, ◌+◌, ◌<◌, ◌≤◌, ◌^◌, ◌⊎◌, ◌&&◌, true, false, not, List, [], ◌∷◌, ◌++◌, length, map, replicate, IsTrue, IfOk, OnOk, OnErr, All, Any, Contains, Err};
 ghost use Rattle.std.specs.Bool.{OnTrue, OnFalse};
-ghost use Rattle.std.specs.List.{zip, AllZip, list_any};
+ghost use Rattle.std.specs.List.{zip, AllZip, list_any, range_with_len};
 ghost use Rattle.lhs_alias.specs.declared.segs.WireBit.{WireBit};
 ghost use Rattle.lhs_alias.specs.Segs.{seg_bits, lhs_bits, AreSegs, IsUnited};
 ghost use Rattle.lhs_alias.specs.Lies.{LieIn};
 ghost use Rattle.lhs_alias.specs.Pairs.{IsFirst, IsChild, FallTo, AreDistinct};
-ghost use Rattle.lhs_alias.specs.Joined.{widths_of, first_of, Stands, place_in, HasPlace, is_marked, marked, are_free, all_merged, first_bit};
+ghost use Rattle.lhs_alias.specs.Joined.{widths_of, starts_of, all_bits, first_of, Stands, place_in, HasPlace, is_marked, marked, are_free, all_merged, first_bit};
 
 use crate::bits::{Bits, segs_of};
 use crate::forest::Forest;
@@ -20,7 +20,7 @@ use std::marker::Model;
 use thiserror::Error;
 
 /// The bits of some wires, and the joins made among them.
-#[derive(Debug, Drop)]
+#[derive(Drop)]
 pub struct Joins {
     alloc: Global,
     widths: Vec<u8>,
@@ -45,25 +45,20 @@ impl Joins {
     ghost use Rattle.lhs_alias.specs.declared.joins.JoinErr.TheVariants.{Taken, Memory};
 
     /// The bits of wires of these widths, none of them joined.
-    #[tactic(auto, using(crate::proofs::Row::rows))]
     pub fn new(alloc: Global, widths: &[u8]) -> Result<Joins, AllocError>
         requires { All (λ width. (1 ≤ width) × (width ≤ 128)) widths.now }
         ensures widths { IfOk result (λ joins. widths_of joins ≡ widths.now) }
         ensures none { IfOk result (λ joins. Stands joins []) }
     {
-        let mut starts = Vec::new(alloc);
-        let mut bits = Vec::new(alloc);
-        for width in widths {
-            add_wire(&mut starts, &mut bits, *width)?;
-        }
-        let count = bits.len();
+        let (starts, bits) = row_of(alloc, widths)?;
+        let (forest, joined) = unjoined(alloc, bits.len())?;
         Ok(Joins {
             alloc,
             widths: widths.to_vec(alloc)?,
             starts,
             bits,
-            forest: Forest::new(alloc, count)?,
-            joined: vec![in alloc; false; count]?,
+            forest,
+            joined,
         })
     }
 
@@ -116,13 +111,35 @@ impl Joins {
 }
 
 /// Why bits were not joined.
-#[derive(Clone, Copy, Debug, PartialEq, Eq, Error)]
+#[derive(Clone, Copy, Debug, Error)]
 pub enum JoinErr {
     /// A child bit is joined already, or stands twice.
     #[error("a bit is joined already")]
     Taken,
     #[error("out of memory")]
     Memory,
+}
+
+// The place of the lowest bit of each wire in the row of all bits, and this row.
+fn row_of(alloc: Global, widths: &[u8]) -> Result<(Vec<usize>, Vec<WireBit>), AllocError>
+    ensures starts { IfOk result (λ row. row.0.items ≡ starts_of widths.now) }
+    ensures bits { IfOk result (λ row. row.1.items ≡ all_bits widths.now) }
+{
+    let mut starts = Vec::new(alloc);
+    let mut bits = Vec::new(alloc);
+    for width in widths {
+        add_wire(&mut starts, &mut bits, *width)?;
+    }
+    Ok((starts, bits))
+}
+
+// So many numbers, each a class of its own, and none of them joined.
+fn unjoined(alloc: Global, count: usize) -> Result<(Forest, Vec<bool>), AllocError>
+    ensures forest { IfOk result (λ made. made.0 ≡ range_with_len 0 count) }
+    ensures joined { IfOk result (λ made. made.1.items ≡ replicate count false) }
+{
+    let joined = vec![in alloc; false; count]?;
+    Ok((Forest::new(alloc, count)?, joined))
 }
 
 // Adds the bits of one more wire to the row.

@@ -15,7 +15,7 @@ use std::marker::Model;
 
 /// A list of segments, the most significant first, as the target of an assignment is written.
 /// It keeps its allocator.
-#[derive(Debug, Drop)]
+#[derive(Drop)]
 pub struct Lhs {
     alloc: Global,
     segs: Items<Seg>,

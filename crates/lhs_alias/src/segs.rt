@@ -8,7 +8,7 @@ pub struct Seg {
 }
 
 /// One bit of a wire, at a place counted from the least significant bit.
-#[derive(Clone, Copy, Debug, PartialEq, Eq)]
+#[derive(Clone, Copy)]
 pub struct WireBit {
     pub wire: usize,
     pub at: u8,

@@ -18,14 +18,14 @@ use thiserror::Error;
 
 /// Why a log is not accepted: the number of the first step that is not derived, counted from 0, or the number of steps where
 /// all are derived and none is empty.
-#[derive(Clone, Copy, Debug, PartialEq, Eq, Error)]
+#[derive(Clone, Copy, Debug, Error)]
 pub enum CheckErr {
     #[error("the log is not accepted: step {0}")]
     Bad(usize),
 }
 
 /// Room for the values of variables. Contracts see the number of variables that it has room for.
-#[derive(Debug, Drop)]
+#[derive(Drop)]
 pub struct Checker {
     marks: Marks,
 }

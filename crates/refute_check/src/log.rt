@@ -4,7 +4,7 @@ use cnf::Dim;
 use std::marker::Model;
 
 /// A clause, and the numbers of the clauses by which it follows: the given clauses first, then the steps, both from 0.
-#[derive(Debug, Drop)]
+#[derive(Drop)]
 pub struct Step {
     pub clause: Vec<Dim>,
     pub hints: Vec<usize>,
@@ -19,7 +19,7 @@ impl Model for Step {
 }
 
 /// Steps in order, each of which may cite the given clauses and the earlier steps.
-#[derive(Debug, Drop)]
+#[derive(Drop)]
 pub struct Log {
     pub steps: Vec<Step>,
 }

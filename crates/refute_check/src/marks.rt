@@ -15,7 +15,7 @@ use std::marker::Model;
 
 /// Values of variables, and a trail of the variables that have one. Contracts see the list of the values. Only `new` takes
 /// memory.
-#[derive(Debug, Drop)]
+#[derive(Drop)]
 pub struct Marks {
     values: Vec<Option<bool>>,
     trail: Vec<usize>,

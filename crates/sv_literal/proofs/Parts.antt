@@ -1,12 +1,16 @@
 -- The parts of a literal.
-use Rattle.std.proofs.Common.{◌≡◌, ℕ, Bool, true, false, cond, not, ◌&&◌, List, [], ◌∷◌, length, drop, refl, ap, ◌∙◌}
+use Rattle.std.proofs.Common.{◌≡◌, ℕ, Result, Ok, Err, Bool, true, false, cond, not, ◌&&◌, List, [], ◌∷◌, length, drop, refl, sym, ap, ◌∙◌, arith}
+use Rattle.std.specs.Prelude.{◌==◌, nat_lt, slice_index, if◌then◌else◌}
 use Rattle.std.specs.List.{list_all, take_while}
+use Rattle.std.proofs.lemmas.Bool.Decides.{nat_tests}
 use Rattle.std.proofs.lemmas.List.Sums.{take_while-cons}
 use Rattle.std.proofs.lemmas.Bool.{false≢true}
 use Rattle.sv_outside.specs.Words.{is_digit}
-use Rattle.sv_outside.specs.Literals.{goes_decimal, drop_run, without_size, is_number, is_unsized, is_based}
-use Rattle.sv_literal.specs.Meaning.{size_of, is_sized, value_of, is_width, is_wide, is_large_value}
-use Rattle.sv_literal.specs.Value.{decimal, exceeds_word}
+use Rattle.fourvec.specs.declared.Bit.{Bit}
+use Rattle.sv_outside.specs.Literals.{goes_decimal, is_sign, drop_run, without_size, is_number, is_unsized, is_based}
+use Rattle.sv_literal.specs.Meaning.{size_of, is_sized, is_nonempty, behind_quote, value_of, is_width, is_wide, is_large_value, based_of}
+use Rattle.sv_literal.specs.declared.meaning.Literal.{Literal}
+use Rattle.sv_literal.specs.Value.{decimal, vector_of, exceeds_word}
 
 behind_run : (goes : ℕ → Bool) (t : List ℕ) → drop (length (take_while goes t)) t ≡ drop_run goes t
 behind_run goes [] = refl
@@ -42,6 +46,35 @@ some_wide t e = rw e refl
 pub some_large : (t : List ℕ) → is_based t ≡ true → is_large_value t ≡ (not (is_sized t) && exceeds_word (value_of t))
 unfolding is_large_value
 some_large t e = rw e refl
+
+-- the refusals of a based literal by its parts
+
+pub based_wide : (t size : List ℕ) → is_based t ≡ true → size ≡ size_of t → is_wide t ≡ (is_nonempty size && not (is_width (decimal size)))
+based_wide t size e s = some_wide t e ∙ ap (λ d. is_nonempty d && not (is_width (decimal d))) (sym s)
+
+pub based_large : (t size value : List ℕ) → is_based t ≡ true → size ≡ size_of t → value ≡ value_of t → is_large_value t ≡ (not (is_nonempty size) && exceeds_word value)
+based_large t size value e s v =
+    some_large t e
+    ∙ ap (λ d. not (is_nonempty d) && exceeds_word (value_of t)) (sym s)
+    ∙ ap (λ d. not (is_nonempty size) && exceeds_word d) (sym v)
+
+-- the meaning of a based literal by its parts
+
+some : (n : ℕ) → not (n == 0) ≡ nat_lt 0 n
+some n = grind (arith, nat_tests)
+
+pub based_parts : (t size suffix value : List ℕ) (width : ℕ) (v : List Bit) (empty sign : Bool) → size ≡ size_of t → suffix ≡ behind_quote t → value ≡ value_of t → width ≡ (if is_nonempty size then decimal size else 32) → v ≡ vector_of width value → empty ≡ (length size == 0) → sign ≡ is_sign (slice_index suffix 0)
+    → ◌≡◌ {A = Literal} (record { value = v; sized = not empty; signed = sign; fill = false }) (based_of t)
+unfolding based_of
+based_parts t size suffix value width v empty sign s u w wide bits e g = rw (bits, wide, e, g, s, u, w, some (length (size_of t))) refl
+
+-- an error that is handed on is of the same kind
+pub same_refusal : {A B E P : Type 0} {w : E} (e : E) → ((◌≡◌ {A = Result A E} (Err e) (Err w) → P) × (P → ◌≡◌ {A = Result A E} (Err e) (Err w))) → (◌≡◌ {A = Result B E} (Err e) (Err w) → P) × (P → ◌≡◌ {A = Result B E} (Err e) (Err w))
+same_refusal e h = (λ told. h.0 (let same = told in cc), λ p. let same = h.1 p in cc)
+
+-- what is right is no error
+pub no_refusal : {A B E P : Type 0} {w : E} (x : A) (y : B) → ((◌≡◌ {A = Result A E} (Ok x) (Err w) → P) × (P → ◌≡◌ {A = Result A E} (Ok x) (Err w))) → (◌≡◌ {A = Result B E} (Ok y) (Err w) → P) × (P → ◌≡◌ {A = Result B E} (Ok y) (Err w))
+no_refusal x y h = (λ told. cc, λ p. let no = h.1 p in cc)
 
 all_behind : (goes : ℕ → Bool) (t : List ℕ) → list_all goes t ≡ true → drop_run goes t ≡ []
 all_behind goes [] e = refl

@@ -35,7 +35,6 @@ fn width_of(size: &[u8], value: &[u8]) -> Result<u8, LitErr>
 }
 
 /// A based literal, with or without a size.
-#[tactic(auto, using(crate::proofs::Parts::some_wide, crate::proofs::Parts::some_large), unfolding(crate::specs::Meaning::based_of))]
 pub fn based(text: &[u8]) -> Result<Literal, LitErr>
     requires { IsTrue (is_based text.now) }
     ensures shape { result ≢ Err LitErr.Shape }

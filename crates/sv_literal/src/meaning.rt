@@ -3,7 +3,7 @@ use fourvec::Four;
 use thiserror::Error;
 
 /// What a literal stands for.
-#[derive(Clone, Copy, PartialEq, Eq, Debug)]
+#[derive(Clone, Copy, Debug)]
 pub struct Literal {
     /// The bits: as many as the size says, 32 without a size, and one of a fill.
     pub value: Four,
@@ -16,7 +16,7 @@ pub struct Literal {
 }
 
 /// Why a text has no value.
-#[derive(Clone, Copy, PartialEq, Eq, Debug, Error)]
+#[derive(Clone, Copy, Debug, Error)]
 pub enum LitErr {
     /// The text is no literal.
     #[error("the text is no literal")]

@@ -7,7 +7,7 @@ use std::alloc::Global;
 use thiserror::Error;
 
 /// Why a file is not answered.
-#[derive(Clone, Copy, Debug, PartialEq, Eq, Error)]
+#[derive(Clone, Copy, Debug, Error)]
 pub enum FileErr {
     /// It could not be read, which the files count.
     #[error("the file could not be read")]
@@ -21,7 +21,7 @@ pub enum FileErr {
 }
 
 /// Why bytes are not written.
-#[derive(Clone, Copy, Debug, PartialEq, Eq, Error)]
+#[derive(Clone, Copy, Debug, Error)]
 pub enum SinkErr {
     /// The write failed, which the sink counts.
     #[error("the write failed")]

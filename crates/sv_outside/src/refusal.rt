@@ -7,7 +7,7 @@ use thiserror::Error;
 
 /// A place in a text: the number of its file from 0, and its line and column from 1, columns in bytes.
 /// In a CSV file these are the numbers of the record and the field.
-#[derive(Clone, Copy, Debug, PartialEq, Eq)]
+#[derive(Clone, Copy, Debug)]
 pub struct Place {
     pub file: usize,
     pub line: usize,
@@ -15,7 +15,7 @@ pub struct Place {
 }
 
 /// The number of the reason, the place, and a count, which is 0 but for E10 and E39.
-#[derive(Clone, Copy, Debug, PartialEq, Eq)]
+#[derive(Clone, Copy, Debug)]
 pub struct Refusal {
     pub number: u8,
     pub place: Place,
@@ -23,7 +23,7 @@ pub struct Refusal {
 }
 
 /// Why a text is not taken.
-#[derive(Clone, Copy, Debug, PartialEq, Eq, Error)]
+#[derive(Clone, Copy, Debug, Error)]
 pub enum TextErr {
     /// The text breaks a rule.
     #[error("the text is refused: {0:?}")]

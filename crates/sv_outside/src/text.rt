@@ -43,7 +43,6 @@ impl Drop for Token {
 
 /// The tokens of a text and of the files that it includes, in order; the names of these files, which
 /// places count from 0; and the place where the text ends.
-#[derive(Debug)]
 pub struct Tokens {
     pub list: Vec<Token>,
     pub files: Vec<Name>,
@@ -70,7 +69,6 @@ impl Model for Tokens {
 
 /// A signal of a design. Its path is its declared name after the names of the instances and blocks that lead to
 /// it from the top, joined by dots. Its width is 1 to 128 bits. `input` is true for an input or inout of the top.
-#[derive(Debug)]
 pub struct Signal {
     pub path: Name,
     pub width: u8,

@@ -1,124 +1,41 @@
 // Which words are identifiers, and which are reserved (IEEE 1800-2017, 5.6 and annex B). The reserved words stand in a table by
 // their first letter, so that a word is compared with few of them, and under a letter those of the grammar come first, since
-// they are met most. Keywords of the annex that name nothing in the grammar and are not listed as out of scope are identifiers
-// here, so the table lacks them.
-ghost use Rattle.std.specs.Prelude.{◌≡◌, map};
-ghost use Rattle.std.specs.List.{list_any, list_all, range_with_len};
+// they are met most. A row is one text and no list of texts: a static is proved constant by constant, and this has 26 in place
+// of some 170. Keywords of the annex that name nothing in the grammar and are not listed as out of scope are identifiers here, so
+// the table lacks them.
+ghost use Rattle.std.specs.Prelude.{◌≡◌, ◌==◌, [], ◌∷◌, ◌++◌, map};
+ghost use Rattle.std.specs.List.{list_any, list_all, range_with_len, slice_split};
 ghost use Rattle.std.specs.Str.{bytes_eq};
 ghost use Rattle.sv_outside.specs.Words as form;
 
-// The reserved words by their first letter, from `a` on; under a letter those of the grammar come first.
-static BY_LETTER: [&[&[u8]]; 26] = [
-    &[
-        b"assign",
-        b"always_comb",
-        b"always_ff",
-        b"always",
-        b"alias",
-        b"always_latch",
-        b"and",
-        b"assert",
-        b"assume",
-        b"automatic",
-    ],
-    &[
-        b"bit", b"begin", b"bind", b"break", b"buf", b"bufif0", b"bufif1", b"byte",
-    ],
-    &[
-        b"case",
-        b"casez",
-        b"casex",
-        b"checker",
-        b"class",
-        b"clocking",
-        b"const",
-        b"continue",
-        b"cover",
-        b"covergroup",
-    ],
-    &[b"default", b"deassign", b"defparam", b"disable", b"do"],
-    &[
-        b"endmodule",
-        b"enum",
-        b"endgenerate",
-        b"else",
-        b"end",
-        b"endcase",
-        b"event",
-        b"export",
-        b"extern",
-    ],
-    &[
-        b"for",
-        b"final",
-        b"force",
-        b"foreach",
-        b"forever",
-        b"fork",
-        b"function",
-    ],
-    &[b"genvar", b"generate"],
-    &[],
-    &[
-        b"int",
-        b"integer",
-        b"input",
-        b"inout",
-        b"if",
-        b"import",
-        b"initial",
-        b"inside",
-        b"interface",
-    ],
-    &[b"join"],
-    &[],
-    &[b"localparam", b"logic", b"longint"],
-    &[b"module"],
-    &[b"negedge", b"nand", b"nor", b"not", b"notif0", b"notif1"],
-    &[b"output", b"or"],
-    &[
-        b"parameter",
-        b"packed",
-        b"posedge",
-        b"priority",
-        b"package",
-        b"primitive",
-        b"program",
-        b"property",
-        b"pulldown",
-        b"pullup",
-    ],
-    &[],
-    &[
-        b"reg",
-        b"real",
-        b"realtime",
-        b"release",
-        b"repeat",
-        b"return",
-    ],
-    &[
-        b"signed",
-        b"struct",
-        b"sequence",
-        b"shortint",
-        b"shortreal",
-        b"specify",
-        b"static",
-        b"string",
-        b"supply0",
-        b"supply1",
-    ],
-    &[
-        b"tri", b"typedef", b"task", b"time", b"tran", b"tri0", b"tri1", b"triand", b"trior",
-        b"trireg",
-    ],
-    &[b"unsigned", b"unique", b"unique0", b"union"],
-    &[b"var"],
-    &[b"wire", b"wait", b"wand", b"while", b"wor"],
-    &[b"xnor", b"xor"],
-    &[],
-    &[],
+// The reserved words by their first letter, from `a` on, with a blank behind each; under a letter those of the grammar come first.
+static BY_LETTER: [&[u8]; 26] = [
+    b"assign always_comb always_ff always alias always_latch and assert assume automatic ",
+    b"bit begin bind break buf bufif0 bufif1 byte ",
+    b"case casez casex checker class clocking const continue cover covergroup ",
+    b"default deassign defparam disable do ",
+    b"endmodule enum endgenerate else end endcase event export extern ",
+    b"for final force foreach forever fork function ",
+    b"genvar generate ",
+    b"",
+    b"int integer input inout if import initial inside interface ",
+    b"join ",
+    b"",
+    b"localparam logic longint ",
+    b"module ",
+    b"negedge nand nor not notif0 notif1 ",
+    b"output or ",
+    b"parameter packed posedge priority package primitive program property pulldown pullup ",
+    b"",
+    b"reg real realtime release repeat return ",
+    b"signed struct sequence shortint shortreal specify static string supply0 supply1 ",
+    b"tri typedef task time tran tri0 tri1 triand trior trireg ",
+    b"unsigned unique unique0 union ",
+    b"var ",
+    b"wire wait wand while wor ",
+    b"xnor xor ",
+    b"",
+    b"",
 ];
 
 fn starts_a_word(b: u8) -> bool
@@ -133,23 +50,22 @@ fn goes_on_in_word(b: u8) -> bool
     starts_a_word(b) || b.is_ascii_digit() || b == b'$'
 }
 
-// The reserved words that begin with that byte.
-fn reserved_from(table: &'static [&'static [&'static [u8]]], first: u8) -> &'static [&'static [u8]]
-    requires { map (λ words. map (λ word. word.now) words.now) table.now ≡ map form.words_from (range_with_len 97 26) }
-    ensures { map (λ word. word.now) result.now ≡ form.words_from first }
+// The row of the reserved words that begin with that byte. A blank stands behind the last one too, so the last part is empty.
+fn reserved_from(table: &'static [&'static [u8]], first: u8) -> &'static [u8]
+    requires { map (λ row. slice_split (λ b. b == 32) row.now) table.now ≡ map (λ letter. form.words_from letter ++ [] ∷ []) (range_with_len 97 26) }
+    ensures { slice_split (λ b. b == 32) result.now ≡ form.words_from first ++ [] ∷ [] }
 {
     if first.is_ascii_lowercase() {
         table[usize::from(first - b'a')]
     } else {
-        &[]
+        b""
     }
 }
 
-// Words of other lengths are told apart before any byte is compared.
-fn is_among(text: &[u8], words: &[&[u8]]) -> bool
-    ensures { result ≡ list_any (λ word. bytes_eq text.now word.now) words.now }
+fn is_among(text: &[u8], row: &[u8]) -> bool
+    ensures { result ≡ list_any (bytes_eq text.now) (slice_split (λ b. b == 32) row.now) }
 {
-    words.iter().any(|word| text == *word)
+    row.split(|b| *b == b' ').any(|word| text == word)
 }
 
 fn is_reserved(text: &[u8]) -> bool

@@ -14,7 +14,6 @@ use Rattle.sv_tree.specs.declared.forms.Range.{Range}
 use Rattle.sv_tree.specs.declared.forms.EnumLabel.{EnumLabel}
 use Rattle.sv_tree.specs.declared.forms.TypeTree.{TypeTree, Vector, Integer, Struct', Enum, Named, Row_of-Member, end_of-Member, more_of-Member}
 use Rattle.sv_tree.specs.declared.forms.Member.{Member, Of', end_of-TypeTree, more_of-TypeTree}
-use Rattle.sv_tree.specs.declared.forms.Typedef.{Typedef as TypedefTree}
 use Rattle.sv_tree.specs.declared.stmts.Lvalue.{Lvalue, Name, Concat', Row_of-Lvalue, end_of-Lvalue, more_of-Lvalue}
 use Rattle.sv_tree.specs.declared.stmts.Step.{Step}
 use Rattle.sv_tree.specs.declared.stmts.Step.TheVariants as step
@@ -22,15 +21,13 @@ use Rattle.sv_tree.specs.declared.stmts.Uniq.{Uniq}
 use Rattle.sv_tree.specs.declared.stmts.Uniq.TheVariants as uniq
 use Rattle.sv_tree.specs.declared.stmts.CaseWord.{CaseWord}
 use Rattle.sv_tree.specs.declared.stmts.CaseWord.TheVariants as case_word
-use Rattle.sv_tree.specs.declared.stmts.AssignMark.{AssignMark}
-use Rattle.sv_tree.specs.declared.stmts.AssignMark.TheVariants as assign_mark
 use Rattle.sv_tree.specs.declared.stmts.Stmt.{Stmt, Empty, Block' as StmtBlock', If' as StmtIf', Case', For' as StmtFor', Assign as StmtAssign, Row_of-Stmt, end_of-Stmt, more_of-Stmt, Row_of-Arm, end_of-Arm, more_of-Arm, Held-Stmt-If-3, None' as NoStmt, Some' as SomeStmt}
 use Rattle.sv_tree.specs.declared.stmts.Arm.{Arm, Labels', Default'}
-use Rattle.sv_tree.specs.Spelling.{Text, Spelled, Begins, token, nothing, never, ◌⨟◌, when, mark, mark_at, key, key_at, name, maybe, each, commas, after_commas, label, label_of}
-use Rattle.sv_tree.specs.GrammarExprs.{Spells, SpellsSelect, is_range, sign_word}
+use Rattle.sv_tree.specs.Spelling.{Text, Spelled, token, nothing, never, ◌⨟◌, when, mark, mark_at, key, key_at, name, maybe, each, commas, after_commas, label, label_of}
+use Rattle.sv_tree.specs.GrammarExprs.{Spells, SpellsSelect}
 use Rattle.sv_tree.specs.GrammarForms.{bits_key, sign_key, SpellsRange, given, SpellsLabel, SpellsType, SpellsMembers, MoreMembers, SpellsMember, whole_key}
-use Rattle.sv_tree.specs.GrammarStmts.{SpellsChain, SpellsLvalue, SpellsLvalues, MoreLvalues, SpellsStep, uniq_key, case_key, assign_text, block_name, colon_if, is_closed, defaults, SpellsStmt, SpellsElse, SpellsStmts, SpellsArms, MoreArms, SpellsArm}
-use Rattle.sv_tree.specs.Nesting.{Depths, one, two, three, in_stmt, in_type, if_given, each_depths, commas_depths, after_commas_depths, word_depths, label_depths, expr_depths, select_depths}
+use Rattle.sv_tree.specs.GrammarStmts.{SpellsChain, SpellsLvalue, SpellsLvalues, MoreLvalues, SpellsStep, uniq_key, case_key, assign_text, block_name, colon_if, is_closed, SpellsStmt, SpellsElse, SpellsStmts, SpellsArms, MoreArms, SpellsArm}
+use Rattle.sv_tree.specs.Nesting.{Depths, in_stmt, in_type, if_given, each_depths, commas_depths, after_commas_depths, word_depths, label_depths, expr_depths, select_depths}
 use Rattle.sv_tree.specs.NestingDesign.{range_depths, given_depths, enum_label_depths, type_depths, members_depths, member_depths, lvalue_depths, lvalues_depths, more_lvalues_depths, step_depths, turns_depths, if_true, stmt_depths, else_depths, stmts_depths, arms_depths, arm_depths}
 use Rattle.sv_tree.proofs.Framed.{Framed, frame, frame_select, length_in}
 

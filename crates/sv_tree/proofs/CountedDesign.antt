@@ -1,8 +1,6 @@
 -- Modules and their items take one token for each entry of their depths.
-use Rattle.std.proofs.Common.{◌≡◌, ℕ, ◌+◌, Bool, true, false, List, [], ◌∷◌, ◌++◌, length, codes, Option, Some, None, refl, sym, length-append, arith}
+use Rattle.std.proofs.Common.{◌≡◌, ℕ, Bool, true, false, ◌++◌, length, codes, Option, Some, None, length-append, arith}
 use Rattle.std.proofs.lemmas.List.{length-map}
-use Rattle.sv_outside.specs.declared.text.Token.{Token}
-use Rattle.sv_tree.specs.declared.word.Word.{Word}
 use Rattle.sv_tree.specs.declared.forms.Typedef.{Typedef as TypedefTree}
 use Rattle.sv_tree.specs.declared.stmts.Edge.{Edge}
 use Rattle.sv_tree.specs.declared.stmts.Edge.TheVariants as edge
@@ -36,13 +34,13 @@ use Rattle.sv_tree.specs.declared.design.One.{One}
 use Rattle.sv_tree.specs.declared.design.Inst.{Inst as InstTree}
 use Rattle.sv_tree.specs.declared.design.Item.{Item, Net, Variable, Typedef, Param, Genvar, Assign, Always, Inst, For', If', Generate', Row_of-Item, end_of-Item, more_of-Item, end_of-Gen, more_of-Gen, Held-Item-If-3, None', Some'}
 use Rattle.sv_tree.specs.declared.design.Gen.{Gen, Block', Single'}
-use Rattle.sv_tree.specs.Spelling.{Spelled, nothing, never, ◌⨟◌, first_at, mark, key, key_at, name, maybe, commas}
+use Rattle.sv_tree.specs.Spelling.{Spelled, ◌⨟◌, first_at, maybe}
 use Rattle.sv_tree.specs.GrammarExprs.{Spells}
-use Rattle.sv_tree.specs.GrammarForms.{sign_key, SpellsRange, SpellsType, SpellsTypedef, given, param_bits_key, param_key, SpellsParamType, SpellsParPort, SpellsParamItem, SpellsParam, way_key, net_key, SpellsPort}
-use Rattle.sv_tree.specs.GrammarStmts.{edge_key, SpellsEvent, SpellsKind, SpellsBlock, SpellsStep, block_name}
+use Rattle.sv_tree.specs.GrammarForms.{sign_key, SpellsRange, SpellsType, SpellsTypedef, param_bits_key, param_key, SpellsParamType, SpellsParPort, SpellsParamItem, SpellsParam, way_key, net_key, SpellsPort}
+use Rattle.sv_tree.specs.GrammarStmts.{edge_key, SpellsEvent, SpellsKind, SpellsBlock, block_name}
 use Rattle.sv_tree.specs.GrammarDesign.{SpellsPair, SpellsPin, SpellsNamed, SpellsPins, SpellsOne, SpellsGiven, SpellsInst, genvar_if, is_closed_gen, SpellsItem, SpellsGen, SpellsElse, SpellsItems}
-use Rattle.sv_tree.specs.Nesting.{Depths, one, two, in_generate, if_given, commas_depths, word_depths, label_depths, expr_depths}
-use Rattle.sv_tree.specs.NestingDesign.{range_depths, type_depths, typedef_depths, param_type_depths, par_port_depths, param_item_depths, param_depths, port_depths, if_true, turns_depths, event_depths, kind_depths, block_depths, pair_depths, pin_depths, named_depths, pins_depths, one_depths, override_depths, inst_depths, item_depths, gen_depths, other_depths, items_depths}
+use Rattle.sv_tree.specs.Nesting.{Depths, in_generate, if_given, word_depths, label_depths, expr_depths}
+use Rattle.sv_tree.specs.NestingDesign.{range_depths, type_depths, typedef_depths, param_type_depths, par_port_depths, param_item_depths, param_depths, port_depths, if_true, kind_depths, block_depths, pair_depths, pin_depths, named_depths, pins_depths, one_depths, override_depths, inst_depths, item_depths, gen_depths, other_depths, items_depths}
 use Rattle.sv_tree.proofs.Counted.{Counted, counted_as, ◌⋈◌, counted_token, counted_nothing, counted_never, counted_when, counted_mark, counted_key, counted_key_at, counted_name, counted_expr, counted_maybe, counted_commas, counted_names, counted_sign, counted_whole, counted_range, counted_given, counted_type, counted_lvalue, counted_step, counted_stmt, counted_block_name, counted_label_of}
 
 pub counted_typedef : (d : TypedefTree) → Counted (SpellsTypedef d) (length (typedef_depths d))

@@ -1,5 +1,5 @@
 -- What follows the tokens of a tree is free, and a tree takes one token for each entry of its depths.
-use Rattle.std.proofs.Common.{◌≡◌, ℕ, ◌+◌, ◌≤◌, List, [], ◌∷◌, ◌++◌, length, codes, refl, sym, ap, ◌∙◌, subst, append_assoc, append-nil, length-append, arith}
+use Rattle.std.proofs.Common.{◌≡◌, ℕ, ◌+◌, ◌≤◌, List, [], ◌∷◌, ◌++◌, length, codes, refl, sym, ap, ◌∙◌, subst, append_assoc, length-append, arith}
 use Rattle.std.proofs.lemmas.List.{length-map}
 use Rattle.sv_outside.specs.declared.refusal.Place.{Place}
 use Rattle.sv_outside.specs.declared.text.Kind.TheVariants as k
@@ -8,9 +8,9 @@ use Rattle.sv_outside.specs.Words.{is_id}
 use Rattle.sv_tree.specs.declared.word.Word.{Word}
 use Rattle.sv_tree.specs.declared.exprs.Expr.{Expr, Literal, Name', Paren', Concat', Repeat', CastLiteral', CastName', CastParen', CastSign', System', Unary', Binary', Choose', Row_of-Expr, end_of-Expr, more_of-Expr, Row_of-Select, end_of-Select, more_of-Select}
 use Rattle.sv_tree.specs.declared.exprs.Select.{Select, Member, Index', Range'}
-use Rattle.sv_tree.specs.Spelling.{Text, Spelled, Begins, token, nothing, never, ◌⨟◌, when, mark, mark_at, key_at, system_at, literal, name}
+use Rattle.sv_tree.specs.Spelling.{Text, Spelled, token, nothing, ◌⨟◌, when, mark, mark_at, key_at, system_at, literal, name}
 use Rattle.sv_tree.specs.GrammarExprs.{Spells, SpellsCommas, SpellsMore, SpellsSelect, SpellsSelects, sign_word, system_word, unary_mark, binary_mark, range_text, binds, left_level, right_level, is_range}
-use Rattle.sv_tree.specs.Nesting.{Nesting, Depths, one, two, three, in_expr, expr_depths, name_depths, exprs_depths, more_depths, select_depths, selects_depths}
+use Rattle.sv_tree.specs.Nesting.{Depths, one, two, three, in_expr, expr_depths, name_depths, exprs_depths, more_depths, select_depths, selects_depths}
 
 -- so many tokens up to `to`, with which P holds whatever follows them
 abbrev pub Framed : Spelled → ℕ → List Token → List Token → Type 0

@@ -1,5 +1,5 @@
 -- Items of modules as code makes them, with lists of parts: what spells them, and how deep their tokens lie.
-use Rattle.std.proofs.Common.{◌≡◌, ℕ, ◌+◌, ◌≤◌, Bool, true, false, List, [], ◌∷◌, ◌++◌, length, codes, Option, Some, None, refl, sym, ap, ◌∙◌, subst, append_assoc, append-nil, length-append, arith}
+use Rattle.std.proofs.Common.{◌≡◌, Bool, true, false, List, [], ◌∷◌, ◌++◌, codes, Option, Some, None, refl, sym, ap, ◌∙◌, subst}
 use Rattle.sv_outside.specs.declared.refusal.Place.{Place}
 use Rattle.sv_outside.specs.declared.text.Token.{Token}
 use Rattle.sv_tree.specs.declared.word.Word.{Word}
@@ -12,18 +12,18 @@ use Rattle.sv_tree.specs.declared.design.AssignPair.{AssignPair}
 use Rattle.sv_tree.specs.declared.design.Param.{Param as ParamTree}
 use Rattle.sv_tree.specs.declared.design.NetWord.{NetWord}
 use Rattle.sv_tree.specs.declared.design.Inst.{Inst as InstTree}
-use Rattle.sv_tree.specs.declared.design.Item.{Item, Net, Variable, Typedef, Param, Genvar, Assign, Always, Inst, For', If', Generate', Row_of-Item, end_of-Item, more_of-Item, end_of-Gen, more_of-Gen, Held-Item-If-3, None', Some', roll-Item, out-Item, roll-out-Item}
+use Rattle.sv_tree.specs.declared.design.Item.{Item, Net, Variable, Typedef, Param, Genvar, Assign, Always, Inst, For', If', Generate', end_of-Item, more_of-Item, end_of-Gen, more_of-Gen, None', Some', roll-Item, roll-out-Item}
 use Rattle.sv_tree.specs.declared.design.Item.TheVariants as it
-use Rattle.sv_tree.specs.declared.design.Gen.TheBlock.{shape-the_row-Item-0, hidden-the_row-Item-0, shown-the_row-Item-0, shape-the_row-Item-1, hidden-the_row-Item-1, shown-the_row-Item-1, shape-the_row-Gen-2, hidden-the_row-Gen-2, shown-the_row-Gen-2}
-use Rattle.sv_tree.specs.declared.design.Gen.{Gen, Block', Single', roll-Gen, out-Gen, roll-out-Gen}
+use Rattle.sv_tree.specs.declared.design.Gen.TheBlock.{shape-the_row-Item-0, hidden-the_row-Item-0, shown-the_row-Item-0, shape-the_row-Item-1, hidden-the_row-Item-1, shape-the_row-Gen-2, hidden-the_row-Gen-2}
+use Rattle.sv_tree.specs.declared.design.Gen.{Gen, Block', Single', roll-Gen, roll-out-Gen}
 use Rattle.sv_tree.specs.declared.design.Gen.TheVariants as ge
-use Rattle.sv_tree.specs.Spelling.{Spelled, nothing, never, ◌⨟◌, first_at, when, mark, key, key_at, name, maybe, each, commas, label_of}
+use Rattle.sv_tree.specs.Spelling.{Spelled, nothing, ◌⨟◌, first_at, when, mark, key, key_at, name, maybe, each, commas, label_of}
 use Rattle.sv_tree.specs.GrammarExprs.{Spells}
 use Rattle.sv_tree.specs.GrammarForms.{SpellsType, SpellsTypedef, SpellsParam, net_key}
 use Rattle.sv_tree.specs.GrammarStmts.{is_closed as is_closed_stmt, SpellsStep, SpellsBlock, block_name}
-use Rattle.sv_tree.specs.GrammarDesign.{SpellsPair, SpellsInst, genvar_if, is_closed, is_closed_gen, is_closed_else, SpellsItem, SpellsGen, SpellsElse, SpellsItems}
+use Rattle.sv_tree.specs.GrammarDesign.{SpellsPair, SpellsInst, genvar_if, is_closed, is_closed_gen, SpellsItem, SpellsGen, SpellsItems}
 use Rattle.sv_tree.specs.Nesting.{Depths, one, two, in_generate, if_given, each_depths, commas_depths, word_depths, label_depths, expr_depths}
-use Rattle.sv_tree.specs.NestingDesign.{type_depths, typedef_depths, param_depths, pair_depths, block_depths, inst_depths, if_true, turns_depths, item_depths, gen_depths, other_depths, items_depths}
+use Rattle.sv_tree.specs.NestingDesign.{type_depths, typedef_depths, param_depths, pair_depths, block_depths, inst_depths, if_true, turns_depths, item_depths, gen_depths, items_depths}
 
 -- ---- lists of items
 

@@ -1,5 +1,5 @@
 -- Expressions as code makes them, with lists of parts: what spells them, and how deep their tokens lie.
-use Rattle.std.proofs.Common.{◌≡◌, ℕ, ◌+◌, ◌≤◌, Bool, true, false, List, [], ◌∷◌, ◌++◌, length, codes, refl, sym, ap, ◌∙◌, subst, append_assoc, arith}
+use Rattle.std.proofs.Common.{◌≡◌, ℕ, ◌≤◌, List, [], ◌∷◌, ◌++◌, codes, refl, sym, ap, ◌∙◌, subst, append_assoc, arith}
 use Rattle.sv_outside.specs.declared.refusal.Place.{Place}
 use Rattle.sv_outside.specs.declared.text.Token.{Token}
 use Rattle.sv_tree.specs.declared.word.Word.{Word}
@@ -8,13 +8,13 @@ use Rattle.sv_tree.specs.declared.exprs.SystemName.{SystemName}
 use Rattle.sv_tree.specs.declared.exprs.UnaryOp.{UnaryOp}
 use Rattle.sv_tree.specs.declared.exprs.BinaryOp.{BinaryOp}
 use Rattle.sv_tree.specs.declared.exprs.RangeMark.{RangeMark}
-use Rattle.sv_tree.specs.declared.exprs.Expr.{Expr, Literal, Name', Paren', Concat', Repeat', CastLiteral', CastName', CastParen', CastSign', System', Unary', Binary', Choose', Row_of-Expr, end_of-Expr, more_of-Expr, Row_of-Select, end_of-Select, more_of-Select, roll-Expr, out-Expr, roll-out-Expr}
+use Rattle.sv_tree.specs.declared.exprs.Expr.{Expr, Literal, Name', Paren', Concat', Repeat', CastLiteral', CastName', CastParen', CastSign', System', Unary', Binary', Choose', end_of-Expr, more_of-Expr, roll-Expr, roll-out-Expr}
 use Rattle.sv_tree.specs.declared.exprs.Expr.TheVariants as e
 use Rattle.sv_tree.specs.declared.exprs.Expr.TheBlock.{shape-the_row-Select-0, hidden-the_row-Select-0, shown-the_row-Select-0, shape-the_row-Expr-1, hidden-the_row-Expr-1, shown-the_row-Expr-1, shape-the_row-Expr-2, hidden-the_row-Expr-2, shown-the_row-Expr-2}
 use Rattle.sv_tree.specs.declared.exprs.Select.{Select, Member, Index', Range'}
 use Rattle.sv_tree.specs.declared.exprs.Select.TheVariants as s
-use Rattle.sv_tree.specs.Spelling.{Spelled, nothing, never, ◌⨟◌, when, mark, mark_at, key_at, system_at, literal, name, commas, after_commas}
-use Rattle.sv_tree.specs.GrammarExprs.{Spells, SpellsCommas, SpellsMore, SpellsSelect, SpellsSelects, sign_word, system_word, unary_mark, binary_mark, range_text, binds, left_level, right_level, is_range}
+use Rattle.sv_tree.specs.Spelling.{Spelled, ◌⨟◌, when, mark, mark_at, key_at, system_at, literal, name, commas, after_commas}
+use Rattle.sv_tree.specs.GrammarExprs.{Spells, SpellsCommas, SpellsMore, SpellsSelect, SpellsSelects, sign_word, system_word, unary_mark, binary_mark, range_text, binds, left_level, right_level}
 use Rattle.sv_tree.specs.GrammarStmts.{SpellsChain}
 use Rattle.sv_tree.specs.Nesting.{Depths, one, two, three, in_expr, each_depths, commas_depths, after_commas_depths, expr_depths, name_depths, exprs_depths, more_depths, select_depths, selects_depths}
 

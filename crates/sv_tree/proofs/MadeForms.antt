@@ -1,20 +1,19 @@
 -- Types as code makes them, with lists of parts: what spells them, and how deep their tokens lie.
-use Rattle.std.proofs.Common.{◌≡◌, ℕ, ◌+◌, ◌≤◌, Bool, true, false, List, [], ◌∷◌, ◌++◌, length, codes, Option, Some, None, refl, sym, ap, ◌∙◌, subst, append_assoc, append-nil, length-append, arith}
-use Rattle.sv_outside.specs.declared.refusal.Place.{Place}
+use Rattle.std.proofs.Common.{◌≡◌, List, [], ◌∷◌, ◌++◌, codes, Option, Some, None, refl, sym, ap, ◌∙◌, subst}
 use Rattle.sv_outside.specs.declared.text.Token.{Token}
 use Rattle.sv_tree.specs.declared.word.Word.{Word}
 use Rattle.sv_tree.specs.declared.exprs.Sign.{Sign}
 use Rattle.sv_tree.specs.declared.forms.BitsWord.{BitsWord}
 use Rattle.sv_tree.specs.declared.forms.Range.{Range}
 use Rattle.sv_tree.specs.declared.forms.EnumLabel.{EnumLabel}
-use Rattle.sv_tree.specs.declared.forms.TypeTree.{TypeTree, Vector, Integer, Struct', Enum, Named, Row_of-Member, end_of-Member, more_of-Member, roll-TypeTree, out-TypeTree, roll-out-TypeTree}
+use Rattle.sv_tree.specs.declared.forms.TypeTree.{TypeTree, Vector, Integer, Struct', Enum, Named, roll-TypeTree, roll-out-TypeTree}
 use Rattle.sv_tree.specs.declared.forms.TypeTree.TheVariants as ty
-use Rattle.sv_tree.specs.declared.forms.Member.TheBlock.{shape-the_row-TypeTree-0, hidden-the_row-TypeTree-0, shown-the_row-TypeTree-0, shape-the_row-Member-1, hidden-the_row-Member-1, shown-the_row-Member-1}
+use Rattle.sv_tree.specs.declared.forms.Member.TheBlock.{shape-the_row-TypeTree-0, hidden-the_row-TypeTree-0, shape-the_row-Member-1, hidden-the_row-Member-1, shown-the_row-Member-1}
 use Rattle.sv_tree.specs.declared.forms.Member.{Member, Of', end_of-TypeTree, more_of-TypeTree}
 use Rattle.sv_tree.specs.declared.forms.Member.TheVariants as mem
-use Rattle.sv_tree.specs.Spelling.{Spelled, nothing, never, ◌⨟◌, mark, key, name, maybe, each, commas}
+use Rattle.sv_tree.specs.Spelling.{Spelled, never, ◌⨟◌, mark, key, name, maybe, each, commas}
 use Rattle.sv_tree.specs.GrammarForms.{bits_key, sign_key, SpellsRange, SpellsLabel, SpellsType, SpellsMembers, MoreMembers, SpellsMember}
-use Rattle.sv_tree.specs.Nesting.{Depths, one, two, in_type, if_given, each_depths, commas_depths, word_depths}
+use Rattle.sv_tree.specs.Nesting.{one, two, in_type, if_given, each_depths, commas_depths, word_depths}
 use Rattle.sv_tree.specs.NestingDesign.{range_depths, enum_label_depths, type_depths, members_depths, member_depths}
 use Rattle.sv_tree.proofs.MadeStmts.{some}
 

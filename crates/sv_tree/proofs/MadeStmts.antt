@@ -1,29 +1,29 @@
 -- Targets and statements as code makes them, with lists of parts: what spells them, and how deep their tokens lie.
-use Rattle.std.proofs.Common.{◌≡◌, ℕ, ◌+◌, ◌≤◌, Bool, true, false, List, [], ◌∷◌, ◌++◌, length, codes, Option, Some, None, refl, sym, ap, ◌∙◌, subst, append_assoc, append-nil, length-append, arith}
+use Rattle.std.proofs.Common.{◌≡◌, ℕ, ◌+◌, ◌≤◌, Bool, true, false, List, [], ◌∷◌, ◌++◌, codes, Option, Some, None, refl, sym, ap, ◌∙◌, subst}
 use Rattle.sv_outside.specs.declared.refusal.Place.{Place}
 use Rattle.sv_outside.specs.declared.text.Token.{Token}
 use Rattle.sv_tree.specs.declared.word.Word.{Word}
 use Rattle.sv_tree.specs.declared.exprs.Expr.{Expr}
 use Rattle.sv_tree.specs.declared.exprs.Select.{Select}
 use Rattle.sv_tree.specs.declared.forms.WholeWord.{WholeWord}
-use Rattle.sv_tree.specs.declared.stmts.Lvalue.{Lvalue, Name, Concat', Row_of-Lvalue, end_of-Lvalue, more_of-Lvalue, roll-Lvalue, out-Lvalue, roll-out-Lvalue}
+use Rattle.sv_tree.specs.declared.stmts.Lvalue.{Lvalue, Name, Concat', roll-Lvalue, roll-out-Lvalue}
 use Rattle.sv_tree.specs.declared.stmts.Lvalue.TheVariants as lv
 use Rattle.sv_tree.specs.declared.stmts.Lvalue.TheBlock.{shape-the_row-Lvalue-0, hidden-the_row-Lvalue-0, shown-the_row-Lvalue-0}
 use Rattle.sv_tree.specs.declared.stmts.Uniq.{Uniq}
 use Rattle.sv_tree.specs.declared.stmts.CaseWord.{CaseWord}
 use Rattle.sv_tree.specs.declared.stmts.AssignMark.{AssignMark}
 use Rattle.sv_tree.specs.declared.stmts.Step.{Step}
-use Rattle.sv_tree.specs.declared.stmts.Stmt.{Stmt, Empty, Block', If', Case', For', Assign, Row_of-Stmt, end_of-Stmt, more_of-Stmt, Row_of-Arm, end_of-Arm, more_of-Arm, Held-Stmt-If-3, None', Some', roll-Stmt, out-Stmt, roll-out-Stmt}
+use Rattle.sv_tree.specs.declared.stmts.Stmt.{Stmt, Empty, Block', If', Case', For', Assign, end_of-Stmt, more_of-Stmt, None', Some', roll-Stmt, roll-out-Stmt}
 use Rattle.sv_tree.specs.declared.stmts.Stmt.TheVariants as st
 use Rattle.sv_tree.specs.declared.stmts.Arm.TheBlock.{shape-the_row-Stmt-0, hidden-the_row-Stmt-0, shown-the_row-Stmt-0, shape-the_row-Stmt-1, hidden-the_row-Stmt-1, shown-the_row-Stmt-1, shape-the_row-Arm-2, hidden-the_row-Arm-2, shown-the_row-Arm-2}
-use Rattle.sv_tree.specs.declared.stmts.Arm.{Arm, Labels', Default', roll-Arm, out-Arm, roll-out-Arm}
+use Rattle.sv_tree.specs.declared.stmts.Arm.{Arm, Labels', Default'}
 use Rattle.sv_tree.specs.declared.stmts.Arm.TheVariants as ar
 use Rattle.sv_tree.specs.Spelling.{Spelled, nothing, never, ◌⨟◌, when, mark, mark_at, key, key_at, name, maybe, each, commas, after_commas, label_of}
 use Rattle.sv_tree.specs.GrammarExprs.{Spells}
 use Rattle.sv_tree.specs.GrammarForms.{whole_key}
-use Rattle.sv_tree.specs.GrammarStmts.{SpellsChain, SpellsLvalue, SpellsLvalues, MoreLvalues, SpellsStep, uniq_key, case_key, assign_text, block_name, colon_if, is_closed, is_closed_else, defaults, SpellsStmt, SpellsElse, SpellsStmts, SpellsArms, MoreArms, SpellsArm}
+use Rattle.sv_tree.specs.GrammarStmts.{SpellsChain, SpellsLvalue, SpellsLvalues, MoreLvalues, SpellsStep, uniq_key, case_key, assign_text, block_name, colon_if, is_closed, defaults, SpellsStmt, SpellsStmts, SpellsArms, MoreArms, SpellsArm}
 use Rattle.sv_tree.specs.Nesting.{Depths, one, two, three, in_expr, in_stmt, if_given, each_depths, commas_depths, after_commas_depths, word_depths, label_depths, expr_depths, select_depths}
-use Rattle.sv_tree.specs.NestingDesign.{lvalue_depths, lvalues_depths, more_lvalues_depths, step_depths, turns_depths, if_true, stmt_depths, else_depths, stmts_depths, arms_depths, arm_depths}
+use Rattle.sv_tree.specs.NestingDesign.{lvalue_depths, lvalues_depths, more_lvalues_depths, turns_depths, if_true, stmt_depths, stmts_depths, arms_depths, arm_depths}
 
 -- at least one
 abbrev pub some : {A : Type 0} → (A → Spelled) → List A → Spelled

@@ -6,7 +6,7 @@ use items::{Boxed, Items};
 use sv_outside::Place;
 
 /// The word of a parameter (A.2.1.1).
-#[derive(Clone, Copy, Debug, PartialEq, Eq)]
+#[derive(Clone, Copy)]
 pub enum ParamWord {
     Parameter,
     Localparam,
@@ -30,7 +30,7 @@ impl Drop for ParamType {
 }
 
 /// The word of a parameter that is a vector of bits (A.2.2.1, integer_vector_type).
-#[derive(Clone, Copy, Debug, PartialEq, Eq)]
+#[derive(Clone, Copy)]
 pub enum ParamBits {
     Bit,
     Logic,
@@ -86,7 +86,7 @@ impl Drop for Param {
 }
 
 /// The direction of a port (A.1.3, port_direction).
-#[derive(Clone, Copy, Debug, PartialEq, Eq)]
+#[derive(Clone, Copy)]
 pub enum Way {
     Input,
     Output,
@@ -94,7 +94,7 @@ pub enum Way {
 }
 
 /// The word of a net (A.2.2.1, net_type).
-#[derive(Clone, Copy, Debug, PartialEq, Eq)]
+#[derive(Clone, Copy)]
 pub enum NetWord {
     Wire,
     Tri,

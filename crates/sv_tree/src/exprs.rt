@@ -106,7 +106,7 @@ pub enum BinaryOp {
 }
 
 /// What parts the ends of a range select (A.8.3, part_select_range and indexed_range).
-#[derive(Clone, Copy, Debug, PartialEq, Eq)]
+#[derive(Clone, Copy)]
 pub enum RangeMark {
     /// `:`
     To,

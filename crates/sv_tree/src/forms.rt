@@ -5,14 +5,14 @@ use items::{Boxed, Items};
 use sv_outside::Place;
 
 /// The word of a vector of bits (A.2.2.1, integer_vector_type).
-#[derive(Clone, Copy, Debug, PartialEq, Eq)]
+#[derive(Clone, Copy)]
 pub enum BitsWord {
     Logic,
     Reg,
 }
 
 /// The word of a whole number of 32 bits (A.2.2.1, integer_atom_type).
-#[derive(Clone, Copy, Debug, PartialEq, Eq)]
+#[derive(Clone, Copy)]
 pub enum WholeWord {
     Int,
     Integer,

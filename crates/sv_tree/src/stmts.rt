@@ -25,7 +25,7 @@ impl Drop for Lvalue {
 }
 
 /// A step by one (A.6.2, inc_or_dec_operator).
-#[derive(Clone, Copy, Debug, PartialEq, Eq)]
+#[derive(Clone, Copy)]
 pub enum StepMark {
     /// `++`
     Inc,
@@ -34,7 +34,7 @@ pub enum StepMark {
 }
 
 /// The mark of a step by an expression (A.6.2, assignment_operator).
-#[derive(Clone, Copy, Debug, PartialEq, Eq)]
+#[derive(Clone, Copy)]
 pub enum StepSign {
     /// `=`
     Set,
@@ -62,7 +62,7 @@ impl Drop for Step {
 }
 
 /// What is said of the branches of an `if` or a `case` (A.6.6, unique_priority).
-#[derive(Clone, Copy, Debug, PartialEq, Eq)]
+#[derive(Clone, Copy)]
 pub enum Uniq {
     Unique,
     Unique0,
@@ -70,14 +70,14 @@ pub enum Uniq {
 }
 
 /// The word of a case statement (A.6.7, case_keyword).
-#[derive(Clone, Copy, Debug, PartialEq, Eq)]
+#[derive(Clone, Copy)]
 pub enum CaseWord {
     Case,
     Casez,
 }
 
 /// The mark of an assignment in a block (A.6.2, blocking_assignment and nonblocking_assignment).
-#[derive(Clone, Copy, Debug, PartialEq, Eq)]
+#[derive(Clone, Copy)]
 pub enum AssignMark {
     /// `=`
     Blocking,
@@ -138,7 +138,7 @@ impl Drop for Arm {
 }
 
 /// The edge of an event (A.6.5, edge_identifier).
-#[derive(Clone, Copy, Debug, PartialEq, Eq)]
+#[derive(Clone, Copy)]
 pub enum Edge {
     /// `posedge`
     Pos,

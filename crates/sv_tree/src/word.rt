@@ -2,7 +2,6 @@
 use sv_outside::{Name, Place};
 
 /// An identifier (A.9.3) or a literal (A.8.7): its bytes, and the place of its token.
-#[derive(Debug)]
 pub struct Word {
     pub text: Name,
     pub place: Place,

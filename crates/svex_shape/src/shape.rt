@@ -3,6 +3,7 @@
 //! since a graph in which no two nodes have equal shapes rests on it.
 
 ghost use Rattle.std.specs.Prelude.{◌≡◌, ◌↔◌, IsTrue};
+ghost use Rattle.svex_shape.specs.declared.shape.Shape.TheVariants.{Const, Var, Unary, Binary, Cond, Pick, Slice, Zext, Sext, DynSlice, DynPut};
 
 use crate::node::Node;
 use fourvec::{Four, Spot};
@@ -112,38 +113,90 @@ fn same_spot(a: &Spot, b: &Spot) -> bool
     *a == *b
 }
 
+fn is_const(shape: &Shape, value: &Four) -> bool
+    ensures { IsTrue result ↔ (Const value.now ≡ shape.now) }
+{
+    matches!(shape, Shape::Const(other) if same_vector(value, other))
+}
+
+fn is_var(shape: &Shape, name: &VarName, width: &u8) -> bool
+    ensures { IsTrue result ↔ (Var name.now width.now ≡ shape.now) }
+{
+    matches!(shape, Shape::Var(other, wide) if *name == *other && *width == *wide)
+}
+
+fn is_unary(shape: &Shape, op: &Un, x: &Node) -> bool
+    ensures { IsTrue result ↔ (Unary op.now x.now ≡ shape.now) }
+{
+    matches!(shape, Shape::Unary(other, y) if *op == *other && *x == *y)
+}
+
+fn is_binary(shape: &Shape, op: &Bin, x: &Node, y: &Node) -> bool
+    ensures { IsTrue result ↔ (Binary op.now x.now y.now ≡ shape.now) }
+{
+    matches!(shape, Shape::Binary(other, v, w) if *op == *other && *x == *v && *y == *w)
+}
+
+fn is_cond(shape: &Shape, c: &Node, x: &Node, y: &Node) -> bool
+    ensures { IsTrue result ↔ (Cond c.now x.now y.now ≡ shape.now) }
+{
+    matches!(shape, Shape::Cond(d, v, w) if *c == *d && *x == *v && *y == *w)
+}
+
+fn is_pick(shape: &Shape, c: &Node, x: &Node, y: &Node) -> bool
+    ensures { IsTrue result ↔ (Pick c.now x.now y.now ≡ shape.now) }
+{
+    matches!(shape, Shape::Pick(d, v, w) if *c == *d && *x == *v && *y == *w)
+}
+
+fn is_slice(shape: &Shape, of: &Node, lo: &u8, width: &u8) -> bool
+    ensures { IsTrue result ↔ (Slice of.now lo.now width.now ≡ shape.now) }
+{
+    matches!(shape, Shape::Slice { of: from, lo: low, width: wide }
+        if *of == *from && *lo == *low && *width == *wide)
+}
+
+fn is_zext(shape: &Shape, x: &Node, width: &u8) -> bool
+    ensures { IsTrue result ↔ (Zext x.now width.now ≡ shape.now) }
+{
+    matches!(shape, Shape::Zext(y, wide) if *x == *y && *width == *wide)
+}
+
+fn is_sext(shape: &Shape, x: &Node, width: &u8) -> bool
+    ensures { IsTrue result ↔ (Sext x.now width.now ≡ shape.now) }
+{
+    matches!(shape, Shape::Sext(y, wide) if *x == *y && *width == *wide)
+}
+
+fn is_dyn_slice(shape: &Shape, of: &Node, at: &Node, spot: &Spot) -> bool
+    ensures { IsTrue result ↔ (DynSlice of.now at.now spot.now ≡ shape.now) }
+{
+    matches!(shape, Shape::DynSlice { of: from, at: place, spot: part }
+        if *of == *from && *at == *place && same_spot(spot, part))
+}
+
+fn is_dyn_put(shape: &Shape, of: &Node, at: &Node, spot: &Spot, put: &Node) -> bool
+    ensures { IsTrue result ↔ (DynPut of.now at.now spot.now put.now ≡ shape.now) }
+{
+    matches!(shape, Shape::DynPut { of: from, at: place, spot: part, put: new }
+        if *of == *from && *at == *place && same_spot(spot, part) && *put == *new)
+}
+
 /// Whether two shapes are equal.
 pub fn same(a: &Shape, b: &Shape) -> bool
     ensures { IsTrue result ↔ (a.now ≡ b.now) }
 {
     match a {
-        Shape::Const(value) => matches!(b, Shape::Const(other) if same_vector(value, other)),
-        Shape::Var(name, width) => {
-            matches!(b, Shape::Var(other, wide) if *name == *other && *width == *wide)
-        }
-        Shape::Unary(op, x) => matches!(b, Shape::Unary(other, y) if *op == *other && *x == *y),
-        Shape::Binary(op, x, y) => {
-            matches!(b, Shape::Binary(other, v, w) if *op == *other && *x == *v && *y == *w)
-        }
-        Shape::Cond(c, x, y) => {
-            matches!(b, Shape::Cond(d, v, w) if *c == *d && *x == *v && *y == *w)
-        }
-        Shape::Pick(c, x, y) => {
-            matches!(b, Shape::Pick(d, v, w) if *c == *d && *x == *v && *y == *w)
-        }
-        Shape::Slice { of, lo, width } => {
-            matches!(b, Shape::Slice { of: from, lo: low, width: wide }
-                if *of == *from && *lo == *low && *width == *wide)
-        }
-        Shape::Zext(x, width) => matches!(b, Shape::Zext(y, wide) if *x == *y && *width == *wide),
-        Shape::Sext(x, width) => matches!(b, Shape::Sext(y, wide) if *x == *y && *width == *wide),
-        Shape::DynSlice { of, at, spot } => {
-            matches!(b, Shape::DynSlice { of: from, at: place, spot: part }
-                if *of == *from && *at == *place && same_spot(spot, part))
-        }
-        Shape::DynPut { of, at, spot, put } => {
-            matches!(b, Shape::DynPut { of: from, at: place, spot: part, put: new }
-                if *of == *from && *at == *place && same_spot(spot, part) && *put == *new)
-        }
+        Shape::Const(value) => is_const(b, value),
+        Shape::Var(name, width) => is_var(b, name, width),
+        Shape::Unary(op, x) => is_unary(b, op, x),
+        Shape::Binary(op, x, y) => is_binary(b, op, x, y),
+        Shape::Cond(c, x, y) => is_cond(b, c, x, y),
+        Shape::Pick(c, x, y) => is_pick(b, c, x, y),
+        Shape::Slice { of, lo, width } => is_slice(b, of, lo, width),
+        Shape::Zext(x, width) => is_zext(b, x, width),
+        Shape::Sext(x, width) => is_sext(b, x, width),
+        Shape::DynSlice { of, at, spot } => is_dyn_slice(b, of, at, spot),
+        Shape::DynPut { of, at, spot, put } => is_dyn_put(b, of, at, spot, put),
     }
 }

@@ -3,6 +3,7 @@
 ghost use Rattle.std.specs.Prelude.{◌≡◌, ℕ, ◌<◌, ◌≤◌, ◌+◌, length, slice_index};
 ghost use Rattle.svex_shape.specs.Shapes.{ChildrenBelow, FitsWidths, FitsPair, IsWidth, OnChildren, width_of, unary_width, binary_width};
 
+use crate::node::Node;
 use crate::shape::{Bin, Shape, Un};
 
 fn unary(op: &Un, a: u8) -> u8
@@ -33,6 +34,13 @@ fn binary(op: &Bin, a: u8, b: u8) -> u8
     }
 }
 
+fn width_at(widths: &[u8], node: &Node) -> u8
+    requires { node.now < length widths.now }
+    ensures { result ≡ slice_index widths.now node.now }
+{
+    widths[node.index()]
+}
+
 /// The width of a shape over the widths of its children.
 #[tactic(auto, unfolding(crate::specs::Shapes::width_of))]
 pub fn shape_width(shape: &Shape, widths: &[u8]) -> u8
@@ -46,14 +54,14 @@ pub fn shape_width(shape: &Shape, widths: &[u8]) -> u8
     match shape {
         Shape::Const(value) => value.width(),
         Shape::Var(_, width) => *width,
-        Shape::Unary(op, a) => unary(op, widths[a.index()]),
-        Shape::Binary(op, a, b) => binary(op, widths[a.index()], widths[b.index()]),
-        Shape::Cond(_, a, _) => widths[a.index()],
-        Shape::Pick(_, a, _) => widths[a.index()],
+        Shape::Unary(op, a) => unary(op, width_at(widths, a)),
+        Shape::Binary(op, a, b) => binary(op, width_at(widths, a), width_at(widths, b)),
+        Shape::Cond(_, a, _) => width_at(widths, a),
+        Shape::Pick(_, a, _) => width_at(widths, a),
         Shape::Slice { width, .. } => *width,
         Shape::Zext(_, width) => *width,
         Shape::Sext(_, width) => *width,
         Shape::DynSlice { spot, .. } => spot.width,
-        Shape::DynPut { of, .. } => widths[of.index()],
+        Shape::DynPut { of, .. } => width_at(widths, of),
     }
 }

@@ -1,7 +1,6 @@
 use Rattle.std.proofs.Common.{◌≡◌, ◌+◌, ◌∙◌, ◌++◌, ◌∷◌, [], List, Bool, true, false, length, get_or, sym, ap, subst, arith}
 use Rattle.std.proofs.lemmas.Result.{IfOk-from_err}
 use Rattle.std.proofs.lemmas.List.{length_push, get_or_push}
-use Rattle.aig.specs.Cone.{IsClosed}
 use Rattle.aig.proofs.Chains.{slice_back}
 use Rattle.aig.proofs.eval.cone_of.Goals as goal
 

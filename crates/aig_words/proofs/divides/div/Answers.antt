@@ -1,3 +1,4 @@
+use Rattle.std.proofs.lemmas.Result.{IfOk-from_err}
 use Rattle.aig.proofs.Values.{always_from}
 use Rattle.aig_words.specs.Words.{number}
 use Rattle.aig_words.proofs.Steps.{quotient_is}
@@ -7,3 +8,9 @@ pub returns-clause-value : goal.returns-clause-value
 returns-clause-value c = always_from _ _ c.in_ok-quotient.ensures.value.graph (λ v o pos.
     let parts = c.in_ok-quotient.ensures.value.obeyed v o pos in
     quotient_is (number v c.args.a.now) _ (number v c.args.b.now) _ parts.0 parts.1)
+
+pub returns-in_err-quotient-clause-value : goal.returns-in_err-quotient-clause-value
+returns-in_err-quotient-clause-value c = IfOk-from_err _ _ c.from_residual.ensures.0
+
+pub returns-in_err-quotient-clause-word : goal.returns-in_err-quotient-clause-word
+returns-in_err-quotient-clause-word c = IfOk-from_err _ _ c.from_residual.ensures.0

@@ -1,3 +1,4 @@
+use Rattle.std.proofs.lemmas.Result.{IfOk-from_err}
 use Rattle.std.proofs.Common.{◌+◌, ◌*◌, List, take, eqb, ap, ◌∙◌, arith}
 use Rattle.std.proofs.lemmas.List.{take_all}
 use Rattle.aig.specs.declared.gate.Lit.{Lit}
@@ -28,3 +29,9 @@ returns-clause-value c =
     always_from _ _ (c.loop-i.invariant.graph (omega (arith, c.requires.some))) (λ v o.
     c.loop-i.invariant.value v o ∙ ap (λ (xs : List Lit). eqb (number v xs) (number v (take i b))) (take_all i a (omega arith)) ∙
     ap (λ (xs : List Lit). eqb (number v a) (number v xs)) (take_all i b (omega (arith, c.requires.same))))
+
+pub returns-in_err-last-clause-value : goal.returns-in_err-last-clause-value
+returns-in_err-last-clause-value c = IfOk-from_err _ _ c.from_residual.ensures.0
+
+pub returns-in_err-last-clause-within : goal.returns-in_err-last-clause-within
+returns-in_err-last-clause-within c = IfOk-from_err _ _ c.from_residual.ensures.0

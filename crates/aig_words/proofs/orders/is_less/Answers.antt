@@ -1,3 +1,4 @@
+use Rattle.std.proofs.lemmas.Result.{IfOk-from_err}
 use Rattle.std.proofs.Common.{◌+◌, ◌*◌, arith}
 use Rattle.aig.proofs.Growth.{Obeys-older}
 use Rattle.aig_words.proofs.Grown.{Grew-then}
@@ -15,3 +16,12 @@ loop-i-preserved c =
       value = λ v o. less_more v c.args.a.now c.args.b.now i _ _ c.requires.same c.loop-i-test.true
           (c.loop-i.invariant.value v (Obeys-older v _ _ grew.grows o)) (c.in_ok-last.ensures.value.obeyed v o);
     }
+
+pub returns-in_err-last-clause-graph : goal.returns-in_err-last-clause-graph
+returns-in_err-last-clause-graph c = IfOk-from_err _ _ c.from_residual.ensures.0
+
+pub returns-in_err-last-clause-value : goal.returns-in_err-last-clause-value
+returns-in_err-last-clause-value c = IfOk-from_err _ _ c.from_residual.ensures.0
+
+pub returns-in_err-last-clause-within : goal.returns-in_err-last-clause-within
+returns-in_err-last-clause-within c = IfOk-from_err _ _ c.from_residual.ensures.0

@@ -1,3 +1,4 @@
+use Rattle.std.proofs.lemmas.Result.{IfOk-from_err}
 use Rattle.std.proofs.Common.{◌≡◌, ◌+◌, ◌-◌, ltb, List, length, ap, sym, ◌∙◌, arith}
 use Rattle.std.proofs.lemmas.List.{drop_all}
 use Rattle.aig.specs.declared.gate.Lit.{Lit}
@@ -25,3 +26,9 @@ loop-i-preserved c =
       value = λ v o. any_more v c.args.a.now i _ _ c.loop-i-test.true
           (c.loop-i.invariant.value v (Obeys-older v _ _ grew.grows o)) (c.in_ok-last.ensures.value.obeyed v o);
     }
+
+pub returns-in_err-last-clause-value : goal.returns-in_err-last-clause-value
+returns-in_err-last-clause-value c = IfOk-from_err _ _ c.from_residual.ensures.0
+
+pub returns-in_err-last-clause-within : goal.returns-in_err-last-clause-within
+returns-in_err-last-clause-within c = IfOk-from_err _ _ c.from_residual.ensures.0

@@ -1,3 +1,4 @@
+use Rattle.std.proofs.lemmas.Result.{IfOk-from_err}
 use Rattle.std.proofs.Common.{◌≡◌, ◌+◌, ◌^◌, Bool, length, ap, arith}
 use Rattle.aig.specs.Graph.{holds}
 use Rattle.aig.proofs.Values.{always_from}
@@ -12,3 +13,9 @@ returns-clause-value c = always_from _ _ c.in_ok-word.ensures.value.graph (λ v 
     let z : weight (holds v c.constant.result) ≡ 0 = ap (λ (b : Bool). weight b) (holds-zero v c.constant.result c.constant.ensures o.bottom) in
     sum_mod (number v c.in_ok-word.field-0.word.items) (weight (holds v c.in_ok-word.field-0.carry)) (2 ^ length c.args.a.now) (number v c.args.a.now + number v c.args.b.now)
     (number-below-at v c.in_ok-word.field-0.word.items (length c.args.a.now) c.in_ok-word.ensures.word.long) (omega (arith, e, z)))
+
+pub returns-in_err-word-clause-value : goal.returns-in_err-word-clause-value
+returns-in_err-word-clause-value c = IfOk-from_err _ _ c.from_residual.ensures.0
+
+pub returns-in_err-word-clause-word : goal.returns-in_err-word-clause-word
+returns-in_err-word-clause-word c = IfOk-from_err _ _ c.from_residual.ensures.0

@@ -1,4 +1,5 @@
-use Rattle.std.proofs.Common.{◌≡◌, ◌+◌, ◌<◌, ◌++◌, ◌∷◌, [], append_assoc, sym, ap, ◌∙◌, arith}
+use Rattle.std.proofs.lemmas.Result.{IfOk-from_err}
+use Rattle.std.proofs.Common.{◌<◌, ◌++◌, ◌∷◌, [], append_assoc, sym, ap, ◌∙◌}
 use Rattle.lhs_alias.specs.Segs.{lhs_bits}
 use Rattle.lhs_alias.proofs.SegBits.{seg_bits-one, All-front}
 use Rattle.lhs_alias.proofs.bits.segs_of.Goals as goal
@@ -18,3 +19,12 @@ loop-bit-preserved c =
       united = c.in_ok-put_below.ensures.united c.loop-bit.invariant.united;
       rest = All-front (λ bit. bit.at < 128) c.loop-bit.rest.now c.in-Some.lower.now c.in-Some.bit.now is c.loop-bit.invariant.rest;
     }
+
+pub returns-in_err-put_below-clause-bits : goal.returns-in_err-put_below-clause-bits
+returns-in_err-put_below-clause-bits c = IfOk-from_err _ _ c.from_residual.ensures.0
+
+pub returns-in_err-put_below-clause-segs : goal.returns-in_err-put_below-clause-segs
+returns-in_err-put_below-clause-segs c = IfOk-from_err _ _ c.from_residual.ensures.0
+
+pub returns-in_err-put_below-clause-united : goal.returns-in_err-put_below-clause-united
+returns-in_err-put_below-clause-united c = IfOk-from_err _ _ c.from_residual.ensures.0

@@ -1,4 +1,4 @@
-use Rattle.std.proofs.Common.{◌≡◌, ◌++◌, ◌∷◌, [], length}
+use Rattle.std.proofs.Common.{◌≡◌, ◌++◌}
 use Rattle.lhs_alias.specs.Segs.{seg_bits}
 use Rattle.lhs_alias.proofs.joins.add_wire.Given as goal
 

@@ -1,6 +1,6 @@
-use Rattle.std.proofs.Common.{◌≡◌, Bool, true, false, ◌||◌, set, get_or, length, refl, sym, ap, ◌∙◌}
+use Rattle.std.proofs.Common.{◌≡◌, false, ◌||◌, get_or, refl, sym, ap, ◌∙◌}
 use Rattle.std.specs.List.{list_any}
-use Rattle.lhs_alias.specs.Joined.{place_in, is_marked}
+use Rattle.lhs_alias.specs.Joined.{is_marked}
 use Rattle.lhs_alias.proofs.Row.{places-rest}
 use Rattle.lhs_alias.proofs.joins.any_joined.Goals as goal
 

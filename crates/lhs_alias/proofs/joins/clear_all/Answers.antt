@@ -1,6 +1,6 @@
-use Rattle.std.proofs.Common.{◌≡◌, false, set, length, sym, ap, ◌∙◌}
+use Rattle.std.proofs.Common.{false, set, sym, ap, ◌∙◌}
 use Rattle.std.proofs.lemmas.List.{length-set}
-use Rattle.lhs_alias.specs.Joined.{marked, place_in}
+use Rattle.lhs_alias.specs.Joined.{marked}
 use Rattle.lhs_alias.proofs.Row.{places-rest}
 use Rattle.lhs_alias.proofs.joins.clear_all.Goals as goal
 

@@ -1,9 +1,10 @@
-use Rattle.std.proofs.Common.{◌≡◌, [], append_assoc, List, subst, arith, get_or, map, ◌++◌, ◌∷◌, length, refl, sym, ap, ◌∙◌}
+use Rattle.std.proofs.lemmas.Result.{IfOk-from_err}
+use Rattle.std.proofs.Common.{◌≡◌, [], append_assoc, List, subst, arith, get_or, map, ◌++◌, ◌∷◌, refl, sym, ap, ◌∙◌}
 use Rattle.std.specs.Prelude.{All, Contains}
 use Rattle.std.proofs.lemmas.List.Elements.{All-push, Contains-get_or}
 use Rattle.lhs_alias.specs.declared.segs.WireBit.{WireBit}
 use Rattle.lhs_alias.specs.Segs.{bit}
-use Rattle.lhs_alias.specs.Joined.{place_in, first_bit}
+use Rattle.lhs_alias.specs.Joined.{first_bit}
 use Rattle.lhs_alias.proofs.Row.{places-rest}
 use Rattle.lhs_alias.proofs.joins.first_bits.Goals as goal
 
@@ -29,3 +30,9 @@ loop-bit-preserved c =
           (Contains-get_or c.args.bits.now c.first_of.result (bit 0 0) (omega (arith, c.first_of.ensures.within, c.requires.as_many))));
       places = places-rest starts _ _ c.in-Some.bit rest c.loop-bit.rest c.in-Some.ensures refl c.loop-bit.invariant.places;
     }
+
+pub returns-in_err-push-clause-firsts : goal.returns-in_err-push-clause-firsts
+returns-in_err-push-clause-firsts c = IfOk-from_err _ _ c.from_residual.ensures.0
+
+pub returns-in_err-push-clause-known : goal.returns-in_err-push-clause-known
+returns-in_err-push-clause-known c = IfOk-from_err _ _ c.from_residual.ensures.0

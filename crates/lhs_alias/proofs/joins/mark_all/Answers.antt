@@ -1,7 +1,7 @@
-use Rattle.std.proofs.Common.{◌≡◌, Bool, true, false, not, ◌&&◌, set, get_or, length, refl, sym, ap, ◌∙◌}
+use Rattle.std.proofs.Common.{true, false, not, ◌&&◌, set, get_or, sym, ap, ◌∙◌}
 use Rattle.std.proofs.lemmas.List.{length-set}
 use Rattle.std.proofs.Math.Bool.{and_assoc}
-use Rattle.lhs_alias.specs.Joined.{is_marked, marked, are_free, place_in}
+use Rattle.lhs_alias.specs.Joined.{is_marked, marked, are_free}
 use Rattle.lhs_alias.proofs.Row.{places-rest}
 use Rattle.lhs_alias.proofs.joins.mark_all.Goals as goal
 

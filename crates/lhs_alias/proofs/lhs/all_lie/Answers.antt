@@ -1,7 +1,6 @@
-use Rattle.std.proofs.Common.{◌≡◌, List, take, subst, refl, rules, arith}
+use Rattle.std.proofs.Common.{List, subst, refl, arith}
 use Rattle.std.proofs.lemmas.List.{take_all}
 use Rattle.std.proofs.lemmas.List.Elements.{All-more}
-use Rattle.std.proofs.lemmas.Grind.{elements}
 use Rattle.lhs_alias.specs.declared.segs.Seg.{Seg}
 use Rattle.lhs_alias.specs.Lies.{LiesIn, LieIn}
 use Rattle.lhs_alias.proofs.lhs.all_lie.Goals as goal

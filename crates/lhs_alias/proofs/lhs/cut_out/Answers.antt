@@ -1,4 +1,5 @@
-use Rattle.std.proofs.Common.{◌≡◌, ◌+◌, ◌-◌, ◌<◌, List, take, drop, sym, ap, subst, ◌∙◌, ◌++◌, arith}
+use Rattle.std.proofs.lemmas.Result.{IfOk-from_err}
+use Rattle.std.proofs.Common.{◌-◌, ◌<◌, List, take, drop, sym, ap, subst, ◌∙◌, ◌++◌, arith}
 use Rattle.std.specs.Prelude.{reverse}
 use Rattle.lhs_alias.specs.declared.segs.Seg.{Seg}
 use Rattle.std.proofs.lemmas.List.Elements.{All-push}
@@ -43,3 +44,9 @@ loop-left-preserved c =
       parts = c.loop-left.invariant.parts;
       rest = All-front IsSeg rest higher low is c.loop-left.invariant.rest;
     }
+
+pub returns-in_err-push-clause-bits : goal.returns-in_err-push-clause-bits
+returns-in_err-push-clause-bits c = IfOk-from_err _ _ c.from_residual.ensures.0
+
+pub returns-in_err-push-clause-segs : goal.returns-in_err-push-clause-segs
+returns-in_err-push-clause-segs c = IfOk-from_err _ _ c.from_residual.ensures.0

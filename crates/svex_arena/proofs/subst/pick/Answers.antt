@@ -36,3 +36,11 @@ pub returns : goal.returns
 returns c =
     let end : c.loop-root.root-index ≡ length c.args.roots.now = omega arith in
     subst (λ (n : ℕ). IsPicked c.args.done.now c.args.roots.now c.loop-root.picked.items n) end c.loop-root.invariant.picked
+
+pub bounds-done-index : goal.bounds-done-index
+bounds-done-index c =
+    let roots = c.args.roots.now in
+    let i = c.loop-root.root-index in
+    let lt : i < length roots = omega arith in
+    let root : c.index.result ≡ slice_index roots i = c.index.ensures ∙ c.root-item.is ∙ get_or_default roots i c.root-item.result 0 lt in
+    omega (arith, root, c.requires i lt)

@@ -1,11 +1,10 @@
-use Rattle.std.proofs.Common.{◌≡◌, ◌+◌, ◌<◌, ◌++◌, ◌∷◌, [], List, length, false, get_or, ap, sym, subst, ◌∙◌, arith}
-use Rattle.std.proofs.lemmas.List.{get_or_append_left, get_or_push, length_push}
+use Rattle.std.proofs.Common.{◌≡◌, List, length, ap, ◌∙◌, arith}
 use Rattle.aig.specs.declared.gate.Gate.{Gate}
-use Rattle.aig.specs.declared.gate.Gate.TheVariants.{False, Input}
-use Rattle.aig.specs.Graph.{count_inputs, IsGraph, KeepsValues, values}
+use Rattle.aig.specs.declared.gate.Gate.TheVariants.{Input}
+use Rattle.aig.specs.Graph.{count_inputs}
 use Rattle.aig.proofs.Growth.{count_inputs-push_input, IsGraph-push_input}
 use Rattle.aig.proofs.Linked.{kept_input, kept_pushed, value_pushed}
-use Rattle.aig.proofs.Values.{count_inputs_lt, kept_values, value_input}
+use Rattle.aig.proofs.Values.{count_inputs_lt}
 use Rattle.std.proofs.lemmas.Result.{IfOk-from_err}
 use Rattle.aig.proofs.graph.Aig.input.Goals as goal
 

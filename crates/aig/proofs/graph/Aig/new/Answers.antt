@@ -1,4 +1,4 @@
-use Rattle.std.proofs.Common.{◌≡◌, List, [], ◌∷◌, ◌++◌, replicate, arith}
+use Rattle.std.proofs.Common.{◌≡◌, replicate, arith}
 use Rattle.aig.proofs.Linked.{kept_start}
 use Rattle.std.proofs.lemmas.Result.{IfOk-from_err}
 use Rattle.aig.proofs.graph.Aig.new.Goals as goal

@@ -1,6 +1,6 @@
 use Rattle.std.proofs.Common.{◌≡◌, ◌<◌, ◌∙◌, List, ℕ, length, get_or, sym, ap, subst, arith}
 use Rattle.std.proofs.lemmas.List.{get_or_read}
-use Rattle.lhs_alias.specs.Roots.{root_of, EndAtRoots, IsForest}
+use Rattle.lhs_alias.specs.Roots.{root_of, EndAtRoots}
 use Rattle.lhs_alias.proofs.Trees.{sized-ends, get_or-firsts_of, length-firsts_of}
 use Rattle.lhs_alias.proofs.forest.Forest.first_of.Goals as goal
 

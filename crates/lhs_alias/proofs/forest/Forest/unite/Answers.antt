@@ -1,4 +1,4 @@
-use Rattle.std.proofs.Common.{◌≡◌, ◌<◌, ◌∙◌, length, ap, arith}
+use Rattle.std.proofs.Common.{length, ap, arith}
 use Rattle.lhs_alias.proofs.Trees.{length-firsts_of}
 use Rattle.lhs_alias.proofs.forest.Forest.unite.Goals as goal
 

@@ -1,4 +1,5 @@
-use Rattle.std.proofs.Common.{◌≡◌, ◌<◌, List, length, map, sym, ap, subst, ◌∙◌, arith}
+use Rattle.std.proofs.lemmas.Result.{IfOk-from_err}
+use Rattle.std.proofs.Common.{◌≡◌, ◌<◌, List, length, map, sym, ap, subst, ◌∙◌}
 use Rattle.std.specs.Prelude.{All, Contains}
 use Rattle.std.specs.List.{AllZip}
 use Rattle.lhs_alias.specs.declared.segs.Seg.{Seg}
@@ -6,7 +7,7 @@ use Rattle.lhs_alias.specs.declared.segs.WireBit.{WireBit}
 use Rattle.lhs_alias.specs.Segs.{lhs_bits, AreSegs}
 use Rattle.lhs_alias.specs.Lies.{IsBitOf, LieIn}
 use Rattle.lhs_alias.specs.Pairs.{IsFirst}
-use Rattle.lhs_alias.specs.Joined.{Kept, widths_of, HasPlace, Stands, first_of, first_bit}
+use Rattle.lhs_alias.specs.Joined.{Kept, widths_of, Stands, first_of, first_bit}
 use Rattle.lhs_alias.proofs.Lying.{lie-from_bits}
 use Rattle.lhs_alias.proofs.Joining.{places-at, firsts-of, firsts-stand, known-lie, known-narrow}
 use Rattle.lhs_alias.proofs.joins.Joins.canon.Goals as goal
@@ -73,3 +74,27 @@ returns-clause-lies c =
     let Answer : Kept → Type 0 = λ q. LieIn (widths_of q) c.from_vec.result in
     subst Answer kept_is
     (lie-from_bits inside.widths.items c.from_vec.result (subst Segs (sym c.from_vec.ensures) c.in_ok-segs.ensures.segs) (subst Bits (sym bits) lie))
+
+pub returns-in_err-firsts-clause-classes : goal.returns-in_err-firsts-clause-classes
+returns-in_err-firsts-clause-classes c = IfOk-from_err _ _ c.from_residual.ensures.0
+
+pub returns-in_err-firsts-clause-firsts : goal.returns-in_err-firsts-clause-firsts
+returns-in_err-firsts-clause-firsts c = IfOk-from_err _ _ c.from_residual.ensures.0
+
+pub returns-in_err-firsts-clause-lies : goal.returns-in_err-firsts-clause-lies
+returns-in_err-firsts-clause-lies c = IfOk-from_err _ _ c.from_residual.ensures.0
+
+pub returns-in_err-firsts-clause-united : goal.returns-in_err-firsts-clause-united
+returns-in_err-firsts-clause-united c = IfOk-from_err _ _ c.from_residual.ensures.0
+
+pub returns-in_err-segs-clause-classes : goal.returns-in_err-segs-clause-classes
+returns-in_err-segs-clause-classes c = IfOk-from_err _ _ c.from_residual-in_err-segs.ensures.0
+
+pub returns-in_err-segs-clause-firsts : goal.returns-in_err-segs-clause-firsts
+returns-in_err-segs-clause-firsts c = IfOk-from_err _ _ c.from_residual-in_err-segs.ensures.0
+
+pub returns-in_err-segs-clause-lies : goal.returns-in_err-segs-clause-lies
+returns-in_err-segs-clause-lies c = IfOk-from_err _ _ c.from_residual-in_err-segs.ensures.0
+
+pub returns-in_err-segs-clause-united : goal.returns-in_err-segs-clause-united
+returns-in_err-segs-clause-united c = IfOk-from_err _ _ c.from_residual-in_err-segs.ensures.0

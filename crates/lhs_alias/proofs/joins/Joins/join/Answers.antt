@@ -1,15 +1,12 @@
-use Rattle.std.proofs.Common.{◌≡◌, ◌<◌, ◌++◌, ◌⊎◌, ◌&&◌, Bool, not, true, false, ℕ, List, length, map, sym, ap, subst, ◌∙◌, arith}
-use Rattle.std.specs.Prelude.{All, Any, Contains}
+use Rattle.std.proofs.Common.{◌≡◌, ◌++◌, ◌&&◌, Bool, not, true, false, ℕ, List, length, sym, ap, subst, ◌∙◌}
 use Rattle.std.specs.List.{zip, list_any}
 use Rattle.std.proofs.lemmas.Bool.{and_parts, not-true}
 use Rattle.std.proofs.lemmas.List.{with_items_is}
 use Rattle.std.specs.Vec.{with_items}
 use Rattle.lhs_alias.specs.declared.segs.Seg.{Seg}
-use Rattle.lhs_alias.specs.declared.segs.WireBit.{WireBit}
 use Rattle.lhs_alias.specs.Segs.{lhs_bits}
 use Rattle.lhs_alias.specs.Lies.{LieIn}
-use Rattle.lhs_alias.specs.Pairs.{IsChild, AreDistinct}
-use Rattle.lhs_alias.specs.Joined.{Kept, widths_of, HasPlace, Stands, is_marked, marked, are_free, all_merged, IsLaid}
+use Rattle.lhs_alias.specs.Joined.{Kept, widths_of, Stands, is_marked, marked, are_free, all_merged, IsLaid}
 use Rattle.lhs_alias.proofs.Marks.{length-marked}
 use Rattle.lhs_alias.proofs.Joining.{places-at, laid-after, joined-stands, joined-free, joined-distinct, joined-taken}
 use Rattle.lhs_alias.proofs.joins.Joins.join.Goals as goal

@@ -1,6 +1,6 @@
 use Rattle.std.proofs.Common.{◌≡◌, take}
 use Rattle.lhs_alias.specs.Joined.{starts_of, all_bits}
-use Rattle.lhs_alias.proofs.joins.Joins.new.Given as goal
+use Rattle.lhs_alias.proofs.joins.row_of.Given as goal
 
 abbrev pub invariant-loop-width : goal.invariant-loop-width
 invariant-loop-width l = record {
