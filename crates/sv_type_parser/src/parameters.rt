@@ -155,6 +155,16 @@ pub fn par_port(alloc: Global, tokens: &mut Cursor<'_>) -> Result<ParPort, Parse
     })
 }
 
+impl Part for ParPort {
+    type Tree = ParPort;
+
+    ghost parser = { spec.par_port };
+
+    fn read(alloc: Global, tokens: &mut Cursor<'_>) -> Result<ParPort, ParseErr> {
+        par_port(alloc, tokens)
+    }
+}
+
 #[tactic(auto, unfolding(crate::specs::Params::param_item))]
 fn param_item(alloc: Global, tokens: &mut Cursor<'_>) -> Result<ParamItem, ParseErr>
     ensures { Reads (spec.param_item tokens.old) result tokens.new }
@@ -164,6 +174,8 @@ fn param_item(alloc: Global, tokens: &mut Cursor<'_>) -> Result<ParamItem, Parse
 }
 
 impl Part for ParamItem {
+    type Tree = ParamItem;
+
     ghost parser = { spec.param_item };
 
     fn read(alloc: Global, tokens: &mut Cursor<'_>) -> Result<ParamItem, ParseErr> {
@@ -178,7 +190,7 @@ pub fn param(alloc: Global, tokens: &mut Cursor<'_>) -> Result<Param, ParseErr>
 {
     let word = take_param(tokens)?;
     let form = maybe_param_type(alloc, tokens)?;
-    let (form, list) = both(form, ended_parts(alloc, tokens))?;
+    let (form, list) = both(form, ended_parts::<ParamItem>(alloc, tokens))?;
     Ok(Param { word, form, list })
 }
 
@@ -256,4 +268,14 @@ pub fn port(alloc: Global, tokens: &mut Cursor<'_>) -> Result<Port, ParseErr>
         form,
         name,
     })
+}
+
+impl Part for Port {
+    type Tree = Port;
+
+    ghost parser = { spec.port };
+
+    fn read(alloc: Global, tokens: &mut Cursor<'_>) -> Result<Port, ParseErr> {
+        port(alloc, tokens)
+    }
 }
