@@ -62,10 +62,7 @@ pub fn maybe_range(alloc: Global, tokens: &mut Cursor<'_>) -> Result<Option<Rang
     ensures { Reads (spec.range_if tokens.old) result tokens.new }
 {
     match tokens.peek_mark(Mark::LeftBracket) {
-        Some(_) => {
-            let one = range(alloc, tokens)?;
-            Ok(Some(one))
-        }
+        Some(_) => range(alloc, tokens).map(Some),
         None => Ok(None),
     }
 }
@@ -83,10 +80,7 @@ fn maybe_given(alloc: Global, tokens: &mut Cursor<'_>) -> Result<Option<Expr>, P
     ensures { Reads (parser.maybe_read (test.mark_test Mark.Assign) spec.given tokens.old) result tokens.new }
 {
     match tokens.peek_mark(Mark::Assign) {
-        Some(_) => {
-            let value = given(alloc, tokens)?;
-            Ok(Some(value))
-        }
+        Some(_) => given(alloc, tokens).map(Some),
         None => Ok(None),
     }
 }

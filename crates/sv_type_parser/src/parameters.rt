@@ -121,10 +121,7 @@ fn maybe_param_type(alloc: Global, tokens: &mut Cursor<'_>) -> Result<Option<Par
     ensures { Reads (spec.maybe_param_type tokens.old) result tokens.new }
 {
     match param_type_next(tokens) {
-        Some(opener) => {
-            let form = param_type_for(alloc, tokens, opener)?;
-            Ok(Some(form))
-        }
+        Some(opener) => param_type_for(alloc, tokens, opener).map(Some),
         None => Ok(None),
     }
 }
@@ -211,10 +208,7 @@ fn maybe_behind_type(
     ensures { Reads (parser.maybe_read (sort_test words.behind_by_sort) spec.behind_type tokens.old) result tokens.new }
 {
     match behind_next(tokens) {
-        Some(_) => {
-            let behind = behind_type(alloc, tokens)?;
-            Ok(Some(behind))
-        }
+        Some(_) => behind_type(alloc, tokens).map(Some),
         None => Ok(None),
     }
 }
