@@ -32,10 +32,7 @@ fn maybe_expression(alloc: Global, tokens: &mut Cursor<'_>) -> Result<Option<Exp
     ensures { Reads (parser.maybe_read opener_test forms.expression tokens.old) result tokens.new }
 {
     match begins(tokens) {
-        Some(_) => {
-            let inner = expression(alloc, tokens)?;
-            Ok(Some(inner))
-        }
+        Some(_) => expression(alloc, tokens).map(Some),
         None => Ok(None),
     }
 }
@@ -84,14 +81,8 @@ fn pins_for(alloc: Global, tokens: &mut Cursor<'_>, opener: PinsOpener) -> Resul
     ensures { Reads (spec.pins_for opener tokens.old) result tokens.new }
 {
     match opener {
-        PinsOpener::Named => {
-            let all = all_parts::<NamedPins>(alloc, tokens)?;
-            Ok(Pins::Named(all))
-        }
-        PinsOpener::Ordered => {
-            let all = expressions(alloc, tokens)?;
-            Ok(Pins::Ordered(all))
-        }
+        PinsOpener::Named => all_parts::<NamedPins>(alloc, tokens).map(Pins::Named),
+        PinsOpener::Ordered => expressions(alloc, tokens).map(Pins::Ordered),
     }
 }
 
@@ -128,10 +119,7 @@ fn maybe_pins(alloc: Global, tokens: &mut Cursor<'_>) -> Result<Option<Pins>, Pa
     ensures { Reads (parser.maybe_read (sort_test opening.pins_by_sort) spec.pins tokens.old) result tokens.new }
 {
     match pins_next(tokens) {
-        Some(_) => {
-            let all = pins(alloc, tokens)?;
-            Ok(Some(all))
-        }
+        Some(_) => pins(alloc, tokens).map(Some),
         None => Ok(None),
     }
 }
@@ -178,8 +166,7 @@ fn instances(alloc: Global, tokens: &mut Cursor<'_>) -> Result<PlainTail, ParseE
 fn variables(alloc: Global, tokens: &mut Cursor<'_>) -> Result<PlainTail, ParseErr>
     ensures { Reads (spec.variables tokens.old) result tokens.new }
 {
-    let more = ended_more::<Word>(alloc, tokens)?;
-    Ok(PlainTail::Variables(more))
+    ended_more::<Word>(alloc, tokens).map(PlainTail::Variables)
 }
 
 #[tactic(auto, unfolding(crate::specs::Instances::plain_tail))]
