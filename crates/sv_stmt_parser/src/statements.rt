@@ -179,10 +179,7 @@ fn maybe_colon(tokens: &mut Cursor<'_>) -> Result<Option<Place>, ParseErr>
     ensures { Reads (parser.maybe_read (test.mark_test Mark.Colon) (test.mark Mark.Colon) tokens.old) result tokens.new }
 {
     match tokens.peek_mark(Mark::Colon) {
-        Some(_) => {
-            let place = tokens.mark(Mark::Colon)?;
-            Ok(Some(place))
-        }
+        Some(_) => tokens.mark(Mark::Colon).map(Some),
         None => Ok(None),
     }
 }
@@ -291,8 +288,7 @@ impl<F: Fn(Global, &mut Cursor<'_>, u8) -> Result<Stmt, ParseErr>> Statements<F>
         match tokens.peek_keyword(Keyword::Else) {
             Some(_) => {
                 tokens.keyword(Keyword::Else)?;
-                let inner = self.body(tokens)?;
-                Ok(Some(inner))
+                self.body(tokens).map(Some)
             }
             None => Ok(None),
         }
@@ -366,10 +362,7 @@ impl<F: Fn(Global, &mut Cursor<'_>, u8) -> Result<Stmt, ParseErr>> Statements<F>
         ensures { Reads (parser.maybe_read (test.keyword_test Keyword.Default) (spec.from_default (spec.stmt self.now.depth)) tokens.old) result tokens.new }
     {
         match tokens.peek_keyword(Keyword::Default) {
-            Some(_) => {
-                let rest = self.from_default(tokens)?;
-                Ok(Some(rest))
-            }
+            Some(_) => self.from_default(tokens).map(Some),
             None => Ok(None),
         }
     }
@@ -383,10 +376,7 @@ impl<F: Fn(Global, &mut Cursor<'_>, u8) -> Result<Stmt, ParseErr>> Statements<F>
         ensures { Reads (spec.behind_labelled (spec.stmt self.now.depth) before.now tokens.old) result tokens.new }
     {
         match before {
-            [] => {
-                let rest = self.from_default(tokens)?;
-                Ok(Some(rest))
-            }
+            [] => self.from_default(tokens).map(Some),
             [_, ..] => self.maybe_default(tokens),
         }
     }
