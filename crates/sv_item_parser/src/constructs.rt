@@ -58,13 +58,6 @@ impl<F: Fn(Global, &mut Cursor<'_>, u8) -> Result<Item, ParseErr>> Generates<F> 
         (self.item)(self.alloc, tokens, self.depth)
     }
 
-    fn boxed_item(&self, tokens: &mut Cursor<'_>) -> Result<Boxed<Item>, ParseErr>
-        requires { Nests (spec.item self.now.depth) self.now.depth (F.pre self.now.item) (F.post self.now.item) }
-        ensures { Reads (spec.item self.now.depth tokens.old) result tokens.new }
-    {
-        boxed(self.alloc, self.item(tokens))
-    }
-
     fn items(&self, tokens: &mut Cursor<'_>) -> Result<Items<Item>, ParseErr>
         requires { Nests (spec.item self.now.depth) self.now.depth (F.pre self.now.item) (F.post self.now.item) }
         ensures { Reads (spec.items (spec.item self.now.depth) tokens.old) result tokens.new }
@@ -112,7 +105,7 @@ impl<F: Fn(Global, &mut Cursor<'_>, u8) -> Result<Item, ParseErr>> Generates<F> 
     {
         match tokens.place() {
             Some(place) => {
-                let inner = self.boxed_item(tokens)?;
+                let inner = boxed(self.alloc, self.item(tokens))?;
                 Ok(Gen::Single(place, inner))
             }
             None => Err(tokens.refuse()),
@@ -145,8 +138,7 @@ impl<F: Fn(Global, &mut Cursor<'_>, u8) -> Result<Item, ParseErr>> Generates<F> 
         match tokens.peek_keyword(Keyword::Else) {
             Some(_) => {
                 tokens.keyword(Keyword::Else)?;
-                let inner = self.body(tokens)?;
-                Ok(Some(inner))
+                self.body(tokens).map(Some)
             }
             None => Ok(None),
         }

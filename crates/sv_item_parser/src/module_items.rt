@@ -19,7 +19,7 @@ use sv_stmt_parser::{lvalue, stmt};
 use sv_tree::{AssignPair, Block, BlockKind, Event, Item, Word};
 use sv_type_parser::{
     MOST_NESTING, Part, ended_more, ended_names, ended_parts, form, given, param, typed_name,
-    typedef, with_first,
+    typedef, with_more,
 };
 use sv_word_parser::{AlwaysWord, ItemOpener, always_next, take_edge, take_net};
 
@@ -160,8 +160,8 @@ fn net(alloc: Global, tokens: &mut Cursor<'_>) -> Result<Item, ParseErr>
 {
     let word = take_net(tokens)?;
     let (form, name) = typed_name(alloc, tokens)?;
-    let ((form, name), more) = both((form, name), ended_more::<Word>(alloc, tokens))?;
-    let (form, all) = both(form, with_first(alloc, name, more))?;
+    let more = ended_more::<Word>(alloc, tokens);
+    let (form, all) = both(form, with_more(alloc, name, more))?;
     Ok(Item::Net(word, form, all))
 }
 
@@ -181,32 +181,28 @@ fn genvar(alloc: Global, tokens: &mut Cursor<'_>) -> Result<Item, ParseErr>
     ensures { Reads (spec.genvar tokens.old) result tokens.new }
 {
     tokens.keyword(Keyword::Genvar)?;
-    let all = ended_names(alloc, tokens)?;
-    Ok(Item::Genvar(all))
+    ended_names(alloc, tokens).map(Item::Genvar)
 }
 
 /// A type that is given a name.
 fn typedef_item(alloc: Global, tokens: &mut Cursor<'_>) -> Result<Item, ParseErr>
     ensures { Reads (spec.typedef_item tokens.old) result tokens.new }
 {
-    let inner = typedef(alloc, tokens)?;
-    Ok(Item::Typedef(inner))
+    typedef(alloc, tokens).map(Item::Typedef)
 }
 
 /// Parameters.
 fn param_item(alloc: Global, tokens: &mut Cursor<'_>) -> Result<Item, ParseErr>
     ensures { Reads (spec.param_item tokens.old) result tokens.new }
 {
-    let inner = param(alloc, tokens)?;
-    Ok(Item::Param(inner))
+    param(alloc, tokens).map(Item::Param)
 }
 
 /// A block as an item.
 fn always_item(alloc: Global, tokens: &mut Cursor<'_>) -> Result<Item, ParseErr>
     ensures { Reads (spec.always_item tokens.old) result tokens.new }
 {
-    let inner = always(alloc, tokens)?;
-    Ok(Item::Always(inner))
+    always(alloc, tokens).map(Item::Always)
 }
 
 // Assignments, as parts of a list.
@@ -231,8 +227,7 @@ fn assigns(alloc: Global, tokens: &mut Cursor<'_>) -> Result<Item, ParseErr>
     ensures { Reads (spec.assigns tokens.old) result tokens.new }
 {
     tokens.keyword(Keyword::Assign)?;
-    let all = ended_parts::<Pairs>(alloc, tokens)?;
-    Ok(Item::Assign(all))
+    ended_parts::<Pairs>(alloc, tokens).map(Item::Assign)
 }
 
 // ---- what begins an item
