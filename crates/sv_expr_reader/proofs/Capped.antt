@@ -171,8 +171,6 @@ of_range p x m y =
       one_peak,
     )
 
-pub ruleset capped_made = (of_literal, of_name, of_paren, of_concat, of_repeat, of_cast_literal, of_cast_name, of_cast_paren, of_cast_sign, of_system, of_unary, of_binary, of_choose, of_member, of_index, of_range)
-
 -- ---- one more of a list
 
 height_push : (all : List Expr) (x : Expr) → height_all (all ++ x ∷ []) ≡ max (height_all all) (height x)

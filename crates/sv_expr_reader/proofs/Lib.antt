@@ -2,6 +2,7 @@ pub mod Bounded
 pub mod Capped
 pub mod Climbing
 pub mod Heights
+pub mod Held
 pub mod Laws
 pub mod Level
 pub mod Parts

@@ -123,8 +123,6 @@ pub of_choose : (d : ℕ) (v : Seek) (x y z : Expr)
     → seek d (expr_depths (e.Choose x y z)) v ≡ seek (d - 1) (expr_depths z) (seek (d - 1) one (seek (d - 1) (expr_depths y) (seek (d - 1) one (seek (d - 1) (expr_depths x) v))))
 of_choose d v x y z = ap (λ l. seek d l v) (made.nests_choose x y z) ∙ in_five d (expr_depths x) one (expr_depths y) one (expr_depths z) v
 
-pub ruleset walk_made = (of_literal, of_name, of_paren, of_concat, of_repeat, of_cast_literal, of_cast_name, of_cast_paren, of_cast_sign, of_system, of_unary, of_binary, of_choose)
-
 pub of_member : (d : ℕ) (v : Seek) (p : Place) (w : Word) → seek d (select_depths (s.Member p w)) v ≡ seek d two v
 of_member d v p w = ap (λ l. seek d l v) (made.nests_member p w)
 
@@ -134,8 +132,6 @@ of_index d v p x = ap (λ l. seek d l v) (made.nests_index p x) ∙ three_parts 
 pub of_range : (d : ℕ) (v : Seek) (p : Place) (x : Expr) (m : RangeMark) (y : Expr)
     → seek d (select_depths (s.Range p x m y)) v ≡ seek d one (seek d (expr_depths y) (seek d one (seek d (expr_depths x) (seek d one v))))
 of_range d v p x m y = ap (λ l. seek d l v) (made.nests_range p x m y) ∙ five_parts d one (expr_depths x) one (expr_depths y) one v
-
-pub ruleset select_made = (of_member, of_index, of_range)
 
 -- ---- lists
 

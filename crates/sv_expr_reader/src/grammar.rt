@@ -2,18 +2,21 @@
 // A.8). Expressions hold expressions, so the rules that hold them take the reader of those as a parameter: each is proved by
 // itself over any reader, and the cycle is closed once, elsewhere. A depth goes down with each expression that holds another,
 // so that the recursion ends.
-ghost use Rattle.std.specs.Prelude.{◌≡◌, ◌∷◌, ◌++◌, [], is_some, IfOk};
+ghost use Rattle.std.specs.Prelude.{◌≡◌, ◌≢◌, Ok, Err, is_some, IfOk, IfErr};
 ghost use Rattle.sv_cursor.specs.Parsers as parser;
 ghost use Rattle.sv_cursor.specs.Parsers.{Reads, ◌⊗◌};
 ghost use Rattle.sv_cursor.specs.Tests as test;
+ghost use Rattle.sv_cursor.specs.declared.error.ParseErr.TheVariants.{Memory};
 ghost use Rattle.sv_expr_reader.specs.Nests.{Nests};
 ghost use Rattle.sv_expr_reader.specs.Reading as spec;
+ghost use Rattle.sv_expr_reader.specs.declared.tails.BraceTail.{BraceTail};
 ghost use Rattle.sv_expr_words.specs.Signs as sign;
 ghost use Rattle.sv_tree.specs.GrammarExprs as grammar;
 
+use crate::gathered::{boxed, keep, with_first};
 use crate::tails::{BraceTail, NameTail};
 use items::{Boxed, Items, both};
-use std::alloc::{AllocError, Global};
+use std::alloc::Global;
 use sv_cursor::{Cursor, Mark, ParseErr};
 use sv_expr_words::{
     Opener, SelectOpener, begins, range_mark, select_opener, sign_keyword, unary_mark,
@@ -31,21 +34,17 @@ fn is_range(select: &Select) -> bool
     }
 }
 
-// A part, and those that follow it.
-fn with_first(alloc: Global, first: Expr, more: Items<Expr>) -> Result<Items<Expr>, AllocError>
-    ensures { IfOk result (λ all. all ≡ first ∷ more) }
+// What the first part in braces and what was read behind it are together.
+fn brace_of(
+    alloc: Global,
+    place: Place,
+    first: Expr,
+    tail: Result<BraceTail, ParseErr>,
+) -> Result<Expr, ParseErr>
+    ensures made { IfOk result (λ x. (t : BraceTail) × (tail ≡ Ok t) × (x ≡ spec.made_brace (place, (first, t)))) }
+    ensures failed { IfErr result (λ e. e ≢ Memory → tail ≡ Err e) }
 {
-    let mut all = Items::new(alloc);
-    all.push(first)?;
-    all.append(more)?;
-    Ok(all)
-}
-
-// What the first part in braces and its tail are together.
-fn brace_of(alloc: Global, place: Place, first: Expr, tail: BraceTail) -> Result<Expr, AllocError>
-    ensures { IfOk result (λ x. x ≡ spec.made_brace (place, (first, tail))) }
-{
-    match tail {
+    match tail? {
         BraceTail::Copied(all) => {
             let count = Boxed::new(alloc, first)?;
             Ok(Expr::Repeat(place, count, all))
@@ -92,7 +91,7 @@ fn take_range(tokens: &mut Cursor<'_>) -> Result<RangeMark, ParseErr>
 }
 
 /// The rules of expressions, over a reader of their parts.
-#[derive(Clone, Copy)]
+#[derive(Drop)]
 pub struct Grammar<F> {
     pub alloc: Global,
     /// How many expressions may hold a part.
@@ -115,9 +114,7 @@ impl<F: Fn(Global, &mut Cursor<'_>, u8, u8) -> Result<Expr, ParseErr>> Grammar<F
         requires { Nests self.now.depth (F.pre self.now.expr) (F.post self.now.expr) }
         ensures { Reads (spec.expr self.now.depth least tokens.old) result tokens.new }
     {
-        let part = self.expr(tokens, least)?;
-        let held = Boxed::new(self.alloc, part)?;
-        Ok(held)
+        boxed(self.alloc, self.expr(tokens, least))
     }
 
     fn parens(&self, tokens: &mut Cursor<'_>) -> Result<(Place, (Boxed<Expr>, Place)), ParseErr>
@@ -322,8 +319,7 @@ impl<F: Fn(Global, &mut Cursor<'_>, u8, u8) -> Result<Expr, ParseErr>> Grammar<F
         ensures { Reads (spec.after_comma self.now.depth (spec.expr self.now.depth) tokens.old) result tokens.new }
     {
         tokens.mark(Mark::Comma)?;
-        let part = self.expr(tokens, 0)?;
-        Ok(part)
+        self.expr(tokens, 0)
     }
 
     fn more(&self, tokens: &mut Cursor<'_>) -> Result<Items<Expr>, ParseErr>
@@ -335,8 +331,8 @@ impl<F: Fn(Global, &mut Cursor<'_>, u8, u8) -> Result<Expr, ParseErr>> Grammar<F
             if !sees(tokens, Mark::Comma) {
                 return Ok(found);
             }
-            let part = self.after_comma(tokens)?;
-            found.push(part)?;
+            let part = self.after_comma(tokens);
+            keep(&mut found, part)?;
         }
         Ok(found)
     }
@@ -355,8 +351,8 @@ impl<F: Fn(Global, &mut Cursor<'_>, u8, u8) -> Result<Expr, ParseErr>> Grammar<F
         ensures { Reads (spec.copies self.now.depth (spec.expr self.now.depth) tokens.old) result tokens.new }
     {
         tokens.mark(Mark::LeftBrace)?;
-        let parts = self.some(tokens)?;
-        let ((first, more), _) = both(parts, closing_braces(tokens))?;
+        let (first, more) = self.some(tokens)?;
+        closing_braces(tokens)?;
         let all = with_first(self.alloc, first, more)?;
         Ok(all)
     }
@@ -395,9 +391,8 @@ impl<F: Fn(Global, &mut Cursor<'_>, u8, u8) -> Result<Expr, ParseErr>> Grammar<F
     {
         let place = tokens.mark(Mark::LeftBrace)?;
         let first = self.expr(tokens, 0)?;
-        let (first, tail) = both(first, self.brace_tail(tokens))?;
-        let whole = brace_of(self.alloc, place, first, tail)?;
-        Ok(whole)
+        let tail = self.brace_tail(tokens);
+        brace_of(self.alloc, place, first, tail)
     }
 
     // ---- what has no operator between two of its parts

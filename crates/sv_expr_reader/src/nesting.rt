@@ -9,7 +9,6 @@ use sv_tree::{Expr, Select};
 
 /// The height, which stops at 255.
 #[cycle(height)]
-#[tactic(auto, using(crate::proofs::Capped::capped_made))]
 fn height(x: &Expr) -> u8
     ensures { result ≡ capped x.now }
 {
@@ -55,7 +54,6 @@ fn all_height(all: &[Expr]) -> u8
 }
 
 #[cycle(height)]
-#[tactic(auto, using(crate::proofs::Capped::capped_made))]
 fn select_height(x: &Select) -> u8
     ensures { result ≡ capped_select x.now }
 {

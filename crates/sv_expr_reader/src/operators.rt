@@ -47,11 +47,15 @@ impl<F: Fn(Global, &mut Cursor<'_>, u8, u8) -> Result<Expr, ParseErr>> Grammar<F
         high < self.depth
     }
 
-    fn joined(&self, tokens: &mut Cursor<'_>, left: Expr, op: BinaryOp) -> Result<Expr, ParseErr>
+    fn joined(
+        &self,
+        tokens: &mut Cursor<'_>,
+        left: Boxed<Expr>,
+        op: BinaryOp,
+    ) -> Result<Expr, ParseErr>
         requires { Nests self.now.depth (F.pre self.now.expr) (F.post self.now.expr) }
         ensures { Reads (spec.operated self.now.depth (spec.expr self.now.depth) left (Joiner.Binary op) tokens.old) result tokens.new }
     {
-        let left = Boxed::new(self.alloc, left)?;
         let place = tokens.mark(binary_mark(op))?;
         let right = self.part(tokens, right_level(op))?;
         Ok(Expr::Binary(left, op, place, right))
@@ -67,11 +71,10 @@ impl<F: Fn(Global, &mut Cursor<'_>, u8, u8) -> Result<Expr, ParseErr>> Grammar<F
         Ok((colon, second))
     }
 
-    fn chosen(&self, tokens: &mut Cursor<'_>, test: Expr) -> Result<Expr, ParseErr>
+    fn chosen(&self, tokens: &mut Cursor<'_>, test: Boxed<Expr>) -> Result<Expr, ParseErr>
         requires { Nests self.now.depth (F.pre self.now.expr) (F.post self.now.expr) }
         ensures { Reads (spec.operated self.now.depth (spec.expr self.now.depth) test Joiner.Choose tokens.old) result tokens.new }
     {
-        let test = Boxed::new(self.alloc, test)?;
         tokens.mark(Mark::Question)?;
         let first = self.part(tokens, 0)?;
         let (first, (_, second)) = both(first, self.otherwise(tokens))?;
@@ -87,6 +90,7 @@ impl<F: Fn(Global, &mut Cursor<'_>, u8, u8) -> Result<Expr, ParseErr>> Grammar<F
         requires { Nests self.now.depth (F.pre self.now.expr) (F.post self.now.expr) }
         ensures { Reads (spec.operated self.now.depth (spec.expr self.now.depth) left joiner tokens.old) result tokens.new }
     {
+        let left = Boxed::new(self.alloc, left)?;
         match joiner {
             Joiner::Binary(op) => self.joined(tokens, left, op),
             Joiner::Choose => self.chosen(tokens, left),

@@ -52,7 +52,6 @@ fn three_tokens(depth: u8, at: Seek) -> Seek
 }
 
 #[cycle(walk)]
-#[tactic(auto, using(crate::proofs::Sought::walk_made))]
 fn walk(x: &Expr, depth: u8, at: Seek) -> Seek
     ensures { result ≡ spec.seek depth (nesting.expr_depths x.now) at }
 {
@@ -144,7 +143,6 @@ fn parts(all: &[Expr], depth: u8, at: Seek) -> Seek
 }
 
 #[cycle(walk)]
-#[tactic(auto, using(crate::proofs::Sought::select_made))]
 fn select(x: &Select, depth: u8, at: Seek) -> Seek
     ensures { result ≡ spec.seek depth (nesting.select_depths x.now) at }
 {

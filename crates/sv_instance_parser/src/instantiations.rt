@@ -20,8 +20,11 @@ use std::alloc::{AllocError, Global};
 use sv_cursor::{Cursor, Mark, ParseErr, Sort};
 use sv_expr_words::{Opener, begins};
 use sv_tree::{Expr, Inst, Item, NamedPin, One, Pin, Pins, Range, TypeTree, Word};
-use sv_type_parser::{expression, expressions, more_names, names, range, ranges, with_first};
-use sv_word_parser::{TailOpener, given_pin, sees};
+use sv_type_parser::{
+    Part, all_parts, ended_more, ended_names, ended_parts, expression, expressions, range, ranges,
+    with_first, with_more,
+};
+use sv_word_parser::{TailOpener, given_pin};
 
 // ---- connections
 
@@ -29,10 +32,7 @@ fn maybe_expression(alloc: Global, tokens: &mut Cursor<'_>) -> Result<Option<Exp
     ensures { Reads (parser.maybe_read opener_test forms.expression tokens.old) result tokens.new }
 {
     match begins(tokens) {
-        Some(_) => {
-            let inner = expression(alloc, tokens)?;
-            Ok(Some(inner))
-        }
+        Some(_) => expression(alloc, tokens).map(Some),
         None => Ok(None),
     }
 }
@@ -60,60 +60,29 @@ fn pin(alloc: Global, tokens: &mut Cursor<'_>) -> Result<Pin, ParseErr>
     }
 }
 
-#[tactic(auto, unfolding(crate::specs::Instances::named_pin))]
-fn named_pin(alloc: Global, tokens: &mut Cursor<'_>) -> Result<NamedPin, ParseErr>
-    ensures { Reads (spec.named_pin tokens.old) result tokens.new }
-{
-    tokens.mark(Mark::Dot)?;
-    let name = tokens.id(alloc)?;
-    let pin = pin(alloc, tokens)?;
-    Ok(NamedPin { name, pin })
-}
+// Connections by name, as parts of a list.
+struct NamedPins;
 
-#[tactic(auto, unfolding(sv_type_parser::specs::Lists::behind_comma))]
-fn comma_pin(alloc: Global, tokens: &mut Cursor<'_>) -> Result<NamedPin, ParseErr>
-    ensures { Reads (list.behind_comma spec.named_pin tokens.old) result tokens.new }
-{
-    tokens.mark(Mark::Comma)?;
-    named_pin(alloc, tokens)
-}
+impl Part for NamedPins {
+    type Tree = NamedPin;
 
-fn more_pins(alloc: Global, tokens: &mut Cursor<'_>) -> Result<Items<NamedPin>, ParseErr>
-    ensures { Reads (list.more spec.named_pin tokens.old) result tokens.new }
-{
-    let mut found = Items::new(alloc);
-    for _turn in 0..tokens.left() {
-        if !sees(tokens, Mark::Comma) {
-            return Ok(found);
-        }
-        let part = comma_pin(alloc, tokens)?;
-        found.push(part)?;
+    ghost parser = { spec.named_pin };
+
+    #[tactic(auto, unfolding(crate::specs::Instances::named_pin))]
+    fn read(alloc: Global, tokens: &mut Cursor<'_>) -> Result<NamedPin, ParseErr> {
+        tokens.mark(Mark::Dot)?;
+        let name = tokens.id(alloc)?;
+        let pin = pin(alloc, tokens)?;
+        Ok(NamedPin { name, pin })
     }
-    Ok(found)
-}
-
-#[tactic(auto, unfolding(sv_type_parser::specs::Lists::more, sv_type_parser::specs::Lists::behind_comma))]
-fn named_pins(alloc: Global, tokens: &mut Cursor<'_>) -> Result<Items<NamedPin>, ParseErr>
-    ensures { Reads (listed spec.named_pin tokens.old) result tokens.new }
-{
-    let first = named_pin(alloc, tokens)?;
-    let (first, more) = both(first, more_pins(alloc, tokens))?;
-    let all = with_first(alloc, first, more)?;
-    Ok(all)
 }
 
 fn pins_for(alloc: Global, tokens: &mut Cursor<'_>, opener: PinsOpener) -> Result<Pins, ParseErr>
     ensures { Reads (spec.pins_for opener tokens.old) result tokens.new }
 {
     match opener {
-        PinsOpener::Named => {
-            let all = named_pins(alloc, tokens)?;
-            Ok(Pins::Named(all))
-        }
-        PinsOpener::Ordered => {
-            let all = expressions(alloc, tokens)?;
-            Ok(Pins::Ordered(all))
-        }
+        PinsOpener::Named => all_parts::<NamedPins>(alloc, tokens).map(Pins::Named),
+        PinsOpener::Ordered => expressions(alloc, tokens).map(Pins::Ordered),
     }
 }
 
@@ -150,10 +119,7 @@ fn maybe_pins(alloc: Global, tokens: &mut Cursor<'_>) -> Result<Option<Pins>, Pa
     ensures { Reads (parser.maybe_read (sort_test opening.pins_by_sort) spec.pins tokens.old) result tokens.new }
 {
     match pins_next(tokens) {
-        Some(_) => {
-            let all = pins(alloc, tokens)?;
-            Ok(Some(all))
-        }
+        Some(_) => pins(alloc, tokens).map(Some),
         None => Ok(None),
     }
 }
@@ -169,45 +135,20 @@ fn pins_inside(alloc: Global, tokens: &mut Cursor<'_>) -> Result<Option<Pins>, P
     Ok(all)
 }
 
-#[tactic(auto, unfolding(crate::specs::Instances::one))]
-fn one(alloc: Global, tokens: &mut Cursor<'_>) -> Result<One, ParseErr>
-    ensures { Reads (spec.one tokens.old) result tokens.new }
-{
-    let name = tokens.id(alloc)?;
-    let pins = pins_inside(alloc, tokens)?;
-    Ok(One { name, pins })
-}
+// Instances, as parts of a list.
+struct Ones;
 
-#[tactic(auto, unfolding(sv_type_parser::specs::Lists::behind_comma))]
-fn comma_one(alloc: Global, tokens: &mut Cursor<'_>) -> Result<One, ParseErr>
-    ensures { Reads (list.behind_comma spec.one tokens.old) result tokens.new }
-{
-    tokens.mark(Mark::Comma)?;
-    one(alloc, tokens)
-}
+impl Part for Ones {
+    type Tree = One;
 
-fn more_ones(alloc: Global, tokens: &mut Cursor<'_>) -> Result<Items<One>, ParseErr>
-    ensures { Reads (list.more spec.one tokens.old) result tokens.new }
-{
-    let mut found = Items::new(alloc);
-    for _turn in 0..tokens.left() {
-        if !sees(tokens, Mark::Comma) {
-            return Ok(found);
-        }
-        let part = comma_one(alloc, tokens)?;
-        found.push(part)?;
+    ghost parser = { spec.one };
+
+    #[tactic(auto, unfolding(crate::specs::Instances::one))]
+    fn read(alloc: Global, tokens: &mut Cursor<'_>) -> Result<One, ParseErr> {
+        let name = tokens.id(alloc)?;
+        let pins = pins_inside(alloc, tokens)?;
+        Ok(One { name, pins })
     }
-    Ok(found)
-}
-
-#[tactic(auto, unfolding(sv_type_parser::specs::Lists::more, sv_type_parser::specs::Lists::behind_comma))]
-fn ones(alloc: Global, tokens: &mut Cursor<'_>) -> Result<Items<One>, ParseErr>
-    ensures { Reads (listed spec.one tokens.old) result tokens.new }
-{
-    let first = one(alloc, tokens)?;
-    let (first, more) = both(first, more_ones(alloc, tokens))?;
-    let all = with_first(alloc, first, more)?;
-    Ok(all)
 }
 
 // ---- behind the name that begins an item
@@ -217,8 +158,7 @@ fn instances(alloc: Global, tokens: &mut Cursor<'_>) -> Result<PlainTail, ParseE
     ensures { Reads (spec.instances tokens.old) result tokens.new }
 {
     let pins = pins_inside(alloc, tokens)?;
-    let (pins, more) = both(pins, more_ones(alloc, tokens))?;
-    let ((pins, more), _) = both((pins, more), tokens.mark(Mark::Semicolon))?;
+    let (pins, more) = both(pins, ended_more::<Ones>(alloc, tokens))?;
     Ok(PlainTail::Instances(pins, more))
 }
 
@@ -226,9 +166,7 @@ fn instances(alloc: Global, tokens: &mut Cursor<'_>) -> Result<PlainTail, ParseE
 fn variables(alloc: Global, tokens: &mut Cursor<'_>) -> Result<PlainTail, ParseErr>
     ensures { Reads (spec.variables tokens.old) result tokens.new }
 {
-    let more = more_names(alloc, tokens)?;
-    tokens.mark(Mark::Semicolon)?;
-    Ok(PlainTail::Variables(more))
+    ended_more::<Word>(alloc, tokens).map(PlainTail::Variables)
 }
 
 #[tactic(auto, unfolding(crate::specs::Instances::plain_tail))]
@@ -247,8 +185,7 @@ fn overridden(alloc: Global, tokens: &mut Cursor<'_>) -> Result<NameTail, ParseE
 {
     tokens.mark(Mark::Hash)?;
     let params = pins_inside(alloc, tokens)?;
-    let (params, all) = both(params, ones(alloc, tokens))?;
-    let ((params, all), _) = both((params, all), tokens.mark(Mark::Semicolon))?;
+    let (params, all) = both(params, ended_parts::<Ones>(alloc, tokens))?;
     Ok(NameTail::Overridden(params, all))
 }
 
@@ -258,9 +195,8 @@ fn some_ranges(alloc: Global, tokens: &mut Cursor<'_>) -> Result<Items<Range>, P
     ensures { Reads (some_of (test.mark_test Mark.LeftBracket) forms.range tokens.old) result tokens.new }
 {
     let first = range(alloc, tokens)?;
-    let (first, more) = both(first, ranges(alloc, tokens))?;
-    let all = with_first(alloc, first, more)?;
-    Ok(all)
+    let more = ranges(alloc, tokens);
+    with_more(alloc, first, more)
 }
 
 #[tactic(auto, unfolding(crate::specs::Instances::ranged))]
@@ -268,8 +204,7 @@ fn ranged(alloc: Global, tokens: &mut Cursor<'_>) -> Result<NameTail, ParseErr>
     ensures { Reads (spec.ranged tokens.old) result tokens.new }
 {
     let ranges = some_ranges(alloc, tokens)?;
-    let all = names(alloc, tokens)?;
-    tokens.mark(Mark::Semicolon)?;
+    let all = ended_names(alloc, tokens)?;
     Ok(NameTail::Ranged(ranges, all))
 }
 

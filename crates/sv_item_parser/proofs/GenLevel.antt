@@ -35,16 +35,17 @@ use Rattle.sv_tree.specs.declared.stmts.Step.{Step}
 use Rattle.sv_tree.specs.declared.stmts.BlockKind.{BlockKind}
 use Rattle.sv_tree.specs.declared.stmts.BlockKind.TheVariants as kind_of
 use Rattle.sv_tree.specs.Spelling.{Begins}
-use Rattle.sv_tree.specs.Nesting.{Nesting, in_generate, each_depths, label_depths, expr_depths}
-use Rattle.sv_tree.specs.NestingDesign.{step_depths, stmt_depths, kind_depths, block_depths}
+use Rattle.sv_tree.specs.Nesting.{Nesting, in_generate, each_depths, label_depths}
+use Rattle.sv_tree.specs.NestingDesign.{stmt_depths, kind_depths, block_depths}
 use Rattle.sv_tree.proofs.CountedDesign.{length_in_generate}
 use Rattle.sv_cursor.specs.Parsers.{Parser, ◌<$>◌, pure, refuse}
 use Rattle.sv_cursor.proofs.Readers.{IsReader, IsMoved, Meets, then_meets, equal_reader, less_reader, choose_reader, refuse_reader}
 use Rattle.sv_stmt_parser.specs.Targets.{end_label}
-use Rattle.sv_item_parser.specs.Items.{place_test, items, gen_rest, gen_block, single, gen, maybe_gen, cond_head, gen_if, LoopHead, head_turns, loop_head, gen_loop, region}
-use Rattle.sv_type_parser.proofs.Rules.{Rule, the_mark, the_key, placed, before, opening, closing, seq, seq_by, seq_up, optional, several, shut, rule_of, name_rule, Way, ReadBy, reader_of, way_reader}
+use Rattle.sv_item_parser.specs.Items.{place_test, items, gen_rest, gen_block, single, gen, maybe_gen, cond_head, gen_if, LoopHead, loop_head, gen_loop, region}
+use Rattle.sv_type_parser.proofs.Rules.{Rule, the_mark, the_key, placed, before, opening, closing, seq, seq_by, seq_up, optional, several, shut, rule_of, Way, ReadBy, reader_of, way_reader}
 use Rattle.sv_type_parser.proofs.Limits.{Over, expression_rule, end_mark, generated}
-use Rattle.sv_stmt_parser.proofs.Steps.{block_label_rule, end_label_reads, end_label_moved, step_tree_rule}
+use Rattle.sv_stmt_parser.proofs.Steps.{block_label_rule, end_label_reads, end_label_moved}
+use Rattle.sv_stmt_parser.proofs.Stmts.{variable_rule}
 use Rattle.sv_expr_reader.proofs.Tokens.{Any}
 
 -- what is told of the first token, and a whole item
@@ -250,21 +251,11 @@ module _ (h d : ℕ) (le : d ≤ 200) (f : Parser Item) (reads : IsReader (Over 
       let r = generated 201 h 201 cond_rule in
       equal_reader (Over 201 (suc h) 201) r.nests item_depths made_cond cond_nested (suc d) r.spelled r.spelled DoneItem (Begun item_by.If) NoColon r.parser r.reads cond_to (classed item_by.If)
 
-  abbrev turns_rule : Word → Rule B d (Expr × (Expr × Step))
-  turns_rule v =
-      before (the_mark B m.Assign)
-      (seq (expression_rule 201 h 201 d le)
-      (before (the_mark B m.Semicolon)
-      (seq (expression_rule 201 h 201 d le) (before (the_mark B m.Semicolon) (closing (step_tree_rule 201 h 201 d le v) (the_mark B m.RightParen) (end_mark m.RightParen refl)))
-      (λ x y i o v stops. end_mark m.Semicolon refl i v.0 v.1)))
-      (λ x y i o v stops. end_mark m.Semicolon refl i v.0 v.1))
-
   abbrev loop_head_tuple : Rule B d LoopHead
   loop_head_tuple =
       before (the_mark B m.LeftParen)
       (seq (optional (keyword_test k.Genvar) (placed (the_key B k.Genvar)) (λ p i o v. key_begins k.Genvar i o (some_key (keyword_text k.Genvar) p i o v)))
-      (seq_by (name_rule B d) (λ v c. (turns_rule v).spelled c) (λ c. one_token ++ (expr_depths c.0 ++ (one_token ++ (expr_depths c.1.0 ++ (one_token ++ (step_depths c.1.1 ++ one_token)))))) Any
-      head_turns (λ v. (turns_rule v).reads) (λ v. (turns_rule v).moved) (λ v c i o w stops. tt))
+      (variable_rule 201 h 201 d le)
       (λ x y i o v stops. (name_no_genvar i (first_of_name y.0 i v.0 v.1), tt)))
 
   loop_head_reads : IsReader B d loop_head_tuple.spelled loop_head_tuple.spelled loop_head_tuple.nests Any loop_head

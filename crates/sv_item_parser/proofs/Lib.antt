@@ -2,7 +2,6 @@ pub mod Blocks
 pub mod Firsts
 pub mod GenLevel
 pub mod Gens
-pub mod Growing
 pub mod Instances
 pub mod ItemLevel
 pub mod Items

@@ -33,7 +33,8 @@ use Rattle.sv_word_parser.specs.Combined.{◌▸◌, ◌◂◌, word_test, sort_
 use Rattle.sv_word_parser.specs.Words.{net_by_word, edge_by_word, always_by_word, item_by_sort}
 use Rattle.sv_type_parser.specs.Forms.{expression, given, names, form, typedef}
 use Rattle.sv_type_parser.specs.Params.{TypedName, typed_name, param}
-use Rattle.sv_stmt_parser.specs.Targets.{lvalue, step, block_label, end_label}
+use Rattle.sv_stmt_parser.specs.Targets.{lvalue, block_label, end_label}
+use Rattle.sv_stmt_parser.specs.Loops.{Turns, head_turns}
 use Rattle.sv_stmt_parser.specs.Stmts.{is_given, stmt}
 use Rattle.sv_instance_parser.specs.Instances.{more_names, named_item}
 
@@ -125,13 +126,9 @@ place_of a = Some a.place
 unfoldable pub place_test : Token → Option Place
 place_test a = place_of a
 
--- the start, the test and the step of a loop, up to the `)`
-abbrev pub head_turns : Word → Parser (Expr × (Expr × Step))
-head_turns v = mark m.Assign ▸ (expression ⊗ (mark m.Semicolon ▸ (expression ⊗ (mark m.Semicolon ▸ (step v ◂ mark m.RightParen)))))
-
 -- behind the `for` of a loop
 abbrev pub LoopHead : Type 0
-LoopHead = Option Place × (Word × (Expr × (Expr × Step)))
+LoopHead = Option Place × (Word × Turns)
 
 unfoldable pub loop_head : Parser LoopHead
 loop_head = mark m.LeftParen ▸ (maybe_read (keyword_test key.Genvar) (keyword key.Genvar) ⊗ (token id_test ▷ head_turns))

@@ -1,10 +1,11 @@
 // Generate constructs: loops, conditions and regions, which hold items to a depth. The rules take the reader of the items
 // in them as a parameter, so that each is proved by itself; the reader of an item gives itself to them, with one construct
 // less to hold a token.
-ghost use Rattle.std.specs.Prelude.{◌≡◌};
+ghost use Rattle.std.specs.Prelude.{◌≡◌, ◌≢◌, Ok, Err, IfOk, IfErr};
 ghost use Rattle.sv_cursor.specs.Parsers.{Reads, ◌⊗◌};
-ghost use Rattle.sv_item_parser.specs.Growing.{Adds};
+ghost use Rattle.sv_cursor.specs.declared.error.ParseErr.TheVariants.{Memory};
 ghost use Rattle.sv_item_parser.specs.Items as spec;
+ghost use Rattle.sv_tree.specs.declared.design.Gen.{Gen as GenTree};
 ghost use Rattle.sv_type_parser.specs.Lists.{Nests};
 
 use crate::heads::{LoopHead, cond_head, loop_head};
@@ -15,25 +16,32 @@ use sv_cursor::{Cursor, Keyword, ParseErr};
 use sv_outside::Place;
 use sv_stmt_parser::{block_label, end_label, is_given};
 use sv_tree::{Gen, Item, Word};
+use sv_type_parser::{boxed, keep};
 use sv_word_parser::ItemOpener;
 
-fn loop_of(place: Place, head: LoopHead, body: Boxed<Gen>) -> Item
-    ensures { result ≡ spec.made_loop (place, (head, body)) }
+// A loop of this head and of the body that was read behind it.
+fn loop_of(
+    place: Place,
+    head: LoopHead,
+    body: Result<Boxed<Gen>, ParseErr>,
+) -> Result<Item, ParseErr>
+    ensures made { IfOk result (λ x. (inner : GenTree) × (body ≡ Ok inner) × (x ≡ spec.made_loop (place, (head, inner)))) }
+    ensures failed { IfErr result (λ e. e ≢ Memory → body ≡ Err e) }
 {
     let (word, (variable, (start, (condition, step)))) = head;
-    Item::For(
+    Ok(Item::For(
         place,
         is_given(word),
         variable,
         start,
         condition,
         step,
-        body,
-    )
+        body?,
+    ))
 }
 
 /// The rules of generate constructs, over a reader of the items in them.
-#[derive(Clone, Copy)]
+#[derive(Drop)]
 struct Generates<F> {
     alloc: Global,
     /// How many generate constructs may hold a token of an item in the construct.
@@ -50,25 +58,6 @@ impl<F: Fn(Global, &mut Cursor<'_>, u8) -> Result<Item, ParseErr>> Generates<F> 
         (self.item)(self.alloc, tokens, self.depth)
     }
 
-    fn boxed_item(&self, tokens: &mut Cursor<'_>) -> Result<Boxed<Item>, ParseErr>
-        requires { Nests (spec.item self.now.depth) self.now.depth (F.pre self.now.item) (F.post self.now.item) }
-        ensures { Reads (spec.item self.now.depth tokens.old) result tokens.new }
-    {
-        let inner = self.item(tokens)?;
-        let inner = Boxed::new(self.alloc, inner)?;
-        Ok(inner)
-    }
-
-    // Reads one item more, so that none is held in the loop over items.
-    fn add_item(&self, tokens: &mut Cursor<'_>, found: &mut Items<Item>) -> Result<(), ParseErr>
-        requires { Nests (spec.item self.now.depth) self.now.depth (F.pre self.now.item) (F.post self.now.item) }
-        ensures { Adds (spec.item self.now.depth) found.old tokens.old result found.new tokens.new }
-    {
-        let part = self.item(tokens)?;
-        found.push(part)?;
-        Ok(())
-    }
-
     fn items(&self, tokens: &mut Cursor<'_>) -> Result<Items<Item>, ParseErr>
         requires { Nests (spec.item self.now.depth) self.now.depth (F.pre self.now.item) (F.post self.now.item) }
         ensures { Reads (spec.items (spec.item self.now.depth) tokens.old) result tokens.new }
@@ -78,7 +67,8 @@ impl<F: Fn(Global, &mut Cursor<'_>, u8) -> Result<Item, ParseErr>> Generates<F> 
             if !sees_item(tokens) {
                 return Ok(found);
             }
-            self.add_item(tokens, &mut found)?;
+            let part = self.item(tokens);
+            keep(&mut found, part)?;
         }
         Ok(found)
     }
@@ -115,7 +105,7 @@ impl<F: Fn(Global, &mut Cursor<'_>, u8) -> Result<Item, ParseErr>> Generates<F> 
     {
         match tokens.place() {
             Some(place) => {
-                let inner = self.boxed_item(tokens)?;
+                let inner = boxed(self.alloc, self.item(tokens))?;
                 Ok(Gen::Single(place, inner))
             }
             None => Err(tokens.refuse()),
@@ -137,9 +127,7 @@ impl<F: Fn(Global, &mut Cursor<'_>, u8) -> Result<Item, ParseErr>> Generates<F> 
         requires { Nests (spec.item self.now.depth) self.now.depth (F.pre self.now.item) (F.post self.now.item) }
         ensures { Reads (spec.gen (spec.item self.now.depth) tokens.old) result tokens.new }
     {
-        let inner = self.gen_body(tokens)?;
-        let inner = Boxed::new(self.alloc, inner)?;
-        Ok(inner)
+        boxed(self.alloc, self.gen_body(tokens))
     }
 
     #[tactic(auto, unfolding(crate::specs::Items::maybe_gen))]
@@ -150,8 +138,7 @@ impl<F: Fn(Global, &mut Cursor<'_>, u8) -> Result<Item, ParseErr>> Generates<F> 
         match tokens.peek_keyword(Keyword::Else) {
             Some(_) => {
                 tokens.keyword(Keyword::Else)?;
-                let inner = self.body(tokens)?;
-                Ok(Some(inner))
+                self.body(tokens).map(Some)
             }
             None => Ok(None),
         }
@@ -189,8 +176,8 @@ impl<F: Fn(Global, &mut Cursor<'_>, u8) -> Result<Item, ParseErr>> Generates<F> 
     {
         let place = tokens.keyword(Keyword::For)?;
         let head = loop_head(self.alloc, tokens)?;
-        let (head, body) = both(head, self.body(tokens))?;
-        Ok(loop_of(place, head, body))
+        let body = self.body(tokens);
+        loop_of(place, head, body)
     }
 
     /// A generate region (A.4.2, generate_region).

@@ -1,19 +1,16 @@
 // The heads of generate loops and conditions, up to the `)`. No items stand in them, so they are read here and not beside
 // the reader of items, where each function is dear.
 ghost use Rattle.sv_cursor.specs.Parsers as parser;
-ghost use Rattle.sv_cursor.specs.Parsers.{Reads, ◌⊗◌, ◌▷◌};
+ghost use Rattle.sv_cursor.specs.Parsers.{Reads};
 ghost use Rattle.sv_cursor.specs.Tests as test;
-ghost use Rattle.sv_word_parser.specs.Combined.{◌▸◌, ◌◂◌};
 ghost use Rattle.sv_item_parser.specs.Items as spec;
-ghost use Rattle.sv_type_parser.specs.Forms as forms;
-ghost use Rattle.sv_stmt_parser.specs.Targets as targets;
 
 use items::both;
 use std::alloc::Global;
 use sv_cursor::{Cursor, Keyword, Mark, ParseErr};
 use sv_outside::Place;
-use sv_stmt_parser::step;
-use sv_tree::{Expr, Step, Word};
+use sv_stmt_parser::{Turns, with_variable};
+use sv_tree::{Expr, Word};
 use sv_type_parser::expression;
 
 fn maybe_genvar(tokens: &mut Cursor<'_>) -> Result<Option<Place>, ParseErr>
@@ -28,46 +25,8 @@ fn maybe_genvar(tokens: &mut Cursor<'_>) -> Result<Option<Place>, ParseErr>
     }
 }
 
-// The start, the test and the step of a loop.
-type Turns = (Expr, (Expr, Step));
-
 /// `genvar`, the variable of a loop, and its turns.
 pub type LoopHead = (Option<Place>, (Word, Turns));
-
-fn ended_step(alloc: Global, tokens: &mut Cursor<'_>, variable: &Word) -> Result<Step, ParseErr>
-    ensures { Reads ((targets.step variable.now ◂ test.mark Mark.RightParen) tokens.old) result tokens.new }
-{
-    let by = step(alloc, tokens, variable)?;
-    tokens.mark(Mark::RightParen)?;
-    Ok(by)
-}
-
-// From the test on.
-fn tested(alloc: Global, tokens: &mut Cursor<'_>, variable: &Word) -> Result<(Expr, Step), ParseErr>
-    ensures { Reads ((forms.expression ⊗ (test.mark Mark.Semicolon ▸ (targets.step variable.now ◂ test.mark Mark.RightParen))) tokens.old) result tokens.new }
-{
-    let condition = expression(alloc, tokens)?;
-    let (condition, _) = both(condition, tokens.mark(Mark::Semicolon))?;
-    both(condition, ended_step(alloc, tokens, variable))
-}
-
-fn turns(alloc: Global, tokens: &mut Cursor<'_>, variable: &Word) -> Result<Turns, ParseErr>
-    ensures { Reads (spec.head_turns variable.now tokens.old) result tokens.new }
-{
-    tokens.mark(Mark::Assign)?;
-    let start = expression(alloc, tokens)?;
-    let (start, _) = both(start, tokens.mark(Mark::Semicolon))?;
-    both(start, tested(alloc, tokens, variable))
-}
-
-// The variable of a loop, and its turns.
-fn with_variable(alloc: Global, tokens: &mut Cursor<'_>) -> Result<(Word, Turns), ParseErr>
-    ensures { Reads ((parser.token test.id_test ▷ spec.head_turns) tokens.old) result tokens.new }
-{
-    let variable = tokens.id(alloc)?;
-    let rest = turns(alloc, tokens, &variable);
-    both(variable, rest)
-}
 
 /// What stands behind the `for` of a loop (A.4.2, loop_generate_construct).
 #[tactic(auto, unfolding(crate::specs::Items::loop_head))]

@@ -11,16 +11,17 @@ ghost use Rattle.sv_type_parser.specs.Lists as list;
 ghost use Rattle.sv_word_parser.specs.Words as words;
 
 use crate::tails::AlwaysTail;
-use items::{Items, both};
+use items::both;
 use std::alloc::Global;
 use sv_cursor::{Cursor, Keyword, Mark, ParseErr, Sort};
 use sv_instance_parser::named_item;
 use sv_stmt_parser::{lvalue, stmt};
 use sv_tree::{AssignPair, Block, BlockKind, Event, Item, Word};
 use sv_type_parser::{
-    MOST_NESTING, ended_names, form, given, more_names, param, typed_name, typedef, with_first,
+    MOST_NESTING, Part, ended_more, ended_names, ended_parts, form, given, param, typed_name,
+    typedef, with_more,
 };
-use sv_word_parser::{AlwaysWord, ItemOpener, always_next, sees, take_edge, take_net};
+use sv_word_parser::{AlwaysWord, ItemOpener, always_next, take_edge, take_net};
 
 // ---- blocks
 
@@ -152,25 +153,15 @@ fn always(alloc: Global, tokens: &mut Cursor<'_>) -> Result<Block, ParseErr>
 
 // ---- items that hold no items
 
-// The names behind the first, and the semicolon behind them.
-#[tactic(auto, unfolding(sv_instance_parser::specs::Instances::more_names, sv_type_parser::specs::Lists::more, sv_type_parser::specs::Lists::behind_comma))]
-fn ended_more_names(alloc: Global, tokens: &mut Cursor<'_>) -> Result<Items<Word>, ParseErr>
-    ensures { Reads ((instances.more_names ◂ test.mark Mark.Semicolon) tokens.old) result tokens.new }
-{
-    let more = more_names(alloc, tokens)?;
-    tokens.mark(Mark::Semicolon)?;
-    Ok(more)
-}
-
 /// One or more nets (A.2.1.3, net_declaration).
-#[tactic(auto, unfolding(crate::specs::Items::net))]
+#[tactic(auto, unfolding(crate::specs::Items::net, sv_instance_parser::specs::Instances::more_names, sv_type_parser::specs::Lists::more, sv_type_parser::specs::Lists::behind_comma))]
 fn net(alloc: Global, tokens: &mut Cursor<'_>) -> Result<Item, ParseErr>
     ensures { Reads (spec.net tokens.old) result tokens.new }
 {
     let word = take_net(tokens)?;
     let (form, name) = typed_name(alloc, tokens)?;
-    let ((form, name), more) = both((form, name), ended_more_names(alloc, tokens))?;
-    let (form, all) = both(form, with_first(alloc, name, more))?;
+    let more = ended_more::<Word>(alloc, tokens);
+    let (form, all) = both(form, with_more(alloc, name, more))?;
     Ok(Item::Net(word, form, all))
 }
 
@@ -190,73 +181,44 @@ fn genvar(alloc: Global, tokens: &mut Cursor<'_>) -> Result<Item, ParseErr>
     ensures { Reads (spec.genvar tokens.old) result tokens.new }
 {
     tokens.keyword(Keyword::Genvar)?;
-    let all = ended_names(alloc, tokens)?;
-    Ok(Item::Genvar(all))
+    ended_names(alloc, tokens).map(Item::Genvar)
 }
 
 /// A type that is given a name.
 fn typedef_item(alloc: Global, tokens: &mut Cursor<'_>) -> Result<Item, ParseErr>
     ensures { Reads (spec.typedef_item tokens.old) result tokens.new }
 {
-    let inner = typedef(alloc, tokens)?;
-    Ok(Item::Typedef(inner))
+    typedef(alloc, tokens).map(Item::Typedef)
 }
 
 /// Parameters.
 fn param_item(alloc: Global, tokens: &mut Cursor<'_>) -> Result<Item, ParseErr>
     ensures { Reads (spec.param_item tokens.old) result tokens.new }
 {
-    let inner = param(alloc, tokens)?;
-    Ok(Item::Param(inner))
+    param(alloc, tokens).map(Item::Param)
 }
 
 /// A block as an item.
 fn always_item(alloc: Global, tokens: &mut Cursor<'_>) -> Result<Item, ParseErr>
     ensures { Reads (spec.always_item tokens.old) result tokens.new }
 {
-    let inner = always(alloc, tokens)?;
-    Ok(Item::Always(inner))
+    always(alloc, tokens).map(Item::Always)
 }
 
-#[tactic(auto, unfolding(crate::specs::Items::pair))]
-fn pair(alloc: Global, tokens: &mut Cursor<'_>) -> Result<AssignPair, ParseErr>
-    ensures { Reads (spec.pair tokens.old) result tokens.new }
-{
-    let target = lvalue(alloc, tokens)?;
-    let (target, value) = both(target, given(alloc, tokens))?;
-    Ok(AssignPair { target, value })
-}
+// Assignments, as parts of a list.
+struct Pairs;
 
-#[tactic(auto, unfolding(sv_type_parser::specs::Lists::behind_comma))]
-fn comma_pair(alloc: Global, tokens: &mut Cursor<'_>) -> Result<AssignPair, ParseErr>
-    ensures { Reads (list.behind_comma spec.pair tokens.old) result tokens.new }
-{
-    tokens.mark(Mark::Comma)?;
-    pair(alloc, tokens)
-}
+impl Part for Pairs {
+    type Tree = AssignPair;
 
-fn more_pairs(alloc: Global, tokens: &mut Cursor<'_>) -> Result<Items<AssignPair>, ParseErr>
-    ensures { Reads (list.more spec.pair tokens.old) result tokens.new }
-{
-    let mut found = Items::new(alloc);
-    for _turn in 0..tokens.left() {
-        if !sees(tokens, Mark::Comma) {
-            return Ok(found);
-        }
-        let part = comma_pair(alloc, tokens)?;
-        found.push(part)?;
+    ghost parser = { spec.pair };
+
+    #[tactic(auto, unfolding(crate::specs::Items::pair))]
+    fn read(alloc: Global, tokens: &mut Cursor<'_>) -> Result<AssignPair, ParseErr> {
+        let target = lvalue(alloc, tokens)?;
+        let (target, value) = both(target, given(alloc, tokens))?;
+        Ok(AssignPair { target, value })
     }
-    Ok(found)
-}
-
-#[tactic(auto, unfolding(sv_type_parser::specs::Lists::more, sv_type_parser::specs::Lists::behind_comma))]
-fn pairs(alloc: Global, tokens: &mut Cursor<'_>) -> Result<Items<AssignPair>, ParseErr>
-    ensures { Reads (listed spec.pair tokens.old) result tokens.new }
-{
-    let first = pair(alloc, tokens)?;
-    let (first, more) = both(first, more_pairs(alloc, tokens))?;
-    let all = with_first(alloc, first, more)?;
-    Ok(all)
 }
 
 /// One or more assignments (A.6.1, continuous_assign).
@@ -265,9 +227,7 @@ fn assigns(alloc: Global, tokens: &mut Cursor<'_>) -> Result<Item, ParseErr>
     ensures { Reads (spec.assigns tokens.old) result tokens.new }
 {
     tokens.keyword(Keyword::Assign)?;
-    let all = pairs(alloc, tokens)?;
-    tokens.mark(Mark::Semicolon)?;
-    Ok(Item::Assign(all))
+    ended_parts::<Pairs>(alloc, tokens).map(Item::Assign)
 }
 
 // ---- what begins an item

@@ -19,8 +19,10 @@ use sv_cursor::{Cursor, Keyword, Mark, ParseErr, Sort};
 use sv_item_parser::{item, sees_item};
 use sv_stmt_parser::label_behind;
 use sv_tree::{Item, Module, ParPort, Port, Source, SourcePart, Word};
-use sv_type_parser::{MOST_NESTING, par_port, param, port, typed_name, typedef, with_first};
-use sv_word_parser::{PartOpener, maybe_net, sees, take_way, way_next};
+use sv_type_parser::{
+    MOST_NESTING, keep, more_parts, par_port, param, typed_name, typedef, with_first, with_more,
+};
+use sv_word_parser::{PartOpener, maybe_net, take_way, way_next};
 
 // ---- the header of a module
 
@@ -39,36 +41,13 @@ fn first_port(alloc: Global, tokens: &mut Cursor<'_>) -> Result<Port, ParseErr>
     })
 }
 
-#[tactic(auto, unfolding(sv_type_parser::specs::Lists::behind_comma))]
-fn comma_port(alloc: Global, tokens: &mut Cursor<'_>) -> Result<Port, ParseErr>
-    ensures { Reads (list.behind_comma params_spec.port tokens.old) result tokens.new }
-{
-    tokens.mark(Mark::Comma)?;
-    port(alloc, tokens)
-}
-
-fn more_ports(alloc: Global, tokens: &mut Cursor<'_>) -> Result<Items<Port>, ParseErr>
-    ensures { Reads (list.more params_spec.port tokens.old) result tokens.new }
-{
-    let mut found = Items::new(alloc);
-    for _turn in 0..tokens.left() {
-        if !sees(tokens, Mark::Comma) {
-            return Ok(found);
-        }
-        let part = comma_port(alloc, tokens)?;
-        found.push(part)?;
-    }
-    Ok(found)
-}
-
 #[tactic(auto, unfolding(crate::specs::Source::some_ports, crate::specs::Source::more_ports, sv_type_parser::specs::Lists::more, sv_type_parser::specs::Lists::behind_comma))]
 fn some_ports(alloc: Global, tokens: &mut Cursor<'_>) -> Result<Items<Port>, ParseErr>
     ensures { Reads (spec.some_ports tokens.old) result tokens.new }
 {
     let first = first_port(alloc, tokens)?;
-    let (first, more) = both(first, more_ports(alloc, tokens))?;
-    let all = with_first(alloc, first, more)?;
-    Ok(all)
+    let more = more_parts::<Port>(alloc, tokens);
+    with_more(alloc, first, more)
 }
 
 #[tactic(auto, unfolding(crate::specs::Source::ports_inside))]
@@ -104,28 +83,6 @@ fn maybe_ports(alloc: Global, tokens: &mut Cursor<'_>) -> Result<Option<Items<Po
     }
 }
 
-#[tactic(auto, unfolding(sv_type_parser::specs::Lists::behind_comma))]
-fn comma_par_port(alloc: Global, tokens: &mut Cursor<'_>) -> Result<ParPort, ParseErr>
-    ensures { Reads (list.behind_comma params_spec.par_port tokens.old) result tokens.new }
-{
-    tokens.mark(Mark::Comma)?;
-    par_port(alloc, tokens)
-}
-
-fn more_par_ports(alloc: Global, tokens: &mut Cursor<'_>) -> Result<Items<ParPort>, ParseErr>
-    ensures { Reads (list.more params_spec.par_port tokens.old) result tokens.new }
-{
-    let mut found = Items::new(alloc);
-    for _turn in 0..tokens.left() {
-        if !sees(tokens, Mark::Comma) {
-            return Ok(found);
-        }
-        let part = comma_par_port(alloc, tokens)?;
-        found.push(part)?;
-    }
-    Ok(found)
-}
-
 // One or more parameters.
 fn some_params(
     alloc: Global,
@@ -134,7 +91,7 @@ fn some_params(
     ensures { Reads ((params_spec.par_port ⊗ list.more params_spec.par_port) tokens.old) result tokens.new }
 {
     let first = par_port(alloc, tokens)?;
-    both(first, more_par_ports(alloc, tokens))
+    both(first, more_parts::<ParPort>(alloc, tokens))
 }
 
 #[tactic(auto, unfolding(crate::specs::Source::params_inside, crate::specs::Source::more_par_ports, sv_type_parser::specs::Lists::more, sv_type_parser::specs::Lists::behind_comma))]
@@ -181,8 +138,8 @@ fn body(alloc: Global, tokens: &mut Cursor<'_>) -> Result<Items<Item>, ParseErr>
         if !sees_item(tokens) {
             return Ok(found);
         }
-        let part = body_item(alloc, tokens)?;
-        found.push(part)?;
+        let part = body_item(alloc, tokens);
+        keep(&mut found, part)?;
     }
     Ok(found)
 }
@@ -278,18 +235,9 @@ fn part_for(
     ensures { Reads (spec.part_for opener tokens.old) result tokens.new }
 {
     match opener {
-        PartOpener::Module => {
-            let inner = module(alloc, tokens)?;
-            Ok(SourcePart::Module(inner))
-        }
-        PartOpener::Typedef => {
-            let inner = typedef(alloc, tokens)?;
-            Ok(SourcePart::Typedef(inner))
-        }
-        PartOpener::Param => {
-            let inner = param(alloc, tokens)?;
-            Ok(SourcePart::Param(inner))
-        }
+        PartOpener::Module => module(alloc, tokens).map(SourcePart::Module),
+        PartOpener::Typedef => typedef(alloc, tokens).map(SourcePart::Typedef),
+        PartOpener::Param => param(alloc, tokens).map(SourcePart::Param),
     }
 }
 
@@ -311,8 +259,8 @@ fn all_parts(alloc: Global, tokens: &mut Cursor<'_>) -> Result<Items<SourcePart>
         if !sees_part(tokens) {
             return Ok(found);
         }
-        let part = part(alloc, tokens)?;
-        found.push(part)?;
+        let part = part(alloc, tokens);
+        keep(&mut found, part)?;
     }
     Ok(found)
 }

@@ -40,15 +40,16 @@ use Rattle.sv_word_parser.specs.declared.openers.StmtOpener.TheVariants as stmt_
 use Rattle.sv_word_parser.specs.Combined.{word_of, word_test, sort_test}
 use Rattle.sv_word_parser.specs.Words.{uniq_by_word, stmt_by_sort}
 use Rattle.sv_stmt_parser.specs.Targets.{end_label}
-use Rattle.sv_stmt_parser.specs.Stmts.{made_assign, assign, empty, made_block, made_if, made_case, made_branch, Turns, made_for, stmts, block_rest, block, maybe_else, conditional, choice, branched, branch, loop, stmt_for, stmt_level, stmt}
+use Rattle.sv_stmt_parser.specs.Stmts.{made_assign, assign, empty, made_block, made_if, made_case, made_branch, made_for, stmts, block_rest, block, maybe_else, conditional, choice, branched, branch, loop, stmt_for, stmt_level, stmt}
+use Rattle.sv_stmt_parser.specs.Loops.{Turns, LoopHead}
 use Rattle.sv_type_parser.proofs.Rules.{Rule, Fixed, the_mark, the_key, placed, before, opening, seq, seq_by, seq_up, closing, optional, several, Shut, shut, rule_of, Way, choose_reads, fork_reads, fork_moved, ReadBy, reader_of, moved_counted, key_begins, first_of_key, told_sort, told_word, no_key}
-use Rattle.sv_type_parser.proofs.Words.{whole_rule, uniq_rule, uniq_begins, case_rule, case_first}
+use Rattle.sv_type_parser.proofs.Words.{uniq_rule, uniq_begins, case_rule, case_first}
 use Rattle.sv_type_parser.proofs.Limits.{Over, expression_rule, end_mark, stated}
 use Rattle.sv_stmt_parser.proofs.Targets.{lvalue_rule}
 use Rattle.sv_stmt_parser.proofs.Steps.{NoColon, block_label_rule, end_label_reads, end_label_moved}
 use Rattle.sv_stmt_parser.proofs.Begins.{NoElse, empty_told, block_told, stmt_if_told, stmt_case_told, for_told, assign_told, stmt_begins, told_opener}
 use Rattle.sv_stmt_parser.proofs.Arms.{Closed, DoneStmt, counted_done, ArmsEnd, DoneArms, arms_rule, stmt_told_no_colon, stmt_no_colon}
-use Rattle.sv_stmt_parser.proofs.Stmts.{AssignSpelled, assign_mark_rule, assign_no_select, key_no_colon, end_no_else, endcase_no_else, each_done, each_stmt, some_arm_done, some_arm, stmt_grows, variable_rule}
+use Rattle.sv_stmt_parser.proofs.Stmts.{AssignSpelled, assign_mark_rule, assign_no_select, key_no_colon, end_no_else, endcase_no_else, each_done, each_stmt, some_arm_done, some_arm, stmt_grows, head_rule}
 
 -- ---- what stands behind `unique` and its like
 
@@ -191,68 +192,31 @@ block_from p b all e i o h =
     let g = made.of_block p b all e i o h.0 in
     (g.0, g.1, (g.2.0, g.2.1, (g.2.2.0, each_done all g.2.0 g.2.2.0 g.2.2.1 (end_no_else g.2.2.0 g.2.2.2.0 g.2.2.2.1), g.2.2.2)))
 
-abbrev TurnsSpelled : Word → Turns Stmt → Spelled
-TurnsSpelled v c = mark_spelled (mark_text m.Assign) ⨟ (Spells 0 c.0 ⨟ (mark_spelled (mark_text m.Semicolon) ⨟ (Spells 0 c.1.0 ⨟ (mark_spelled (mark_text m.Semicolon) ⨟ (SpellsStep v c.1.1.0 ⨟ (mark_spelled (mark_text m.RightParen) ⨟ DoneStmt c.1.1.1))))))
+abbrev TurnsSpelled : Word → Turns → Spelled
+TurnsSpelled v c = mark_spelled (mark_text m.Assign) ⨟ (Spells 0 c.0 ⨟ (mark_spelled (mark_text m.Semicolon) ⨟ (Spells 0 c.1.0 ⨟ (mark_spelled (mark_text m.Semicolon) ⨟ (SpellsStep v c.1.1 ⨟ mark_spelled (mark_text m.RightParen))))))
 
-abbrev LoopSpelled : Place × (WholeWord × (Word × Turns Stmt)) → Spelled
-LoopSpelled c = key_at (keyword_text k.For) c.0 ⨟ (mark_spelled (mark_text m.LeftParen) ⨟ (whole_key c.1.0 ⨟ (name c.1.1.0 ⨟ TurnsSpelled c.1.1.0 c.1.1.1)))
+abbrev LoopSpelled : Place × (LoopHead × Stmt) → Spelled
+LoopSpelled c = key_at (keyword_text k.For) c.0 ⨟ ((mark_spelled (mark_text m.LeftParen) ⨟ (whole_key c.1.0.0 ⨟ (name c.1.0.1.0 ⨟ TurnsSpelled c.1.0.1.0 c.1.0.1.1))) ⨟ DoneStmt c.1.1)
 
-loop_to : (c : Place × (WholeWord × (Word × Turns Stmt))) (i o : List Token) → LoopSpelled c i o → DoneStmt (made_for c) i o
+loop_to : (c : Place × (LoopHead × Stmt)) (i o : List Token) → LoopSpelled c i o → DoneStmt (made_for c) i o
 unfolding keyword_text mark_text
 loop_to c i o h =
-    let b = h.2.2.2.2 in
-    let a = b.2.2.2.2.2.2 in (
-      made.to_for c.0 c.1.0 c.1.1.0 c.1.1.1.0 c.1.1.1.1.0 c.1.1.1.1.1.0 c.1.1.1.1.1.1 i o
-          (h.0, h.1, (h.2.0, h.2.1, (h.2.2.0, h.2.2.1, (h.2.2.2.0, h.2.2.2.1, (b.0, b.1, (b.2.0, b.2.1, (b.2.2.0, b.2.2.1, (b.2.2.2.0, b.2.2.2.1, (b.2.2.2.2.0, b.2.2.2.2.1, (b.2.2.2.2.2.0, b.2.2.2.2.2.1, (a.0, a.1, a.2.0))))))))))),
-      subst (λ q. Closed q o) (sym (made.closed_for c.0 c.1.0 c.1.1.0 c.1.1.1.0 c.1.1.1.1.0 c.1.1.1.1.1.0 c.1.1.1.1.1.1)) a.2.1,
+    let a = h.2.1 in
+    let b = a.2.2.2 in
+    let e = b.2.2.2.2.2 in (
+      made.to_for c.0 c.1.0.0 c.1.0.1.0 c.1.0.1.1.0 c.1.0.1.1.1.0 c.1.0.1.1.1.1 c.1.1 i o
+          (h.0, h.1, (a.0, a.1, (a.2.0, a.2.1, (a.2.2.0, a.2.2.1, (b.0, b.1, (b.2.0, b.2.1, (b.2.2.0, b.2.2.1, (b.2.2.2.0, b.2.2.2.1, (b.2.2.2.2.0, b.2.2.2.2.1, (e.0, e.1, (h.2.0, e.2, h.2.2.0))))))))))),
+      subst (λ q. Closed q o) (sym (made.closed_for c.0 c.1.0.0 c.1.0.1.0 c.1.0.1.1.0 c.1.0.1.1.1.0 c.1.0.1.1.1.1 c.1.1)) h.2.2.1,
     )
 
-loop_from : (p : Place) (form : WholeWord) (v : Word) (start test : Expr) (next : Step) (body : Stmt) (i o : List Token) → DoneStmt (st.For p form v start test next body) i o → LoopSpelled (p, (form, (v, (start, (test, (next, body)))))) i o
+loop_from : (p : Place) (form : WholeWord) (v : Word) (start test : Expr) (next : Step) (body : Stmt) (i o : List Token) → DoneStmt (st.For p form v start test next body) i o → LoopSpelled (p, ((form, (v, (start, (test, next)))), body)) i o
 unfolding keyword_text mark_text
 loop_from p form v start test next body i o h =
     let g = made.of_for p form v start test next body i o h.0 in
     let b = g.2.2.2.2 in
-    let a = b.2.2.2.2.2.2 in (
-      g.0,
-      g.1,
-      (
-        g.2.0,
-        g.2.1,
-        (
-          g.2.2.0,
-          g.2.2.1,
-          (
-            g.2.2.2.0,
-            g.2.2.2.1,
-            (
-              b.0,
-              b.1,
-              (
-                b.2.0,
-                b.2.1,
-                (
-                  b.2.2.0,
-                  b.2.2.1,
-                  (
-                    b.2.2.2.0,
-                    b.2.2.2.1,
-                    (
-                      b.2.2.2.2.0,
-                      b.2.2.2.2.1,
-                      (
-                        b.2.2.2.2.2.0,
-                        b.2.2.2.2.2.1,
-                        (a.0, a.1, (a.2, subst (λ q. Closed q o) (made.closed_for p form v start test next body) h.1)),
-                      ),
-                    ),
-                  ),
-                ),
-              ),
-            ),
-          ),
-        ),
-      ),
-    )
+    let e = b.2.2.2.2.2 in
+    let a = e.2 in
+    (g.0, g.1, (a.0, (g.2.0, g.2.1, (g.2.2.0, g.2.2.1, (g.2.2.2.0, g.2.2.2.1, (b.0, b.1, (b.2.0, b.2.1, (b.2.2.0, b.2.2.1, (b.2.2.2.0, b.2.2.2.1, (b.2.2.2.2.0, b.2.2.2.2.1, (e.0, e.1, a.1))))))))), (a.2, subst (λ q. Closed q o) (made.closed_for p form v start test next body) h.1)))
 
 assign_to : (c : Lvalue × ((AssignMark × Place) × Expr)) (i o : List Token) → (SpellsLvalue c.0 ⨟ (AssignSpelled c.1.0 ⨟ (Spells 0 c.1.1 ⨟ mark_spelled (mark_text m.Semicolon)))) i o → DoneStmt (made_assign c) i o
 unfolding mark_text
@@ -381,9 +345,8 @@ module _ (limit s g t : ℕ) (le : suc s ≤ 200) (f : Parser Stmt) (reads : IsS
 
   -- ---- loops and assignments
 
-  abbrev loop_rule : Rule (Over limit g t) (suc s) (Place × (WholeWord × (Word × Turns Stmt)))
-  loop_rule =
-      seq_up (placed (ky k.For)) (before (mk m.LeftParen) (seq (whole_rule (Over limit g t) s) (variable_rule limit g t s (omega arith) inner_rule) (λ x y i o h stops. tt))) (λ x y i o h stops. tt) (λ x i o h. omega arith)
+  abbrev loop_rule : Rule (Over limit g t) (suc s) (Place × (LoopHead × Stmt))
+  loop_rule = seq_up (placed (ky k.For)) (seq (head_rule limit g t s (omega arith)) inner_rule (λ x y i o h stops. tt)) (λ x y i o h stops. tt) (λ x i o h. omega arith)
 
   abbrev assign_rule : Rule (Over limit g t) (suc s) (Lvalue × ((AssignMark × Place) × Expr))
   assign_rule =
@@ -408,10 +371,10 @@ module _ (limit s g t : ℕ) (le : suc s ≤ 200) (f : Parser Stmt) (reads : IsS
   }
   ways stmt_by.Branch = record { A = Option Uniq × BranchTail; rule = stated limit g t branch_rule; made = made_branch; nested = branch_nested; to = branch_to; ends = λ o h. h }
   ways stmt_by.For = record {
-    A = Place × (WholeWord × (Word × Turns Stmt));
+    A = Place × (LoopHead × Stmt);
     rule = stated limit g t loop_rule;
     made = made_for;
-    nested = λ c. sym (made.nests_for c.0 c.1.0 c.1.1.0 c.1.1.1.0 c.1.1.1.1.0 c.1.1.1.1.1.0 c.1.1.1.1.1.1 ∙ ap in_stmt (simp append_assoc));
+    nested = λ c. sym (made.nests_for c.0 c.1.0.0 c.1.0.1.0 c.1.0.1.1.0 c.1.0.1.1.1.0 c.1.0.1.1.1.1 c.1.1 ∙ ap in_stmt (simp append_assoc));
     to = loop_to;
     ends = λ o h. h;
   }
@@ -441,7 +404,7 @@ module _ (limit s g t : ℕ) (le : suc s ≤ 200) (f : Parser Stmt) (reads : IsS
       (λ p b all e i o h. (stmt_by.Block, block_told p b all e i o h.0, ((p, (b, (all, e))), refl, block_from p b all e i o h)))
       (λ u c x y i o h. (stmt_by.Branch, stmt_if_told u c x y i o h.0, ((u, branch_tail.If c x y), refl, if_from u c x y i o h)))
       (λ u w x all i o h. (stmt_by.Branch, stmt_case_told u w x all i o h.0, ((u, branch_tail.Case w x all), refl, case_from u w x all i o h)))
-      (λ p form v start test next body i o h. (stmt_by.For, for_told p form v start test next body i o h.0, ((p, (form, (v, (start, (test, (next, body)))))), refl, loop_from p form v start test next body i o h)))
+      (λ p form v start test next body i o h. (stmt_by.For, for_told p form v start test next body i o h.0, ((p, ((form, (v, (start, (test, next)))), body)), refl, loop_from p form v start test next body i o h)))
       (λ to mk p x i o h. (stmt_by.Target, assign_told to mk p x i o h.0, ((to, ((mk, p), x)), refl, assign_from to mk p x i o h)))
 
   pub stmt_level_reads : IsReader (Over (suc limit) g t) (suc s) DoneStmt DoneStmt stmt_depths NoColon (stmt_level f)

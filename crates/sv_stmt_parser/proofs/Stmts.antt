@@ -29,8 +29,10 @@ use Rattle.sv_expr_words.specs.Signs.{opener, opener_test}
 use Rattle.sv_expr_reader.proofs.Tokens.{Any, outside}
 use Rattle.sv_word_parser.specs.Combined.{sign_of}
 use Rattle.sv_word_parser.specs.Words.{assign_by_mark}
-use Rattle.sv_stmt_parser.specs.Stmts.{with_place, assign_test, Turns, turns}
-use Rattle.sv_type_parser.proofs.Rules.{Rule, the_mark, before, seq, seq_by, rule_of, name_rule, first_of_key, no_mark, no_key}
+use Rattle.sv_stmt_parser.specs.Stmts.{with_place, assign_test}
+use Rattle.sv_stmt_parser.specs.Loops.{Turns, head_turns, LoopHead, loop_head}
+use Rattle.sv_type_parser.proofs.Rules.{Rule, the_mark, before, closing, seq, seq_by, rule_of, name_rule, first_of_key, no_mark, no_key}
+use Rattle.sv_type_parser.proofs.Words.{whole_rule}
 use Rattle.sv_type_parser.proofs.Limits.{Over, expression_rule, end_mark}
 use Rattle.sv_stmt_parser.proofs.Targets.{NoSelect, no_select}
 use Rattle.sv_stmt_parser.proofs.Steps.{NoColon, step_tree_rule}
@@ -151,22 +153,30 @@ stmt_grows = made.by_cases_stmt (λ x. 0 < length (stmt_depths x))
     (λ p form v start test next body. subst (λ l. 0 < length l) (sym (made.nests_for p form v start test next body)) (simp (length_in_stmt, length-append) (omega arith)))
     (λ to mk p x. subst (λ l. 0 < length l) (sym (made.nests_assign to mk p x)) (simp (length_in_stmt, length-append) (omega arith)))
 
--- ---- the turns of a loop, up to its body
+-- ---- the head of a loop
 
-module _ (s g t d : ℕ) (le : d ≤ 200) {A : Type 0} (body : Rule (Over s g t) d A) where
-  abbrev pub turns_rule : Word → Rule (Over s g t) d (Turns A)
+module _ (s g t d : ℕ) (le : d ≤ 200) where
+  abbrev turns_rule : Word → Rule (Over s g t) d Turns
   turns_rule v =
       before (the_mark (Over s g t) m.Assign)
       (seq (expression_rule s g t d le)
       (before (the_mark (Over s g t) m.Semicolon)
-      (seq (expression_rule s g t d le)
-      (before (the_mark (Over s g t) m.Semicolon)
-      (seq (step_tree_rule s g t d le v) (before (the_mark (Over s g t) m.RightParen) body) (λ x y i o h stops. end_mark m.RightParen refl i h.0 h.1)))
+      (seq (expression_rule s g t d le) (before (the_mark (Over s g t) m.Semicolon) (closing (step_tree_rule s g t d le v) (the_mark (Over s g t) m.RightParen) (end_mark m.RightParen refl)))
       (λ x y i o h stops. end_mark m.Semicolon refl i h.0 h.1)))
       (λ x y i o h stops. end_mark m.Semicolon refl i h.0 h.1))
 
   -- the variable of a loop, and its turns
-  abbrev pub variable_rule : Rule (Over s g t) d (Word × Turns A)
+  abbrev pub variable_rule : Rule (Over s g t) d (Word × Turns)
   variable_rule =
-      seq_by (name_rule (Over s g t) d) (λ v c. (turns_rule v).spelled c) (λ c. one ++ (expr_depths c.0 ++ (one ++ (expr_depths c.1.0 ++ (one ++ (step_depths c.1.1.0 ++ (one ++ body.nests c.1.1.1))))))) body.stops
-      (turns body.parser) (λ v. (turns_rule v).reads) (λ v. (turns_rule v).moved) (λ v c i o h stops. tt)
+      seq_by (name_rule (Over s g t) d) (λ v c. (turns_rule v).spelled c) (λ c. one ++ (expr_depths c.0 ++ (one ++ (expr_depths c.1.0 ++ (one ++ (step_depths c.1.1 ++ one)))))) Any
+      head_turns (λ v. (turns_rule v).reads) (λ v. (turns_rule v).moved) (λ v c i o h stops. tt)
+
+  abbrev head_tuple : Rule (Over s g t) d LoopHead
+  head_tuple = before (the_mark (Over s g t) m.LeftParen) (seq (whole_rule (Over s g t) d) variable_rule (λ x y i o h stops. tt))
+
+  pub head_reads : IsReader (Over s g t) d head_tuple.spelled head_tuple.spelled head_tuple.nests Any loop_head
+  unfolding loop_head
+  head_reads = head_tuple.reads
+
+  abbrev pub head_rule : Rule (Over s g t) d LoopHead
+  head_rule = record { spelled = head_tuple.spelled; nests = head_tuple.nests; stops = Any; parser = loop_head; reads = head_reads; moved = head_tuple.moved }

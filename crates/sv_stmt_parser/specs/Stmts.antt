@@ -4,9 +4,7 @@ use Rattle.sv_outside.specs.declared.refusal.Place.{Place}
 use Rattle.sv_outside.specs.declared.text.Token.{Token}
 use Rattle.sv_tree.specs.declared.word.Word.{Word}
 use Rattle.sv_tree.specs.declared.exprs.Expr.{Expr}
-use Rattle.sv_tree.specs.declared.forms.WholeWord.{WholeWord}
 use Rattle.sv_tree.specs.declared.stmts.Lvalue.{Lvalue}
-use Rattle.sv_tree.specs.declared.stmts.Step.{Step}
 use Rattle.sv_tree.specs.declared.stmts.Uniq.{Uniq}
 use Rattle.sv_tree.specs.declared.stmts.CaseWord.{CaseWord}
 use Rattle.sv_tree.specs.declared.stmts.AssignMark.{AssignMark}
@@ -18,16 +16,17 @@ use Rattle.sv_cursor.specs.declared.sort.Keyword.TheVariants as key
 use Rattle.sv_cursor.specs.declared.sort.Mark.TheVariants as m
 use Rattle.sv_cursor.specs.Sorts.{sort}
 use Rattle.sv_cursor.specs.Parsers.{Parser, ◌<$>◌, ◌▷◌, ◌⊗◌, refuse, too_deep, token, by_told, maybe_read, many}
-use Rattle.sv_cursor.specs.Tests.{mark_test, keyword_test, id_test, mark, keyword}
+use Rattle.sv_cursor.specs.Tests.{mark_test, keyword_test, mark, keyword}
 use Rattle.sv_expr_words.specs.Signs.{opener_test}
 use Rattle.sv_stmt_parser.specs.declared.tails.BranchTail.{BranchTail}
 use Rattle.sv_stmt_parser.specs.declared.tails.BranchTail.TheVariants as branch_tail
 use Rattle.sv_word_parser.specs.declared.openers.StmtOpener.{StmtOpener}
 use Rattle.sv_word_parser.specs.declared.openers.StmtOpener.TheVariants as stmt_by
 use Rattle.sv_word_parser.specs.Combined.{◌▸◌, ◌◂◌, word_test, sign_of, sort_test, listed}
-use Rattle.sv_word_parser.specs.Words.{whole_by_word, uniq_by_word, case_by_word, assign_by_mark, stmt_by_sort}
+use Rattle.sv_word_parser.specs.Words.{uniq_by_word, case_by_word, assign_by_mark, stmt_by_sort}
 use Rattle.sv_type_parser.specs.Forms.{expression}
-use Rattle.sv_stmt_parser.specs.Targets.{lvalue, block_label, end_label, step}
+use Rattle.sv_stmt_parser.specs.Targets.{lvalue, block_label, end_label}
+use Rattle.sv_stmt_parser.specs.Loops.{LoopHead, loop_head}
 
 -- ---- assignments
 
@@ -74,16 +73,8 @@ abbrev pub made_branch : Option Uniq × BranchTail → Stmt
 made_branch (u, branch_tail.If c x y) = st.If u c x y
 made_branch (u, branch_tail.Case w x all) = st.Case u w x all
 
--- the start, the test, the step and the body of a loop
-abbrev pub Turns : Type 0 → Type 0
-Turns A = Expr × (Expr × (Step × A))
-
-abbrev pub made_for : Place × (WholeWord × (Word × Turns Stmt)) → Stmt
-made_for c = st.For c.0 c.1.0 c.1.1.0 c.1.1.1.0 c.1.1.1.1.0 c.1.1.1.1.1.0 c.1.1.1.1.1.1
-
--- from the mark behind the variable of a loop on
-abbrev pub turns : {A : Type 0} → Parser A → Word → Parser (Turns A)
-turns body v = mark m.Assign ▸ (expression ⊗ (mark m.Semicolon ▸ (expression ⊗ (mark m.Semicolon ▸ (step v ⊗ (mark m.RightParen ▸ body))))))
+abbrev pub made_for : Place × (LoopHead × Stmt) → Stmt
+made_for c = st.For c.0 c.1.0.0 c.1.0.1.0 c.1.0.1.1.0 c.1.0.1.1.1.0 c.1.0.1.1.1.1 c.1.1
 
 -- A function value reads the statements in a statement.
 module _ (stmt : Parser Stmt) where
@@ -132,7 +123,7 @@ module _ (stmt : Parser Stmt) where
   branch = made_branch <$> (maybe_read (word_test uniq_by_word) (token (word_test uniq_by_word)) ⊗ branched)
 
   unfoldable pub loop : Parser Stmt
-  loop = made_for <$> (keyword key.For ⊗ (mark m.LeftParen ▸ (token (word_test whole_by_word) ⊗ (token id_test ▷ turns stmt))))
+  loop = made_for <$> (keyword key.For ⊗ (loop_head ⊗ stmt))
 
   abbrev pub stmt_for : StmtOpener → Parser Stmt
   stmt_for stmt_by.Empty = empty

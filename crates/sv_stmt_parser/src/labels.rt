@@ -52,10 +52,7 @@ pub fn block_label(alloc: Global, tokens: &mut Cursor<'_>) -> Result<Option<Word
     ensures { Reads (spec.block_label tokens.old) result tokens.new }
 {
     match tokens.peek_mark(Mark::Colon) {
-        Some(_) => {
-            let name = colon_name(alloc, tokens)?;
-            Ok(Some(name))
-        }
+        Some(_) => colon_name(alloc, tokens).map(Some),
         None => Ok(None),
     }
 }
@@ -78,10 +75,7 @@ pub fn label_behind(
     ensures { Reads (spec.label_behind name.now tokens.old) result tokens.new }
 {
     match tokens.peek_mark(Mark::Colon) {
-        Some(_) => {
-            let name = colon_repeated(alloc, tokens, name)?;
-            Ok(Some(name))
-        }
+        Some(_) => colon_repeated(alloc, tokens, name).map(Some),
         None => Ok(None),
     }
 }
@@ -107,10 +101,7 @@ fn step_tail(alloc: Global, tokens: &mut Cursor<'_>) -> Result<StepTail, ParseEr
     ensures { Reads (spec.step_tail tokens.old) result tokens.new }
 {
     match step_next(tokens) {
-        Some(_) => {
-            let mark = take_step(tokens)?;
-            Ok(StepTail::By(mark))
-        }
+        Some(_) => take_step(tokens).map(StepTail::By),
         None => {
             let mark = take_step_sign(tokens)?;
             let value = expression(alloc, tokens)?;

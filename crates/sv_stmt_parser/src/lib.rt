@@ -4,11 +4,13 @@
 //! those as a parameter.
 #![tactic(auto)]
 
+mod heads;
 mod labels;
 mod lvalues;
 mod statements;
 mod tails;
 
+pub use heads::{Turns, with_variable};
 pub use labels::{block_label, end_label, label_behind, step};
 pub use lvalues::lvalue;
 pub use statements::{is_given, stmt};

@@ -9,12 +9,12 @@ ghost use Rattle.sv_type_parser.specs.Lists.{Nests};
 ghost use Rattle.sv_stmt_parser.specs.Targets as spec;
 ghost use Rattle.sv_word_parser.specs.Words as words;
 
-use items::{Items, both};
+use items::Items;
 use std::alloc::Global;
 use sv_cursor::{Cursor, Mark, ParseErr, Sort};
 use sv_expr_reader::selects;
 use sv_tree::Lvalue;
-use sv_type_parser::{MOST_NESTING, with_first};
+use sv_type_parser::{MOST_NESTING, keep, with_more};
 use sv_word_parser::{TargetOpener, sees};
 
 #[tactic(auto, unfolding(crate::specs::Targets::named_target))]
@@ -53,7 +53,7 @@ fn target_next(tokens: &Cursor<'_>) -> Option<TargetOpener>
 }
 
 /// The rules of targets in braces, over a reader of the targets in them.
-#[derive(Clone, Copy)]
+#[derive(Drop)]
 struct Braces<F> {
     alloc: Global,
     /// Fewer expressions may hold a token of a part.
@@ -88,8 +88,8 @@ impl<F: Fn(Global, &mut Cursor<'_>, u8) -> Result<Lvalue, ParseErr>> Braces<F> {
             if !sees(tokens, Mark::Comma) {
                 return Ok(found);
             }
-            let part = self.comma_part(tokens)?;
-            found.push(part)?;
+            let part = self.comma_part(tokens);
+            keep(&mut found, part)?;
         }
         Ok(found)
     }
@@ -100,9 +100,8 @@ impl<F: Fn(Global, &mut Cursor<'_>, u8) -> Result<Lvalue, ParseErr>> Braces<F> {
         ensures { Reads (listed (spec.target self.now.depth) tokens.old) result tokens.new }
     {
         let first = self.part(tokens)?;
-        let (first, more) = both(first, self.more_parts(tokens))?;
-        let all = with_first(self.alloc, first, more)?;
-        Ok(all)
+        let more = self.more_parts(tokens);
+        with_more(self.alloc, first, more)
     }
 
     #[tactic(auto, unfolding(crate::specs::Targets::braced_targets))]

@@ -2,20 +2,22 @@
 // reader of those as a parameter, so that each is proved by itself, and `stmt` closes the cycle with one depth less. Arms
 // before the default, the default and the arms behind it are read one after another and then joined, so that a second default
 // is refused at its word.
-ghost use Rattle.std.specs.Prelude.{◌≡◌, ◌∷◌, ◌++◌, is_some, IfOk};
+ghost use Rattle.std.specs.Prelude.{◌≡◌, ◌≢◌, ◌∷◌, ◌++◌, Ok, Err, is_some, IfOk, IfErr};
 ghost use Rattle.sv_cursor.specs.Parsers as parser;
-ghost use Rattle.sv_cursor.specs.Parsers.{Reads, ◌⊗◌, ◌▷◌, told};
+ghost use Rattle.sv_cursor.specs.Parsers.{Reads, ◌⊗◌, told};
 ghost use Rattle.sv_cursor.specs.Tests as test;
+ghost use Rattle.sv_cursor.specs.declared.error.ParseErr.TheVariants.{Memory};
 ghost use Rattle.sv_expr_words.specs.Signs.{opener_test};
 ghost use Rattle.sv_word_parser.specs.Combined.{◌▸◌, ◌◂◌, sign_of, sort_test};
 ghost use Rattle.sv_type_parser.specs.Forms as forms;
 ghost use Rattle.sv_type_parser.specs.Lists as list;
 ghost use Rattle.sv_type_parser.specs.Lists.{Nests};
-ghost use Rattle.sv_stmt_parser.specs.Loops as loops;
 ghost use Rattle.sv_stmt_parser.specs.Stmts as spec;
+ghost use Rattle.sv_tree.specs.declared.stmts.Stmt.{Stmt as StmtTree};
 ghost use Rattle.sv_word_parser.specs.Words as words;
 
-use crate::labels::{block_label, end_label, step};
+use crate::heads::{LoopHead, loop_head};
+use crate::labels::{block_label, end_label};
 use crate::lvalues::lvalue;
 use crate::tails::BranchTail;
 use items::{Boxed, Items, both};
@@ -23,9 +25,9 @@ use std::alloc::{AllocError, Global};
 use sv_cursor::{Cursor, Keyword, Mark, ParseErr, Sort};
 use sv_expr_words::begins;
 use sv_outside::Place;
-use sv_tree::{Arm, AssignMark, Expr, Step, Stmt, WholeWord, Word};
-use sv_type_parser::{expression, expressions, with_first};
-use sv_word_parser::{StmtOpener, maybe_uniq, take_case, take_whole, taken};
+use sv_tree::{Arm, AssignMark, Expr, Stmt, Word};
+use sv_type_parser::{boxed, expression, expressions, keep, with_first};
+use sv_word_parser::{StmtOpener, maybe_uniq, take_case, taken};
 
 // ---- assignments
 
@@ -177,10 +179,7 @@ fn maybe_colon(tokens: &mut Cursor<'_>) -> Result<Option<Place>, ParseErr>
     ensures { Reads (parser.maybe_read (test.mark_test Mark.Colon) (test.mark Mark.Colon) tokens.old) result tokens.new }
 {
     match tokens.peek_mark(Mark::Colon) {
-        Some(_) => {
-            let place = tokens.mark(Mark::Colon)?;
-            Ok(Some(place))
-        }
+        Some(_) => tokens.mark(Mark::Colon).map(Some),
         None => Ok(None),
     }
 }
@@ -200,18 +199,21 @@ fn joined(
     Ok(all)
 }
 
-// The start, the test, the step and the body of a loop.
-type Turns = (Expr, (Expr, (Step, Boxed<Stmt>)));
-
-fn loop_of(place: Place, word: WholeWord, variable: Word, turns: Turns) -> Stmt
-    ensures { result ≡ spec.made_for (place, (word, (variable, turns))) }
+// A loop of this head and of the body that was read behind it.
+fn loop_of(
+    place: Place,
+    head: LoopHead,
+    body: Result<Boxed<Stmt>, ParseErr>,
+) -> Result<Stmt, ParseErr>
+    ensures made { IfOk result (λ x. (inner : StmtTree) × (body ≡ Ok inner) × (x ≡ spec.made_for (place, (head, inner)))) }
+    ensures failed { IfErr result (λ e. e ≢ Memory → body ≡ Err e) }
 {
-    let (start, (condition, (step, body))) = turns;
-    Stmt::For(place, word, variable, start, condition, step, body)
+    let (word, (variable, (start, (condition, step)))) = head;
+    Ok(Stmt::For(place, word, variable, start, condition, step, body?))
 }
 
 /// The rules of statements, over a reader of the statements in a statement.
-#[derive(Clone, Copy)]
+#[derive(Drop)]
 struct Statements<F> {
     alloc: Global,
     /// How many statements may hold a token of a part.
@@ -232,9 +234,7 @@ impl<F: Fn(Global, &mut Cursor<'_>, u8) -> Result<Stmt, ParseErr>> Statements<F>
         requires { Nests (spec.stmt self.now.depth) self.now.depth (F.pre self.now.stmt) (F.post self.now.stmt) }
         ensures { Reads (spec.stmt self.now.depth tokens.old) result tokens.new }
     {
-        let inner = self.stmt(tokens)?;
-        let inner = Boxed::new(self.alloc, inner)?;
-        Ok(inner)
+        boxed(self.alloc, self.stmt(tokens))
     }
 
     // ---- blocks
@@ -248,8 +248,8 @@ impl<F: Fn(Global, &mut Cursor<'_>, u8) -> Result<Stmt, ParseErr>> Statements<F>
             if !sees_stmt(tokens) {
                 return Ok(found);
             }
-            let part = self.stmt(tokens)?;
-            found.push(part)?;
+            let part = self.stmt(tokens);
+            keep(&mut found, part)?;
         }
         Ok(found)
     }
@@ -280,24 +280,15 @@ impl<F: Fn(Global, &mut Cursor<'_>, u8) -> Result<Stmt, ParseErr>> Statements<F>
 
     // ---- branches
 
-    #[tactic(auto, unfolding(sv_type_parser::specs::Lists::behind_else))]
-    fn else_part(&self, tokens: &mut Cursor<'_>) -> Result<Boxed<Stmt>, ParseErr>
-        requires { Nests (spec.stmt self.now.depth) self.now.depth (F.pre self.now.stmt) (F.post self.now.stmt) }
-        ensures { Reads (list.behind_else (spec.stmt self.now.depth) tokens.old) result tokens.new }
-    {
-        tokens.keyword(Keyword::Else)?;
-        self.body(tokens)
-    }
-
-    #[tactic(auto, unfolding(crate::specs::Stmts::maybe_else, sv_type_parser::specs::Lists::behind_else))]
+    #[tactic(auto, unfolding(crate::specs::Stmts::maybe_else))]
     fn maybe_else(&self, tokens: &mut Cursor<'_>) -> Result<Option<Boxed<Stmt>>, ParseErr>
         requires { Nests (spec.stmt self.now.depth) self.now.depth (F.pre self.now.stmt) (F.post self.now.stmt) }
         ensures { Reads (spec.maybe_else (spec.stmt self.now.depth) tokens.old) result tokens.new }
     {
         match tokens.peek_keyword(Keyword::Else) {
             Some(_) => {
-                let inner = self.else_part(tokens)?;
-                Ok(Some(inner))
+                tokens.keyword(Keyword::Else)?;
+                self.body(tokens).map(Some)
             }
             None => Ok(None),
         }
@@ -339,17 +330,6 @@ impl<F: Fn(Global, &mut Cursor<'_>, u8) -> Result<Stmt, ParseErr>> Statements<F>
         Ok(Arm::Labels(labels, body))
     }
 
-    #[tactic(auto, unfolding(crate::specs::Stmts::default))]
-    fn default_arm(&self, tokens: &mut Cursor<'_>) -> Result<Arm, ParseErr>
-        requires { Nests (spec.stmt self.now.depth) self.now.depth (F.pre self.now.stmt) (F.post self.now.stmt) }
-        ensures { Reads (spec.default (spec.stmt self.now.depth) tokens.old) result tokens.new }
-    {
-        tokens.keyword(Keyword::Default)?;
-        let colon = maybe_colon(tokens)?;
-        let body = self.body(tokens)?;
-        Ok(Arm::Default(is_given(colon), body))
-    }
-
     fn all_labelled(&self, tokens: &mut Cursor<'_>) -> Result<Items<Arm>, ParseErr>
         requires { Nests (spec.stmt self.now.depth) self.now.depth (F.pre self.now.stmt) (F.post self.now.stmt) }
         ensures { Reads (spec.all_labelled (spec.stmt self.now.depth) tokens.old) result tokens.new }
@@ -359,18 +339,21 @@ impl<F: Fn(Global, &mut Cursor<'_>, u8) -> Result<Stmt, ParseErr>> Statements<F>
             if !sees_expression(tokens) {
                 return Ok(found);
             }
-            let part = self.labelled(tokens)?;
-            found.push(part)?;
+            let part = self.labelled(tokens);
+            keep(&mut found, part)?;
         }
         Ok(found)
     }
 
-    #[tactic(auto, unfolding(crate::specs::Stmts::from_default))]
+    #[tactic(auto, unfolding(crate::specs::Stmts::default, crate::specs::Stmts::from_default))]
     fn from_default(&self, tokens: &mut Cursor<'_>) -> Result<(Arm, Items<Arm>), ParseErr>
         requires { Nests (spec.stmt self.now.depth) self.now.depth (F.pre self.now.stmt) (F.post self.now.stmt) }
         ensures { Reads (spec.from_default (spec.stmt self.now.depth) tokens.old) result tokens.new }
     {
-        let default = self.default_arm(tokens)?;
+        tokens.keyword(Keyword::Default)?;
+        let colon = maybe_colon(tokens)?;
+        let body = self.body(tokens)?;
+        let default = Arm::Default(is_given(colon), body);
         both(default, self.all_labelled(tokens))
     }
 
@@ -379,10 +362,7 @@ impl<F: Fn(Global, &mut Cursor<'_>, u8) -> Result<Stmt, ParseErr>> Statements<F>
         ensures { Reads (parser.maybe_read (test.keyword_test Keyword.Default) (spec.from_default (spec.stmt self.now.depth)) tokens.old) result tokens.new }
     {
         match tokens.peek_keyword(Keyword::Default) {
-            Some(_) => {
-                let rest = self.from_default(tokens)?;
-                Ok(Some(rest))
-            }
+            Some(_) => self.from_default(tokens).map(Some),
             None => Ok(None),
         }
     }
@@ -396,10 +376,7 @@ impl<F: Fn(Global, &mut Cursor<'_>, u8) -> Result<Stmt, ParseErr>> Statements<F>
         ensures { Reads (spec.behind_labelled (spec.stmt self.now.depth) before.now tokens.old) result tokens.new }
     {
         match before {
-            [] => {
-                let rest = self.from_default(tokens)?;
-                Ok(Some(rest))
-            }
+            [] => self.from_default(tokens).map(Some),
             [_, ..] => self.maybe_default(tokens),
         }
     }
@@ -469,64 +446,14 @@ impl<F: Fn(Global, &mut Cursor<'_>, u8) -> Result<Stmt, ParseErr>> Statements<F>
 
     // ---- loops
 
-    #[tactic(auto, unfolding(crate::specs::Loops::stepped))]
-    fn stepped(
-        &self,
-        tokens: &mut Cursor<'_>,
-        variable: &Word,
-    ) -> Result<(Step, Boxed<Stmt>), ParseErr>
-        requires { Nests (spec.stmt self.now.depth) self.now.depth (F.pre self.now.stmt) (F.post self.now.stmt) }
-        ensures { Reads (loops.stepped (spec.stmt self.now.depth) variable.now tokens.old) result tokens.new }
-    {
-        let by = step(self.alloc, tokens, variable)?;
-        tokens.mark(Mark::RightParen)?;
-        both(by, self.body(tokens))
-    }
-
-    #[tactic(auto, unfolding(crate::specs::Loops::tested))]
-    fn tested(
-        &self,
-        tokens: &mut Cursor<'_>,
-        variable: &Word,
-    ) -> Result<(Expr, (Step, Boxed<Stmt>)), ParseErr>
-        requires { Nests (spec.stmt self.now.depth) self.now.depth (F.pre self.now.stmt) (F.post self.now.stmt) }
-        ensures { Reads (loops.tested (spec.stmt self.now.depth) variable.now tokens.old) result tokens.new }
-    {
-        let condition = expression(self.alloc, tokens)?;
-        tokens.mark(Mark::Semicolon)?;
-        both(condition, self.stepped(tokens, variable))
-    }
-
-    #[tactic(auto, unfolding(crate::specs::Loops::stepped, crate::specs::Loops::tested))]
-    fn turns(&self, tokens: &mut Cursor<'_>, variable: &Word) -> Result<Turns, ParseErr>
-        requires { Nests (spec.stmt self.now.depth) self.now.depth (F.pre self.now.stmt) (F.post self.now.stmt) }
-        ensures { Reads (spec.turns (spec.stmt self.now.depth) variable.now tokens.old) result tokens.new }
-    {
-        tokens.mark(Mark::Assign)?;
-        let start = expression(self.alloc, tokens)?;
-        tokens.mark(Mark::Semicolon)?;
-        both(start, self.tested(tokens, variable))
-    }
-
-    // The variable of a loop, and what stands behind it.
-    fn with_variable(&self, tokens: &mut Cursor<'_>) -> Result<(Word, Turns), ParseErr>
-        requires { Nests (spec.stmt self.now.depth) self.now.depth (F.pre self.now.stmt) (F.post self.now.stmt) }
-        ensures { Reads ((parser.token test.id_test ▷ spec.turns (spec.stmt self.now.depth)) tokens.old) result tokens.new }
-    {
-        let variable = tokens.id(self.alloc)?;
-        let rest = self.turns(tokens, &variable);
-        both(variable, rest)
-    }
-
     fn counted(&self, tokens: &mut Cursor<'_>) -> Result<Stmt, ParseErr>
         requires { Nests (spec.stmt self.now.depth) self.now.depth (F.pre self.now.stmt) (F.post self.now.stmt) }
         ensures { Reads (spec.loop (spec.stmt self.now.depth) tokens.old) result tokens.new }
     {
         let place = tokens.keyword(Keyword::For)?;
-        tokens.mark(Mark::LeftParen)?;
-        let word = take_whole(tokens)?;
-        let (variable, turns) = self.with_variable(tokens)?;
-        Ok(loop_of(place, word, variable, turns))
+        let head = loop_head(self.alloc, tokens)?;
+        let body = self.body(tokens);
+        loop_of(place, head, body)
     }
 
     // ---- a statement

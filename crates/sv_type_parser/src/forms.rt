@@ -11,11 +11,12 @@ ghost use Rattle.sv_type_parser.specs.Lists as list;
 ghost use Rattle.sv_type_parser.specs.Lists.{Nests};
 ghost use Rattle.sv_word_parser.specs.Words as words;
 
-use crate::lists::{MOST_NESTING, expression, with_first};
+use crate::lists::{MOST_NESTING, expression};
 use crate::parts::{Part, all_parts, ended_parts};
-use items::{Boxed, Items, both};
+use items::{Items, both};
 use std::alloc::Global;
 use sv_cursor::{Cursor, Keyword, Mark, ParseErr, Sort};
+use sv_expr_reader::{boxed, keep, with_more};
 use sv_tree::{EnumLabel, Expr, Member, Range, TypeTree, Typedef, Word};
 use sv_word_parser::{TypeOpener, maybe_sign, sees, take_bits, take_sign};
 
@@ -49,8 +50,8 @@ pub fn ranges(alloc: Global, tokens: &mut Cursor<'_>) -> Result<Items<Range>, Pa
         if !sees(tokens, Mark::LeftBracket) {
             return Ok(found);
         }
-        let part = range(alloc, tokens)?;
-        found.push(part)?;
+        let part = range(alloc, tokens);
+        keep(&mut found, part)?;
     }
     Ok(found)
 }
@@ -61,10 +62,7 @@ pub fn maybe_range(alloc: Global, tokens: &mut Cursor<'_>) -> Result<Option<Rang
     ensures { Reads (spec.range_if tokens.old) result tokens.new }
 {
     match tokens.peek_mark(Mark::LeftBracket) {
-        Some(_) => {
-            let one = range(alloc, tokens)?;
-            Ok(Some(one))
-        }
+        Some(_) => range(alloc, tokens).map(Some),
         None => Ok(None),
     }
 }
@@ -82,10 +80,7 @@ fn maybe_given(alloc: Global, tokens: &mut Cursor<'_>) -> Result<Option<Expr>, P
     ensures { Reads (parser.maybe_read (test.mark_test Mark.Assign) spec.given tokens.old) result tokens.new }
 {
     match tokens.peek_mark(Mark::Assign) {
-        Some(_) => {
-            let value = given(alloc, tokens)?;
-            Ok(Some(value))
-        }
+        Some(_) => given(alloc, tokens).map(Some),
         None => Ok(None),
     }
 }
@@ -100,6 +95,8 @@ fn enum_label(alloc: Global, tokens: &mut Cursor<'_>) -> Result<EnumLabel, Parse
 }
 
 impl Part for EnumLabel {
+    type Tree = EnumLabel;
+
     ghost parser = { spec.enum_label };
 
     fn read(alloc: Global, tokens: &mut Cursor<'_>) -> Result<EnumLabel, ParseErr> {
@@ -133,8 +130,8 @@ fn range_vector(alloc: Global, tokens: &mut Cursor<'_>) -> Result<TypeTree, Pars
     ensures { Reads (spec.range_vector tokens.old) result tokens.new }
 {
     let first = range(alloc, tokens)?;
-    let (first, more) = both(first, ranges(alloc, tokens))?;
-    let all = with_first(alloc, first, more)?;
+    let more = ranges(alloc, tokens);
+    let all = with_more(alloc, first, more)?;
     Ok(TypeTree::Vector(None, None, all))
 }
 
@@ -151,7 +148,7 @@ fn braced_labels(alloc: Global, tokens: &mut Cursor<'_>) -> Result<Items<EnumLab
     ensures { Reads (list.braced (listed spec.enum_label) tokens.old) result tokens.new }
 {
     tokens.mark(Mark::LeftBrace)?;
-    let all = all_parts(alloc, tokens)?;
+    let all = all_parts::<EnumLabel>(alloc, tokens)?;
     tokens.mark(Mark::RightBrace)?;
     Ok(all)
 }
@@ -280,7 +277,7 @@ fn sees_type(tokens: &Cursor<'_>) -> bool
 pub fn ended_names(alloc: Global, tokens: &mut Cursor<'_>) -> Result<Items<Word>, ParseErr>
     ensures { Reads ((spec.names ◂ test.mark Mark.Semicolon) tokens.old) result tokens.new }
 {
-    ended_parts(alloc, tokens)
+    ended_parts::<Word>(alloc, tokens)
 }
 
 // The ranges behind the members of a structure.
@@ -307,8 +304,7 @@ impl<F: Fn(Global, &mut Cursor<'_>, u8) -> Result<TypeTree, ParseErr>> Types<F> 
         requires { Nests (spec.form self.now.depth) self.now.depth (F.pre self.now.form) (F.post self.now.form) }
         ensures { Reads (spec.member (spec.form self.now.depth) tokens.old) result tokens.new }
     {
-        let form = (self.form)(self.alloc, tokens, self.depth)?;
-        let form = Boxed::new(self.alloc, form)?;
+        let form = boxed(self.alloc, (self.form)(self.alloc, tokens, self.depth))?;
         let all = ended_names(self.alloc, tokens)?;
         Ok(Member::Of(form, all))
     }
@@ -322,8 +318,8 @@ impl<F: Fn(Global, &mut Cursor<'_>, u8) -> Result<TypeTree, ParseErr>> Types<F> 
             if !sees_type(tokens) {
                 return Ok(found);
             }
-            let part = self.member(tokens)?;
-            found.push(part)?;
+            let part = self.member(tokens);
+            keep(&mut found, part)?;
         }
         Ok(found)
     }
@@ -334,9 +330,8 @@ impl<F: Fn(Global, &mut Cursor<'_>, u8) -> Result<TypeTree, ParseErr>> Types<F> 
         ensures { Reads (spec.members (spec.form self.now.depth) tokens.old) result tokens.new }
     {
         let first = self.member(tokens)?;
-        let (first, more) = both(first, self.more_members(tokens))?;
-        let all = with_first(self.alloc, first, more)?;
-        Ok(all)
+        let more = self.more_members(tokens);
+        with_more(self.alloc, first, more)
     }
 
     // The members of a structure in braces, and the ranges behind them.

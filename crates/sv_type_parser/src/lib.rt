@@ -11,5 +11,7 @@ mod parameters;
 mod parts;
 
 pub use forms::{ended_names, form, given, range, ranges, typedef};
-pub use lists::{MOST_NESTING, expression, expressions, more_names, names, with_first};
+pub use lists::{MOST_NESTING, expression, expressions, more_names, names};
 pub use parameters::{par_port, param, port, typed_name};
+pub use parts::{Part, all_parts, ended_more, ended_parts, more_parts};
+pub use sv_expr_reader::{boxed, keep, with_first, with_more};

@@ -1,5 +1,5 @@
 // Lists with commas between their parts.
-ghost use Rattle.std.specs.Prelude.{◌≡◌, ◌∷◌, IfOk};
+ghost use Rattle.std.specs.Prelude.{◌≡◌};
 ghost use Rattle.sv_cursor.specs.Parsers as parser;
 ghost use Rattle.sv_cursor.specs.Parsers.{Reads};
 ghost use Rattle.sv_cursor.specs.Tests as test;
@@ -10,23 +10,13 @@ ghost use Rattle.sv_type_parser.specs.Lists as list;
 
 use crate::parts::{all_parts, more_parts};
 use items::Items;
-use std::alloc::{AllocError, Global};
+use std::alloc::Global;
 use sv_cursor::{Cursor, ParseErr};
 use sv_expr_reader::expr;
 use sv_tree::{Expr, Word};
 
 /// How many expressions, statements, generate constructs or types may hold a token (this project's rule).
 pub const MOST_NESTING: u8 = 200;
-
-/// A part, and those that follow it.
-pub fn with_first<A: Drop>(alloc: Global, first: A, more: Items<A>) -> Result<Items<A>, AllocError>
-    ensures { IfOk result (λ all. all ≡ first ∷ more) }
-{
-    let mut all = Items::new(alloc);
-    all.push(first)?;
-    all.append(more)?;
-    Ok(all)
-}
 
 /// An expression (A.8.3).
 pub fn expression(alloc: Global, tokens: &mut Cursor<'_>) -> Result<Expr, ParseErr>
@@ -39,14 +29,14 @@ pub fn expression(alloc: Global, tokens: &mut Cursor<'_>) -> Result<Expr, ParseE
 pub fn expressions(alloc: Global, tokens: &mut Cursor<'_>) -> Result<Items<Expr>, ParseErr>
     ensures { Reads (listed spec.expression tokens.old) result tokens.new }
 {
-    all_parts(alloc, tokens)
+    all_parts::<Expr>(alloc, tokens)
 }
 
 /// The names behind the first.
 pub fn more_names(alloc: Global, tokens: &mut Cursor<'_>) -> Result<Items<Word>, ParseErr>
     ensures { Reads (list.more (parser.token test.id_test) tokens.old) result tokens.new }
 {
-    more_parts(alloc, tokens)
+    more_parts::<Word>(alloc, tokens)
 }
 
 /// One or more names, with commas between them.
@@ -54,5 +44,5 @@ pub fn more_names(alloc: Global, tokens: &mut Cursor<'_>) -> Result<Items<Word>,
 pub fn names(alloc: Global, tokens: &mut Cursor<'_>) -> Result<Items<Word>, ParseErr>
     ensures { Reads (spec.names tokens.old) result tokens.new }
 {
-    all_parts(alloc, tokens)
+    all_parts::<Word>(alloc, tokens)
 }

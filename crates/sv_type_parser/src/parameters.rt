@@ -121,10 +121,7 @@ fn maybe_param_type(alloc: Global, tokens: &mut Cursor<'_>) -> Result<Option<Par
     ensures { Reads (spec.maybe_param_type tokens.old) result tokens.new }
 {
     match param_type_next(tokens) {
-        Some(opener) => {
-            let form = param_type_for(alloc, tokens, opener)?;
-            Ok(Some(form))
-        }
+        Some(opener) => param_type_for(alloc, tokens, opener).map(Some),
         None => Ok(None),
     }
 }
@@ -155,6 +152,16 @@ pub fn par_port(alloc: Global, tokens: &mut Cursor<'_>) -> Result<ParPort, Parse
     })
 }
 
+impl Part for ParPort {
+    type Tree = ParPort;
+
+    ghost parser = { spec.par_port };
+
+    fn read(alloc: Global, tokens: &mut Cursor<'_>) -> Result<ParPort, ParseErr> {
+        par_port(alloc, tokens)
+    }
+}
+
 #[tactic(auto, unfolding(crate::specs::Params::param_item))]
 fn param_item(alloc: Global, tokens: &mut Cursor<'_>) -> Result<ParamItem, ParseErr>
     ensures { Reads (spec.param_item tokens.old) result tokens.new }
@@ -164,6 +171,8 @@ fn param_item(alloc: Global, tokens: &mut Cursor<'_>) -> Result<ParamItem, Parse
 }
 
 impl Part for ParamItem {
+    type Tree = ParamItem;
+
     ghost parser = { spec.param_item };
 
     fn read(alloc: Global, tokens: &mut Cursor<'_>) -> Result<ParamItem, ParseErr> {
@@ -178,7 +187,7 @@ pub fn param(alloc: Global, tokens: &mut Cursor<'_>) -> Result<Param, ParseErr>
 {
     let word = take_param(tokens)?;
     let form = maybe_param_type(alloc, tokens)?;
-    let (form, list) = both(form, ended_parts(alloc, tokens))?;
+    let (form, list) = both(form, ended_parts::<ParamItem>(alloc, tokens))?;
     Ok(Param { word, form, list })
 }
 
@@ -199,10 +208,7 @@ fn maybe_behind_type(
     ensures { Reads (parser.maybe_read (sort_test words.behind_by_sort) spec.behind_type tokens.old) result tokens.new }
 {
     match behind_next(tokens) {
-        Some(_) => {
-            let behind = behind_type(alloc, tokens)?;
-            Ok(Some(behind))
-        }
+        Some(_) => behind_type(alloc, tokens).map(Some),
         None => Ok(None),
     }
 }
@@ -256,4 +262,14 @@ pub fn port(alloc: Global, tokens: &mut Cursor<'_>) -> Result<Port, ParseErr>
         form,
         name,
     })
+}
+
+impl Part for Port {
+    type Tree = Port;
+
+    ghost parser = { spec.port };
+
+    fn read(alloc: Global, tokens: &mut Cursor<'_>) -> Result<Port, ParseErr> {
+        port(alloc, tokens)
+    }
 }

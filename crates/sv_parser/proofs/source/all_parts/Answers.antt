@@ -6,6 +6,7 @@ use Rattle.sv_word_parser.specs.Combined.{word_test}
 use Rattle.sv_word_parser.specs.Words.{part_by_word}
 use Rattle.sv_parser.specs.Source.{part}
 use Rattle.sv_type_parser.specs.Lists.{while_told}
+use Rattle.sv_expr_reader.proofs.Held.{failed_as, read_as}
 use Rattle.sv_parser.proofs.source.all_parts.Goals as goal
 
 pub loop-turn-init : goal.loop-turn-init
@@ -20,14 +21,14 @@ returns c = many_stops (word_test part_by_word) part _ c.loop-turn.found _ c.loo
 pub returns-then-not-sees_part : goal.returns-then-not-sees_part
 returns-then-not-sees_part c = many_ends (word_test part_by_word) part _ c.loop-turn.found _ c.loop-turn.tokens (sym c.sees_part.ensures ∙ c.if-not-sees_part.true) c.loop-turn.invariant
 
-pub returns-in_err-part : goal.returns-in_err-part
-returns-in_err-part c =
-    handed _ c.from_residual.result c.in_err-part.field-0.0 c.part.new.tokens c.from_residual.ensures.1
+pub returns-in_err-keep : goal.returns-in_err-keep
+returns-in_err-keep c =
+    handed _ c.from_residual.result c.in_err-keep.field-0.0 c.part-part.new.tokens c.from_residual.ensures.1
     (many_fails (word_test part_by_word) part _ c.loop-turn.found _ (c.left-turn-end.result - (c.loop-turn._turn + 1))
-    c.loop-turn.tokens c.part.new.tokens c.in_err-part.field-0.0 (omega arith) (sym c.sees_part.ensures ∙ c.if-not-sees_part.false) c.loop-turn.invariant c.in_err-part.ensures)
+    c.loop-turn.tokens c.part-part.new.tokens c.in_err-keep.field-0.0 (omega arith) (sym c.sees_part.ensures ∙ c.if-not-sees_part.false) c.loop-turn.invariant (failed_as _ c.part-part.result _ _ c.part-part.ensures c.in_err-keep.ensures.failed))
 
 pub loop-turn-preserved : goal.loop-turn-preserved
 loop-turn-preserved c =
-    rw c.in_ok-push.ensures.ok
+    rw c.in_ok-keep.ensures.kept.2
     (many_goes (word_test part_by_word) part _ c.loop-turn.found _ (c.left-turn-end.result - (c.loop-turn._turn + 1))
-    c.loop-turn.tokens c.part.new.tokens c.in_ok-part.part (omega arith) (sym c.sees_part.ensures ∙ c.if-not-sees_part.false) c.loop-turn.invariant c.in_ok-part.ensures)
+    c.loop-turn.tokens c.part-part.new.tokens c.in_ok-keep.ensures.kept.0 (omega arith) (sym c.sees_part.ensures ∙ c.if-not-sees_part.false) c.loop-turn.invariant (read_as _ c.part-part.result _ _ c.part-part.ensures c.in_ok-keep.ensures.kept.1))

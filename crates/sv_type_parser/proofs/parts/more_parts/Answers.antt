@@ -5,6 +5,7 @@ use Rattle.sv_cursor.proofs.Turns.{handed, after_none, many_ends, many_stops, ma
 use Rattle.sv_cursor.specs.declared.sort.Mark.TheVariants as m
 use Rattle.sv_cursor.specs.Tests.{mark_test}
 use Rattle.sv_type_parser.specs.Lists.{more, behind_comma}
+use Rattle.sv_expr_reader.proofs.Held.{failed_as, read_as}
 use Rattle.sv_type_parser.proofs.parts.more_parts.Goals as goal
 
 pub loop-turn-init : goal.loop-turn-init
@@ -19,14 +20,14 @@ returns g c = many_stops (mark_test m.Comma) (behind_comma g.T.Part.parser) _ c.
 pub returns-then-not-sees : goal.returns-then-not-sees
 returns-then-not-sees g c = many_ends (mark_test m.Comma) (behind_comma g.T.Part.parser) _ c.loop-turn.found _ c.loop-turn.tokens (sym c.sees.ensures ∙ c.if-not-sees.true) c.loop-turn.invariant
 
-pub returns-in_err-part : goal.returns-in_err-part
-returns-in_err-part g c =
-    handed _ c.from_residual.result c.in_err-part.field-0.0 c.comma_part.new.tokens c.from_residual.ensures.1
+pub returns-in_err-keep : goal.returns-in_err-keep
+returns-in_err-keep g c =
+    handed _ c.from_residual.result c.in_err-keep.field-0.0 c.comma_part-part.new.tokens c.from_residual.ensures.1
     (many_fails (mark_test m.Comma) (behind_comma g.T.Part.parser) _ c.loop-turn.found _ (c.left-turn-end.result - (c.loop-turn._turn + 1))
-    c.loop-turn.tokens c.comma_part.new.tokens c.in_err-part.field-0.0 (omega arith) (sym c.sees.ensures ∙ c.if-not-sees.false) c.loop-turn.invariant c.in_err-part.ensures)
+    c.loop-turn.tokens c.comma_part-part.new.tokens c.in_err-keep.field-0.0 (omega arith) (sym c.sees.ensures ∙ c.if-not-sees.false) c.loop-turn.invariant (failed_as _ c.comma_part-part.result _ _ c.comma_part-part.ensures c.in_err-keep.ensures.failed))
 
 pub loop-turn-preserved : goal.loop-turn-preserved
 loop-turn-preserved g c =
-    rw c.in_ok-push.ensures.ok
+    rw c.in_ok-keep.ensures.kept.2
     (many_goes (mark_test m.Comma) (behind_comma g.T.Part.parser) _ c.loop-turn.found _ (c.left-turn-end.result - (c.loop-turn._turn + 1))
-    c.loop-turn.tokens c.comma_part.new.tokens c.in_ok-part.part (omega arith) (sym c.sees.ensures ∙ c.if-not-sees.false) c.loop-turn.invariant c.in_ok-part.ensures)
+    c.loop-turn.tokens c.comma_part-part.new.tokens c.in_ok-keep.ensures.kept.0 (omega arith) (sym c.sees.ensures ∙ c.if-not-sees.false) c.loop-turn.invariant (read_as _ c.comma_part-part.result _ _ c.comma_part-part.ensures c.in_ok-keep.ensures.kept.1))

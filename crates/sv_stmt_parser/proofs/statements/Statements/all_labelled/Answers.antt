@@ -4,6 +4,7 @@ use Rattle.sv_cursor.specs.Parsers.{many_from}
 use Rattle.sv_cursor.proofs.Turns.{handed, after_none, many_ends, many_stops, many_fails, many_goes}
 use Rattle.sv_expr_words.specs.Signs.{opener_test}
 use Rattle.sv_stmt_parser.specs.Stmts.{stmt, labelled, all_labelled}
+use Rattle.sv_expr_reader.proofs.Held.{failed_as, read_as}
 use Rattle.sv_stmt_parser.proofs.statements.Statements.all_labelled.Goals as goal
 
 pub loop-turn-init : goal.loop-turn-init
@@ -18,14 +19,14 @@ returns g c = many_stops opener_test (labelled (stmt c.args.self.now.depth)) _ c
 pub returns-then-not-sees_expression : goal.returns-then-not-sees_expression
 returns-then-not-sees_expression g c = many_ends opener_test (labelled (stmt c.args.self.now.depth)) _ c.loop-turn.found _ c.loop-turn.tokens (sym c.sees_expression.ensures ∙ c.if-not-sees_expression.true) c.loop-turn.invariant
 
-pub returns-in_err-part : goal.returns-in_err-part
-returns-in_err-part g c =
-    handed _ c.from_residual.result c.in_err-part.field-0.0 c.labelled.new.tokens c.from_residual.ensures.1
+pub returns-in_err-keep : goal.returns-in_err-keep
+returns-in_err-keep g c =
+    handed _ c.from_residual.result c.in_err-keep.field-0.0 c.labelled-part.new.tokens c.from_residual.ensures.1
     (many_fails opener_test (labelled (stmt c.args.self.now.depth)) _ c.loop-turn.found _ (c.left-turn-end.result - (c.loop-turn._turn + 1))
-    c.loop-turn.tokens c.labelled.new.tokens c.in_err-part.field-0.0 (omega arith) (sym c.sees_expression.ensures ∙ c.if-not-sees_expression.false) c.loop-turn.invariant c.in_err-part.ensures)
+    c.loop-turn.tokens c.labelled-part.new.tokens c.in_err-keep.field-0.0 (omega arith) (sym c.sees_expression.ensures ∙ c.if-not-sees_expression.false) c.loop-turn.invariant (failed_as _ c.labelled-part.result _ _ c.labelled-part.ensures c.in_err-keep.ensures.failed))
 
 pub loop-turn-preserved : goal.loop-turn-preserved
 loop-turn-preserved g c =
-    rw c.in_ok-push.ensures.ok
+    rw c.in_ok-keep.ensures.kept.2
     (many_goes opener_test (labelled (stmt c.args.self.now.depth)) _ c.loop-turn.found _ (c.left-turn-end.result - (c.loop-turn._turn + 1))
-    c.loop-turn.tokens c.labelled.new.tokens c.in_ok-part.part (omega arith) (sym c.sees_expression.ensures ∙ c.if-not-sees_expression.false) c.loop-turn.invariant c.in_ok-part.ensures)
+    c.loop-turn.tokens c.labelled-part.new.tokens c.in_ok-keep.ensures.kept.0 (omega arith) (sym c.sees_expression.ensures ∙ c.if-not-sees_expression.false) c.loop-turn.invariant (read_as _ c.labelled-part.result _ _ c.labelled-part.ensures c.in_ok-keep.ensures.kept.1))

@@ -10,14 +10,6 @@ pub returns-in_err-place : goal.returns-in_err-place
 unfolding loop
 returns-in_err-place g c = search rules
 
-pub returns-in_err-mark : goal.returns-in_err-mark
+pub returns-in_err-head : goal.returns-in_err-head
 unfolding loop
-returns-in_err-mark g c = search rules
-
-pub returns-in_err-word : goal.returns-in_err-word
-unfolding loop
-returns-in_err-word g c = search rules
-
-pub returns-in_err-variable : goal.returns-in_err-variable
-unfolding loop
-returns-in_err-variable g c = search rules
+returns-in_err-head g c = search rules

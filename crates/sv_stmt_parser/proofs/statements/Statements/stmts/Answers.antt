@@ -5,6 +5,7 @@ use Rattle.sv_cursor.proofs.Turns.{handed, after_none, many_ends, many_stops, ma
 use Rattle.sv_word_parser.specs.Combined.{sort_test}
 use Rattle.sv_word_parser.specs.Words.{stmt_by_sort}
 use Rattle.sv_stmt_parser.specs.Stmts.{stmt, stmts}
+use Rattle.sv_expr_reader.proofs.Held.{failed_as, read_as}
 use Rattle.sv_stmt_parser.proofs.statements.Statements.stmts.Goals as goal
 
 pub loop-turn-init : goal.loop-turn-init
@@ -19,14 +20,14 @@ returns g c = many_stops (sort_test stmt_by_sort) (stmt c.args.self.now.depth) _
 pub returns-then-not-sees_stmt : goal.returns-then-not-sees_stmt
 returns-then-not-sees_stmt g c = many_ends (sort_test stmt_by_sort) (stmt c.args.self.now.depth) _ c.loop-turn.found _ c.loop-turn.tokens (sym c.sees_stmt.ensures ∙ c.if-not-sees_stmt.true) c.loop-turn.invariant
 
-pub returns-in_err-part : goal.returns-in_err-part
-returns-in_err-part g c =
-    handed _ c.from_residual.result c.in_err-part.field-0.0 c.stmt.new.tokens c.from_residual.ensures.1
+pub returns-in_err-keep : goal.returns-in_err-keep
+returns-in_err-keep g c =
+    handed _ c.from_residual.result c.in_err-keep.field-0.0 c.stmt-part.new.tokens c.from_residual.ensures.1
     (many_fails (sort_test stmt_by_sort) (stmt c.args.self.now.depth) _ c.loop-turn.found _ (c.left-turn-end.result - (c.loop-turn._turn + 1))
-    c.loop-turn.tokens c.stmt.new.tokens c.in_err-part.field-0.0 (omega arith) (sym c.sees_stmt.ensures ∙ c.if-not-sees_stmt.false) c.loop-turn.invariant c.in_err-part.ensures)
+    c.loop-turn.tokens c.stmt-part.new.tokens c.in_err-keep.field-0.0 (omega arith) (sym c.sees_stmt.ensures ∙ c.if-not-sees_stmt.false) c.loop-turn.invariant (failed_as _ c.stmt-part.result _ _ c.stmt-part.ensures c.in_err-keep.ensures.failed))
 
 pub loop-turn-preserved : goal.loop-turn-preserved
 loop-turn-preserved g c =
-    rw c.in_ok-push.ensures.ok
+    rw c.in_ok-keep.ensures.kept.2
     (many_goes (sort_test stmt_by_sort) (stmt c.args.self.now.depth) _ c.loop-turn.found _ (c.left-turn-end.result - (c.loop-turn._turn + 1))
-    c.loop-turn.tokens c.stmt.new.tokens c.in_ok-part.part (omega arith) (sym c.sees_stmt.ensures ∙ c.if-not-sees_stmt.false) c.loop-turn.invariant c.in_ok-part.ensures)
+    c.loop-turn.tokens c.stmt-part.new.tokens c.in_ok-keep.ensures.kept.0 (omega arith) (sym c.sees_stmt.ensures ∙ c.if-not-sees_stmt.false) c.loop-turn.invariant (read_as _ c.stmt-part.result _ _ c.stmt-part.ensures c.in_ok-keep.ensures.kept.1))

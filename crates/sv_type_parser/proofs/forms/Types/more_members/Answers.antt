@@ -6,6 +6,7 @@ use Rattle.sv_word_parser.specs.Combined.{sort_test}
 use Rattle.sv_word_parser.specs.Words.{type_by_sort}
 use Rattle.sv_type_parser.specs.Forms.{form, member}
 use Rattle.sv_type_parser.specs.Lists.{while_told}
+use Rattle.sv_expr_reader.proofs.Held.{failed_as, read_as}
 use Rattle.sv_type_parser.proofs.forms.Types.more_members.Goals as goal
 
 pub loop-turn-init : goal.loop-turn-init
@@ -20,14 +21,14 @@ returns g c = many_stops (sort_test type_by_sort) (member (form c.args.self.now.
 pub returns-then-not-sees_type : goal.returns-then-not-sees_type
 returns-then-not-sees_type g c = many_ends (sort_test type_by_sort) (member (form c.args.self.now.depth)) _ c.loop-turn.found _ c.loop-turn.tokens (sym c.sees_type.ensures ∙ c.if-not-sees_type.true) c.loop-turn.invariant
 
-pub returns-in_err-part : goal.returns-in_err-part
-returns-in_err-part g c =
-    handed _ c.from_residual.result c.in_err-part.field-0.0 c.member.new.tokens c.from_residual.ensures.1
+pub returns-in_err-keep : goal.returns-in_err-keep
+returns-in_err-keep g c =
+    handed _ c.from_residual.result c.in_err-keep.field-0.0 c.member-part.new.tokens c.from_residual.ensures.1
     (many_fails (sort_test type_by_sort) (member (form c.args.self.now.depth)) _ c.loop-turn.found _ (c.left-turn-end.result - (c.loop-turn._turn + 1))
-    c.loop-turn.tokens c.member.new.tokens c.in_err-part.field-0.0 (omega arith) (sym c.sees_type.ensures ∙ c.if-not-sees_type.false) c.loop-turn.invariant c.in_err-part.ensures)
+    c.loop-turn.tokens c.member-part.new.tokens c.in_err-keep.field-0.0 (omega arith) (sym c.sees_type.ensures ∙ c.if-not-sees_type.false) c.loop-turn.invariant (failed_as _ c.member-part.result _ _ c.member-part.ensures c.in_err-keep.ensures.failed))
 
 pub loop-turn-preserved : goal.loop-turn-preserved
 loop-turn-preserved g c =
-    rw c.in_ok-push.ensures.ok
+    rw c.in_ok-keep.ensures.kept.2
     (many_goes (sort_test type_by_sort) (member (form c.args.self.now.depth)) _ c.loop-turn.found _ (c.left-turn-end.result - (c.loop-turn._turn + 1))
-    c.loop-turn.tokens c.member.new.tokens c.in_ok-part.part (omega arith) (sym c.sees_type.ensures ∙ c.if-not-sees_type.false) c.loop-turn.invariant c.in_ok-part.ensures)
+    c.loop-turn.tokens c.member-part.new.tokens c.in_ok-keep.ensures.kept.0 (omega arith) (sym c.sees_type.ensures ∙ c.if-not-sees_type.false) c.loop-turn.invariant (read_as _ c.member-part.result _ _ c.member-part.ensures c.in_ok-keep.ensures.kept.1))
