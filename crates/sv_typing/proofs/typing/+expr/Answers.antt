@@ -14,7 +14,7 @@ use Rattle.sv_names.specs.Kinds.{what_is}
 use Rattle.sv_names.specs.Names.{names_are, constants_are}
 use Rattle.sv_typing.specs.Positions.{is_constant, seen_in}
 use Rattle.sv_typing.specs.Picks.{Leads, rule_faults, rule_scope}
-use Rattle.sv_typing.specs.Roots.{JudgesChain, JudgesRoot}
+use Rattle.sv_typing.specs.Roots.{JudgesRoot}
 use Rattle.sv_typing.proofs.Arms.{sound_of_judged, fixed_expr, judged_at, types_at, fixes_at, all_at, concat_at, repeat_at, judged_literal, judged_name, judged_paren, judged_concat, judged_repeat, judged_cast_literal, judged_cast_name, judged_cast_paren, judged_cast_sign, judged_system, system_is, judged_unary, judged_two, judged_choose, led_member, led_index, led_range, parts_more, chain_cause, chain_ends}
 use Rattle.sv_typing.proofs.typing.+expr.Goals as goal
 
@@ -237,3 +237,30 @@ typed_parts-parts-preserved t c =
     subst (AreTyped (map (mean at) (take (c.parts.expr-index + 1) c.args.all.now)) k) (sym c.in_ok-push.ensures.ok)
     (parts_more at c.args.all.now c.parts.expr-index c.expr-item.result k c.parts.list c.in_ok-part.part c.parts-test.true c.expr-item.is c.parts.invariant
     (subst (Judges (mean at c.expr-item.result) k) c.in_ok-part.was c.typed.ensures))
+
+-- ---- what is sound
+
+pub typed-fixed_of-requires-in-CastParen : goal.typed-fixed_of-requires-in-CastParen
+typed-fixed_of-requires-in-CastParen t c =
+    let m = mean (constants_are c.args.names.now) c.get-in-CastParen.result.now in
+    sound_of_judged m (m.faults true) c.typed-in-CastParen.result c.typed-in-CastParen.ensures
+
+pub typed-two_typed-requires : goal.typed-two_typed-requires
+typed-two_typed-requires t c =
+    let m = mean (seen_in c.args.position (names_are c.args.names.now)) c.get-in-Binary-3.result.now in
+    sound_of_judged m (m.faults (is_constant c.args.position)) c.typed-in-Binary-2.result c.typed-in-Binary-2.ensures
+
+pub fixed-fixed_of-requires : goal.fixed-fixed_of-requires
+fixed-fixed_of-requires t c =
+    let m = mean (constants_are c.args.names.now) c.args.expr.now in
+    sound_of_judged m (m.faults true) c.typed.result c.typed.ensures
+
+pub typed_index-fixed_index-requires : goal.typed_index-fixed_index-requires
+typed_index-fixed_index-requires t c =
+    let m = mean (constants_are c.args.names.now) c.args.expr.now in
+    sound_of_judged m (m.faults true) c.typed-in-Fixed.result c.typed-in-Fixed.ensures
+
+pub typed_index-fixed_index-requires-in-Joined : goal.typed_index-fixed_index-requires-in-Joined
+typed_index-fixed_index-requires-in-Joined t c =
+    let m = mean (names_are c.args.names.now) c.args.expr.now in
+    sound_of_judged m (m.faults true) c.typed-in-Joined.result c.typed-in-Joined.ensures
