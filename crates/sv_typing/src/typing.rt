@@ -132,7 +132,6 @@ pub fn fixed(alloc: Global, expr: &Expr, names: &Names<'_>) -> Result<Fixed, Tex
 }
 
 // The parts of a concatenation.
-#[tactic(auto, using(crate::proofs::Arms::parts_of))]
 #[cycle(expr)]
 fn typed_parts(
     alloc: Global,
@@ -184,7 +183,6 @@ fn named_typed(
 }
 
 /// The selects behind a place of a layout as parts of its bits, where each index is judged so; or why they are refused.
-#[tactic(auto, using(crate::proofs::Arms::chained))]
 #[cycle(expr)]
 pub fn chain_behind(
     alloc: Global,
