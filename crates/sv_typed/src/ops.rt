@@ -171,7 +171,6 @@ pub fn reduced(op: Reduction, a: &Four) -> Four
     }
 }
 
-#[tactic(auto, using(fourvec::proofs::Widths::widths))]
 pub fn computed(op: Arithmetic, signed: bool, a: &Four, b: &Four) -> Four
     requires { length a.now ≡ length b.now }
     ensures is { result ≡ computed op signed a.now b.now }
@@ -227,7 +226,6 @@ pub fn compared(op: Comparison, signed: bool, a: &Four, b: &Four) -> Four
     }
 }
 
-#[tactic(auto, using(fourvec::proofs::Widths::widths))]
 pub fn combined(op: Logic, a: &Four, b: &Four) -> Four
     ensures is { result ≡ combined op a.now b.now }
     ensures width { length result ≡ 1 }
