@@ -155,7 +155,6 @@ pub fn turned(op: Turn, a: &Four) -> Four
     }
 }
 
-#[tactic(auto, using(fourvec::proofs::Widths::widths))]
 pub fn reduced(op: Reduction, a: &Four) -> Four
     ensures is { result ≡ reduced op a.now }
     ensures width { length result ≡ 1 }
@@ -191,7 +190,6 @@ pub fn computed(op: Arithmetic, signed: bool, a: &Four, b: &Four) -> Four
     }
 }
 
-#[tactic(auto, using(fourvec::proofs::Widths::widths))]
 pub fn moved(op: Shift, signed: bool, a: &Four, b: &Four) -> Four
     ensures is { result ≡ moved op signed a.now b.now }
     ensures width { length result ≡ length a.now }
@@ -210,7 +208,6 @@ fn less(signed: bool, a: &Four, b: &Four) -> Four
     if signed { a.slt(b) } else { a.lt(b) }
 }
 
-#[tactic(auto, using(fourvec::proofs::Widths::widths, crate::proofs::Operators::one_bit))]
 pub fn compared(op: Comparison, signed: bool, a: &Four, b: &Four) -> Four
     requires { length a.now ≡ length b.now }
     ensures is { result ≡ compared op signed a.now b.now }
