@@ -1,3 +1,4 @@
+use Rattle.std.proofs.lemmas.Result.{IfOk-from_err}
 use Rattle.std.proofs.Common.{◌≡◌, ◌∙◌, List, [], ◌∷◌, ◌++◌, ap}
 use Rattle.sv_names.specs.Kinds.{Entry}
 use Rattle.sv_names.proofs.Ends.{sound_push, linked_push}
@@ -13,3 +14,9 @@ invariant_of-self-2 c =
       sound = sound_push old all last pushed c.requires c.self.invariant.sound;
       linked = linked_push c.self.inside.links c.note.new.self old all last c.bytes.result.now c.bytes.ensures pushed c.in_ok-note.ensures.ok c.self.invariant.linked;
     }
+
+pub returns-in_err-note-clause-ok : goal.returns-in_err-note-clause-ok
+returns-in_err-note-clause-ok c = IfOk-from_err _ _ c.from_residual-in_err-note.ensures.0
+
+pub returns-in_err-reserve-clause-ok : goal.returns-in_err-reserve-clause-ok
+returns-in_err-reserve-clause-ok c = IfOk-from_err _ _ c.from_residual.ensures.0
