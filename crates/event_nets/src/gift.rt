@@ -8,7 +8,7 @@ use fourvec::Bit;
 use svex_arena::Node;
 
 /// Where the value of a bit comes from.
-#[derive(Clone, Copy, Debug, PartialEq, Eq)]
+#[derive(Clone, Copy)]
 pub enum Source {
     /// The value of a driver.
     Value(Node),
@@ -17,7 +17,7 @@ pub enum Source {
 }
 
 /// One bit of a value, which is given to a class of joined bits.
-#[derive(Clone, Copy, Debug, PartialEq, Eq)]
+#[derive(Clone, Copy)]
 pub struct Gift {
     /// The place of the class's first bit.
     pub to: usize,

@@ -2,9 +2,10 @@
 //! another: places, classes, gifts, nets, and the gifts of each net. The joins are let go at the end, since the tables say all
 //! of them that settling asks. A valuation begins with X at every bit.
 
-ghost use Rattle.std.specs.Prelude.{◌≡◌, ◌<◌, ◌≤◌, ◌^◌, [], length, All, IfOk, OnOk};
+ghost use Rattle.std.specs.Prelude.{◌≡◌, ℕ, ◌<◌, ◌≤◌, ◌^◌, [], None, length, slice_index_or, All, IfOk, IfSome, OnOk};
 ghost use Rattle.lhs_alias.specs.Joined.{Stands, starts_of, all_bits, widths_of as joined_widths};
 ghost use Rattle.driver_resolve.specs.Drivers.{widths_of};
+ghost use Rattle.flat_net.specs.declared.flat.Flat.{Flat};
 ghost use Rattle.flat_net.specs.Flats.{IsFlat, links_of};
 ghost use Rattle.event_nets.specs.Tables.{AreTables, IsValuation, gifts_of, homes_of, lows_of};
 
@@ -78,6 +79,22 @@ fn tables_over(
     let homes = all_homes(alloc, joins, &starts, widths)?;
     let gifts = gifts_of(alloc, flat, joins, &starts)?;
     let lows = lows_of(alloc, flat, widths, &homes, &gifts)?;
+    tables_with(alloc, starts, homes, lows, gifts)
+}
+
+// The tables with the nets and what is given to each.
+fn tables_with(
+    alloc: Global,
+    starts: Vec<usize>,
+    homes: Vec<usize>,
+    lows: Vec<Option<usize>>,
+    gifts: Vec<Gift>,
+) -> Result<Tables, AllocError>
+    requires gifts { All (λ g. g.to < length lows.items) gifts.items }
+    requires lows { (k : ℕ) → IfSome (slice_index_or lows.items k None) (λ low. low < length lows.items) }
+    ensures { (flat : Flat) → starts.items ≡ starts_of (widths_of flat.wires) → homes.items ≡ homes_of flat → lows.items ≡ lows_of flat → gifts.items ≡ gifts_of flat
+        → IfOk result (λ tables. AreTables flat tables) }
+{
     let nets = net_places(alloc, &lows)?;
     let given = given_by_net(alloc, &lows, &gifts)?;
     Ok(Tables {
@@ -103,9 +120,9 @@ pub fn tables_of(
     ensures tables { IfOk result (λ tables. AreTables flat.now tables) }
     ensures told { OnOk result (length told.new.items ≡ length (all_bits (widths_of flat.now.wires))) }
 {
-    let joins = join_all(alloc, widths, flat.joins.as_slice())?;
     let mut starts = Vec::new(alloc);
     lay(&mut starts, told, widths)?;
+    let joins = join_all(alloc, widths, flat.joins.as_slice())?;
     tables_over(alloc, flat, widths, &joins, starts)
 }
 

@@ -1,9 +1,8 @@
 -- What actions do, by lists as code has them.
-use Rattle.std.proofs.Common.{◌≡◌, ℕ, zero, suc, ◌+◌, ◌<◌, ◌≤◌, Bool, List, [], ◌∷◌, ◌++◌, length, take, drop, get_or, refl, sym, ap, ◌∙◌, subst, arith}
-use Rattle.std.specs.List.{All, Contains}
+use Rattle.std.proofs.Common.{◌≡◌, ◌≤◌, List, [], ◌∷◌, ◌++◌, refl, sym, ap, ◌∙◌, subst}
+use Rattle.std.specs.List.{All}
 use Rattle.std.proofs.lemmas.List.Elements.{All-nil, All-cons}
-use Rattle.fourvec.specs.Bits.{first, truth_of}
-use Rattle.lhs_alias.specs.declared.segs.WireBit.{WireBit}
+use Rattle.fourvec.specs.Bits.{first}
 use Rattle.settling.specs.Settling.{Store}
 use Rattle.sv_meaning.specs.Layouts.{Read, NamedSignal}
 use Rattle.sv_meaning.specs.Deeds.{merged}
@@ -13,12 +12,12 @@ use Rattle.sv_typed.specs.Typed.{names_of, names_together, IsSound}
 use Rattle.sv_targets.specs.declared.targets.TypedTarget.{TypedTarget}
 use Rattle.sv_targets.specs.Slots.{slots_of}
 use Rattle.sv_targets.specs.Targets.{width_of_all}
-use Rattle.sv_actions.specs.declared.action.Action.{Action, Row_of-Arm, Row_of-Action}
+use Rattle.sv_actions.specs.declared.action.Action.{Action}
 use Rattle.sv_actions.specs.declared.action.Action.TheVariants as act
 use Rattle.sv_actions.specs.declared.action.Action.TheBlock.{shape-the_row-Action-0, hidden-the_row-Action-0, shape-the_row-Arm-1, hidden-the_row-Arm-1}
 use Rattle.sv_actions.specs.declared.action.Arm.{Arm}
 use Rattle.sv_actions.specs.declared.action.Case.{Case}
-use Rattle.sv_actions.specs.Doing.{truth_bit, run, run_row, run_arms, run_all, writes, writes_row, writes_arms, writes_all, names, names_row, names_arms, names_all, Fits, FitsRow, FitsArms, CaseFits, LabelFits, TargetFits, target_names, label_matches}
+use Rattle.sv_actions.specs.Doing.{truth_bit, run, run_row, run_arms, run_all, writes, writes_row, writes_arms, writes_all, names, names_row, names_arms, names_all, Fits, FitsRow, FitsArms, CaseFits, TargetFits, label_matches}
 use Rattle.sv_blocks.specs.Running.{ArmFits, arm_run, arms_run, arms_bits}
 use Rattle.sv_blocks.specs.Writing.{assigns, assign_names}
 

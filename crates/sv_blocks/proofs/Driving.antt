@@ -1,5 +1,5 @@
 -- Drivers of runs of bits.
-use Rattle.std.proofs.Common.{◌≡◌, ℕ, zero, suc, ◌+◌, ◌-◌, ◌<◌, ◌≤◌, Bool, List, [], ◌∷◌, ◌++◌, length, take, drop, map, get_or, Option, Some, None, refl, sym, ap, ◌∙◌, subst, arith, IsTrue, append_assoc, length-take, length-drop, get_or-take, get_or-drop}
+use Rattle.std.proofs.Common.{◌≡◌, ℕ, zero, suc, ◌+◌, ◌<◌, ◌≤◌, Bool, List, [], ◌∷◌, ◌++◌, length, take, drop, map, get_or, Some, refl, sym, ap, ◌∙◌, subst, arith, IsTrue, append_assoc, length-take, length-drop, get_or-take, get_or-drop}
 use Rattle.std.specs.List.{All, range_with_len, zip}
 use Rattle.std.proofs.lemmas.List.{append-nil, take_all, take_more, map-append, get_or_default}
 use Rattle.std.proofs.lemmas.List.Elements.{All-nil, All-cons, All-head, All-tail, All-push, All-weaker}
@@ -9,24 +9,22 @@ use Rattle.fourvec.specs.declared.Bit.{Bit}
 use Rattle.fourvec.specs.Bits.{slice_of}
 use Rattle.lhs_alias.specs.declared.segs.WireBit.{WireBit}
 use Rattle.lhs_alias.specs.declared.segs.Seg.{Seg}
-use Rattle.lhs_alias.specs.Segs.{bit, seg_bits, lhs_bits, IsSeg}
+use Rattle.lhs_alias.specs.Segs.{bit, seg_bits, lhs_bits}
 use Rattle.lhs_alias.specs.Lies.{LiesIn, LieIn}
-use Rattle.settling.specs.Settling.{Store, Contribution, value_at}
+use Rattle.settling.specs.Settling.{Store, value_at}
 use Rattle.svex_shape.specs.declared.shape.VarName.{VarName}
 use Rattle.svex_shape.specs.declared.shape.Shape.{Shape}
-use Rattle.svex_shape.specs.Shapes.{width_at}
 use Rattle.svex_shape.specs.Values.{each_variable}
 use Rattle.svex_arena.specs.Arenas.{IsArena, Extends}
-use Rattle.svex_arena.proofs.Keeping.{extends_on}
 use Rattle.svex_arena.proofs.Steps.{value-extends, width-extends, variables-extends}
 use Rattle.driver_resolve.specs.declared.driver.Driver.{Driver}
-use Rattle.driver_resolve.specs.Drivers.{bitwise, Phase, bits_in, reading, driver_gives, drivers_give}
+use Rattle.driver_resolve.specs.Drivers.{bitwise, Phase, bits_in, driver_gives, drivers_give}
 use Rattle.sv_lower.specs.Nodes.{bits_at_node, FromOne}
 use Rattle.sv_lower.proofs.Sizing.{length-node}
 use Rattle.sv_stores.specs.declared.scene.Scene.{Scene}
-use Rattle.sv_stores.specs.Scenes.{place_in, width_in, base, store_of, HoldsIn, AreNodes, IsScene}
-use Rattle.sv_blocks.specs.Driving.{run_seg, given, SceneFits, IsPlaced, Drives, DriveAll}
-use Rattle.sv_stores.proofs.Stores.{store_at, store_kept, holds_kept, nodes_kept}
+use Rattle.sv_stores.specs.Scenes.{place_in, width_in, base, store_of, AreNodes, IsScene}
+use Rattle.sv_blocks.specs.Driving.{run_seg, given, IsPlaced, Drives, DriveAll}
+use Rattle.sv_stores.proofs.Stores.{store_at, store_kept, holds_kept}
 
 -- ---- runs of bits
 

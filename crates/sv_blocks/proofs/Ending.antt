@@ -1,32 +1,26 @@
 -- What a block contributes at its end.
-use Rattle.std.proofs.Common.{◌≡◌, ℕ, ◌<◌, ◌≤◌, Bool, true, List, length, get_or, Option, Some, None, Result, Ok, Err, refl, sym, ap, ◌∙◌, subst, arith, IsTrue}
-use Rattle.std.specs.List.{All}
+use Rattle.std.proofs.Common.{◌≡◌, ℕ, ◌<◌, Bool, List, length, get_or, Option, Some, None, Result, Ok, Err, refl, sym, ap, ◌∙◌, subst, IsTrue}
 use Rattle.std.specs.Prelude.{IfOk}
-use Rattle.fourvec.specs.declared.Bit.{Bit}
-use Rattle.fourvec.specs.Bits.{first}
 use Rattle.lhs_alias.specs.declared.segs.WireBit.{WireBit}
 use Rattle.svex_shape.specs.declared.shape.VarName.{VarName}
 use Rattle.svex_shape.specs.declared.shape.VarName.TheVariants.{Now, Prev}
 use Rattle.svex_shape.specs.declared.shape.Shape.{Shape}
-use Rattle.svex_shape.specs.Values.{each_variable}
 use Rattle.svex_arena.specs.Arenas.{Extends}
 use Rattle.svex_arena.proofs.Keeping.{extends_on}
-use Rattle.settling.specs.Settling.{Store}
 use Rattle.driver_resolve.specs.declared.driver.Driver.{Driver}
-use Rattle.driver_resolve.specs.Drivers.{Phase, bits_in}
+use Rattle.driver_resolve.specs.Drivers.{bits_in}
 use Rattle.sv_meaning.specs.Deeds.{merged}
 use Rattle.sv_meaning.specs.Blocks.{trigger_bit}
-use Rattle.sv_lower.specs.Nodes.{bits_at_node}
 use Rattle.sv_actions.specs.declared.action.Action.{Action}
 use Rattle.sv_actions.specs.Doing.{run_all, names_all}
 use Rattle.sv_stores.specs.declared.scene.Scene.{Scene}
 use Rattle.sv_blocks.specs.declared.ends.Clock.{Clock}
-use Rattle.sv_stores.specs.Scenes.{width_in, base, store_of, reads_in, Allows, HoldsIn, AreNodes, IsScene, Ran}
+use Rattle.sv_stores.specs.Scenes.{width_in, base, store_of, reads_in, HoldsIn, AreNodes, IsScene, Ran}
 use Rattle.sv_blocks.specs.Sides.{Merges}
 use Rattle.sv_stores.specs.Starting.{start_test, Starts, Triggers}
 use Rattle.sv_blocks.specs.Driving.{given, DriveAll}
 use Rattle.sv_blocks.specs.Ending.{clock_wire, end_store, EventHolds, Ends, Runs, Finishes}
-use Rattle.sv_stores.proofs.Stores.{store_kept, holds_kept, nodes_kept}
+use Rattle.sv_stores.proofs.Stores.{store_kept, holds_kept}
 
 pub ends_comb : (scene : Scene) (old : List Shape) (clock : Option Clock) (start nodes : List ℕ) → clock ≡ None → AreNodes scene old nodes → Ends scene old old clock start nodes nodes
 ends_comb scene old clock start nodes e are =

@@ -1,5 +1,5 @@
 -- Sizes of actions, which running them goes down.
-use Rattle.std.proofs.Common.{◌≡◌, ℕ, zero, suc, ◌+◌, ◌<◌, ◌≤◌, List, [], ◌∷◌, length, get_or, refl, sym, ap, ◌∙◌, arith}
+use Rattle.std.proofs.Common.{◌≡◌, ℕ, zero, suc, ◌+◌, ◌*◌, ◌<◌, List, [], ◌∷◌, length, get_or, refl, sym, ap, ◌∙◌, arith}
 use mathlib.Core.Former.{Count}
 use Rattle.sv_typed.specs.declared.tree.Typed.{Typed}
 use Rattle.sv_actions.specs.declared.action.Case.{Case}
@@ -49,6 +49,12 @@ match_is : (x : Action) (c : Case) (arms : List Arm) (other : List Action) → x
 unfolding size shape-the_row-Arm-1 hidden-the_row-Arm-1 shape-the_row-Action-0 hidden-the_row-Action-0 denote.Hole.Carrier.hidden
 match_is x c arms other e = ap size e ∙ ap (λ n. suc (n + row_size (hidden-the_row-Action-0 other))) (arm_row_is arms) ∙ ap (λ n. suc (arms_size arms + n)) (row_is other)
 
+pub choose_less : (x : Action) (c : Typed) (a b ta tb : List Action) → x ≡ act.Choose c a b → ta ≡ a → tb ≡ b → all_size ta + all_size tb < size x
+choose_less x c a b ta tb e da db = let g = choose_is x c a b e in let h = ap all_size da in let k = ap all_size db in omega arith
+
+pub choose_as : (x : Action) (c : Typed) (a b ta tb : List Action) → x ≡ act.Choose c a b → ta ≡ a → tb ≡ b → x ≡ act.Choose c ta tb
+choose_as x c a b ta tb e da db = e ∙ sym (ap (act.Choose c ta) db ∙ ap (λ y. act.Choose c y b) da)
+
 pub choose_left : (x : Action) (c : Typed) (a b xs : List Action) (n : ℕ) → x ≡ act.Choose c a b → xs ≡ a → size x ≡ n → all_size xs < n
 choose_left x c a b xs n e d k = let g = choose_is x c a b e in let h = ap all_size d in omega arith
 
@@ -61,6 +67,16 @@ match_other x c arms other xs n e d k = let g = match_is x c arms other e in let
 pub match_arms : (x : Action) (c : Case) (arms xs : List Arm) (other : List Action) (n : ℕ) → x ≡ act.Match c arms other → xs ≡ arms → size x ≡ n → arms_size xs < n
 match_arms x c arms xs other n e d k = let g = match_is x c arms other e in let h = ap arms_size d in omega arith
 
+-- what is smaller by size is smaller by measure
+pub falls_by : (m n t : ℕ) → m < n → 4 * n ≡ t → 4 * m + 2 < t
+falls_by m n t h e = omega arith
+
+pub falls_to : (m n t : ℕ) → m < n → 4 * n ≡ t → 4 * m < t
+falls_to m n t h e = omega arith
+
+pub falls_arm : (m n t : ℕ) → suc m < n → 4 * n ≡ t → 4 * m + 2 < t
+falls_arm m n t h e = omega arith
+
 pub action_less : (all : List Action) (i : ℕ) (x : Action) (n : ℕ) → i < length all → x ≡ get_or all i x → all_size all ≡ n → size x < n
 unfolding all_size
 action_less [] i x n l e k = absurd (omega arith)
@@ -72,6 +88,3 @@ unfolding arms_size
 arm_less [] i x n l e k = absurd (omega arith)
 arm_less (y ∷ more) zero x n l e k = let g = ap (λ (z : Arm). all_size z.body) e in omega arith
 arm_less (y ∷ more) (suc i) x n l e k = let g = arm_less more i x (arms_size more) (omega arith) e refl in omega arith
-
-pub body_less : (x : Arm) (xs : List Action) (n : ℕ) → xs ≡ x.body → suc (all_size x.body) ≡ n → all_size xs < n
-body_less x xs n d k = let h = ap all_size d in omega arith

@@ -1,17 +1,15 @@
 -- Labels of case statements as nodes.
-use Rattle.std.proofs.Common.{◌≡◌, ℕ, zero, suc, ◌+◌, ◌-◌, ◌<◌, ◌≤◌, Bool, true, false, List, [], ◌∷◌, ◌++◌, length, take, drop, get_or, Option, Some, None, refl, sym, ap, ◌∙◌, ◌⊎◌, inl, inr, subst, arith, IsTrue, IfSome}
+use Rattle.std.proofs.Common.{◌≡◌, ℕ, ◌+◌, ◌<◌, List, [], ◌∷◌, ◌++◌, length, drop, get_or, Option, Some, None, refl, sym, ap, ◌∙◌, inl, inr, subst, arith, IfSome}
 use Rattle.std.specs.List.{Contains}
 use Rattle.std.proofs.lemmas.List.Elements.{Contains-append_left, Contains-append_right, Contains-append_cases}
 use Rattle.std.proofs.lemmas.List.{drop_more, drop_all}
 use Rattle.fourvec.specs.declared.Bit.{Bit}
 use Rattle.fourvec.specs.declared.Bit.TheVariants.{Zero}
 use Rattle.fourvec.specs.Bits.{planes, eq_of, and_of, or_of}
-use Rattle.svex_shape.specs.declared.shape.VarName.{VarName}
 use Rattle.svex_shape.specs.declared.shape.Shape.{Shape}
 use Rattle.svex_shape.specs.Shapes.{width_at}
-use Rattle.svex_shape.specs.Values.{each_variable}
 use Rattle.svex_arena.specs.Arenas.{Extends}
-use Rattle.svex_arena.proofs.Keeping.{extends_on, extends_self}
+use Rattle.svex_arena.proofs.Keeping.{extends_on}
 use Rattle.svex_arena.proofs.Steps.{value-extends, width-extends, variables-extends}
 use Rattle.driver_resolve.specs.Drivers.{bitwise}
 use Rattle.sv_meaning.specs.Layouts.{Read, NamedSignal}
@@ -22,9 +20,9 @@ use Rattle.sv_lower.specs.Nodes.{bits_at_node, IsConstant, FromTwo}
 use Rattle.sv_actions.specs.declared.action.Case.{Case}
 use Rattle.sv_actions.specs.Doing.{label_equals, label_matches}
 use Rattle.sv_stores.specs.declared.scene.Scene.{Scene}
-use Rattle.sv_stores.specs.Scenes.{store_of, reads_in, Allows, HoldsIn, AreNodes, IsScene, Yields}
+use Rattle.sv_stores.specs.Scenes.{store_of, reads_in, AreNodes, IsScene, Yields}
 use Rattle.sv_blocks.specs.Masks.{equal_masked}
-use Rattle.sv_stores.proofs.Yielding.{yields_two, allows_left, allows_right}
+use Rattle.sv_stores.proofs.Yielding.{yields_two}
 
 -- ---- equality
 

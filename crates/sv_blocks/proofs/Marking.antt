@@ -1,13 +1,13 @@
 -- The bits that actions write, and their marks.
-use Rattle.std.proofs.Common.{◌≡◌, ◌≢◌, ℕ, zero, suc, ◌+◌, ◌-◌, ◌*◌, ◌<◌, ◌≤◌, eqb, Bool, true, false, cond, ◌&&◌, ◌||◌, List, [], ◌∷◌, ◌++◌, length, take, drop, set, reverse, get_or, Option, Some, None, refl, sym, ap, ◌∙◌, ◌⊎◌, inl, inr, subst, arith, IsTrue, nat_lt, append_assoc, get_or-set_same, get_or-set_other, length-set}
-use Rattle.std.proofs.lemmas.List.{append-nil, take_all, drop_more, drop_all, reverse-append, reverse-reverse}
-use Rattle.std.proofs.lemmas.Bool.{cases_lt, cases_eq, cases_Bool}
+use Rattle.std.proofs.Common.{◌≡◌, ◌≢◌, ℕ, ◌+◌, ◌*◌, ◌<◌, ◌≤◌, eqb, Bool, true, false, cond, ◌&&◌, ◌||◌, List, [], ◌∷◌, ◌++◌, length, take, drop, set, reverse, get_or, Option, Some, None, refl, sym, ap, ◌∙◌, ◌⊎◌, inl, inr, subst, arith, nat_lt, append_assoc, get_or-set_same, get_or-set_other, length-set}
+use Rattle.std.proofs.lemmas.List.{append-nil, take_all, drop_more, drop_all, reverse-append}
+use Rattle.std.proofs.lemmas.Bool.{cases_lt, cases_eq}
 use Rattle.std.proofs.lemmas.Bool.Decides.{nat_tests}
 use Rattle.fourvec.proofs.Tables.{left_of, right_of}
 use Rattle.lhs_alias.specs.declared.segs.WireBit.{WireBit}
 use Rattle.lhs_alias.specs.Segs.{bit}
 use Rattle.settling.specs.Settling.{same_bit}
-use Rattle.svex_arena.specs.Substs.{given_or, entry_at}
+use Rattle.svex_arena.specs.Substs.{entry_at}
 use Rattle.sv_meaning.specs.Blocks.{has_bit, distinct}
 use Rattle.sv_meaning.specs.Targets.{present}
 use Rattle.sv_lower.proofs.Trees.{taken_more}
@@ -20,8 +20,7 @@ use Rattle.sv_actions.specs.declared.action.Case.{Case}
 use Rattle.sv_actions.specs.declared.action.Arm.{Arm}
 use Rattle.sv_actions.specs.Doing.{writes, writes_all}
 use Rattle.sv_stores.specs.declared.scene.Scene.{Scene}
-use Rattle.sv_blocks.specs.declared.bits.Marked.{Marked}
-use Rattle.sv_stores.specs.Scenes.{place_in, width_in, mark_at, is_written, IsScene}
+use Rattle.sv_stores.specs.Scenes.{place_in, mark_at, is_written, IsScene}
 use Rattle.sv_blocks.specs.Running.{arms_bits}
 use Rattle.sv_blocks.specs.Fitting.{HasPlace, BitSits}
 use Rattle.std.specs.Prelude.{is_some}

@@ -1,10 +1,9 @@
 -- Masks of labels.
-use Rattle.std.proofs.Common.{◌≡◌, ℕ, zero, suc, ◌+◌, ◌-◌, ◌/◌, ◌^◌, ◌<◌, ◌≤◌, Bool, true, false, not, ◌&&◌, ◌||◌, cond, List, [], ◌∷◌, length, Option, Some, None, refl, sym, ap, ◌∙◌, subst, arith}
+use Rattle.std.proofs.Common.{◌≡◌, ℕ, ◌-◌, ◌^◌, ◌<◌, ◌≤◌, Bool, true, false, not, ◌&&◌, ◌||◌, List, length, Some, None, refl, sym, ap, ◌∙◌, subst, arith}
 use Rattle.std.specs.Int.Bits.{bit_and, bit_or}
 use Rattle.fourvec.specs.declared.Bit.{Bit}
-use Rattle.fourvec.specs.declared.Bit.TheVariants.{Zero, One}
-use Rattle.fourvec.specs.Bits.{bit_of, planes, up_plane, low_plane, each, first, eq_of, and_of}
-use Rattle.fourvec.proofs.Planes.{has, at, has-and, has-or, has-not, each-planes, below_128}
+use Rattle.fourvec.specs.Bits.{bit_of, planes, up_plane, low_plane, each, eq_of, and_of}
+use Rattle.fourvec.proofs.Planes.{has, has-and, has-or, has-not, each-planes, below_128}
 use Rattle.fourvec.proofs.Places.{low_ones}
 use Rattle.fourvec.proofs.Basic.{low_plane-lt, planes_of}
 use Rattle.fourvec.proofs.Tables.{same_on_two}

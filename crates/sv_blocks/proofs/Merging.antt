@@ -1,5 +1,5 @@
 -- One of two stores, by a truth.
-use Rattle.std.proofs.Common.{◌≡◌, ◌≢◌, ℕ, zero, suc, ◌+◌, ◌-◌, ◌<◌, ◌≤◌, Bool, true, false, cond, List, [], ◌∷◌, ◌++◌, length, take, drop, get_or, Option, Some, None, refl, sym, ap, ◌∙◌, ◌⊎◌, inl, inr, subst, arith, IsTrue, length-append}
+use Rattle.std.proofs.Common.{◌≡◌, ℕ, zero, suc, ◌+◌, ◌<◌, ◌≤◌, List, [], ◌∷◌, ◌++◌, length, get_or, Option, Some, None, refl, sym, ap, ◌∙◌, ◌⊎◌, inl, inr, subst, arith}
 use Rattle.std.proofs.lemmas.List.{get_or_append_left, get_or_push, length_push}
 use Rattle.std.proofs.lemmas.Bool.{cases_lt}
 use Rattle.fourvec.specs.declared.Bit.{Bit}
@@ -10,9 +10,8 @@ use Rattle.svex_shape.specs.declared.shape.VarName.{VarName}
 use Rattle.svex_shape.specs.declared.shape.Shape.{Shape}
 use Rattle.svex_shape.specs.declared.shape.Shape.TheVariants.{Pick}
 use Rattle.svex_shape.specs.Shapes.{width_at, width_of}
-use Rattle.svex_shape.specs.Values.{value_of, each_variable, each_variable_of}
+use Rattle.svex_shape.specs.Values.{value_of, each_variable_of}
 use Rattle.svex_arena.specs.Arenas.{IsArena, Extends}
-use Rattle.svex_arena.proofs.Keeping.{extends_on}
 use Rattle.svex_arena.proofs.Steps.{value-extends, width-extends, variables-extends}
 use Rattle.driver_resolve.specs.Drivers.{bitwise}
 use Rattle.settling.specs.Settling.{Store}
@@ -20,7 +19,7 @@ use Rattle.sv_meaning.specs.Deeds.{merged}
 use Rattle.sv_lower.specs.Nodes.{bits_at_node, IsMade, FromThree}
 use Rattle.sv_lower.proofs.Sizing.{length-node}
 use Rattle.sv_stores.specs.declared.scene.Scene.{Scene}
-use Rattle.sv_stores.specs.Scenes.{place_in, width_in, base, store_of, HoldsIn, AreNodes, IsScene, Shows}
+use Rattle.sv_stores.specs.Scenes.{place_in, base, store_of, AreNodes, IsScene, Shows}
 use Rattle.sv_blocks.specs.Sides.{Merges}
 use Rattle.sv_stores.proofs.Stores.{store_at, store_none, inside, shows_kept, nodes_kept, store_kept, holds_kept}
 

@@ -1,17 +1,16 @@
 -- Parts of nodes, and nodes with parts put into them.
-use Rattle.std.proofs.Common.{◌≡◌, ℕ, zero, suc, ◌+◌, ◌-◌, ◌<◌, ◌≤◌, Bool, true, false, cond, List, [], ◌∷◌, ◌++◌, length, take, drop, get_or, Option, Some, None, refl, sym, ap, ◌∙◌, subst, arith, IsTrue, IfSome, length-drop}
+use Rattle.std.proofs.Common.{◌≡◌, ℕ, zero, suc, ◌+◌, ◌-◌, ◌<◌, ◌≤◌, Bool, true, false, cond, List, ◌++◌, length, take, drop, Option, Some, None, refl, sym, ap, ◌∙◌, subst, arith, IfSome, length-drop}
 use Rattle.std.specs.Prelude.{ℤ}
-use Rattle.std.proofs.lemmas.List.{take_all, drop_all, append-nil, append_assoc, take-append-drop}
+use Rattle.std.proofs.lemmas.List.{take_all, drop_all, append-nil, take-append-drop}
 use Rattle.fourvec.specs.declared.Bit.{Bit}
 use Rattle.fourvec.specs.declared.Spot.{Spot}
 use Rattle.fourvec.specs.Bits.{is_known, slice_of, each}
 use Rattle.fourvec.specs.Spots.{reached, window, place_of, overlaid, kept_bit, dyn_slice_of, dyn_put_of}
 use Rattle.fourvec.proofs.Order.{both}
-use Rattle.svex_shape.specs.declared.shape.VarName.{VarName}
 use Rattle.svex_shape.specs.declared.shape.Shape.{Shape}
 use Rattle.svex_shape.specs.declared.shape.Shape.TheVariants.{DynPut}
 use Rattle.svex_shape.specs.Shapes.{width_at, width_of}
-use Rattle.svex_shape.specs.Values.{value_of, each_variable, each_variable_of}
+use Rattle.svex_shape.specs.Values.{value_of, each_variable_of}
 use Rattle.svex_arena.specs.Arenas.{IsArena, Extends}
 use Rattle.svex_arena.proofs.Steps.{value-extends, width-extends, variables-extends}
 use Rattle.svex_arena.proofs.Keeping.{extends_on}
@@ -23,7 +22,7 @@ use Rattle.sv_typed.specs.declared.tree.Pick.{Pick}
 use Rattle.sv_typed.specs.declared.tree.PickPlace.TheVariants as place
 use Rattle.sv_typed.specs.declared.tree.Typed.{Typed}
 use Rattle.sv_typed.specs.declared.tree.PickPlace.TheBlock.{shape-the_row-Typed-0, hidden-the_row-Typed-0}
-use Rattle.sv_typed.specs.Typed.{own, names_of, form_names, pick_place, place_names, spot_place}
+use Rattle.sv_typed.specs.Typed.{own, names_of, form_names, place_names, spot_place}
 use Rattle.sv_typed.proofs.Worth as worths
 use Rattle.fourvec.specs.declared.selects.Reach.{Reach}
 use Rattle.sv_lower.specs.Nodes.{bits_at_node, IsMade, FromOne, FromTwo, FromThree}
@@ -33,8 +32,8 @@ use Rattle.sv_lower.proofs.Sizing.{length-node}
 use Rattle.sv_stores.specs.declared.scene.Scene.{Scene}
 use Rattle.sv_blocks.specs.declared.parts.Spotted.{Spotted}
 use Rattle.sv_blocks.specs.declared.parts.Spotted.TheVariants.{At, Moving}
-use Rattle.sv_stores.specs.Scenes.{store_of, reads_in, Allows, HoldsIn, Yields}
-use Rattle.sv_blocks.specs.Parts.{spotted_place, spotted_test, SpotIsIn, SpotIsWide, Spots, ReadsPart, PutsPart, IsLay}
+use Rattle.sv_stores.specs.Scenes.{store_of, reads_in, Allows, Yields}
+use Rattle.sv_blocks.specs.Parts.{SpotIsWide, Spots, ReadsPart, PutsPart, IsLay}
 
 -- ---- where parts begin
 

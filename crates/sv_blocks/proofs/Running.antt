@@ -1,13 +1,12 @@
 -- Steps over nodes, one after another and side by side.
-use Rattle.std.proofs.Common.{◌≡◌, ℕ, zero, suc, ◌+◌, ◌-◌, ◌<◌, ◌≤◌, Bool, List, [], ◌∷◌, ◌++◌, length, take, drop, get_or, refl, sym, ap, ◌∙◌, ◌⊎◌, inl, inr, subst, arith, IsTrue, OnOk, Result, Ok, Err}
-use Rattle.std.specs.List.{Contains, All}
+use Rattle.std.proofs.Common.{◌≡◌, ℕ, zero, suc, ◌+◌, ◌<◌, ◌≤◌, Bool, List, [], ◌∷◌, ◌++◌, length, drop, get_or, refl, sym, ap, ◌∙◌, inl, inr, subst, arith, OnOk, Result, Ok, Err}
+use Rattle.std.specs.List.{Contains}
 use Rattle.std.proofs.lemmas.List.Elements.{Contains-append_left, Contains-append_right, Contains-append_cases}
-use Rattle.std.proofs.lemmas.List.{drop_more, drop_all, take_all, at_drop_more, at_drop_all}
+use Rattle.std.proofs.lemmas.List.{drop_more, drop_all, at_drop_more, at_drop_all}
 use Rattle.fourvec.specs.declared.Bit.{Bit}
 use Rattle.fourvec.specs.Bits.{first, truth_of}
 use Rattle.svex_shape.specs.declared.shape.VarName.{VarName}
 use Rattle.svex_shape.specs.declared.shape.Shape.{Shape}
-use Rattle.svex_shape.specs.Values.{each_variable}
 use Rattle.svex_arena.specs.Arenas.{Extends}
 use Rattle.svex_arena.proofs.Keeping.{extends_on}
 use Rattle.svex_arena.proofs.Steps.{value-extends, variables-extends}
@@ -29,7 +28,7 @@ use Rattle.sv_stores.specs.declared.scene.State.{State}
 use Rattle.sv_stores.specs.Scenes.{store_of, reads_in, Allows, HoldsIn, AreNodes, SeenBy, IsScene, IsState, Yields, Ran}
 use Rattle.sv_blocks.specs.Sides.{Merges}
 use Rattle.sv_blocks.specs.Writing.{assigns, assign_names}
-use Rattle.sv_blocks.specs.Running.{ArmFits, arm_run, arms_run, arm_names, arms_names, Steps, RanArm, RanArms}
+use Rattle.sv_blocks.specs.Running.{arm_run, arms_run, arm_names, arms_names, RanArm, RanArms}
 use Rattle.sv_stores.proofs.Stores.{store_kept, holds_kept}
 use Rattle.sv_stores.proofs.Yielding.{allows_left, allows_right}
 use Rattle.sv_blocks.proofs.Acting.{run_assign, run_choose, run_match, names_assign, names_choose, names_match, labels_and_bodies}
@@ -41,6 +40,9 @@ state_as scene shapes a b e d h = record {
   nodes = subst (AreNodes scene shapes) (sym e) h.nodes;
   seen = subst (λ xs. SeenBy scene.clock scene shapes b.nodes xs) (sym d) (subst (λ xs. SeenBy scene.clock scene shapes xs a.seen) (sym e) h.seen);
 }
+
+pub ran_copied : (scene : Scene) (old new : List Shape) (before copy after : List ℕ) (f : (Store → Read) → Store → Store) (a : List NamedSignal) → copy ≡ before → Ran scene old new copy after f a → Ran scene old new before after f a
+ran_copied scene old new before copy after f a e h = subst (λ xs. Ran scene old new xs after f a) e h
 
 -- ---- other functions and other names
 
@@ -94,54 +96,53 @@ ran_assign scene old new before after x to xs v e d h =
     (λ look store. run_assign x to v e look store ∙ ap (λ ts. assigns ts v look store) (sym d))
     (λ s i. subst (λ ns. Contains ns s) (ap (λ ts. assign_names ts v) d ∙ sym (names_assign x to v e)) i) h
 
-pub ran_choose : (scene : Scene) (old one two low new : List Shape) (before start left right after : List ℕ) (x : Action) (c : Typed) (a b ta tb : List Action) (truth : ℕ) → IsScene scene → AreNodes scene old before → start ≡ before → x ≡ act.Choose c a b → ta ≡ a → tb ≡ b
+pub ran_choose : (scene : Scene) (old one two low new : List Shape) (before left right after : List ℕ) (x : Action) (c : Typed) (a b : List Action) (truth : ℕ) → IsScene scene → AreNodes scene old before → x ≡ act.Choose c a b
     → Extends old one → Extends one two → Extends two low → AreNodes scene two left
     → Yields scene old one before (λ read. truth_of (own c read)) (names_of c) 1 truth
-    → Ran scene one two start left (run_all ta) (names_all ta) → Ran scene two low before right (run_all tb) (names_all tb) → Merges scene low new truth left right after
+    → Ran scene one two before left (run_all a) (names_all a) → Ran scene two low before right (run_all b) (names_all b) → Merges scene low new truth left right after
     → Ran scene old new before after (run x) (names x)
-ran_choose scene old one two low new before start left right after x c a b ta tb truth sc are same e da db f g h arl t k j m =
-    let F : (Store → Read) → Store → Store = λ look store. merged (first (truth_of (own c (look store)))) (run_all ta look store) (run_all tb look store) in
-    ran_as scene old new before after F (run x) (names_of c ++ (names_all ta ++ names_all tb)) (names x)
-    (λ look store. run_choose x c a b e look store ∙ ap (λ xs. merged (first (truth_of (own c (look store)))) (run_all xs look store) (run_all b look store)) (sym da)
-    ∙ ap (λ xs. merged (first (truth_of (own c (look store)))) (run_all ta look store) (run_all xs look store)) (sym db))
-    (λ s i. subst (λ ns. Contains ns s) (ap (λ xs. names_of c ++ (names_all xs ++ names_all tb)) da ∙ ap (λ xs. names_of c ++ (names_all a ++ names_all xs)) db ∙ sym (names_choose x c a b e)) i)
+ran_choose scene old one two low new before left right after x c a b truth sc are e f g h arl t k j m =
+    let F : (Store → Read) → Store → Store = λ look store. merged (first (truth_of (own c (look store)))) (run_all a look store) (run_all b look store) in
+    ran_as scene old new before after F (run x) (names_of c ++ (names_all a ++ names_all b)) (names x)
+    (λ look store. run_choose x c a b e look store)
+    (λ s i. subst (λ ns. Contains ns s) (sym (names_choose x c a b e)) i)
     (record {
       value = λ bits.
           let look = reads_in scene bits in
           let store = store_of scene old bits before in
-          let start_is : store_of scene one bits start ≡ store = ap (λ xs. store_of scene one bits xs) same ∙ store_kept scene old one bits before sc are f in
+          let start_is : store_of scene one bits before ≡ store = store_kept scene old one bits before sc are f in
           let right_is : store_of scene two bits before ≡ store = store_kept scene old two bits before sc are (extends_on old one two f g) in
           let truth_is : bits_at_node bits low truth ≡ truth_of (own c (look store)) = value-extends (bitwise bits) one low truth (extends_on one two low g h) t.within ∙ t.value bits in
           m.value bits
           ∙ ap (λ v. merged (first v) (store_of scene low bits left) (store_of scene low bits right)) truth_is
-          ∙ ap (λ st. merged (first (truth_of (own c (look store)))) st (store_of scene low bits right)) (store_kept scene two low bits left sc arl h ∙ k.value bits ∙ ap (λ st. run_all ta look st) start_is)
-          ∙ ap (λ st. merged (first (truth_of (own c (look store)))) (run_all ta look store) st) (j.value bits ∙ ap (λ st. run_all tb look st) right_is);
+          ∙ ap (λ st. merged (first (truth_of (own c (look store)))) st (store_of scene low bits right)) (store_kept scene two low bits left sc arl h ∙ k.value bits ∙ ap (λ st. run_all a look st) start_is)
+          ∙ ap (λ st. merged (first (truth_of (own c (look store)))) (run_all a look store) st) (j.value bits ∙ ap (λ st. run_all b look st) right_is);
       mentions = λ p q v.
-          let rest = allows_right scene p (names_of c) (names_all ta ++ names_all tb) q in
+          let rest = allows_right scene p (names_of c) (names_all a ++ names_all b) q in
           let held = holds_kept scene old one p before are f v in
-          m.mentions p (variables-extends p one low truth (extends_on one two low g h) t.within ∙ t.mentions p (allows_left scene p (names_of c) (names_all ta ++ names_all tb) q) v)
-          (holds_kept scene two low p left arl h (k.mentions p (allows_left scene p (names_all ta) (names_all tb) rest) (subst (HoldsIn p one) (sym same) held)))
-          (j.mentions p (allows_right scene p (names_all ta) (names_all tb) rest) (holds_kept scene old two p before are (extends_on old one two f g) v));
+          m.mentions p (variables-extends p one low truth (extends_on one two low g h) t.within ∙ t.mentions p (allows_left scene p (names_of c) (names_all a ++ names_all b) q) v)
+          (holds_kept scene two low p left arl h (k.mentions p (allows_left scene p (names_all a) (names_all b) rest) held))
+          (j.mentions p (allows_right scene p (names_all a) (names_all b) rest) (holds_kept scene old two p before are (extends_on old one two f g) v));
     })
 
 -- ---- arms
 
-pub ran_arm : (scene : Scene) (old one two new : List Shape) (start copy left before after : List ℕ) (c : Case) (arm : Arm) (truth : ℕ) → IsScene scene → AreNodes scene old start → AreNodes scene old before → copy ≡ start → Extends old one → Extends one two → AreNodes scene two left
+pub ran_arm : (scene : Scene) (old one two new : List Shape) (start left before after : List ℕ) (c : Case) (arm : Arm) (truth : ℕ) → IsScene scene → AreNodes scene old start → AreNodes scene old before → Extends old one → Extends one two → AreNodes scene two left
     → Yields scene old one start (λ read. label_matches c read arm.labels) (names_of c.value ++ names_together arm.labels) 1 truth
-    → Ran scene one two copy left (run_all arm.body) (names_all arm.body) → Merges scene two new truth left before after → RanArm scene old new c arm start before after
-ran_arm scene old one two new start copy left before after c arm truth sc are arb same f g arl t k m = record {
+    → Ran scene one two start left (run_all arm.body) (names_all arm.body) → Merges scene two new truth left before after → RanArm scene old new c arm start before after
+ran_arm scene old one two new start left before after c arm truth sc are arb f g arl t k m = record {
   value = λ bits.
       let look = reads_in scene bits in
       let store = store_of scene old bits start in
       m.value bits
       ∙ ap (λ v. merged (first v) (store_of scene two bits left) (store_of scene two bits before)) (value-extends (bitwise bits) one two truth g t.within ∙ t.value bits)
       ∙ ap (λ st. merged (first (label_matches c (look store) arm.labels)) st (store_of scene two bits before))
-      (k.value bits ∙ ap (λ st. run_all arm.body look st) (ap (λ xs. store_of scene one bits xs) same ∙ store_kept scene old one bits start sc are f))
+      (k.value bits ∙ ap (λ st. run_all arm.body look st) (store_kept scene old one bits start sc are f))
       ∙ ap (λ st. merged (first (label_matches c (look store) arm.labels)) (run_all arm.body look store) st) (store_kept scene old two bits before sc arb (extends_on old one two f g));
   mentions = λ p q u v.
       let first_names = allows_left scene p (names_of c.value ++ names_together arm.labels) (names_all arm.body) q in
       m.mentions p (variables-extends p one two truth g t.within ∙ t.mentions p first_names u)
-      (k.mentions p (allows_right scene p (names_of c.value ++ names_together arm.labels) (names_all arm.body) q) (subst (HoldsIn p one) (sym same) (holds_kept scene old one p start are f u)))
+      (k.mentions p (allows_right scene p (names_of c.value ++ names_together arm.labels) (names_all arm.body) q) (holds_kept scene old one p start are f u))
       (holds_kept scene old two p before arb (extends_on old one two f g) v);
 }
 
@@ -241,11 +242,11 @@ on_ok (Err e) A B f h = tt
 
 -- ---- an arm, under other names of its parts
 
-pub ran_arm_by : (scene : Scene) (old one two new : List Shape) (start copy left before after : List ℕ) (c : Case) (arm : Arm) (labels : List Typed) (body : List Action) (truth : ℕ) → IsScene scene → AreNodes scene old start → AreNodes scene old before → copy ≡ start
+pub ran_arm_by : (scene : Scene) (old one two new : List Shape) (start left before after : List ℕ) (c : Case) (arm : Arm) (labels : List Typed) (body : List Action) (truth : ℕ) → IsScene scene → AreNodes scene old start → AreNodes scene old before
     → labels ≡ arm.labels → body ≡ arm.body → Extends old one → Extends one two → AreNodes scene two left
     → Yields scene old one start (λ read. label_matches c read labels) (names_of c.value ++ names_together labels) 1 truth
-    → Ran scene one two copy left (run_all body) (names_all body) → Merges scene two new truth left before after → RanArm scene old new c arm start before after
-ran_arm_by scene old one two new start copy left before after c arm labels body truth sc are arb same dl db f g arl t k m =
-    ran_arm scene old one two new start copy left before after c arm truth sc are arb same f g arl
+    → Ran scene one two start left (run_all body) (names_all body) → Merges scene two new truth left before after → RanArm scene old new c arm start before after
+ran_arm_by scene old one two new start left before after c arm labels body truth sc are arb dl db f g arl t k m =
+    ran_arm scene old one two new start left before after c arm truth sc are arb f g arl
     (subst (λ xs. Yields scene old one start (λ read. label_matches c read xs) (names_of c.value ++ names_together xs) 1 truth) dl t)
-    (subst (λ xs. Ran scene one two copy left (run_all xs) (names_all xs)) db k) m
+    (subst (λ xs. Ran scene one two start left (run_all xs) (names_all xs)) db k) m

@@ -1,7 +1,7 @@
 -- Bits of two nodes side by side, each by its mark.
-use Rattle.std.proofs.Common.{◌≡◌, ℕ, zero, suc, ◌+◌, ◌-◌, ◌*◌, ◌<◌, ◌≤◌, Bool, true, false, cond, ◌&&◌, ◌||◌, List, [], ◌∷◌, ◌++◌, length, take, drop, map, get_or, refl, sym, ap, ◌∙◌, ◌⊎◌, inl, inr, subst, arith, IsTrue, length-append, length-drop, length-take, get_or-take, get_or-drop}
+use Rattle.std.proofs.Common.{◌≡◌, ℕ, zero, suc, ◌+◌, ◌-◌, ◌<◌, ◌≤◌, Bool, true, false, cond, ◌||◌, List, ◌++◌, length, drop, map, get_or, refl, sym, ap, ◌∙◌, ◌⊎◌, inl, inr, subst, arith, IsTrue, get_or-take, get_or-drop}
 use Rattle.std.specs.List.{range_with_len}
-use Rattle.std.proofs.lemmas.List.{get_or_append_left, get_or-append_right, get_or_default}
+use Rattle.std.proofs.lemmas.List.{get_or_append_left, get_or-append_right}
 use Rattle.std.proofs.lemmas.List.FromFn.{get_or-map-range_with_len}
 use Rattle.std.proofs.lemmas.Bool.{cases_lt, cases_Bool}
 use Rattle.fourvec.specs.declared.Bit.{Bit}
@@ -14,9 +14,8 @@ use Rattle.svex_shape.specs.declared.shape.VarName.TheVariants.{Now}
 use Rattle.svex_shape.specs.declared.shape.Shape.{Shape}
 use Rattle.svex_shape.specs.declared.shape.Shape.TheVariants.{Var}
 use Rattle.svex_shape.specs.Shapes.{width_at, width_of}
-use Rattle.svex_shape.specs.Values.{value_of, each_variable, each_variable_of}
+use Rattle.svex_shape.specs.Values.{value_of, each_variable_of}
 use Rattle.svex_arena.specs.Arenas.{IsArena, Extends}
-use Rattle.svex_arena.proofs.Keeping.{extends_on}
 use Rattle.svex_arena.proofs.Steps.{value-extends, width-extends, variables-extends}
 use Rattle.driver_resolve.specs.Drivers.{bitwise}
 use Rattle.sv_lower.specs.Nodes.{bits_at_node, IsMade, FromOne, FromTwo}

@@ -1,6 +1,6 @@
 -- Actions whose targets are among the wires of a scene, and the bits that they write.
-use Rattle.std.proofs.Common.{◌≡◌, ℕ, zero, suc, ◌+◌, ◌-◌, ◌<◌, ◌≤◌, Bool, true, false, cond, List, [], ◌∷◌, ◌++◌, length, take, drop, get_or, map, Option, Some, None, refl, sym, ap, ◌∙◌, subst, arith, IsTrue, get_or-take}
-use Rattle.std.specs.Prelude.{ℤ, pos, negsuc, ◌+ℤ◌, is_some, slice_get}
+use Rattle.std.proofs.Common.{◌≡◌, ℕ, zero, suc, ◌+◌, ◌-◌, ◌<◌, ◌≤◌, Bool, true, false, cond, List, [], ◌∷◌, ◌++◌, length, take, get_or, Option, Some, None, refl, sym, ap, ◌∙◌, subst, arith, get_or-take}
+use Rattle.std.specs.Prelude.{ℤ, pos, negsuc, ◌+ℤ◌, slice_get}
 use Rattle.std.specs.List.{All, AllByRecursion, Contains}
 use Rattle.std.proofs.lemmas.List.Elements.{All-nil, All-cons, All-from_recursion, recursion_from_All, Contains-append_left, Contains-append_right}
 use Rattle.std.proofs.lemmas.List.FromFn.{get_or-map-range_with_len}
@@ -23,7 +23,7 @@ use Rattle.sv_actions.specs.declared.action.Action.TheVariants as act
 use Rattle.sv_actions.specs.declared.action.Action.TheBlock.{shape-the_row-Action-0, hidden-the_row-Action-0, shape-the_row-Arm-1, hidden-the_row-Arm-1}
 use Rattle.sv_actions.specs.Doing.{target_names, names, names_row, names_arms, names_all, writes, writes_row, writes_arms, writes_all, IsAimed, Aims, AimsRow, AimsArms}
 use Rattle.sv_stores.specs.declared.scene.Scene.{Scene}
-use Rattle.sv_stores.specs.Scenes.{place_in, width_in, Narrow}
+use Rattle.sv_stores.specs.Scenes.{Narrow}
 use Rattle.sv_blocks.specs.Driving.{run_seg}
 use Rattle.sv_blocks.specs.Fitting.{HasPlace, PickSits, LabelSits, TargetSits, Sits, SitsRow, SitsArms, ArmSits, BitSits, RunSits}
 

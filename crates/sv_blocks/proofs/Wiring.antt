@@ -1,5 +1,5 @@
 -- The wires that the statements of a block write, as names declare them.
-use Rattle.std.proofs.Common.{◌≡◌, ◌≢◌, ℕ, zero, suc, ◌+◌, ◌*◌, ◌<◌, ◌≤◌, Bool, true, false, cond, ◌&&◌, List, [], ◌∷◌, ◌++◌, length, map, set, take, replicate, get_or, Option, Some, None, refl, sym, ap, ◌∙◌, ◌⊎◌, inl, inr, subst, arith, IsTrue, nat_lt, length-append, length-set, get_or-set_same, get_or-set_other}
+use Rattle.std.proofs.Common.{◌≡◌, ◌≢◌, ℕ, zero, suc, ◌+◌, ◌*◌, ◌<◌, ◌≤◌, Bool, true, false, ◌&&◌, List, [], ◌∷◌, ◌++◌, length, set, take, replicate, get_or, Option, Some, None, refl, sym, ap, ◌∙◌, ◌⊎◌, inl, inr, subst, arith, nat_lt, get_or-set_same, get_or-set_other}
 use Rattle.std.specs.List.{All, Contains}
 use Rattle.std.proofs.lemmas.List.{replicate-append-replicate, take_all, get_or_push, get_or_past, length_push, length-replicate, get_or-replicate, get_or_append_left}
 use Rattle.std.specs.Prelude.{is_some}
@@ -7,14 +7,13 @@ use Rattle.std.proofs.lemmas.List.Elements.{All-push, All-nil, All-weaker}
 use Rattle.sv_lower.proofs.Trees.{taken_more}
 use Rattle.std.proofs.lemmas.Bool.{cases_lt, cases_eq}
 use Rattle.svex_arena.specs.Substs.{entry_at, given_or}
-use Rattle.sv_meaning.specs.Layouts.{What, signal_is, of_wires, width, NamedSignal}
+use Rattle.sv_meaning.specs.Layouts.{What, signal_is, of_wires, NamedSignal}
 use Rattle.sv_names.specs.declared.layout.Layout.{Layout as Laid}
 use Rattle.sv_names.specs.Kinds.{layout_is, IsSound}
 use Rattle.sv_names.proofs.Sound.{sound_width}
-use Rattle.sv_stores.specs.declared.scene.Scene.{Scene}
 use Rattle.sv_blocks.specs.declared.wires.Wire.{Wire}
 use Rattle.sv_blocks.specs.declared.wires.Places.{Places}
-use Rattle.sv_stores.specs.Scenes.{place_in, width_in, mark_at, is_written, IsScene}
+use Rattle.sv_stores.specs.Scenes.{mark_at}
 use Rattle.sv_actions.specs.Texts.{wire_signal, signal_of}
 use Rattle.sv_blocks.specs.Declaring.{wire_is, maybe_wire, wires_are, HasBits, IsAmong, IsThere, ArePlaces, IsBegun}
 

@@ -1,11 +1,9 @@
 -- Values written into chains of selects, and into wires.
-use Rattle.std.proofs.Common.{◌≡◌, ◌≢◌, ℕ, zero, suc, ◌+◌, ◌-◌, ◌<◌, ◌≤◌, ◌==◌, eqb, Bool, true, false, cond, List, [], ◌∷◌, ◌++◌, length, take, drop, set, get_or, Option, Some, None, refl, sym, ap, ◌∙◌, ◌⊎◌, inl, inr, subst, arith, IsTrue, get_or-set_same, get_or-set_other, length-set, length-drop}
-use Rattle.std.specs.List.{All}
-use Rattle.std.proofs.lemmas.List.{get_or_past, get_or_default, same_lists, nil_from_length, drop_more, take-take, drop-take}
-use Rattle.std.proofs.lemmas.Bool.{cases_lt, cases_eq, cases_Bool}
+use Rattle.std.proofs.Common.{◌≡◌, ◌≢◌, ℕ, zero, suc, ◌+◌, ◌<◌, ◌≤◌, eqb, Bool, true, false, cond, List, [], ◌∷◌, length, drop, set, get_or, Option, Some, None, refl, sym, ap, ◌∙◌, ◌⊎◌, inl, inr, subst, arith, IsTrue, get_or-set_same, get_or-set_other, length-set, length-drop}
+use Rattle.std.proofs.lemmas.List.{get_or_past, get_or_default, same_lists, nil_from_length}
+use Rattle.std.proofs.lemmas.Bool.{cases_lt, cases_eq}
 use Rattle.std.proofs.lemmas.Bool.Decides.{nat_tests}
 use Rattle.fourvec.specs.declared.Bit.{Bit}
-use Rattle.fourvec.specs.Bits.{slice_of}
 use Rattle.svex_shape.specs.declared.shape.VarName.{VarName}
 use Rattle.svex_shape.specs.declared.shape.Shape.{Shape}
 use Rattle.svex_shape.specs.Shapes.{width_at}
@@ -14,24 +12,21 @@ use Rattle.svex_arena.specs.Arenas.{IsArena, Extends}
 use Rattle.svex_arena.proofs.Keeping.{extends_on}
 use Rattle.svex_arena.proofs.Steps.{value-extends, width-extends, variables-extends}
 use Rattle.driver_resolve.specs.Drivers.{bitwise}
-use Rattle.settling.specs.Settling.{Store}
-use Rattle.sv_meaning.specs.Layouts.{Read}
 use Rattle.sv_meaning.specs.Meanings.{bits_at, bits_from}
 use Rattle.sv_meaning.specs.Targets.{put_at, with_wire}
 use Rattle.sv_typed.specs.declared.tree.Pick.{Pick}
-use Rattle.sv_typed.specs.Typed.{pick_place, place_names, spot_place, names_picked, picked_width, PickIsSound}
+use Rattle.sv_typed.specs.Typed.{pick_place, place_names, spot_place, names_picked, picked_width}
 use Rattle.sv_typing.specs.Picks.{picked_put}
 use Rattle.sv_targets.specs.declared.targets.TypedTarget.{TypedTarget}
-use Rattle.sv_targets.specs.Targets.{width_of_all}
-use Rattle.sv_lower.specs.Nodes.{bits_at_node, FromOne}
+use Rattle.sv_lower.specs.Nodes.{bits_at_node}
 use Rattle.sv_lower.proofs.Sizing.{length-node}
-use Rattle.sv_actions.specs.Doing.{write_to, write_into, target_names, TargetFits}
+use Rattle.sv_actions.specs.Doing.{TargetFits}
 use Rattle.sv_stores.specs.declared.scene.Scene.{Scene}
 use Rattle.sv_blocks.specs.declared.parts.Spotted.{Spotted}
 use Rattle.sv_blocks.specs.declared.parts.Spotted.TheVariants.{At, Moving}
 use Rattle.sv_stores.specs.Scenes.{place_in, width_in, base, store_of, reads_in, Allows, HoldsIn, AreNodes, IsScene}
 use Rattle.sv_blocks.specs.Parts.{spotted_place, spotted_test, SpotIsIn, SpotIsWide, Spots, ReadsPart, PutsPart, IsWritten}
-use Rattle.sv_blocks.specs.Writing.{Wrote, WroteAll}
+use Rattle.sv_blocks.specs.Writing.{Wrote}
 use Rattle.sv_stores.proofs.Stores.{store_at, store_none, store_kept, store_kept_at, holds_kept}
 use Rattle.sv_stores.proofs.Yielding.{allows_left, allows_right}
 

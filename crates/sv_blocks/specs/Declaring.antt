@@ -1,5 +1,5 @@
 -- The wires that a block writes, as names declare them, and which of their bits it writes.
-use Rattle.std.specs.Prelude.{◌≡◌, ℕ, ◌+◌, ◌*◌, ◌<◌, ◌≤◌, ◌==◌, Bool, false, List, [], ◌∷◌, length, map, reverse, slice_index_or, Option, Some, None, is_some, true}
+use Rattle.std.specs.Prelude.{◌≡◌, ℕ, ◌+◌, ◌*◌, ◌<◌, ◌≤◌, false, List, [], ◌∷◌, length, map, reverse, slice_index_or, Option, Some, None, is_some, true}
 use Rattle.std.specs.List.{Contains}
 use Rattle.lhs_alias.specs.declared.segs.WireBit.{WireBit}
 use Rattle.lhs_alias.specs.Segs.{bit}
@@ -11,7 +11,7 @@ use Rattle.sv_blocks.specs.declared.wires.Wire.{Wire}
 use Rattle.sv_blocks.specs.declared.wires.Places.{Places}
 use Rattle.sv_blocks.specs.declared.bits.Marked.{Marked}
 use Rattle.sv_actions.specs.Texts.{wire_signal}
-use Rattle.sv_stores.specs.Scenes.{place_in, width_in, mark_at, is_written, IsScene}
+use Rattle.sv_stores.specs.Scenes.{place_in, width_in, is_written, IsScene}
 
 -- ---- wires
 

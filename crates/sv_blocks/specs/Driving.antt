@@ -1,7 +1,6 @@
 -- Drivers of the bits that a block writes.
-use Rattle.std.specs.Prelude.{◌≡◌, ℕ, ◌<◌, ◌≤◌, Bool, List, length, map, slice_index, slice_index_or, IsTrue}
+use Rattle.std.specs.Prelude.{◌≡◌, ℕ, ◌<◌, Bool, List, length, map, slice_index, slice_index_or, IsTrue}
 use Rattle.std.specs.List.{All}
-use Rattle.fourvec.specs.declared.Bit.{Bit}
 use Rattle.lhs_alias.specs.declared.segs.WireBit.{WireBit}
 use Rattle.lhs_alias.specs.declared.segs.Seg.{Seg}
 use Rattle.lhs_alias.specs.Segs.{lhs_bits}

@@ -1,5 +1,5 @@
 -- What a block contributes at its end (IEEE 1800-2017, 9.2.2).
-use Rattle.std.specs.Prelude.{◌≡◌, ℕ, ◌<◌, Bool, true, List, length, slice_index_or, Option, Some, None, IsTrue}
+use Rattle.std.specs.Prelude.{◌≡◌, ℕ, ◌<◌, Bool, List, length, slice_index_or, Option, Some, None, IsTrue}
 use Rattle.std.specs.List.{All}
 use Rattle.fourvec.specs.declared.Bit.{Bit}
 use Rattle.lhs_alias.specs.declared.segs.WireBit.{WireBit}

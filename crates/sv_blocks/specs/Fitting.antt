@@ -1,5 +1,5 @@
 -- Actions over a scene: the wires of their targets have places there, and names read no more bits than these wires have.
-use Rattle.std.specs.Prelude.{◌≡◌, ℕ, ◌+◌, ◌<◌, ◌≤◌, true, List, Option, Some, None, is_some}
+use Rattle.std.specs.Prelude.{◌≡◌, ℕ, ◌+◌, ◌<◌, ◌≤◌, true, Some, is_some}
 use Rattle.std.specs.List.{All}
 use mathlib.Core.Former.{Count}
 use Rattle.lhs_alias.specs.declared.segs.WireBit.{WireBit}

@@ -7,7 +7,6 @@ use Rattle.svex_shape.specs.declared.shape.VarName.{VarName}
 use Rattle.svex_shape.specs.declared.shape.Shape.{Shape}
 use Rattle.svex_shape.specs.Shapes.{width_at}
 use Rattle.svex_shape.specs.Values.{each_variable}
-use Rattle.sv_meaning.specs.Layouts.{NamedSignal}
 use Rattle.sv_meaning.specs.Meanings.{bits_at}
 use Rattle.sv_meaning.specs.Targets.{put_at}
 use Rattle.sv_typed.specs.declared.tree.Pick.{Pick}

@@ -103,7 +103,6 @@ fn total(targets: &[TypedTarget]) -> u8
 }
 
 // Writes a node into targets, the first the most significant.
-#[tactic(auto, using(svex_arena::proofs::Keeping::extends_on))]
 fn write_targets(
     alloc: Global,
     arena: &mut Arena,

@@ -77,7 +77,6 @@ fn driver_of(
 }
 
 /// The drivers of bits of the wires of a block, one for each run of bits that follow one another in one wire.
-#[tactic(auto, using(svex_arena::proofs::Keeping::extends_on))]
 pub fn drivers_of(
     alloc: Global,
     arena: &mut Arena,

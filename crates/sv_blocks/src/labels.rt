@@ -92,7 +92,6 @@ fn equal(
 }
 
 // Whether a label equals what is compared.
-#[tactic(auto, using(svex_arena::proofs::Keeping::extends_on))]
 fn label_equals(
     alloc: Global,
     arena: &mut Arena,
@@ -125,7 +124,6 @@ fn label_equals(
 }
 
 /// Whether one of the labels equals what is compared.
-#[tactic(auto, using(svex_arena::proofs::Keeping::extends_on))]
 pub fn label_matches(
     alloc: Global,
     arena: &mut Arena,

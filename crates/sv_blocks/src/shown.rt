@@ -90,7 +90,6 @@ fn side(
 }
 
 // Bits of two nodes side by side, each by its mark.
-#[tactic(auto, using(svex_arena::proofs::Keeping::extends_on))]
 fn mixed(
     alloc: Global,
     arena: &mut Arena,

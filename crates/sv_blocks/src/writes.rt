@@ -39,11 +39,9 @@ pub fn written(
     let pick = &picks[0];
     let at = spot_of(alloc, arena, scene, state, pick)?;
     if picks.len() == 1 {
-        let node = put_part(alloc, arena, of, &at, value)?;
-        return Ok(node);
+        return put_part(alloc, arena, of, &at, value);
     }
     let part = read_part(alloc, arena, of, &at, pick.width)?;
     let inner = written(alloc, arena, scene, state, &picks[1..], part, value)?;
-    let node = put_part(alloc, arena, of, &at, inner)?;
-    Ok(node)
+    put_part(alloc, arena, of, &at, inner)
 }

@@ -1,6 +1,6 @@
 // Constants, sizes and selects over the names of a place.
-ghost use Rattle.std.specs.Prelude.{◌≡◌, ◌≤◌, true, false, IfOk, map};
-ghost use Rattle.sv_meaning.specs.Meanings.{Meaning};
+ghost use Rattle.std.specs.Prelude.{◌≡◌, ◌≤◌, max, true, false, IfOk, map};
+ghost use Rattle.sv_meaning.specs.Meanings.{Meaning, nowhere};
 ghost use Rattle.sv_meaning.specs.Values.{mean, step};
 ghost use Rattle.sv_typed.specs.Typed as typed_is;
 ghost use Rattle.sv_typing.specs.Judging.{Judges, Fixes};
@@ -17,19 +17,31 @@ use sv_tree::{Expr, Select};
 use sv_typed::Typed;
 use sv_typing::{Chain, Fixed, IndexRule, Position, chain_behind, fixed, refusal, start, typed};
 
-// The value of a typed constant at the larger of a width and its own length, or E15 where it begins.
+// The bits at the larger of a width and the own length, with the own sign.
 #[tactic(auto, using(sv_typed::proofs::Sound::most_bits))]
+fn known_at(width: u8, x: &Typed) -> Known
+    requires sound { typed_is.IsSound x.now }
+    requires most { width ≤ 128 }
+    ensures value { result.value ≡ typed_is.worth x.now nowhere (max width x.now.width) x.now.signed }
+    ensures signed { result.signed ≡ x.now.signed }
+{
+    Known {
+        value: x.value(width.max(x.width), x.signed),
+        signed: x.signed,
+    }
+}
+
+// The value of a typed constant at the larger of a width and its own length, or E15 where it begins.
 fn constant_of(start: Place, width: u8, x: Result<Typed, TextErr>) -> Result<Known, TextErr>
     requires sound { IfOk x (λ t. typed_is.IsSound t) }
     requires most { width ≤ 128 }
     ensures { (m : Meaning) → m.start ≡ start → Judges m true x → JudgesConstant width m result }
 {
     let x = x?;
-    let value = x.value(width.max(x.width), x.signed);
-    let signed = x.signed;
+    let known = known_at(width, &x);
     drop(x);
-    if value.is_bool() {
-        Ok(Known { value, signed })
+    if known.value.is_bool() {
+        Ok(known)
     } else {
         Err(TextErr::No(refusal(15, start)))
     }

@@ -9,5 +9,5 @@ mod runs;
 mod steps;
 
 pub use constants::{condition, index_value};
-pub use runs::turns;
+pub use runs::{enter, leave, turns};
 pub use steps::next_value;

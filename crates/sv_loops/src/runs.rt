@@ -22,8 +22,8 @@ use sv_typing::refusal;
 /// How many turns a loop has at most.
 const MOST_TURNS: usize = 4096;
 
-// Enters the loop, whose variable has these bits. Where memory is out, nothing changes.
-fn enter(names: &mut Names<'_>, variable: &Word, bits: Four) -> Result<(), TextErr>
+/// Enters a loop, whose variable has these bits. Where memory is out, nothing changes.
+pub fn enter(names: &mut Names<'_>, variable: &Word, bits: Four) -> Result<(), TextErr>
     ensures frames { stack_of names.new ≡ stack_of names.old }
     ensures loops { OnOk result (loops_of names.new ≡ loops_of names.old ++ index_is variable.now.text bits ∷ []) }
     ensures err { OnErr result (loops_of names.new ≡ loops_of names.old) }
@@ -40,9 +40,9 @@ fn enter(names: &mut Names<'_>, variable: &Word, bits: Four) -> Result<(), TextE
     Ok(())
 }
 
-// Leaves the loop.
+/// Leaves the innermost loop.
 #[tactic(auto, using(crate::proofs::Frames::last_off, crate::proofs::Frames::none_off))]
-fn leave(names: &mut Names<'_>)
+pub fn leave(names: &mut Names<'_>)
     ensures frames { stack_of names.new ≡ stack_of names.old }
     ensures loops { (all : List Entry) (last : Entry) → loops_of names.old ≡ all ++ last ∷ [] → loops_of names.new ≡ all }
 {

@@ -3,8 +3,10 @@ pub mod Sizing
 pub mod Windows
 pub mod Pieces
 pub mod Reading
+pub mod Falling
 pub mod Indices
 pub mod Trees
+pub mod Unnamed
 pub mod Nameless
 pub mod Naming
 pub mod Sources

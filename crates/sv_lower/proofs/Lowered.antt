@@ -222,12 +222,13 @@ lowers_standing look old mid new t a w s x n e h k =
     one look old mid new t a w a.width s a.signed (extend s w) x w n
     (λ read. worth_of t (f.Standing a) read w s e ∙ worths.worth_standing t.width a read w s) (λ q. each_as t (f.Standing a) q e ∙ trees.each_standing q a) h k refl
 
-pub lowers_fitted : (look : Look) (old mid low new : List Shape) (t a y : Typed) (w : ℕ) (s u : Bool) (x b n : ℕ) → t.form ≡ f.Fitted a → y ≡ a → u ≡ y.signed → Lowers look old mid a a.width a.signed x →
-    FromOne mid low (fitted u t.width) x t.width b → FromOne low new (extend s w) b w n → Lowers look old new t w s n
-lowers_fitted look old mid low new t a y w s u x b n e d i h k j =
-    let P : Bool → Type 0 = λ v. FromOne mid low (fitted v t.width) x t.width b in
-    let own_sign = subst P (i ∙ ap (λ r. r.signed) d) k in
-    one look old mid new t a w a.width s a.signed (λ v. extend s w (fitted a.signed t.width v)) x w n
+pub lowers_fitted : (look : Look) (old mid low new : List Shape) (t a y : Typed) (w v : ℕ) (s u : Bool) (x b n : ℕ) → t.width ≡ v → t.form ≡ f.Fitted a → y ≡ a → u ≡ y.signed → Lowers look old mid a a.width a.signed x →
+    FromOne mid low (fitted u v) x v b → FromOne low new (extend s w) b w n → Lowers look old new t w s n
+lowers_fitted look old mid low new t a y w v s u x b n same e d i h k j =
+    let Q : ℕ → Type 0 = λ z. FromOne mid low (fitted u z) x z b in
+    let P : Bool → Type 0 = λ z. FromOne mid low (fitted z t.width) x t.width b in
+    let own_sign = subst P (i ∙ ap (λ r. r.signed) d) (subst Q (sym same) k) in
+    one look old mid new t a w a.width s a.signed (λ z. extend s w (fitted a.signed t.width z)) x w n
     (λ read. worth_of t (f.Fitted a) read w s e ∙ worths.worth_fitted t.width a read w s) (λ q. each_as t (f.Fitted a) q e ∙ trees.each_fitted q a)
     h (one_then mid low new (fitted a.signed t.width) (extend s w) x t.width b w n own_sign j) refl
 

@@ -11,7 +11,6 @@ fn is_number(root: &Root) -> bool
 }
 
 /// Whether an expression names no signal.
-#[tactic(auto, using(crate::proofs::Trees::eaches))]
 #[cycle(nameless)]
 pub fn is_nameless(typed: &Typed) -> bool
     ensures { IsTrue result → IsTrue (each_signal no_signal typed.now) }

@@ -1,5 +1,5 @@
 -- The last declaration of a list, put on and taken off.
-use Rattle.std.proofs.Common.{◌≡◌, ℕ, List, [], ◌∷◌, ◌++◌, length, get_or, refl, sym, ap, ◌∙◌, subst, arith, All, Result, Ok, OnOk}
+use Rattle.std.proofs.Common.{◌≡◌, ℕ, List, [], ◌∷◌, ◌++◌, length, get_or, refl, sym, ap, ◌∙◌, subst, arith, All}
 use Rattle.std.proofs.lemmas.List.{append-nil, map-append}
 use Rattle.std.proofs.lemmas.List.Elements.{All-push}
 use Rattle.std.proofs.Math.ListN.{get_or-append, length-append}
@@ -8,9 +8,6 @@ use Rattle.sv_names.specs.Linked.{IsLinked}
 use Rattle.sv_names.specs.declared.links.Links.{Links}
 
 -- ---- put on
-
-pub held_ok : {A E : Type 0} (r : Result A E) (a : A) (P : Type 0) → r ≡ Ok a → OnOk r P → P
-held_ok {A} {E} r a P e h = let Q : Result A E → Type 0 = λ z. OnOk z P in subst Q e h
 
 pub sound_push : (old all : List Entry) (last : Entry) → all ≡ old ++ last ∷ [] → WhatIsSound last.1 → All EntryIsSound old → All EntryIsSound all
 sound_push old all last e h k = subst (All EntryIsSound) (sym e) (All-push EntryIsSound old last k h)

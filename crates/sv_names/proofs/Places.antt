@@ -1,5 +1,5 @@
 -- Names of one place: what is seen where neither the stack of scopes nor the loops have changed.
-use Rattle.std.proofs.Common.{◌≡◌, List, [], ◌∷◌, ◌++◌, sym, ap, ◌∙◌, append_assoc}
+use Rattle.std.proofs.Common.{◌≡◌, List, [], ◌++◌, sym, ap, ◌∙◌, append_assoc}
 use Rattle.std.proofs.lemmas.List.{map-append}
 use Rattle.sv_names.specs.declared.names.Names.{Names}
 use Rattle.sv_names.specs.Kinds.{Entry, entries_are, entry_is}

@@ -70,14 +70,14 @@ impl Drop for Field {
 }
 
 /// A constant: its bits, and whether it is signed.
-#[derive(Clone, Copy, PartialEq, Eq, Debug)]
+#[derive(Clone, Copy)]
 pub struct Known {
     pub value: Four,
     pub signed: bool,
 }
 
 /// The length of an expression in bits, 1 to 128, and its sign (11.6.1, 11.8.1).
-#[derive(Clone, Copy, PartialEq, Eq, Debug)]
+#[derive(Clone, Copy)]
 pub struct Size {
     pub width: u8,
     pub signed: bool,

@@ -8,7 +8,6 @@ ghost use Rattle.sv_meaning.specs.Layouts.{last_of};
 
 use crate::What;
 use crate::links::Links;
-use items::both;
 use std::alloc::{AllocError, Global};
 use std::marker::Model;
 use sv_outside::Name;
@@ -66,9 +65,8 @@ impl Scope {
         ensures ok { OnOk result (self.new ≡ self.old ++ (name, what) ∷ []) }
         ensures err { OnErr result (self.new ≡ self.old) }
     {
-        let room = self.list.reserve(1);
-        let (what, _) = both(what, room)?;
-        let (what, _) = both(what, self.links.note(name.bytes()))?;
+        self.list.reserve(1)?;
+        self.links.note(name.bytes())?;
         self.list.push_reserved((name, what));
         Ok(())
     }

@@ -1,7 +1,5 @@
 -- What names read in blocks, by looks.
-use Rattle.std.proofs.Common.{◌≡◌, ℕ, ◌<◌, ◌≤◌, Bool, true, false, cond, ◌||◌, List, length, get_or, Option, Some, None, refl, sym, ap, ◌∙◌, subst, arith, IsTrue, Bor, nat_le, nat_lt, inl, inr}
-use Rattle.std.specs.Prelude.{slice_get}
-use Rattle.std.specs.List.{Contains}
+use Rattle.std.proofs.Common.{◌≡◌, ℕ, ◌<◌, ◌≤◌, Bool, true, false, cond, ◌||◌, List, length, get_or, Option, Some, None, refl, sym, ap, ◌∙◌, subst, arith, IsTrue, Bor, nat_le}
 use Rattle.std.proofs.lemmas.Option.{slice_get_within, slice_get-get_or, get_or_from_slice_get}
 use Rattle.std.proofs.lemmas.Bool.Decides.{nat_tests}
 use Rattle.fourvec.specs.declared.Bit.{Bit}
@@ -12,7 +10,7 @@ use Rattle.svex_shape.specs.declared.shape.Shape.{Shape}
 use Rattle.svex_shape.specs.Shapes.{width_at}
 use Rattle.svex_shape.specs.Values.{each_variable}
 use Rattle.svex_arena.specs.Substs.{entry_at, given_or}
-use Rattle.sv_meaning.specs.Layouts.{Read, Origin, of_wires, of_choice, of_samples, NamedSignal}
+use Rattle.sv_meaning.specs.Layouts.{Origin, of_wires, of_choice, of_samples}
 use Rattle.sv_typed.specs.declared.tree.Typed.{Typed}
 use Rattle.sv_typed.specs.Typed.{worth, names_of}
 use Rattle.sv_lower.specs.declared.look.Look.{Look}
@@ -22,7 +20,7 @@ use Rattle.sv_lower.specs.Lowering.{node_in, node_of, wire_variable, look_read, 
 use Rattle.sv_lower.proofs.Naming.{look_holds}
 use Rattle.sv_stores.specs.declared.scene.Scene.{Scene}
 use Rattle.sv_stores.specs.declared.scene.State.{State}
-use Rattle.sv_stores.specs.Scenes.{place_in, width_in, mark_at, is_written, is_whole, is_narrow, base, store_of, wire_bit, reads_in, wire_test, name_test, Allows, HoldsIn, Shows, AreNodes, AreSeen, SeenBy, IsScene, IsState, Yields}
+use Rattle.sv_stores.specs.Scenes.{place_in, width_in, mark_at, is_written, is_whole, is_narrow, base, store_of, wire_bit, reads_in, wire_test, name_test, HoldsIn, AreSeen, SeenBy, IsScene, IsState, Yields}
 use Rattle.sv_stores.proofs.Narrowing.{SameWhere, same_worth}
 use Rattle.sv_stores.proofs.Stores.{store_at, written_at, written_none, reads_comb, inside}
 

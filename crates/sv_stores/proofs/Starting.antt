@@ -1,30 +1,26 @@
 -- Where a block begins, and what sets it off.
-use Rattle.std.proofs.Common.{◌≡◌, ℕ, zero, suc, ◌+◌, ◌-◌, ◌<◌, ◌≤◌, Bool, true, false, List, [], ◌∷◌, ◌++◌, length, map, replicate, get_or, Option, Some, None, refl, sym, ap, ◌∙◌, ◌⊎◌, inl, inr, subst, arith, IsTrue}
+use Rattle.std.proofs.Common.{◌≡◌, ℕ, ◌+◌, ◌<◌, ◌≤◌, List, [], ◌∷◌, ◌++◌, length, map, get_or, Option, Some, None, refl, sym, ap, ◌∙◌, ◌⊎◌, inl, inr, subst, arith}
 use Rattle.std.specs.List.{range_with_len}
 use Rattle.std.proofs.lemmas.List.{get_or_append_left, get_or_push, get_or_past, length_push, length-replicate, get_or-replicate}
 use Rattle.std.proofs.lemmas.List.FromFn.{get_or-map-range_with_len, length-map-range_with_len}
 use Rattle.std.proofs.lemmas.Bool.{cases_lt}
 use Rattle.fourvec.specs.declared.Bit.{Bit}
 use Rattle.fourvec.specs.declared.Bit.TheVariants.{Unknown}
-use Rattle.fourvec.specs.Bits.{all_x, first, and_of, not_of, each, each_pair, and_bit, not_bit}
-use Rattle.fourvec.proofs.Order.{both}
+use Rattle.fourvec.specs.Bits.{all_x, first, and_of, not_of, each, each_pair, not_bit}
 use Rattle.svex_shape.specs.declared.shape.VarName.{VarName}
 use Rattle.svex_shape.specs.declared.shape.VarName.TheVariants.{Now, Prev}
 use Rattle.svex_shape.specs.declared.shape.Shape.{Shape}
 use Rattle.svex_shape.specs.declared.shape.Shape.TheVariants.{Var}
 use Rattle.svex_shape.specs.Shapes.{width_at, width_of}
-use Rattle.svex_shape.specs.Values.{value_of, each_variable, each_variable_of}
+use Rattle.svex_shape.specs.Values.{value_of, each_variable_of}
 use Rattle.svex_arena.specs.Arenas.{Extends}
 use Rattle.svex_arena.proofs.Keeping.{extends_on}
 use Rattle.svex_arena.proofs.Steps.{value-extends, width-extends, variables-extends}
 use Rattle.driver_resolve.specs.Drivers.{bitwise}
-use Rattle.settling.specs.Settling.{Store}
-use Rattle.sv_tree.specs.declared.stmts.Edge.{Edge}
 use Rattle.sv_tree.specs.declared.stmts.Edge.TheVariants as edge
-use Rattle.sv_meaning.specs.Blocks.{trigger_bit}
 use Rattle.sv_lower.specs.Nodes.{bits_at_node, IsMade, IsConstant, FromOne, FromTwo}
 use Rattle.sv_stores.specs.declared.scene.Scene.{Scene}
-use Rattle.sv_stores.specs.Scenes.{place_in, width_in, base, store_of, HoldsIn, AreNodes, IsScene}
+use Rattle.sv_stores.specs.Scenes.{place_in, width_in, base, store_of, IsScene}
 use Rattle.sv_stores.specs.Starting.{start_test, StartsAt, Starts, Triggers}
 use Rattle.sv_stores.proofs.Stores.{store_at, store_none}
 

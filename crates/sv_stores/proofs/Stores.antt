@@ -1,5 +1,5 @@
 -- What stores and names read at one bit, and that neither changes as the arena grows.
-use Rattle.std.proofs.Common.{◌≡◌, ◌≢◌, ℕ, suc, ◌+◌, ◌*◌, ◌<◌, ◌≤◌, Bool, true, false, cond, List, length, set, get_or, Option, Some, None, refl, sym, ap, ◌∙◌, ◌⊎◌, inl, inr, subst, arith, IsTrue, length-set, get_or-set_same, get_or-set_other}
+use Rattle.std.proofs.Common.{◌≡◌, ◌≢◌, ℕ, ◌<◌, Bool, false, cond, List, length, set, get_or, Option, Some, None, refl, sym, ap, ◌∙◌, ◌⊎◌, inl, inr, subst, arith, length-set, get_or-set_same, get_or-set_other}
 use Rattle.std.proofs.lemmas.List.{get_or_read}
 use Rattle.std.proofs.lemmas.Bool.{cases_eq}
 use Rattle.fourvec.specs.declared.Bit.{Bit}
@@ -8,17 +8,16 @@ use Rattle.svex_shape.specs.declared.shape.VarName.{VarName}
 use Rattle.svex_shape.specs.declared.shape.VarName.TheVariants.{Now}
 use Rattle.svex_shape.specs.declared.shape.Shape.{Shape}
 use Rattle.svex_shape.specs.Shapes.{width_at}
-use Rattle.svex_shape.specs.Values.{each_variable}
 use Rattle.svex_arena.specs.Substs.{given_or}
 use Rattle.svex_arena.specs.Arenas.{Extends}
 use Rattle.svex_arena.proofs.Steps.{value-extends, width-extends, variables-extends}
 use Rattle.driver_resolve.specs.Drivers.{bitwise}
 use Rattle.settling.specs.Settling.{Store}
-use Rattle.sv_meaning.specs.Layouts.{Read, Origin, of_wires, of_choice, of_samples}
+use Rattle.sv_meaning.specs.Layouts.{of_wires}
 use Rattle.sv_lower.specs.Nodes.{bits_at_node}
 use Rattle.sv_stores.specs.declared.scene.Scene.{Scene}
 use Rattle.sv_stores.specs.declared.scene.State.{State}
-use Rattle.sv_stores.specs.Scenes.{place_in, width_in, mark_at, is_written, is_whole, base, store_of, wire_bit, reads_in, HoldsIn, Shows, AreNodes, AreSeen, SeenBy, IsScene, IsState}
+use Rattle.sv_stores.specs.Scenes.{place_in, width_in, mark_at, is_written, base, store_of, wire_bit, reads_in, HoldsIn, Shows, AreNodes, AreSeen, SeenBy, IsScene, IsState}
 
 -- ---- one bit of a store
 

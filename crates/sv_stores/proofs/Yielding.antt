@@ -1,24 +1,19 @@
 -- Nodes of what names read, one made of others.
-use Rattle.std.proofs.Common.{◌≡◌, ℕ, ◌<◌, ◌≤◌, max, Bool, List, ◌++◌, length, get_or, refl, sym, ap, ◌∙◌, subst, arith, IsTrue}
-use Rattle.std.specs.List.{Contains}
+use Rattle.std.proofs.Common.{◌≡◌, ℕ, ◌≤◌, max, Bool, List, ◌++◌, ap, ◌∙◌, subst, arith}
 use Rattle.std.proofs.lemmas.List.Elements.{Contains-append_left, Contains-append_right}
 use Rattle.fourvec.specs.declared.Bit.{Bit}
 use Rattle.svex_shape.specs.declared.shape.VarName.{VarName}
 use Rattle.svex_shape.specs.declared.shape.Shape.{Shape}
-use Rattle.svex_shape.specs.Shapes.{width_at}
-use Rattle.svex_shape.specs.Values.{each_variable}
 use Rattle.svex_arena.specs.Arenas.{Extends}
-use Rattle.svex_arena.proofs.Keeping.{extends_on}
 use Rattle.svex_arena.proofs.Steps.{value-extends, width-extends, variables-extends}
 use Rattle.driver_resolve.specs.Drivers.{bitwise}
-use Rattle.settling.specs.Settling.{Store}
 use Rattle.sv_meaning.specs.Layouts.{Read, NamedSignal}
 use Rattle.sv_typed.specs.declared.tree.Typed.{Typed}
 use Rattle.sv_typed.specs.Typed.{worth, own, names_of, IsSound}
 use Rattle.sv_typed.proofs.Sound.{most_bits}
 use Rattle.sv_lower.specs.Nodes.{bits_at_node, FromOne, FromTwo}
 use Rattle.sv_stores.specs.declared.scene.Scene.{Scene}
-use Rattle.sv_stores.specs.Scenes.{store_of, reads_in, Allows, HoldsIn, AreNodes, IsScene, Yields}
+use Rattle.sv_stores.specs.Scenes.{store_of, reads_in, Allows, AreNodes, IsScene, Yields}
 use Rattle.sv_stores.proofs.Stores.{store_kept, holds_kept}
 
 pub allows_left : (scene : Scene) (p : VarName → ℕ → Bool) (a b : List NamedSignal) → Allows scene p (a ++ b) → Allows scene p a

@@ -57,7 +57,6 @@ pub fn start_nodes(
 }
 
 /// Whether an edge of a wire of one bit stands between the phase before and the present one (IEEE 1800-2017, 9.4.2).
-#[tactic(auto, using(svex_arena::proofs::Keeping::extends_on))]
 pub fn trigger(
     alloc: Global,
     arena: &mut Arena,
@@ -72,13 +71,11 @@ pub fn trigger(
     match edge {
         Edge::Pos => {
             let low = unary(alloc, arena, Un::Not, before)?;
-            let node = binary(alloc, arena, Bin::And, now, low)?;
-            Ok(node)
+            binary(alloc, arena, Bin::And, now, low)
         }
         Edge::Neg => {
             let low = unary(alloc, arena, Un::Not, now)?;
-            let node = binary(alloc, arena, Bin::And, low, before)?;
-            Ok(node)
+            binary(alloc, arena, Bin::And, low, before)
         }
     }
 }

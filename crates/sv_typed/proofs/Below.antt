@@ -224,6 +224,14 @@ pub compared_less : (t x y : Typed) (op : Comparison) (a b : Typed) (n : ℕ) �
 unfolding size form_size IsSound FormIsSound shape-the_row-Typed-0 hidden-the_row-Typed-0 denote.Hole.Carrier.hidden
 compared_less t x y op a b n e i j k = let g = ap form_size e in let u = ap size i in let v = ap size j in omega arith
 
+pub combined_less : (t x y : Typed) (op : Logic) (a b : Typed) (n : ℕ) → t.form ≡ f.Combined op a b → x ≡ a → y ≡ b → size t ≡ n → suc (size x + size y) < n
+unfolding size form_size IsSound FormIsSound shape-the_row-Typed-0 hidden-the_row-Typed-0 denote.Hole.Carrier.hidden
+combined_less t x y op a b n e i j k = let g = ap form_size e in let u = ap size i in let v = ap size j in omega arith
+
+pub chosen_less : (t z x y : Typed) (l a b : Typed) (n : ℕ) → t.form ≡ f.Chosen l a b → z ≡ l → x ≡ a → y ≡ b → size t ≡ n → suc (size z + size x + size y) < n
+unfolding size form_size IsSound FormIsSound shape-the_row-Typed-0 hidden-the_row-Typed-0 denote.Hole.Carrier.hidden
+chosen_less t z x y l a b n e h i j k = let g = ap form_size e in let w = ap size h in let u = ap size i in let v = ap size j in omega arith
+
 pub standing_width : (t x a : Typed) → t.form ≡ f.Standing a → x ≡ a → IsSound t → x.width ≡ t.width
 unfolding size form_size IsSound FormIsSound shape-the_row-Typed-0 hidden-the_row-Typed-0 denote.Hole.Carrier.hidden
 standing_width t x a e i h = let g = (subst (λ y. FormIsSound t.width y) e h).1 in let j = ap (λ y. y.width) i in omega arith

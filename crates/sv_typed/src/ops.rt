@@ -9,7 +9,7 @@ use fourvec::Four;
 use sv_tree::{BinaryOp, UnaryOp};
 
 /// Operators whose operand has the size and sign of their context (table 11-21).
-#[derive(Clone, Copy, PartialEq, Eq)]
+#[derive(Clone, Copy)]
 pub enum Turn {
     Plus,
     Minus,
@@ -17,7 +17,7 @@ pub enum Turn {
 }
 
 /// Operators of one bit on an operand by itself.
-#[derive(Clone, Copy, PartialEq, Eq)]
+#[derive(Clone, Copy)]
 pub enum Reduction {
     LogicNot,
     And,
@@ -29,14 +29,14 @@ pub enum Reduction {
 }
 
 /// An operator on one operand.
-#[derive(Clone, Copy, PartialEq, Eq)]
+#[derive(Clone, Copy)]
 pub enum One {
     Turned(Turn),
     Reduced(Reduction),
 }
 
 /// Operators whose operands both have the size and sign of their context.
-#[derive(Clone, Copy, PartialEq, Eq)]
+#[derive(Clone, Copy)]
 pub enum Arithmetic {
     Mul,
     Div,
@@ -50,7 +50,7 @@ pub enum Arithmetic {
 }
 
 /// Operators of which the left operand alone has the size and sign of their context.
-#[derive(Clone, Copy, PartialEq, Eq)]
+#[derive(Clone, Copy)]
 pub enum Shift {
     Left,
     Right,
@@ -58,7 +58,7 @@ pub enum Shift {
 }
 
 /// Operators of one bit whose operands have one size and sign.
-#[derive(Clone, Copy, PartialEq, Eq)]
+#[derive(Clone, Copy)]
 pub enum Comparison {
     Lt,
     Le,
@@ -69,7 +69,7 @@ pub enum Comparison {
 }
 
 /// Operators of one bit on what is true.
-#[derive(Clone, Copy, PartialEq, Eq)]
+#[derive(Clone, Copy)]
 pub enum Logic {
     And,
     Or,
@@ -78,7 +78,7 @@ pub enum Logic {
 }
 
 /// An operator on two operands, but for `**`.
-#[derive(Clone, Copy, PartialEq, Eq)]
+#[derive(Clone, Copy)]
 pub enum Pair {
     Computed(Arithmetic),
     Moved(Shift),
@@ -87,7 +87,7 @@ pub enum Pair {
 }
 
 /// An operator on two operands.
-#[derive(Clone, Copy, PartialEq, Eq)]
+#[derive(Clone, Copy)]
 pub enum Two {
     Power,
     Pair(Pair),
@@ -155,7 +155,6 @@ pub fn turned(op: Turn, a: &Four) -> Four
     }
 }
 
-#[tactic(auto, using(fourvec::proofs::Widths::widths))]
 pub fn reduced(op: Reduction, a: &Four) -> Four
     ensures is { result ≡ reduced op a.now }
     ensures width { length result ≡ 1 }
@@ -171,7 +170,6 @@ pub fn reduced(op: Reduction, a: &Four) -> Four
     }
 }
 
-#[tactic(auto, using(fourvec::proofs::Widths::widths))]
 pub fn computed(op: Arithmetic, signed: bool, a: &Four, b: &Four) -> Four
     requires { length a.now ≡ length b.now }
     ensures is { result ≡ computed op signed a.now b.now }
@@ -192,7 +190,6 @@ pub fn computed(op: Arithmetic, signed: bool, a: &Four, b: &Four) -> Four
     }
 }
 
-#[tactic(auto, using(fourvec::proofs::Widths::widths))]
 pub fn moved(op: Shift, signed: bool, a: &Four, b: &Four) -> Four
     ensures is { result ≡ moved op signed a.now b.now }
     ensures width { length result ≡ length a.now }
@@ -211,7 +208,6 @@ fn less(signed: bool, a: &Four, b: &Four) -> Four
     if signed { a.slt(b) } else { a.lt(b) }
 }
 
-#[tactic(auto, using(fourvec::proofs::Widths::widths, crate::proofs::Operators::one_bit))]
 pub fn compared(op: Comparison, signed: bool, a: &Four, b: &Four) -> Four
     requires { length a.now ≡ length b.now }
     ensures is { result ≡ compared op signed a.now b.now }
@@ -227,7 +223,6 @@ pub fn compared(op: Comparison, signed: bool, a: &Four, b: &Four) -> Four
     }
 }
 
-#[tactic(auto, using(fourvec::proofs::Widths::widths))]
 pub fn combined(op: Logic, a: &Four, b: &Four) -> Four
     ensures is { result ≡ combined op a.now b.now }
     ensures width { length result ≡ 1 }

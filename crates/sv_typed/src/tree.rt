@@ -86,7 +86,7 @@ impl Drop for TypedForm {
 }
 
 /// What a name stands for.
-#[derive(Clone, Copy, PartialEq, Eq, Debug)]
+#[derive(Clone, Copy)]
 pub enum Root {
     /// A constant.
     Number(Four),
@@ -99,7 +99,7 @@ pub enum Root {
 }
 
 /// Whose a signal is.
-#[derive(Clone, Copy, PartialEq, Eq, Debug)]
+#[derive(Clone, Copy)]
 pub enum Origin {
     /// A net or variable of the design.
     Wires,

@@ -2,16 +2,16 @@
 //! wherever one is asked for, and never refused.
 ghost use Rattle.std.specs.Prelude.{◌≡◌, ◌≤◌, ◌*◌, ◌++◌, max, ◌&&◌, not, length};
 ghost use Rattle.std.specs.List.{All};
-ghost use Rattle.fourvec.specs.Bits.{is_known_bit};
+ghost use Rattle.fourvec.specs.Bits.{is_known_bit, cond_of, truth_of};
 ghost use Rattle.fourvec.specs.Spots.{window};
 ghost use Rattle.sv_meaning.specs.Meanings.{nowhere, top_goes_on, literal_value, bits_at, copies};
-ghost use Rattle.sv_typed.specs.Ops.{compared};
+ghost use Rattle.sv_typed.specs.Ops.{compared, combined};
 ghost use Rattle.sv_typed.specs.Typed.{worth, own, together, picked, pick_place, spot_place, root_bits, root_width, width_together, picked_width, IsSound, PickIsSound, RootIsSound, LiteralIsSound, bits_of, AboveFits};
 
 use crate::bits::{extended, filled, fitted, raised, unknown};
 use crate::{
-    Comparison, Pick, PickPlace, Root, Typed, TypedForm, chosen, combined, compared, computed,
-    moved, reduced, turned,
+    Comparison, Logic, Pick, PickPlace, Root, Typed, TypedForm, chosen, combined, compared,
+    computed, moved, reduced, turned,
 };
 use fourvec::{Bit, Four, Spot};
 use sv_literal::Literal;
@@ -120,7 +120,6 @@ fn copied(count: u8, bits: &Four) -> Four
 
 impl Typed {
     /// The bits in a context of a width and sign, where each bit of a signal is X. Takes no memory.
-    #[tactic(auto, using(crate::proofs::Below::part_widths))]
     #[cycle(value)]
     pub fn value(&self, width: u8, signed: bool) -> Four
         requires sound { IsSound self.now }
@@ -147,16 +146,10 @@ impl Typed {
                 extended(&compare(*op, a.get(), b.get()), signed, width)
             }
             TypedForm::Combined(op, a, b) => {
-                extended(
-                    &combined(*op, &a.get().own(), &b.get().own()),
-                    signed,
-                    width,
-                )
+                extended(&combine(*op, a.get(), b.get()), signed, width)
             }
             TypedForm::Chosen(condition, a, b) => {
-                let a = a.get().value(width, signed);
-                let b = b.get().value(width, signed);
-                chosen(&condition.get().own(), &a, &b)
+                choose(condition.get(), a.get(), b.get(), width, signed)
             }
             TypedForm::Power(a, exponent) => raised(&a.get().value(width, signed), *exponent),
             TypedForm::Concat(parts) => extended(&together(parts.as_slice()), signed, width),
@@ -195,6 +188,37 @@ fn compare(op: Comparison, a: &Typed, b: &Typed) -> Four
     let width = a.width.max(b.width);
     let signed = a.signed && b.signed;
     compared(op, signed, &a.value(width, signed), &b.value(width, signed))
+}
+
+// An operator on what is true of two operands.
+#[cycle(value)]
+fn combine(op: Logic, a: &Typed, b: &Typed) -> Four
+    requires left { IsSound a.now }
+    requires right { IsSound b.now }
+    ensures is { result ≡ combined op (own a.now nowhere) (own b.now nowhere) }
+    ensures width { length result ≡ 1 }
+{
+    let a = a.value(a.width, a.signed);
+    let b = b.value(b.width, b.signed);
+    combined(op, &a, &b)
+}
+
+// One of two operands, by the truth of a third.
+#[cycle(value)]
+fn choose(condition: &Typed, a: &Typed, b: &Typed, width: u8, signed: bool) -> Four
+    requires condition { IsSound condition.now }
+    requires left { IsSound a.now }
+    requires left_fits { a.now.width ≤ width }
+    requires right { IsSound b.now }
+    requires right_fits { b.now.width ≤ width }
+    requires most { width ≤ 128 }
+    ensures is { result ≡ cond_of (truth_of (own condition.now nowhere)) (worth a.now nowhere width signed) (worth b.now nowhere width signed) }
+    ensures width { length result ≡ width }
+{
+    let truth = condition.value(condition.width, condition.signed);
+    let a = a.value(width, signed);
+    let b = b.value(width, signed);
+    chosen(&truth, &a, &b)
 }
 
 // Parts side by side.

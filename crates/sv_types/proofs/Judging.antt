@@ -1,10 +1,8 @@
 -- What is judged by itself, one after the other, or under a condition.
-use Rattle.std.proofs.Common.{◌≡◌, ℕ, ◌≤◌, ◌<◌, true, false, [], ◌∷◌, Ok, Err, refl, sym, ap, ◌∙◌, subst, arith, nat_le}
-use Rattle.std.proofs.lemmas.Bool.Decides.{nat_tests}
+use Rattle.std.proofs.Common.{◌≡◌, [], ◌∷◌, Ok, Err, refl, sym, ap, ◌∙◌, subst}
 use Rattle.sv_outside.specs.declared.refusal.TextErr.{TextErr}
 use Rattle.sv_outside.specs.declared.refusal.TextErr.TheVariants.{No, Memory}
 use Rattle.sv_meaning.specs.Faults.{Faults, Judged, faults_of, provided, both, ◌>>=◌}
-use Rattle.sv_meaning.specs.Meanings.{is_width}
 use Rattle.sv_typing.specs.Judging.{IsCause}
 use Rattle.sv_typing.proofs.Lists.{in_left, in_right, none_in}
 use Rattle.sv_types.specs.Types.{Refused}

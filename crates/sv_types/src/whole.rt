@@ -9,7 +9,7 @@ use fourvec::{Bit, Four};
 use sv_names::Known;
 
 /// A whole number.
-#[derive(Clone, Copy, PartialEq, Eq, Debug)]
+#[derive(Clone, Copy)]
 pub(crate) enum Whole {
     /// 0 or more.
     Natural(u128),

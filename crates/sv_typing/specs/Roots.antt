@@ -1,5 +1,5 @@
 -- What names lead to before their selects.
-use Rattle.std.specs.Prelude.{◌≡◌, ℕ, ◌≤◌, Bool, true, false, List, length, Option, Some, Result, Ok, Err}
+use Rattle.std.specs.Prelude.{◌≡◌, ℕ, ◌≤◌, Bool, false, List, length, Option, Some, Result, Ok, Err}
 use Rattle.sv_outside.specs.declared.refusal.TextErr.{TextErr}
 use Rattle.sv_tree.specs.declared.word.Word.{Word}
 use Rattle.sv_typed.specs.declared.tree.Root.{Root}

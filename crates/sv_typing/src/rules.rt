@@ -66,12 +66,7 @@ fn pair_typed(
     ensures { (m n : Meaning) (c : Bool) → Judges m c x → Judges n c y → Judges (pair_meaning op m n) c result }
 {
     let (x, y) = both_typed(x, y)?;
-    match op {
-        Pair::Computed(op) => Ok(Typed::computed(alloc, op, x, y)?),
-        Pair::Moved(op) => Ok(Typed::moved(alloc, op, x, y)?),
-        Pair::Compared(op) => Ok(Typed::compared(alloc, op, x, y)?),
-        Pair::Combined(op) => Ok(Typed::combined(alloc, op, x, y)?),
-    }
+    Ok(Typed::pair(alloc, op, x, y)?)
 }
 
 /// A choice by a condition.

@@ -30,7 +30,6 @@ use sv_tree::{Expr, RangeMark, Select, SystemName, Word};
 use sv_typed::{One, Pick, Turn, Typed, one_of, two_of};
 
 /// An expression typed over the names of a place, where it stands so; or why it is refused: E2, E12, E14, E15, E16, E23 or E25.
-#[tactic(auto, using(crate::proofs::Arms::judged, crate::proofs::Arms::sound_of_judged))]
 #[cycle(expr)]
 pub fn typed(
     alloc: Global,
@@ -107,7 +106,6 @@ pub fn typed(
 }
 
 // A system function of an expression.
-#[tactic(auto, using(crate::proofs::Arms::system_is))]
 #[cycle(expr)]
 fn system_typed(
     alloc: Global,
@@ -126,7 +124,6 @@ fn system_typed(
 }
 
 /// A constant expression: its value at its own length, wholly 0 and 1; or why it is refused.
-#[tactic(auto, using(crate::proofs::Arms::fixed_expr, crate::proofs::Arms::sound_of_judged))]
 #[cycle(expr)]
 pub fn fixed(alloc: Global, expr: &Expr, names: &Names<'_>) -> Result<Fixed, TextErr>
     ensures { Fixes (mean (constants_are names.now) expr.now) result }
@@ -135,7 +132,6 @@ pub fn fixed(alloc: Global, expr: &Expr, names: &Names<'_>) -> Result<Fixed, Tex
 }
 
 // The parts of a concatenation.
-#[tactic(auto, using(crate::proofs::Arms::parts_of))]
 #[cycle(expr)]
 fn typed_parts(
     alloc: Global,
@@ -187,7 +183,6 @@ fn named_typed(
 }
 
 /// The selects behind a place of a layout as parts of its bits, where each index is judged so; or why they are refused.
-#[tactic(auto, using(crate::proofs::Arms::chained))]
 #[cycle(expr)]
 pub fn chain_behind(
     alloc: Global,
@@ -214,7 +209,6 @@ pub fn chain_behind(
 }
 
 // One select.
-#[tactic(auto, using(crate::proofs::Arms::steps))]
 #[cycle(expr)]
 fn select_step<'a>(
     alloc: Global,
@@ -264,7 +258,6 @@ fn select_step<'a>(
 }
 
 // An index, judged so.
-#[tactic(auto, using(crate::proofs::Arms::sound_of_judged))]
 #[cycle(expr)]
 fn typed_index(
     alloc: Global,

@@ -1,19 +1,18 @@
-use Rattle.std.proofs.Common.{rules, sym, ap, ◌∙◌, subst, arith}
-use Rattle.std.proofs.Common.{length, ◌++◌}
+use Rattle.std.proofs.Common.{rules, ◌*◌, ◌++◌, length, sym, ap, ◌∙◌, subst, arith}
 use Rattle.std.proofs.lemmas.List.{length-append}
 use Rattle.sv_meaning.specs.Meanings.{nowhere}
 use Rattle.sv_typed.proofs.Worth.{together_more, worth_literal, worth_named, worth_turned, worth_reduced, worth_computed, worth_moved, worth_compared, worth_combined, worth_chosen, worth_power, worth_concat, worth_repeat, worth_standing, worth_fitted}
-use Rattle.sv_typed.specs.Typed.{IsSound, PickIsSound, own, bits_of}
+use Rattle.sv_typed.specs.Typed.{picked_width, IsSound, PickIsSound, own, bits_of}
 use Rattle.sv_typed.proofs.Sound.{some_bits, most_bits}
 use Rattle.sv_typed.proofs.Lists.{width_more}
-use Rattle.sv_typed.proofs.Below.{sound_parts, smaller_parts, fitting_parts, named_less, named_picks, concat_width, concat_less, concat_parts, repeat_some, repeat_most, repeat_less, repeat_parts, some_copies, standing_width, pick_less, element_less}
+use Rattle.sv_typed.proofs.Below.{turned, turned_less, turned_fits, reduced, reduced_less, computed_left, computed_left_less, computed_left_fits, computed_right, computed_right_less, computed_right_fits, moved_left, moved_left_less, moved_left_fits, moved_right, moved_right_less, compared_left, compared_right, compared_less, combined_left, combined_right, combined_less, condition, chosen_left, chosen_left_fits, chosen_right, chosen_right_fits, chosen_less, power, power_less, power_fits, standing, standing_less, standing_width, fitted, fitted_less, literal_sound, literal_width, named_root, named_less, named_picks, named_width, concat_width, concat_less, concat_parts, repeat_width, repeat_some, repeat_most, repeat_less, repeat_parts, some_copies, pick_less, element_less, index_less, index_sound}
 use Rattle.sv_typed.proofs.+value.Goals as goal
 
 pub tree::Typed::value-literal_bits-requires-clause-sound : goal.tree::Typed::value-literal_bits-requires-clause-sound
-tree::Typed::value-literal_bits-requires-clause-sound t c = search (rules, smaller_parts, sound_parts, fitting_parts)
+tree::Typed::value-literal_bits-requires-clause-sound t c = literal_sound _ _ c.in-Literal.is c.requires.sound
 
 pub tree::Typed::value-root_bits-requires : goal.tree::Typed::value-root_bits-requires
-tree::Typed::value-root_bits-requires t c = search (rules, smaller_parts, sound_parts, fitting_parts)
+tree::Typed::value-root_bits-requires t c = named_root _ _ _ c.in-Named.is c.requires.sound
 
 pub tree::Typed::value-picked-requires : goal.tree::Typed::value-picked-requires
 tree::Typed::value-picked-requires t c = (
@@ -22,40 +21,28 @@ tree::Typed::value-picked-requires t c = (
 )
 
 pub tree::Typed::value-value-requires : goal.tree::Typed::value-value-requires
-tree::Typed::value-value-requires t c = search (rules, smaller_parts, sound_parts, fitting_parts)
+tree::Typed::value-value-requires t c = (turned_less _ _ _ _ t c.in-Turned.is c.get.ensures c.decreases, (turned _ _ _ _ c.in-Turned.is c.get.ensures c.requires.sound, (turned_fits _ _ _ _ _ c.in-Turned.is c.get.ensures c.requires.sound c.requires.fits, c.requires.most)))
 
 pub tree::Typed::value-own-requires : goal.tree::Typed::value-own-requires
-tree::Typed::value-own-requires t c = search (rules, smaller_parts, sound_parts, fitting_parts)
+tree::Typed::value-own-requires t c = (reduced_less _ _ _ _ t c.in-Reduced.is c.get-in-Reduced.ensures c.decreases, reduced _ _ _ _ c.in-Reduced.is c.get-in-Reduced.ensures c.requires.sound)
 
 pub tree::Typed::value-value-a-requires : goal.tree::Typed::value-value-a-requires
-tree::Typed::value-value-a-requires t c = search (rules, smaller_parts, sound_parts, fitting_parts)
+tree::Typed::value-value-a-requires t c = (computed_left_less _ _ _ _ _ t c.in-Computed.is c.get-in-Computed.ensures c.decreases, (computed_left _ _ _ _ _ c.in-Computed.is c.get-in-Computed.ensures c.requires.sound, (computed_left_fits _ _ _ _ _ _ c.in-Computed.is c.get-in-Computed.ensures c.requires.sound c.requires.fits, c.requires.most)))
 
 pub tree::Typed::value-value-requires-in-Computed : goal.tree::Typed::value-value-requires-in-Computed
-tree::Typed::value-value-requires-in-Computed t c = search (rules, smaller_parts, sound_parts, fitting_parts)
+tree::Typed::value-value-requires-in-Computed t c = (computed_right_less _ _ _ _ _ t c.in-Computed.is c.get-in-Computed-2.ensures c.decreases, (computed_right _ _ _ _ _ c.in-Computed.is c.get-in-Computed-2.ensures c.requires.sound, (computed_right_fits _ _ _ _ _ _ c.in-Computed.is c.get-in-Computed-2.ensures c.requires.sound c.requires.fits, c.requires.most)))
 
 pub tree::Typed::value-value-requires-in-Moved : goal.tree::Typed::value-value-requires-in-Moved
-tree::Typed::value-value-requires-in-Moved t c = search (rules, smaller_parts, sound_parts, fitting_parts)
+tree::Typed::value-value-requires-in-Moved t c = (moved_left_less _ _ _ _ _ t c.in-Moved.is c.get-in-Moved.ensures c.decreases, (moved_left _ _ _ _ _ c.in-Moved.is c.get-in-Moved.ensures c.requires.sound, (moved_left_fits _ _ _ _ _ _ c.in-Moved.is c.get-in-Moved.ensures c.requires.sound c.requires.fits, c.requires.most)))
 
 pub tree::Typed::value-own-requires-in-Moved : goal.tree::Typed::value-own-requires-in-Moved
-tree::Typed::value-own-requires-in-Moved t c = search (rules, smaller_parts, sound_parts, fitting_parts)
+tree::Typed::value-own-requires-in-Moved t c = (moved_right_less _ _ _ _ _ t c.in-Moved.is c.get-in-Moved-2.ensures c.decreases, moved_right _ _ _ _ _ c.in-Moved.is c.get-in-Moved-2.ensures c.requires.sound)
 
 pub tree::Typed::value-compare-requires : goal.tree::Typed::value-compare-requires
-tree::Typed::value-compare-requires t c = search (rules, smaller_parts, sound_parts, fitting_parts)
-
-pub tree::Typed::value-own-requires-in-Combined : goal.tree::Typed::value-own-requires-in-Combined
-tree::Typed::value-own-requires-in-Combined t c = search (rules, smaller_parts, sound_parts, fitting_parts)
-
-pub tree::Typed::value-own-requires-in-Combined-2 : goal.tree::Typed::value-own-requires-in-Combined-2
-tree::Typed::value-own-requires-in-Combined-2 t c = search (rules, smaller_parts, sound_parts, fitting_parts)
-
-pub tree::Typed::value-value-a-requires-in-Chosen : goal.tree::Typed::value-value-a-requires-in-Chosen
-tree::Typed::value-value-a-requires-in-Chosen t c = search (rules, smaller_parts, sound_parts, fitting_parts)
-
-pub tree::Typed::value-own-requires-in-Chosen : goal.tree::Typed::value-own-requires-in-Chosen
-tree::Typed::value-own-requires-in-Chosen t c = search (rules, smaller_parts, sound_parts, fitting_parts)
+tree::Typed::value-compare-requires t c = (compared_less _ _ _ _ _ _ t c.in-Compared.is c.get-in-Compared.ensures c.get-in-Compared-2.ensures c.decreases, (compared_left _ _ _ _ _ c.in-Compared.is c.get-in-Compared.ensures c.requires.sound, compared_right _ _ _ _ _ c.in-Compared.is c.get-in-Compared-2.ensures c.requires.sound))
 
 pub tree::Typed::value-value-requires-in-Power : goal.tree::Typed::value-value-requires-in-Power
-tree::Typed::value-value-requires-in-Power t c = search (rules, smaller_parts, sound_parts, fitting_parts)
+tree::Typed::value-value-requires-in-Power t c = (power_less _ _ _ _ t c.in-Power.is c.get-in-Power.ensures c.decreases, (power _ _ _ _ c.in-Power.is c.get-in-Power.ensures c.requires.sound, (power_fits _ _ _ _ _ c.in-Power.is c.get-in-Power.ensures c.requires.sound c.requires.fits, c.requires.most)))
 
 pub tree::Typed::value-together-requires : goal.tree::Typed::value-together-requires
 tree::Typed::value-together-requires t c =
@@ -78,19 +65,19 @@ pub tree::Typed::value-copied-requires-clause-some : goal.tree::Typed::value-cop
 tree::Typed::value-copied-requires-clause-some t c = some_copies c.args.self.now c.in-Repeat.parts c.in-Repeat.count c.in-Repeat.is c.requires.sound
 
 pub tree::Typed::value-own-requires-in-Standing : goal.tree::Typed::value-own-requires-in-Standing
-tree::Typed::value-own-requires-in-Standing t c = search (rules, smaller_parts, sound_parts, fitting_parts)
+tree::Typed::value-own-requires-in-Standing t c = (standing_less _ _ _ t c.in-Standing.is c.get-in-Standing.ensures c.decreases, standing _ _ _ c.in-Standing.is c.get-in-Standing.ensures c.requires.sound)
 
 pub tree::Typed::value-extended-requires-in-Standing-clause-grows : goal.tree::Typed::value-extended-requires-in-Standing-clause-grows
 tree::Typed::value-extended-requires-in-Standing-clause-grows t c = let w = standing_width c.args.self.now c.get-in-Standing.result.now c.in-Standing.a c.in-Standing.is c.get-in-Standing.ensures c.requires.sound in omega arith
 
 pub tree::Typed::value-own-requires-in-Fitted : goal.tree::Typed::value-own-requires-in-Fitted
-tree::Typed::value-own-requires-in-Fitted t c = search (rules, smaller_parts, sound_parts, fitting_parts)
+tree::Typed::value-own-requires-in-Fitted t c = (fitted_less _ _ _ t c.in-Fitted.is c.get-a.ensures c.decreases, fitted _ _ _ c.in-Fitted.is c.get-a.ensures c.requires.sound)
 
 pub value::compare-value-requires-2 : goal.value::compare-value-requires-2
-value::compare-value-requires-2 t c = search (rules, smaller_parts, sound_parts, fitting_parts)
+value::compare-value-requires-2 t c = let a' = most_bits _ c.requires.left in let b' = most_bits _ c.requires.right in let w = c.max-width.ensures in let d = c.decreases in (omega arith, (c.requires.right, (omega arith, omega arith)))
 
 pub value::part-own-requires : goal.value::part-own-requires
-value::part-own-requires t c = search (rules, smaller_parts, sound_parts, fitting_parts)
+value::part-own-requires t c = (index_less _ _ _ _ t c.in-Moving.is c.get.ensures c.decreases, index_sound _ _ _ _ c.in-Moving.is c.get.ensures c.requires)
 
 pub value::together-beside-requires : goal.value::together-beside-requires
 value::together-beside-requires t c = let w = width_more c.args.parts.now c.parts.part-index c.part-item.result c.parts-test.true c.part-item.is in omega arith
@@ -118,9 +105,6 @@ value::together-parts-preserved t c =
           c.beside.ensures ∙ ap (λ y. y ++ bits_of c.parts.bits) c.own.ensures.is ∙ ap (λ y. own x nowhere ++ y) c.parts.invariant.is ∙ sym m;
       width = omega arith;
     }
-
-pub tree::Typed::value-value-b-requires : goal.tree::Typed::value-value-b-requires
-tree::Typed::value-value-b-requires t c = search (rules, smaller_parts, sound_parts, fitting_parts)
 
 pub tree::Typed::value-returns-in-Literal-clause-is : goal.tree::Typed::value-returns-in-Literal-clause-is
 tree::Typed::value-returns-in-Literal-clause-is t c = search (rules, worth_literal)
@@ -187,3 +171,90 @@ tree::Typed::value-returns-in-Standing-clause-width t c = c.extended-in-Standing
 
 pub tree::Typed::value-returns-in-Fitted-clause-width : goal.tree::Typed::value-returns-in-Fitted-clause-width
 tree::Typed::value-returns-in-Fitted-clause-width t c = c.extended-in-Fitted.ensures.width
+
+pub tree::Typed::value-literal_bits-requires-clause-fits : goal.tree::Typed::value-literal_bits-requires-clause-fits
+tree::Typed::value-literal_bits-requires-clause-fits t c = let e = literal_width _ _ c.in-Literal.is c.requires.sound in let k = c.requires.fits in omega arith
+
+pub tree::Typed::value-literal_bits-requires-clause-most : goal.tree::Typed::value-literal_bits-requires-clause-most
+tree::Typed::value-literal_bits-requires-clause-most t c = c.requires.most
+
+pub tree::Typed::value-combine-requires : goal.tree::Typed::value-combine-requires
+tree::Typed::value-combine-requires t c = (combined_less _ _ _ _ _ _ t c.in-Combined.is c.get-in-Combined.ensures c.get-in-Combined-2.ensures c.decreases, (combined_left _ _ _ _ _ c.in-Combined.is c.get-in-Combined.ensures c.requires.sound, combined_right _ _ _ _ _ c.in-Combined.is c.get-in-Combined-2.ensures c.requires.sound))
+
+pub tree::Typed::value-choose-requires : goal.tree::Typed::value-choose-requires
+tree::Typed::value-choose-requires t c = (
+  chosen_less _ _ _ _ _ _ _ t c.in-Chosen.is c.get-in-Chosen.ensures c.get-in-Chosen-2.ensures c.get-in-Chosen-3.ensures c.decreases,
+  (
+    condition _ _ _ _ _ c.in-Chosen.is c.get-in-Chosen.ensures c.requires.sound,
+    (chosen_left _ _ _ _ _ c.in-Chosen.is c.get-in-Chosen-2.ensures c.requires.sound, (chosen_left_fits _ _ _ _ _ _ c.in-Chosen.is c.get-in-Chosen-2.ensures c.requires.sound c.requires.fits, (chosen_right _ _ _ _ _ c.in-Chosen.is c.get-in-Chosen-3.ensures c.requires.sound, (chosen_right_fits _ _ _ _ _ _ c.in-Chosen.is c.get-in-Chosen-3.ensures c.requires.sound c.requires.fits, c.requires.most)))),
+  ),
+)
+
+pub tree::Typed::value-extended-requires-clause-grows : goal.tree::Typed::value-extended-requires-clause-grows
+tree::Typed::value-extended-requires-clause-grows t c = let e = c.picked.ensures.width ∙ ap (picked_width c.as_slice.result.now) c.root_bits.ensures.width ∙ named_width _ _ _ _ c.in-Named.is c.as_slice.ensures c.requires.sound in let s = some_bits _ c.requires.sound in let k = c.requires.fits in omega arith
+
+pub tree::Typed::value-extended-requires-clause-most : goal.tree::Typed::value-extended-requires-clause-most
+tree::Typed::value-extended-requires-clause-most t c = c.requires.most
+
+pub tree::Typed::value-extended-requires-in-Reduced-clause-grows : goal.tree::Typed::value-extended-requires-in-Reduced-clause-grows
+tree::Typed::value-extended-requires-in-Reduced-clause-grows t c = let e = c.reduced.ensures.width in let s = some_bits _ c.requires.sound in let k = c.requires.fits in omega arith
+
+pub tree::Typed::value-extended-requires-in-Reduced-clause-most : goal.tree::Typed::value-extended-requires-in-Reduced-clause-most
+tree::Typed::value-extended-requires-in-Reduced-clause-most t c = c.requires.most
+
+pub tree::Typed::value-extended-requires-in-Compared-clause-grows : goal.tree::Typed::value-extended-requires-in-Compared-clause-grows
+tree::Typed::value-extended-requires-in-Compared-clause-grows t c = let e = c.compare.ensures.width in let s = some_bits _ c.requires.sound in let k = c.requires.fits in omega arith
+
+pub tree::Typed::value-extended-requires-in-Compared-clause-most : goal.tree::Typed::value-extended-requires-in-Compared-clause-most
+tree::Typed::value-extended-requires-in-Compared-clause-most t c = c.requires.most
+
+pub tree::Typed::value-extended-requires-in-Combined-clause-grows : goal.tree::Typed::value-extended-requires-in-Combined-clause-grows
+tree::Typed::value-extended-requires-in-Combined-clause-grows t c = let e = c.combine.ensures.width in let s = some_bits _ c.requires.sound in let k = c.requires.fits in omega arith
+
+pub tree::Typed::value-extended-requires-in-Combined-clause-most : goal.tree::Typed::value-extended-requires-in-Combined-clause-most
+tree::Typed::value-extended-requires-in-Combined-clause-most t c = c.requires.most
+
+pub tree::Typed::value-extended-requires-in-Concat-clause-grows : goal.tree::Typed::value-extended-requires-in-Concat-clause-grows
+tree::Typed::value-extended-requires-in-Concat-clause-grows t c = let e = c.together.ensures.width ∙ concat_width _ _ _ c.in-Concat.is c.as_slice-in-Concat.ensures c.requires.sound in let s = some_bits _ c.requires.sound in let k = c.requires.fits in omega arith
+
+pub tree::Typed::value-extended-requires-in-Concat-clause-most : goal.tree::Typed::value-extended-requires-in-Concat-clause-most
+tree::Typed::value-extended-requires-in-Concat-clause-most t c = c.requires.most
+
+pub tree::Typed::value-extended-requires-in-Repeat-clause-grows : goal.tree::Typed::value-extended-requires-in-Repeat-clause-grows
+tree::Typed::value-extended-requires-in-Repeat-clause-grows t c = let e = c.copied.ensures.width ∙ ap (λ n. c.in-Repeat.count * n) c.together-in-Repeat.ensures.width ∙ repeat_width _ _ _ _ c.in-Repeat.is c.as_slice-in-Repeat.ensures c.requires.sound in let s = some_bits _ c.requires.sound in let k = c.requires.fits in omega arith
+
+pub tree::Typed::value-extended-requires-in-Repeat-clause-most : goal.tree::Typed::value-extended-requires-in-Repeat-clause-most
+tree::Typed::value-extended-requires-in-Repeat-clause-most t c = c.requires.most
+
+pub tree::Typed::value-extended-requires-in-Fitted-clause-grows : goal.tree::Typed::value-extended-requires-in-Fitted-clause-grows
+tree::Typed::value-extended-requires-in-Fitted-clause-grows t c = let e = c.fitted.ensures.width in let s = some_bits _ c.requires.sound in let k = c.requires.fits in omega arith
+
+pub tree::Typed::value-extended-requires-in-Fitted-clause-most : goal.tree::Typed::value-extended-requires-in-Fitted-clause-most
+tree::Typed::value-extended-requires-in-Fitted-clause-most t c = c.requires.most
+
+pub tree::Typed::value-extended-requires-in-Standing-clause-most : goal.tree::Typed::value-extended-requires-in-Standing-clause-most
+tree::Typed::value-extended-requires-in-Standing-clause-most t c = c.requires.most
+
+pub tree::Typed::value-copied-requires-clause-most : goal.tree::Typed::value-copied-requires-clause-most
+tree::Typed::value-copied-requires-clause-most t c = let e = ap (λ n. c.in-Repeat.count * n) c.together-in-Repeat.ensures.width ∙ repeat_width _ _ _ _ c.in-Repeat.is c.as_slice-in-Repeat.ensures c.requires.sound in let m = most_bits _ c.requires.sound in omega arith
+
+pub value::compare-value-requires : goal.value::compare-value-requires
+value::compare-value-requires t c = let a' = most_bits _ c.requires.left in let b' = most_bits _ c.requires.right in let w = c.max-width.ensures in let d = c.decreases in (omega arith, (c.requires.left, (omega arith, omega arith)))
+
+pub value::combine-value-a-requires : goal.value::combine-value-a-requires
+value::combine-value-a-requires t c = ((let d = c.decreases in omega arith), (c.requires.left, ((let e = most_bits _ c.requires.left in omega arith), most_bits _ c.requires.left)))
+
+pub value::combine-value-b-requires : goal.value::combine-value-b-requires
+value::combine-value-b-requires t c = ((let d = c.decreases in omega arith), (c.requires.right, ((let e = most_bits _ c.requires.right in omega arith), most_bits _ c.requires.right)))
+
+pub value::choose-value-truth-requires : goal.value::choose-value-truth-requires
+value::choose-value-truth-requires t c = ((let d = c.decreases in omega arith), (c.requires.condition, ((let e = most_bits _ c.requires.condition in omega arith), most_bits _ c.requires.condition)))
+
+pub value::choose-value-a-requires : goal.value::choose-value-a-requires
+value::choose-value-a-requires t c = ((let d = c.decreases in omega arith), (c.requires.left, (c.requires.left_fits, c.requires.most)))
+
+pub value::choose-value-b-requires : goal.value::choose-value-b-requires
+value::choose-value-b-requires t c = ((let d = c.decreases in omega arith), (c.requires.right, (c.requires.right_fits, c.requires.most)))
+
+pub tree::Typed::value-fitted-requires-clause-some : goal.tree::Typed::value-fitted-requires-clause-some
+tree::Typed::value-fitted-requires-clause-some t c = let s = some_bits _ c.requires.sound in omega arith

@@ -13,6 +13,12 @@ decreases-tree::Typed::own l = suc (size l.self.now)
 abbrev pub decreases-value::compare : goal.decreases-value::compare
 decreases-value::compare l = suc (size l.a.now + size l.b.now)
 
+abbrev pub decreases-value::combine : goal.decreases-value::combine
+decreases-value::combine l = suc (size l.a.now + size l.b.now)
+
+abbrev pub decreases-value::choose : goal.decreases-value::choose
+decreases-value::choose l = suc (size l.condition.now + size l.a.now + size l.b.now)
+
 abbrev pub decreases-value::together : goal.decreases-value::together
 decreases-value::together l = size_together l.parts.now
 

@@ -16,13 +16,13 @@ pub join_all-requires-clause-own_children : goal.join_all-requires-clause-own_ch
 join_all-requires-clause-own_children c = subst (λ (l : List Join). HaveOwnChildren (links_of l)) (sym c.as_slice.ensures) c.requires.flat.own_children
 
 pub returns-in_err-joins-clause-tables : goal.returns-in_err-joins-clause-tables
-returns-in_err-joins-clause-tables c = IfOk-from_err _ _ c.from_residual.ensures.0
+returns-in_err-joins-clause-tables c = IfOk-from_err _ _ c.from_residual-in_err-joins.ensures.0
 
 pub returns-in_err-joins-clause-told : goal.returns-in_err-joins-clause-told
-returns-in_err-joins-clause-told c = IfOk-from_err _ _ c.from_residual.ensures.0
+returns-in_err-joins-clause-told c = IfOk-from_err _ _ c.from_residual-in_err-joins.ensures.0
 
 pub returns-in_err-lay-clause-tables : goal.returns-in_err-lay-clause-tables
-returns-in_err-lay-clause-tables c = IfOk-from_err _ _ c.from_residual-in_err-lay.ensures.0
+returns-in_err-lay-clause-tables c = IfOk-from_err _ _ c.from_residual.ensures.0
 
 pub returns-in_err-lay-clause-told : goal.returns-in_err-lay-clause-told
-returns-in_err-lay-clause-told c = IfOk-from_err _ _ c.from_residual-in_err-lay.ensures.0
+returns-in_err-lay-clause-told c = IfOk-from_err _ _ c.from_residual.ensures.0

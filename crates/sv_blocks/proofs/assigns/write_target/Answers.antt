@@ -1,4 +1,5 @@
-use Rattle.std.proofs.Common.{◌≡◌, ◌<◌, length, get_or, sym, ap, ◌∙◌, subst, All, arith, rules}
+use Rattle.std.proofs.lemmas.Result.{IfOk-from_err}
+use Rattle.std.proofs.Common.{◌<◌, length, get_or, sym, ap, ◌∙◌, subst, All, arith, rules}
 use Rattle.std.proofs.lemmas.List.{get_or_read}
 use Rattle.svex_shape.specs.Shapes.{width_at}
 use Rattle.sv_stores.proofs.Stores.{state_kept, inside}
@@ -60,3 +61,15 @@ written-requires-clause-of c =
     let l = inside c.args.scene.now c.args.arena.now c.args.state.now.nodes c.args.target.now.wire at c.requires.scene c.requires.state.nodes c.place_of-at.ensures in
     let m : at < length c.as_slice.result.now = let a = ap length c.as_slice.ensures in omega arith in
     subst (λ n. n < length c.args.arena.now) (sym (get_or_read _ _ _ m c.index-as_slice-at.is 0 ∙ ap (λ xs. get_or xs at 0) c.as_slice.ensures)) (c.requires.state.nodes.within at l)
+
+pub returns-in_err-node-clause-state : goal.returns-in_err-node-clause-state
+returns-in_err-node-clause-state c = IfOk-from_err _ _ c.from_residual.ensures.0
+
+pub returns-in_err-node-clause-wrote : goal.returns-in_err-node-clause-wrote
+returns-in_err-node-clause-wrote c = IfOk-from_err _ _ c.from_residual.ensures.0
+
+pub returns-in_err-put_node-clause-state : goal.returns-in_err-put_node-clause-state
+returns-in_err-put_node-clause-state c = IfOk-from_err _ _ c.from_residual-in_err-put_node.ensures.0
+
+pub returns-in_err-put_node-clause-wrote : goal.returns-in_err-put_node-clause-wrote
+returns-in_err-put_node-clause-wrote c = IfOk-from_err _ _ c.from_residual-in_err-put_node.ensures.0

@@ -1,3 +1,4 @@
+use Rattle.std.proofs.lemmas.Result.{IfOk-from_err}
 use Rattle.std.proofs.Common.{refl, ◌∙◌}
 use Rattle.svex_arena.proofs.Keeping.{extends_self, extends_on}
 use Rattle.sv_lower.proofs.Lowered.{element}
@@ -47,3 +48,24 @@ returns-clause-wrote c = wrote_end _ _ _ _ _ _ _ _ _ c.targets-test.false c.targ
 
 pub write_target-requires-clause-sits : goal.write_target-requires-clause-sits
 write_target-requires-clause-sits c = element (TargetSits c.args.scene.now) c.args.targets.now c.targets.target-index c.target-item.result c.requires.sits c.targets-test.true c.target-item.is
+
+pub returns-in_err-part-clause-stays : goal.returns-in_err-part-clause-stays
+returns-in_err-part-clause-stays c = extends_on _ _ _ c.targets.invariant.stays c.in_err-part.ensures.stays
+
+pub returns-in_err-part-clause-state : goal.returns-in_err-part-clause-state
+returns-in_err-part-clause-state c = IfOk-from_err _ _ c.from_residual.ensures.0
+
+pub returns-in_err-part-clause-wrote : goal.returns-in_err-part-clause-wrote
+returns-in_err-part-clause-wrote c = IfOk-from_err _ _ c.from_residual.ensures.0
+
+pub returns-in_err-write_target-clause-stays : goal.returns-in_err-write_target-clause-stays
+returns-in_err-write_target-clause-stays c = extends_on _ _ _ (extends_on _ _ _ c.targets.invariant.stays c.in_ok-part.ensures.stays) c.in_err-write_target.ensures.stays
+
+pub returns-in_err-write_target-clause-state : goal.returns-in_err-write_target-clause-state
+returns-in_err-write_target-clause-state c = IfOk-from_err _ _ c.from_residual-in_err-write_target.ensures.0
+
+pub returns-in_err-write_target-clause-wrote : goal.returns-in_err-write_target-clause-wrote
+returns-in_err-write_target-clause-wrote c = IfOk-from_err _ _ c.from_residual-in_err-write_target.ensures.0
+
+pub returns-clause-stays : goal.returns-clause-stays
+returns-clause-stays c = c.targets.invariant.stays

@@ -1,4 +1,5 @@
-use Rattle.std.proofs.Common.{◌≡◌, ◌<◌, ◌∙◌, ◌++◌, subst, suc, refl, sym, ap, arith, All}
+use Rattle.std.proofs.lemmas.Result.{IfOk-from_err}
+use Rattle.std.proofs.Common.{◌≡◌, ◌∙◌, ◌++◌, subst, refl, sym, ap, arith, All}
 use Rattle.sv_lower.proofs.Lowered.{element}
 use Rattle.sv_meaning.specs.Targets.{present}
 use Rattle.sv_targets.specs.Slots.{slots_of}
@@ -67,3 +68,15 @@ arm_bits-all_bits-requires t c =
 
 pub arm_bits-arms-preserved : goal.arm_bits-arms-preserved
 arm_bits-arms-preserved t c = arms_bits_more c.args.arms.now _ _ c.args.bits.now.items _ _ c.arms-test.true c.arm-item.is c.arms.invariant (c.in_ok-all_bits.ensures ∙ ap (λ xs. c.arms.bits.items ++ writes_all xs) c.as_slice.ensures)
+
+pub action_bits-returns-in_err-all_bits-in-Choose : goal.action_bits-returns-in_err-all_bits-in-Choose
+action_bits-returns-in_err-all_bits-in-Choose t c = IfOk-from_err _ _ c.from_residual.ensures.0
+
+pub action_bits-returns-in_err-arm_bits-in-Match : goal.action_bits-returns-in_err-arm_bits-in-Match
+action_bits-returns-in_err-arm_bits-in-Match t c = IfOk-from_err _ _ c.from_residual-in_err-arm_bits-in-Match.ensures.0
+
+pub all_bits-returns-in_err-action_bits : goal.all_bits-returns-in_err-action_bits
+all_bits-returns-in_err-action_bits t c = IfOk-from_err _ _ c.from_residual.ensures.0
+
+pub arm_bits-returns-in_err-all_bits : goal.arm_bits-returns-in_err-all_bits
+arm_bits-returns-in_err-all_bits t c = IfOk-from_err _ _ c.from_residual.ensures.0

@@ -1,4 +1,4 @@
-use Rattle.std.proofs.Common.{◌≡◌, ◌++◌, take, suc}
+use Rattle.std.proofs.Common.{◌≡◌, ◌++◌, take}
 use Rattle.sv_actions.specs.Doing.{writes_all}
 use Rattle.sv_blocks.specs.Running.{arms_bits}
 use Rattle.sv_blocks.proofs.Falling.{size, all_size, arms_size}

@@ -1,7 +1,6 @@
-use Rattle.std.proofs.Common.{◌≡◌, ◌+◌, ◌-◌, ◌<◌, ◌≤◌, length, drop, refl, sym, subst, arith}
+use Rattle.std.proofs.lemmas.Result.{IfOk-from_err}
+use Rattle.std.proofs.Common.{◌≡◌, ◌+◌, ◌-◌, ◌<◌, length, drop, refl, sym, subst, arith}
 use Rattle.std.proofs.lemmas.List.{get_or_default}
-use Rattle.lhs_alias.specs.declared.segs.WireBit.{WireBit}
-use Rattle.std.specs.Prelude.{List}
 use Rattle.sv_blocks.specs.Declaring.{IsSoFar}
 use Rattle.sv_blocks.proofs.Marking.{so_far_none, so_far_step, so_far_at, same_scene, same_marks, same_bit_sits}
 use Rattle.sv_blocks.proofs.bits.mark_all.Goals as goal
@@ -30,3 +29,6 @@ mark_bit-requires-clause-bit c =
     let i = c.bits.invariant in
     let l : c.bits.at - 1 < length c.args.bits.now = let a = c.bits-test.true in let b = i.within in omega arith in
     same_bit_sits c.args.scene _ _ i.made.same (c.requires.bits (c.bits.at - 1) _ l)
+
+pub returns-in_err-mark_bit : goal.returns-in_err-mark_bit
+returns-in_err-mark_bit c = IfOk-from_err _ _ c.from_residual.ensures.0

@@ -1,5 +1,4 @@
-use Rattle.std.proofs.Common.{◌≡◌, ◌<◌, ◌≤◌, Bool, true, false, List, length, set, get_or, sym, subst, ap, ◌∙◌, arith}
-use Rattle.std.proofs.lemmas.List.{get_or_read}
+use Rattle.std.proofs.Common.{◌≡◌, ◌<◌, Bool, true, false, List, length, get_or, sym, subst}
 use Rattle.sv_blocks.proofs.Marking.{so_far_new, so_far_same}
 use Rattle.sv_blocks.proofs.bits.mark_bit.Goals as goal
 

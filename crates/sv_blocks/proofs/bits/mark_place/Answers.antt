@@ -1,4 +1,4 @@
-use Rattle.std.proofs.Common.{◌≡◌, ◌+◌, ◌*◌, ◌<◌, ◌≤◌, length, refl, arith, rules}
+use Rattle.std.proofs.Common.{refl, rules}
 use Rattle.sv_blocks.proofs.Marking.{mark_room}
 use Rattle.sv_blocks.proofs.bits.mark_place.Goals as goal
 

@@ -1,6 +1,6 @@
-use Rattle.std.proofs.Common.{◌≡◌, ◌+◌, ◌++◌, take, Some, None, ◌∙◌, ap, sym, subst}
+use Rattle.std.proofs.lemmas.Result.{IfOk-from_err}
+use Rattle.std.proofs.Common.{◌++◌, Some, None, ◌∙◌, ap, sym}
 use Rattle.std.proofs.lemmas.List.{append-nil, get_or_default}
-use Rattle.sv_meaning.specs.Targets.{present}
 use Rattle.sv_blocks.proofs.Marking.{present_begin, present_more, present_some, present_none, present_end}
 use Rattle.sv_blocks.proofs.bits.target_bits.Goals as goal
 use Rattle.sv_blocks.proofs.bits.target_bits.Goals.{in-Some+in_ok-push, in_default}
@@ -25,3 +25,9 @@ slots-preserved c = elim c.match-slot.branch [
 
 pub returns : goal.returns
 returns c = present_end c.as_slice-slot-items.result.now _ c.slots.slot-index c.args.bits.now.items c.slots.bits.items c.slots-test.false (c.as_slice-slot-items.ensures ∙ c.in_ok-slots.ensures.is) c.slots.invariant
+
+pub returns-in_err-push : goal.returns-in_err-push
+returns-in_err-push c = IfOk-from_err _ _ c.from_residual-in_err-push.ensures.0
+
+pub returns-in_err-slots : goal.returns-in_err-slots
+returns-in_err-slots c = IfOk-from_err _ _ c.from_residual.ensures.0

@@ -1,5 +1,6 @@
-use Rattle.std.proofs.Common.{ℕ, List, [], ◌∷◌, ◌++◌, ◌≡◌, ◌<◌, ◌≤◌, ◌+◌, length, get_or, sym, ap, ◌∙◌, subst, arith, rules}
-use Rattle.std.proofs.lemmas.List.{get_or_read, get_or_default}
+use Rattle.std.proofs.lemmas.Result.{IfOk-from_err}
+use Rattle.std.proofs.Common.{List, [], ◌∷◌, ◌++◌, ◌≡◌, ◌<◌, length, get_or, sym, ap, ◌∙◌, subst, arith, rules}
+use Rattle.std.proofs.lemmas.List.{get_or_default}
 use Rattle.svex_shape.specs.Shapes.{width_at}
 use Rattle.fourvec.specs.Bits.{slice_of}
 use Rattle.lhs_alias.specs.declared.segs.Seg.{Seg}
@@ -48,3 +49,9 @@ sliced-requires-clause-a c =
     let node = c.index-nodes-place.result in
     let same : node ≡ get_or c.args.nodes.now place 0 = c.index-nodes-place.is ∙ get_or_default c.args.nodes.now place node 0 l in
     subst (λ n. n < length c.args.arena.now) (sym same) (c.requires.nodes.within place l)
+
+pub returns-in_err-push-clause-ok : goal.returns-in_err-push-clause-ok
+returns-in_err-push-clause-ok c = IfOk-from_err _ _ c.from_residual-in_err-push.ensures.0
+
+pub returns-in_err-value-clause-ok : goal.returns-in_err-value-clause-ok
+returns-in_err-value-clause-ok c = IfOk-from_err _ _ c.from_residual.ensures.0

@@ -1,4 +1,5 @@
-use Rattle.std.proofs.Common.{List, ◌≡◌, ◌<◌, ◌≤◌, ◌+◌, ◌-◌, length, take, drop, get_or, length-drop, get_or-drop, refl, sym, ap, ◌∙◌, subst, arith}
+use Rattle.std.proofs.lemmas.Result.{IfOk-from_err}
+use Rattle.std.proofs.Common.{List, ◌≡◌, ◌≤◌, ◌+◌, length, take, drop, get_or, length-drop, get_or-drop, refl, sym, ap, ◌∙◌, subst, arith}
 use Rattle.svex_arena.proofs.Keeping.{extends_self, extends_on}
 use Rattle.std.proofs.lemmas.List.{take_rest, get_or_default}
 use Rattle.std.proofs.lemmas.List.Elements.{All-drop}
@@ -48,3 +49,18 @@ bits-preserved c =
           ∙ ap (λ b. seg_bits (run_seg b c.run_of-count.result)) (get_or-drop c.bits.at c.args.bits.now 0 none ∙ (let z : c.bits.at + 0 ≡ c.bits.at = omega arith in ap (λ n. get_or c.args.bits.now n none) z)))
           refl within i.made c.in_ok-driver.ensures.ok);
     }
+
+pub returns-in_err-driver-clause-stays : goal.returns-in_err-driver-clause-stays
+returns-in_err-driver-clause-stays c = extends_on _ _ _ c.bits.invariant.stays c.in_err-driver.ensures.stays
+
+pub returns-in_err-driver-clause-ok : goal.returns-in_err-driver-clause-ok
+returns-in_err-driver-clause-ok c = IfOk-from_err _ _ c.from_residual.ensures.0
+
+pub returns-in_err-push-clause-stays : goal.returns-in_err-push-clause-stays
+returns-in_err-push-clause-stays c = extends_on _ _ _ c.bits.invariant.stays c.in_ok-driver.ensures.stays
+
+pub returns-in_err-push-clause-ok : goal.returns-in_err-push-clause-ok
+returns-in_err-push-clause-ok c = IfOk-from_err _ _ c.from_residual-in_err-push.ensures.0
+
+pub returns-clause-stays : goal.returns-clause-stays
+returns-clause-stays c = c.bits.invariant.stays

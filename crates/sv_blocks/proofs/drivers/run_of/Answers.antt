@@ -1,4 +1,4 @@
-use Rattle.std.proofs.Common.{◌≡◌, ◌+◌, ◌<◌, ◌≤◌, length, get_or, refl, sym, arith}
+use Rattle.std.proofs.Common.{arith}
 use Rattle.std.proofs.lemmas.List.{get_or_default}
 use Rattle.sv_blocks.proofs.Driving.{run_first, run_more}
 use Rattle.sv_blocks.proofs.drivers.run_of.Goals as goal

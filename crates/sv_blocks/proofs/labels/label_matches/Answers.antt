@@ -1,3 +1,4 @@
+use Rattle.std.proofs.lemmas.Result.{IfOk-from_err}
 use Rattle.std.proofs.Common.{◌≡◌, ◌+◌, ◌-◌, ◌<◌, length, refl, arith}
 use Rattle.svex_arena.proofs.Keeping.{extends_on}
 use Rattle.sv_lower.proofs.Lowered.{element}
@@ -36,3 +37,24 @@ pub label_equals-requires-clause-sits : goal.label_equals-requires-clause-sits
 label_equals-requires-clause-sits c =
     let l : c.labels.at - 1 < length c.args.labels.now = let a = c.labels-test.true in let b = c.labels.invariant.within in omega arith in
     element (LabelSits c.args.scene.now) c.args.labels.now (c.labels.at - 1) c.index-labels-at.result c.requires.sits l c.index-labels-at.is
+
+pub returns-in_err-node-clause-stays : goal.returns-in_err-node-clause-stays
+returns-in_err-node-clause-stays c = c.in_err-node.ensures.stays
+
+pub returns-in_err-node-clause-ok : goal.returns-in_err-node-clause-ok
+returns-in_err-node-clause-ok c = IfOk-from_err _ _ c.from_residual.ensures.0
+
+pub returns-in_err-here-clause-stays : goal.returns-in_err-here-clause-stays
+returns-in_err-here-clause-stays c = extends_on _ _ _ c.labels.invariant.stays c.in_err-here.ensures.stays
+
+pub returns-in_err-here-clause-ok : goal.returns-in_err-here-clause-ok
+returns-in_err-here-clause-ok c = IfOk-from_err _ _ c.from_residual-in_err-here.ensures.0
+
+pub returns-in_err-node-2-clause-stays : goal.returns-in_err-node-2-clause-stays
+returns-in_err-node-2-clause-stays c = extends_on _ _ _ (extends_on _ _ _ c.labels.invariant.stays c.in_ok-here.ensures.stays) c.in_err-node-2.ensures.stays
+
+pub returns-in_err-node-2-clause-ok : goal.returns-in_err-node-2-clause-ok
+returns-in_err-node-2-clause-ok c = IfOk-from_err _ _ c.from_residual-in_err-node-2.ensures.0
+
+pub returns-clause-stays : goal.returns-clause-stays
+returns-clause-stays c = c.labels.invariant.stays

@@ -1,3 +1,4 @@
+use Rattle.std.proofs.lemmas.Result.{IfOk-from_err}
 use Rattle.std.proofs.Common.{refl, arith}
 use Rattle.svex_arena.proofs.Keeping.{extends_on}
 use Rattle.svex_arena.proofs.Steps.{width-extends}
@@ -19,3 +20,12 @@ pub returns-clause-ok : goal.returns-clause-ok
 returns-clause-ok c =
     laid_some _ _ _ _ _ _ _ _ _ _ _ _ _ _ _ _ _ c.len.ensures.arena c.requires.of c.requires.part c.width.ensures.is c.width-2.ensures.is c.lay_of-lay.ensures c.in_ok-middle.ensures.stays c.in_ok-low.ensures.stays
     c.in_ok-middle.ensures.ok c.in_ok-low.ensures.ok c.in_ok-node.ensures.ok refl
+
+pub returns-in_err-low-clause-ok : goal.returns-in_err-low-clause-ok
+returns-in_err-low-clause-ok c = IfOk-from_err _ _ c.from_residual-in_err-low.ensures.0
+
+pub returns-in_err-middle-clause-ok : goal.returns-in_err-middle-clause-ok
+returns-in_err-middle-clause-ok c = IfOk-from_err _ _ c.from_residual.ensures.0
+
+pub returns-in_err-node-clause-ok : goal.returns-in_err-node-clause-ok
+returns-in_err-node-clause-ok c = IfOk-from_err _ _ c.from_residual-in_err-node.ensures.0

@@ -1,3 +1,4 @@
+use Rattle.std.proofs.lemmas.Result.{IfOk-from_err}
 use Rattle.std.proofs.Common.{rules, subst}
 use Rattle.sv_typed.proofs.Below as below
 use Rattle.sv_blocks.proofs.Parting.{names_moving, spots_fixed, spots_known, spots_moving}
@@ -25,3 +26,6 @@ returns-in_ok-at-in-Moving-clause-ok c = spots_moving _ _ _ _ _ _ _ _ _ c.in-Mov
 
 pub lowered-requires-clause-narrow : goal.lowered-requires-clause-narrow
 lowered-requires-clause-narrow c = subst (Narrow c.args.scene.now) (names_moving c.args.pick.now _ _ _ c.in-Moving.is c.get-index.ensures) c.requires.narrow
+
+pub returns-in_err-at-in-Moving-clause-ok : goal.returns-in_err-at-in-Moving-clause-ok
+returns-in_err-at-in-Moving-clause-ok c = IfOk-from_err _ _ c.from_residual.ensures.0

@@ -1,4 +1,4 @@
-use Rattle.std.proofs.Common.{◌≤◌, suc, length, drop}
+use Rattle.std.proofs.Common.{◌≤◌, ◌+◌, ◌*◌, length, drop}
 use Rattle.sv_blocks.proofs.Falling.{size, all_size, arms_size}
 use Rattle.svex_arena.specs.Arenas.{Extends}
 use Rattle.sv_stores.specs.Scenes.{IsState}
@@ -24,14 +24,22 @@ invariant-run_arms-arms l = record {
 abbrev pub decreases-run_arms-arms : goal.decreases-run_arms-arms
 decreases-run_arms-arms l = l.at
 
+-- An action, a list of actions and a list of arms are measured by four times their size, and what stands between two of these by one or two
+-- more.
 abbrev pub decreases-run_action : goal.decreases-run_action
-decreases-run_action l = size l.action.now
+decreases-run_action l = 4 * size l.action.now
+
+abbrev pub decreases-run_choice : goal.decreases-run_choice
+decreases-run_choice l = 4 * (all_size l.a.now + all_size l.b.now) + 2
+
+abbrev pub decreases-run_copy : goal.decreases-run_copy
+decreases-run_copy l = 4 * all_size l.actions.now + 1
 
 abbrev pub decreases-run_actions : goal.decreases-run_actions
-decreases-run_actions l = all_size l.actions.now
+decreases-run_actions l = 4 * all_size l.actions.now
 
 abbrev pub decreases-run_arms : goal.decreases-run_arms
-decreases-run_arms l = arms_size l.arms.now
+decreases-run_arms l = 4 * arms_size l.arms.now
 
 abbrev pub decreases-run_arm : goal.decreases-run_arm
-decreases-run_arm l = suc (all_size l.arm.now.body)
+decreases-run_arm l = 4 * all_size l.arm.now.body + 2

@@ -1,3 +1,4 @@
+use Rattle.std.proofs.lemmas.Result.{IfOk-from_err}
 use Rattle.std.proofs.Common.{sym, ap, ◌∙◌, get_or}
 use Rattle.svex_arena.proofs.Steps.{width-extends}
 use Rattle.sv_stores.specs.Scenes.{are_marked}
@@ -20,3 +21,9 @@ pub returns-clause-ok : goal.returns-clause-ok
 returns-clause-ok c =
     shows_mixed_by _ _ _ _ _ _ _ _ _ _ _ _ c.as_slice-marks.ensures c.as_slice-2.ensures c.requires.node c.requires.width (ap (λ xs. get_or xs c.args.at 0) c.as_slice.ensures)
     c.are_marked.ensures c.if-are_marked.false c.in_ok-now.ensures.stays c.in_ok-node.ensures.stays c.in_ok-now.ensures.ok c.in_ok-node.ensures.ok
+
+pub returns-in_err-node-clause-ok : goal.returns-in_err-node-clause-ok
+returns-in_err-node-clause-ok c = IfOk-from_err _ _ c.from_residual-in_err-node.ensures.0
+
+pub returns-in_err-now-clause-ok : goal.returns-in_err-now-clause-ok
+returns-in_err-now-clause-ok c = IfOk-from_err _ _ c.from_residual.ensures.0

@@ -1,3 +1,4 @@
+use Rattle.std.proofs.lemmas.Result.{IfOk-from_err}
 use Rattle.std.proofs.Common.{◌≡◌, true, eqb, sym, ◌∙◌, arith}
 use Rattle.std.proofs.lemmas.Bool.Decides.{nat_tests}
 use Rattle.sv_blocks.proofs.Merging.{chosen_same, chosen_pick}
@@ -11,3 +12,6 @@ returns-then-eq-clause-ok c =
 
 pub returns-clause-ok : goal.returns-clause-ok
 returns-clause-ok c = chosen_pick _ _ _ _ _ _ c.in_ok-node.ensures.ok
+
+pub returns-in_err-node-clause-ok : goal.returns-in_err-node-clause-ok
+returns-in_err-node-clause-ok c = IfOk-from_err _ _ c.from_residual.ensures.0

@@ -1,3 +1,4 @@
+use Rattle.std.proofs.lemmas.Result.{IfOk-from_err}
 use Rattle.std.proofs.Common.{◌<◌, ◌+◌, ◌≡◌, length, subst, sym, ◌∙◌, arith}
 use Rattle.std.proofs.lemmas.List.{get_or_read}
 use Rattle.svex_arena.proofs.Keeping.{extends_on}
@@ -30,3 +31,18 @@ pub returns-clause-ok : goal.returns-clause-ok
 returns-clause-ok c =
     let all : c.nodes.at ≡ length c.args.a.now = let t = c.nodes-test.false in let e = c.nodes.auto.at-end in omega arith in
     merges_all _ _ _ _ _ _ _ _ c.requires.scene c.len-2.ensures.arena c.requires.a c.requires.b all c.nodes.invariant.made
+
+pub returns-in_err-node-clause-stays : goal.returns-in_err-node-clause-stays
+returns-in_err-node-clause-stays c = extends_on _ _ _ c.nodes.invariant.stays c.in_err-node.ensures.stays
+
+pub returns-in_err-node-clause-ok : goal.returns-in_err-node-clause-ok
+returns-in_err-node-clause-ok c = IfOk-from_err _ _ c.from_residual.ensures.0
+
+pub returns-in_err-push-clause-stays : goal.returns-in_err-push-clause-stays
+returns-in_err-push-clause-stays c = extends_on _ _ _ c.nodes.invariant.stays c.in_ok-node.ensures.stays
+
+pub returns-in_err-push-clause-ok : goal.returns-in_err-push-clause-ok
+returns-in_err-push-clause-ok c = IfOk-from_err _ _ c.from_residual-in_err-push.ensures.0
+
+pub returns-clause-stays : goal.returns-clause-stays
+returns-clause-stays c = c.nodes.invariant.stays

@@ -1,4 +1,5 @@
-use Rattle.std.proofs.Common.{◌≡◌, arith}
+use Rattle.std.proofs.lemmas.Result.{IfOk-from_err}
+use Rattle.std.proofs.Common.{arith}
 use Rattle.sv_names.specs.Names.{names_are}
 use Rattle.sv_actions.specs.Texts.{root_signals}
 use Rattle.sv_blocks.specs.Declaring.{wires_are}
@@ -24,3 +25,6 @@ all_target_wires-parts-preserved t c = record {
 
 pub all_target_wires-returns-clause-is : goal.all_target_wires-returns-clause-is
 all_target_wires-returns-clause-is t c = each_end (root_signals (names_are c.args.names.now)) c.args.parts.now _ (wires_are c.args.wires.now.items) _ (omega arith) c.parts.invariant.is
+
+pub all_target_wires-returns-in_err-target_wires-clause-is : goal.all_target_wires-returns-in_err-target_wires-clause-is
+all_target_wires-returns-in_err-target_wires-clause-is t c = IfOk-from_err _ _ c.from_residual.ensures.0

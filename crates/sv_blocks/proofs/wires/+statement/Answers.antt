@@ -1,4 +1,5 @@
-use Rattle.std.proofs.Common.{◌≡◌, arith}
+use Rattle.std.proofs.lemmas.Result.{IfOk-from_err}
+use Rattle.std.proofs.Common.{arith}
 use Rattle.sv_names.specs.Names.{names_are}
 use Rattle.sv_actions.specs.Texts.{target_signals, arm_signals}
 use Rattle.sv_blocks.specs.Declaring.{wires_are}
@@ -66,3 +67,12 @@ arms_wires-parts-preserved t c = record {
 
 pub arms_wires-returns-clause-is : goal.arms_wires-returns-clause-is
 arms_wires-returns-clause-is t c = each_end (arm_signals (names_are c.args.names.now)) c.args.arms.now _ (wires_are c.args.wires.now.items) _ (omega arith) c.parts.invariant.is
+
+pub all_stmt_wires-returns-in_err-stmt_wires-clause-is : goal.all_stmt_wires-returns-in_err-stmt_wires-clause-is
+all_stmt_wires-returns-in_err-stmt_wires-clause-is t c = IfOk-from_err _ _ c.from_residual.ensures.0
+
+pub arms_wires-returns-in_err-arm_wires-clause-is : goal.arms_wires-returns-in_err-arm_wires-clause-is
+arms_wires-returns-in_err-arm_wires-clause-is t c = IfOk-from_err _ _ c.from_residual.ensures.0
+
+pub stmt_wires-returns-in_err-stmt_wires-in-If-clause-is : goal.stmt_wires-returns-in_err-stmt_wires-in-If-clause-is
+stmt_wires-returns-in_err-stmt_wires-in-If-clause-is t c = IfOk-from_err _ _ c.from_residual.ensures.0

@@ -1,4 +1,5 @@
-use Rattle.std.proofs.Common.{◌≡◌, ◌∙◌, refl, ap, set, Some}
+use Rattle.std.proofs.lemmas.Result.{IfOk-from_err}
+use Rattle.std.proofs.Common.{◌∙◌, refl, ap, set, Some}
 use Rattle.std.specs.Prelude.{is_some}
 use Rattle.std.specs.Vec.{with_item}
 use Rattle.sv_blocks.proofs.Wiring.{places_same, places_more, set_there, set_kept}
@@ -21,3 +22,12 @@ returns-clause-kept c = λ x h.
 
 pub returns-then-is_some-clause-kept : goal.returns-then-is_some-clause-kept
 returns-then-is_some-clause-kept c = λ x h. ap is_some (c.in_ok-widen.ensures.same x.number) ∙ h
+
+pub returns-in_err-push-2-clause-there : goal.returns-in_err-push-2-clause-there
+returns-in_err-push-2-clause-there c = IfOk-from_err _ _ c.from_residual-in_err-push-2.ensures.0
+
+pub returns-in_err-push-clause-there : goal.returns-in_err-push-clause-there
+returns-in_err-push-clause-there c = IfOk-from_err _ _ c.from_residual-in_err-push.ensures.0
+
+pub returns-in_err-widen-clause-there : goal.returns-in_err-widen-clause-there
+returns-in_err-widen-clause-there c = IfOk-from_err _ _ c.from_residual.ensures.0

@@ -1,4 +1,5 @@
-use Rattle.std.proofs.Common.{◌≡◌, ◌<◌, ◌≤◌, ◌∙◌, length, refl, arith}
+use Rattle.std.proofs.lemmas.Result.{IfOk-from_err}
+use Rattle.std.proofs.Common.{◌∙◌}
 use Rattle.std.proofs.lemmas.List.{get_or_default}
 use Rattle.sv_blocks.proofs.Wiring.{begun, places_none, there_none, there_more, there_all}
 use Rattle.sv_blocks.proofs.wires.scene_of.Goals as goal
@@ -20,3 +21,9 @@ returns-clause-begun c = λ named d.
 
 pub returns-clause-there : goal.returns-clause-there
 returns-clause-there c = there_all _ _ c.args.found.now c.found.wire-index c.found-test.false c.from_vec.ensures c.found.invariant.there
+
+pub returns-in_err-add_wire-clause-there : goal.returns-in_err-add_wire-clause-there
+returns-in_err-add_wire-clause-there c = IfOk-from_err _ _ c.from_residual.ensures.0
+
+pub returns-in_err-marks-clause-there : goal.returns-in_err-marks-clause-there
+returns-in_err-marks-clause-there c = IfOk-from_err _ _ c.from_residual-in_err-marks.ensures.0

@@ -1,4 +1,4 @@
-use Rattle.std.proofs.Common.{◌≡◌, ◌∙◌, ap, subst, Some, refl, sym}
+use Rattle.std.proofs.Common.{ap, subst, refl}
 use Rattle.sv_names.specs.Kinds.{what_is, WhatIsSound}
 use Rattle.sv_blocks.proofs.Wiring.{wire_kept}
 use Rattle.sv_blocks.proofs.wires.wire_in.Goals as goal

@@ -1,9 +1,8 @@
-use Rattle.std.proofs.Common.{◌∙◌, true, sym, subst, ap, refl}
+use Rattle.std.proofs.Common.{◌∙◌, true, sym, subst, ap}
 use Rattle.std.specs.List.{Contains}
 use Rattle.std.proofs.lemmas.Result.{err_from_is_err_and}
 use Rattle.fourvec.specs.Bits.{is_known}
-use Rattle.sv_meaning.specs.Meanings.{fixed_faults_at, nowhere}
-use Rattle.sv_typed.specs.Typed.{worth}
+use Rattle.sv_meaning.specs.Meanings.{fixed_faults_at}
 use Rattle.sv_typing.proofs.Judged.{typed_ok, typed_err}
 use Rattle.sv_const.proofs.Valued.{constant_ok, constant_unknown, constant_cause}
 use Rattle.sv_const.proofs.evaluate.constant_of.Goals as goal
@@ -16,10 +15,10 @@ returns-in_err-x c = λ m s h.
 pub returns-then-is_bool : goal.returns-then-is_bool
 returns-then-is_bool c = λ m s h.
     constant_ok c.args.width m c.in_ok-x.x _ (typed_ok m (m.faults true) c.args.x c.in_ok-x.x c.in_ok-x.was h)
-    (c.value-value.ensures.is ∙ ap (λ n. worth c.in_ok-x.x nowhere n c.in_ok-x.x.signed) c.max.ensures) refl (sym c.is_bool.ensures ∙ c.if-is_bool.true)
+    c.known_at-known.ensures.value c.known_at-known.ensures.signed (sym c.is_bool.ensures ∙ c.if-is_bool.true)
 
 pub returns-else-is_bool : goal.returns-else-is_bool
 returns-else-is_bool c = λ m s h.
     subst (Contains (fixed_faults_at c.args.width m)) (sym c.refusal.ensures)
     (constant_unknown c.args.width m c.in_ok-x.x c.args.start (typed_ok m (m.faults true) c.args.x c.in_ok-x.x c.in_ok-x.was h) s
-    (ap is_known (sym (c.value-value.ensures.is ∙ ap (λ n. worth c.in_ok-x.x nowhere n c.in_ok-x.x.signed) c.max.ensures)) ∙ sym c.is_bool.ensures ∙ c.if-is_bool.false))
+    (ap is_known (sym c.known_at-known.ensures.value) ∙ sym c.is_bool.ensures ∙ c.if-is_bool.false))

@@ -1,3 +1,4 @@
+use Rattle.std.proofs.lemmas.Result.{IfOk-from_err}
 use Rattle.std.proofs.Common.{◌∙◌, true, length, take, sym, ap, subst, Err, arith}
 use Rattle.fourvec.proofs.Widths.{length-slice_of}
 use Rattle.sv_meaning.specs.Meanings.{nowhere}
@@ -22,3 +23,6 @@ returns-clause-is c = λ m s h.
     subst (λ e. Gives (index_value m) (Err (No e))) (sym c.refusal.ensures)
     (index_unknown m c.in_ok-x.x c.slice-bits.result c.args.start (typed_ok m (m.faults true) c.args.x c.in_ok-x.x c.in_ok-x.was h) s
     (c.slice-bits.ensures ∙ ap (take 32) (c.value.ensures.is ∙ ap (λ n. worth c.in_ok-x.x nowhere n c.in_ok-x.x.signed) c.max.ensures)) (sym c.is_bool.ensures ∙ c.if-is_bool.false))
+
+pub returns-in_err-x-clause-width : goal.returns-in_err-x-clause-width
+returns-in_err-x-clause-width c = IfOk-from_err _ _ c.from_residual.ensures.0

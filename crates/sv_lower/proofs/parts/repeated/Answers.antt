@@ -1,3 +1,4 @@
+use Rattle.std.proofs.lemmas.Result.{IfOk-from_err}
 use Rattle.std.proofs.Common.{◌≡◌, ℕ, ◌+◌, ◌*◌, ◌<◌, ◌≤◌, arith}
 use Rattle.std.proofs.Math.Nat.{mul-le-mul_right}
 use Rattle.svex_shape.specs.Shapes.{width_at}
@@ -35,3 +36,6 @@ loop-more-preserved c =
       stays = extends_on _ _ _ i.stays c.binary.ensures.stays;
       made = copy_more _ _ _ _ _ _ _ _ i.stays c.requires.a i.made (omega arith) c.in_ok-node.ensures.ok;
     }
+
+pub returns-in_err-node-clause-ok : goal.returns-in_err-node-clause-ok
+returns-in_err-node-clause-ok c = IfOk-from_err _ _ c.from_residual.ensures.0

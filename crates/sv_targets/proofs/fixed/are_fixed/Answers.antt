@@ -1,4 +1,4 @@
-use Rattle.std.proofs.Common.{arith, ◌≡◌, sym, ◌∙◌}
+use Rattle.std.proofs.Common.{arith, sym, ◌∙◌}
 use Rattle.sv_targets.proofs.Slotting.{none_fixed, fixed_more, fixed_end, not_fixed_one}
 use Rattle.sv_targets.proofs.fixed.are_fixed.Goals as goal
 

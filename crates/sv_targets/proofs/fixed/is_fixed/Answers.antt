@@ -1,4 +1,4 @@
-use Rattle.std.proofs.Common.{arith, ◌≡◌, ◌<◌, ◌≤◌, List, length, get_or, sym, subst, ap, ◌∙◌}
+use Rattle.std.proofs.Common.{arith, ◌≡◌, ◌<◌, ◌≤◌, List, length, get_or, sym, subst, ◌∙◌}
 use Rattle.sv_typed.specs.declared.tree.Pick.{Pick}
 use Rattle.sv_targets.proofs.Slotting.{none_known, known_more, known_end, unknown_one}
 use Rattle.sv_targets.proofs.fixed.is_fixed.Goals as goal

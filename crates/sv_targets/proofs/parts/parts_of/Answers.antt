@@ -1,3 +1,4 @@
+use Rattle.std.proofs.lemmas.Result.{IfOk-from_err}
 use Rattle.std.proofs.Common.{◌≡◌, ℕ, ◌<◌, List, All, length, sym, subst, arith}
 use Rattle.lhs_alias.specs.declared.segs.WireBit.{WireBit}
 use Rattle.sv_targets.specs.Slots.{Runs}
@@ -19,3 +20,6 @@ returns c =
     let e : c.slots.at ≡ length all = omega arith in
     parts_final all (length all) c.closed.result (omega arith)
     (c.closed.ensures all (subst (λ (z : List WireBit). Runs all (length all) c.slots.parts z) (sym c.deref.ensures.value) (subst (λ (k : ℕ). Runs all k c.slots.parts c.slots.run.items) e c.slots.invariant.runs)))
+
+pub returns-in_err-parts : goal.returns-in_err-parts
+returns-in_err-parts c = IfOk-from_err _ _ c.from_residual.ensures.0

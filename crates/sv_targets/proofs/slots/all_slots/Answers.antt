@@ -1,3 +1,4 @@
+use Rattle.std.proofs.lemmas.Result.{IfOk-from_err}
 use Rattle.std.proofs.Common.{◌-◌, arith}
 use Rattle.sv_targets.proofs.Slotting.{slots_begin, slots_up, near_none, near_append}
 use Rattle.sv_targets.proofs.slots.all_slots.Goals as goal
@@ -19,3 +20,15 @@ upward-preserved c =
           c.upward.invariant.is c.in_ok-more.ensures.is c.in_ok-append.ensures.ok;
       near = near_append c.upward.all c.in_ok-more.more c.append.new.self c.in_ok-append.ensures.ok c.upward.invariant.near c.in_ok-more.ensures.near;
     }
+
+pub returns-in_err-append-clause-is : goal.returns-in_err-append-clause-is
+returns-in_err-append-clause-is c = IfOk-from_err _ _ c.from_residual-in_err-append.ensures.0
+
+pub returns-in_err-append-clause-near : goal.returns-in_err-append-clause-near
+returns-in_err-append-clause-near c = IfOk-from_err _ _ c.from_residual-in_err-append.ensures.0
+
+pub returns-in_err-more-clause-is : goal.returns-in_err-more-clause-is
+returns-in_err-more-clause-is c = IfOk-from_err _ _ c.from_residual.ensures.0
+
+pub returns-in_err-more-clause-near : goal.returns-in_err-more-clause-near
+returns-in_err-more-clause-near c = IfOk-from_err _ _ c.from_residual.ensures.0

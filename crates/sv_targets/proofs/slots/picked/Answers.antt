@@ -1,3 +1,4 @@
+use Rattle.std.proofs.lemmas.Result.{IfOk-from_err}
 use Rattle.std.proofs.Common.{◌∙◌, sym, subst}
 use Rattle.sv_typing.specs.Picks.{fixed_pick}
 use Rattle.sv_targets.specs.Slots.{IsSpotted}
@@ -21,3 +22,9 @@ returns-in_ok-part-in-Far c =
       near = c.in_ok-part-in-Far.ensures.near;
       most = c.in_ok-part-in-Far.ensures.most;
     }
+
+pub returns-in_err-part-in-At : goal.returns-in_err-part-in-At
+returns-in_err-part-in-At c = IfOk-from_err _ _ c.from_residual.ensures.0
+
+pub returns-in_err-part-in-Far : goal.returns-in_err-part-in-Far
+returns-in_err-part-in-Far c = IfOk-from_err _ _ c.from_residual-in_err-part-in-Far.ensures.0

@@ -1,3 +1,4 @@
+use Rattle.std.proofs.lemmas.Result.{IfOk-from_err}
 use Rattle.std.proofs.Common.{◌≡◌, ◌≤◌, ◌<◌, ◌∙◌, List, length, get_or, subst, ap}
 use Rattle.sv_meaning.specs.Targets.{slots_from}
 use Rattle.sv_typed.specs.declared.tree.Pick.{Pick}
@@ -31,3 +32,15 @@ picks-preserved c =
 pub returns-clause-is : goal.returns-clause-is
 returns-clause-is c =
     picks_end c.args.target.now.picks c.picks.pick-index c.picks.all (target_slots c.args.target.now) (subst (λ (z : List Pick). length z ≤ c.picks.pick-index) c.as_slice-pick-items.ensures c.picks-test.false) c.picks.invariant.is
+
+pub returns-in_err-all-clause-is : goal.returns-in_err-all-clause-is
+returns-in_err-all-clause-is c = IfOk-from_err _ _ c.from_residual.ensures.0
+
+pub returns-in_err-all-clause-near : goal.returns-in_err-all-clause-near
+returns-in_err-all-clause-near c = IfOk-from_err _ _ c.from_residual.ensures.0
+
+pub returns-in_err-part-clause-is : goal.returns-in_err-part-clause-is
+returns-in_err-part-clause-is c = IfOk-from_err _ _ c.from_residual-in_err-part.ensures.0
+
+pub returns-in_err-part-clause-near : goal.returns-in_err-part-clause-near
+returns-in_err-part-clause-near c = IfOk-from_err _ _ c.from_residual-in_err-part.ensures.0

@@ -1,3 +1,4 @@
+use Rattle.std.proofs.lemmas.Result.{IfOk-from_err}
 use Rattle.std.proofs.Common.{length, ap, ◌∙◌, sym, Some, arith}
 use Rattle.lhs_alias.specs.Segs.{bit}
 use Rattle.sv_targets.proofs.Slotting.{wire_none, wire_more, near_none, near_push, long_push}
@@ -19,3 +20,12 @@ bits-preserved c =
       near = near_push c.bits.all c.push.new.self (Some (bit c.args.wire c.bits.at)) c.in_ok-push.ensures.ok c.bits.invariant.near (omega arith);
       long = long_push c.bits.all c.push.new.self (Some (bit c.args.wire c.bits.at)) c.bits.at c.in_ok-push.ensures.ok c.bits.invariant.long;
     }
+
+pub returns-in_err-push-clause-is : goal.returns-in_err-push-clause-is
+returns-in_err-push-clause-is c = IfOk-from_err _ _ c.from_residual.ensures.0
+
+pub returns-in_err-push-clause-most : goal.returns-in_err-push-clause-most
+returns-in_err-push-clause-most c = IfOk-from_err _ _ c.from_residual.ensures.0
+
+pub returns-in_err-push-clause-near : goal.returns-in_err-push-clause-near
+returns-in_err-push-clause-near c = IfOk-from_err _ _ c.from_residual.ensures.0

@@ -1,3 +1,4 @@
+use Rattle.std.proofs.lemmas.Result.{IfOk-from_err}
 use Rattle.std.proofs.Common.{sym, subst, All}
 use Rattle.sv_names.specs.Kinds.{IsSound, FieldIsSound}
 use Rattle.sv_names.proofs.Sound.{row_each, fields_all}
@@ -21,3 +22,21 @@ copy-copies-requires t c = (
   fields_less c.args.layout.now c.in-Members.fields c.as_slice.result.now t c.in-Members.is c.as_slice.ensures c.decreases,
   subst (All FieldIsSound) (sym c.as_slice.ensures) (fields_all c.args.layout.now c.in-Members.fields c.requires c.in-Members.is),
 )
+
+pub copies-returns-in_err-layout : goal.copies-returns-in_err-layout
+copies-returns-in_err-layout t c = IfOk-from_err _ _ c.from_residual.ensures.0
+
+pub copies-returns-in_err-name : goal.copies-returns-in_err-name
+copies-returns-in_err-name t c = IfOk-from_err _ _ c.from_residual-in_err-name.ensures.0
+
+pub copies-returns-in_err-push : goal.copies-returns-in_err-push
+copies-returns-in_err-push t c = IfOk-from_err _ _ c.from_residual-in_err-push.ensures.0
+
+pub copy-returns-in_err-each-in-Dim : goal.copy-returns-in_err-each-in-Dim
+copy-returns-in_err-each-in-Dim t c = IfOk-from_err _ _ c.from_residual.ensures.0
+
+pub copy-returns-in_err-each-in-Dim-2 : goal.copy-returns-in_err-each-in-Dim-2
+copy-returns-in_err-each-in-Dim-2 t c = IfOk-from_err _ _ c.from_residual-in_err-each-in-Dim-2.ensures.0
+
+pub copy-returns-in_err-fields-in-Members : goal.copy-returns-in_err-fields-in-Members
+copy-returns-in_err-fields-in-Members t c = IfOk-from_err _ _ c.from_residual-in_err-fields-in-Members.ensures.0

@@ -1,4 +1,4 @@
-use Rattle.std.proofs.Common.{◌+◌, ◌<◌, min, ap, ◌∙◌, arith}
+use Rattle.std.proofs.Common.{◌+◌, ◌<◌, min, arith}
 use Rattle.sv_meaning.specs.Layouts.{deepest}
 use Rattle.sv_names.specs.Kinds.{members_of}
 use Rattle.sv_types.proofs.Nested.{scalar_depth, row_more, fields_more, member_more, no_more}

@@ -1,13 +1,13 @@
-use Rattle.std.proofs.Common.{◌+◌, List, [], ◌∷◌, ◌++◌, map, drop, sym, subst, arith, ℤ}
+use Rattle.std.proofs.Common.{◌+◌, List, [], ◌∷◌, ◌++◌, map, drop, sym, subst, arith, ℤ, pos}
 use Rattle.std.specs.Option.{option_copied}
 use Rattle.std.proofs.lemmas.Result.{err_from_is_err_and}
 use Rattle.sv_meaning.specs.Layouts.{with_names}
 use Rattle.sv_meaning.specs.Forms.{entries_of, label_entry}
 use Rattle.sv_names.specs.Names.{constants_are}
 use Rattle.sv_types.specs.declared.enumerators.Enumerator.{Enumerator}
-use Rattle.sv_types.specs.Types.{whole_is, all_declared, pushed}
-use Rattle.sv_types.proofs.Above.{above_names}
-use Rattle.sv_types.proofs.Labels.{Counts, counts_go, counts_end, counts_number, counts_entry, number_ok, number_err, entry_of_result, entry_refused, above_more}
+use Rattle.sv_types.specs.Types.{whole_is, all_declared, pushed, IsAbove}
+use Rattle.sv_types.proofs.Above.{above_none, above_names}
+use Rattle.sv_types.proofs.Labels.{Counts, counts_begin, counts_go, counts_end, counts_number, counts_entry, number_ok, number_err, entry_of_result, entry_refused, above_more}
 use Rattle.sv_types.proofs.enumerators.enumerators.Goals as goal
 
 pub returns-in_err-number : goal.returns-in_err-number
@@ -66,3 +66,24 @@ returns c = record {
   is = counts_end (constants_are c.args.names.now) c.args.width c.args.signed c.args.all.now c.labels.declared (whole_is c.labels.next) c.labels.label-index c.labels-test.false c.labels.invariant.counts;
   names = c.labels.invariant.names;
 }
+
+pub labels-init : goal.labels-init
+labels-init c =
+    let names = c.args.names.now in
+    let at = constants_are names in
+    record {
+      names = subst (λ (z : List Enumerator). IsAbove names names (map pushed z)) (sym c.new-declared.ensures) (above_none names);
+      counts = subst (λ (z : List Enumerator). Counts at c.args.width c.args.signed c.args.all.now z (pos 0) c.args.all.now) (sym c.new-declared.ensures) (counts_begin at c.args.width c.args.signed c.args.all.now);
+    }
+
+pub next-next-requires-clause-held : goal.next-next-requires-clause-held
+next-next-requires-clause-held c = c.in_ok-constant.ensures.held
+
+pub next-next-requires-clause-most : goal.next-next-requires-clause-most
+next-next-requires-clause-most c = c.requires.most
+
+pub label_entry-requires-clause-some : goal.label_entry-requires-clause-some
+label_entry-requires-clause-some c = c.requires.some
+
+pub label_entry-requires-clause-most : goal.label_entry-requires-clause-most
+label_entry-requires-clause-most c = c.requires.most

@@ -1,4 +1,4 @@
-use Rattle.std.proofs.Common.{◌≡◌, ◌+◌, ◌++◌, map, refl, sym, subst, ap, arith, All}
+use Rattle.std.proofs.Common.{◌≡◌, ◌+◌, map, refl, sym, subst, ap, arith, All}
 use Rattle.std.specs.Option.{option_copied}
 use Rattle.sv_tree.specs.declared.forms.Member.TheVariants as member
 use Rattle.sv_meaning.specs.Forms.{form, entries_of}

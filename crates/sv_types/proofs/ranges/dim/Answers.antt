@@ -1,3 +1,4 @@
+use Rattle.std.proofs.lemmas.Result.{IfOk-from_err}
 use Rattle.std.proofs.Common.{ℕ, ◌*◌, ◌≤◌, ap, sym, subst, arith}
 use Rattle.sv_names.proofs.Sound.{sound_some, some_bits}
 use Rattle.sv_typing.proofs.Counts.{times_some}
@@ -20,3 +21,9 @@ returns-clause-sound c =
     let s = some_bits c.count.result w (subst (λ (n : ℕ). 1 ≤ n) (sym c.count.ensures) (count_some c.args.bounds.left c.args.bounds.right)) (sound_some c.args.each c.requires.sound) in
     dim_made_sound (c.count.result * w) c.args.signed c.args.bounds.left c.args.bounds.right _ c.args.each c.in_ok-each.ensures c.requires.sound c.args.bounds.left_fits c.args.bounds.right_fits
     (ap (λ (n : ℕ). n * w) c.count.ensures) s (subst (λ (n : ℕ). n * w ≤ 128) (sym c.count.ensures) c.requires.most)
+
+pub returns-in_err-each-clause-is : goal.returns-in_err-each-clause-is
+returns-in_err-each-clause-is c = IfOk-from_err _ _ c.from_residual.ensures.0
+
+pub returns-in_err-each-clause-sound : goal.returns-in_err-each-clause-sound
+returns-in_err-each-clause-sound c = IfOk-from_err _ _ c.from_residual.ensures.0

@@ -1,6 +1,6 @@
 use Rattle.std.proofs.Common.{ℕ, ◌*◌, ◌≤◌, sym, subst}
 use Rattle.std.specs.List.{Contains}
-use Rattle.std.proofs.lemmas.Result.{err_from_is_err_and}
+use Rattle.std.proofs.lemmas.Result.{err_from_is_err_and, IfOk-from_err}
 use Rattle.sv_meaning.specs.Faults.{faults_of}
 use Rattle.sv_names.proofs.Sound.{sound_some}
 use Rattle.sv_types.specs.Types.{ranged_form}
@@ -34,3 +34,12 @@ returns-else-make_range-clause-is c = λ j k h i.
     subst (Contains (faults_of (ranged_form c.args.place c.args.signed j k))) (sym c.refusal.ensures)
     (ranged_wide j k c.args.place c.args.signed c.in_ok-each.each c.args.levels c.in_ok-bounds.bounds c.make_range.result (layout_ok j c.args.each c.in_ok-each.each c.in_ok-each.was h) (bounds_ok k c.args.bounds c.in_ok-bounds.bounds c.in_ok-bounds.was i)
     (levels_ok c.args.levels c.args.each c.in_ok-each.each c.in_ok-each.was c.requires.levels) (made c.in_ok-each.each c.in_ok-bounds.bounds c.args.levels c.count.result c.make_range.result c.count.ensures c.make_range.ensures) c.if-make_range.false)
+
+pub returns-in_err-bounds-clause-levels : goal.returns-in_err-bounds-clause-levels
+returns-in_err-bounds-clause-levels c = IfOk-from_err _ _ c.from_residual.ensures.0
+
+pub returns-in_err-dim-clause-levels : goal.returns-in_err-dim-clause-levels
+returns-in_err-dim-clause-levels c = IfOk-from_err _ _ c.from_residual-in_err-dim.ensures.0
+
+pub returns-in_err-each-clause-levels : goal.returns-in_err-each-clause-levels
+returns-in_err-each-clause-levels c = IfOk-from_err _ _ c.from_residual-in_err-each.ensures.0

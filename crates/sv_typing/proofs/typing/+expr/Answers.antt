@@ -1,4 +1,5 @@
-use Rattle.std.proofs.Common.{ℕ, ◌+◌, true, List, map, take, refl, sym, ap, ◌∙◌, subst, option_map, arith}
+use Rattle.std.proofs.lemmas.Result.{err_from_is_err_and}
+use Rattle.std.proofs.Common.{ℕ, ◌+◌, true, List, [], map, take, refl, sym, ap, ◌∙◌, subst, option_map, arith}
 use Rattle.std.specs.Option.{option_copied}
 use Rattle.sv_tree.specs.declared.exprs.RangeMark.TheVariants as mark
 use Rattle.sv_tree.specs.declared.exprs.Select.{Select}
@@ -7,15 +8,17 @@ use Rattle.sv_tree.specs.declared.exprs.SystemName.TheVariants as system_name
 use Rattle.sv_meaning.specs.Layouts.{find}
 use Rattle.sv_meaning.specs.Meanings.{named, from, of_literal, cast_to, to_member}
 use Rattle.sv_meaning.specs.Values.{mean, step}
+use Rattle.sv_typed.specs.declared.tree.Typed.{Typed}
+use Rattle.sv_typed.specs.declared.tree.Pick.{Pick}
 use Rattle.sv_typed.specs.Ops.{one_meaning}
 use Rattle.sv_names.specs.Cursors.{cursor_is}
 use Rattle.sv_typing.specs.Judging.{IsCause, Judges, Types, AreTyped}
 use Rattle.sv_names.specs.Kinds.{what_is}
 use Rattle.sv_names.specs.Names.{names_are, constants_are}
 use Rattle.sv_typing.specs.Positions.{is_constant, seen_in}
-use Rattle.sv_typing.specs.Picks.{Leads, rule_faults, rule_scope}
-use Rattle.sv_typing.specs.Roots.{JudgesChain, JudgesRoot}
-use Rattle.sv_typing.proofs.Arms.{sound_of_judged, fixed_expr, judged_at, types_at, fixes_at, all_at, concat_at, repeat_at, judged_literal, judged_name, judged_paren, judged_concat, judged_repeat, judged_cast_literal, judged_cast_name, judged_cast_paren, judged_cast_sign, judged_system, system_is, judged_unary, judged_two, judged_choose, led_member, led_index, led_range, parts_more, chain_cause, chain_ends}
+use Rattle.sv_typing.specs.Picks.{Chains, Leads, rule_faults, rule_scope}
+use Rattle.sv_typing.specs.Roots.{JudgesRoot}
+use Rattle.sv_typing.proofs.Arms.{sound_of_judged, fixed_expr, judged_at, types_at, fixes_at, all_at, concat_at, repeat_at, judged_literal, judged_name, judged_paren, judged_concat, judged_repeat, judged_cast_literal, judged_cast_name, judged_cast_paren, judged_cast_sign, judged_system, system_is, judged_unary, judged_two, judged_choose, led_member, led_index, led_range, parts_start, parts_more, parts_all, parts_cause, chain_begins, chain_next, chain_cause, chain_ends}
 use Rattle.sv_typing.proofs.typing.+expr.Goals as goal
 
 pub fixed-returns : goal.fixed-returns
@@ -237,3 +240,66 @@ typed_parts-parts-preserved t c =
     subst (AreTyped (map (mean at) (take (c.parts.expr-index + 1) c.args.all.now)) k) (sym c.in_ok-push.ensures.ok)
     (parts_more at c.args.all.now c.parts.expr-index c.expr-item.result k c.parts.list c.in_ok-part.part c.parts-test.true c.expr-item.is c.parts.invariant
     (subst (Judges (mean at c.expr-item.result) k) c.in_ok-part.was c.typed.ensures))
+
+-- ---- what is sound
+
+pub typed-fixed_of-requires-in-CastParen : goal.typed-fixed_of-requires-in-CastParen
+typed-fixed_of-requires-in-CastParen t c =
+    let m = mean (constants_are c.args.names.now) c.get-in-CastParen.result.now in
+    sound_of_judged m (m.faults true) c.typed-in-CastParen.result c.typed-in-CastParen.ensures
+
+pub typed-two_typed-requires : goal.typed-two_typed-requires
+typed-two_typed-requires t c =
+    let m = mean (seen_in c.args.position (names_are c.args.names.now)) c.get-in-Binary-3.result.now in
+    sound_of_judged m (m.faults (is_constant c.args.position)) c.typed-in-Binary-2.result c.typed-in-Binary-2.ensures
+
+pub fixed-fixed_of-requires : goal.fixed-fixed_of-requires
+fixed-fixed_of-requires t c =
+    let m = mean (constants_are c.args.names.now) c.args.expr.now in
+    sound_of_judged m (m.faults true) c.typed.result c.typed.ensures
+
+pub typed_index-fixed_index-requires : goal.typed_index-fixed_index-requires
+typed_index-fixed_index-requires t c =
+    let m = mean (constants_are c.args.names.now) c.args.expr.now in
+    sound_of_judged m (m.faults true) c.typed-in-Fixed.result c.typed-in-Fixed.ensures
+
+pub typed_index-fixed_index-requires-in-Joined : goal.typed_index-fixed_index-requires-in-Joined
+typed_index-fixed_index-requires-in-Joined t c =
+    let m = mean (names_are c.args.names.now) c.args.expr.now in
+    sound_of_judged m (m.faults true) c.typed-in-Joined.result c.typed-in-Joined.ensures
+
+-- ---- lists of parts and of selects
+
+pub typed_parts-parts-init : goal.typed_parts-parts-init
+typed_parts-parts-init t c =
+    let k = is_constant c.args.position in
+    subst (λ (z : List Typed). AreTyped [] k z) (sym c.new-list.ensures) (parts_start k)
+
+pub typed_parts-returns-in_err-part : goal.typed_parts-returns-in_err-part
+typed_parts-returns-in_err-part t c =
+    let p = err_from_is_err_and c.from_residual.result c.from_residual.ensures.1 in
+    let at = seen_in c.args.position (names_are c.args.names.now) in
+    let k = is_constant c.args.position in
+    rw (p.1, p.2)
+    (parts_cause at c.args.all.now c.parts.expr-index c.expr-item.result k c.in_err-part.field-0.0 c.parts-test.true c.expr-item.is (subst (Judges (mean at c.expr-item.result) k) c.in_err-part.was c.typed.ensures))
+
+pub typed_parts-returns : goal.typed_parts-returns
+typed_parts-returns t c =
+    parts_all (seen_in c.args.position (names_are c.args.names.now)) c.args.all.now c.parts.expr-index (is_constant c.args.position) c.parts.list c.parts-test.false c.parts.invariant
+
+pub chain_behind-selects-init : goal.chain_behind-selects-init
+chain_behind-selects-init t c =
+    let j = rule_faults c.args.rule in
+    let x = cursor_is c.args.at in
+    record { chains = subst (λ (z : List Pick). Chains j x [] z x) (sym c.new-picks.ensures) (chain_begins j x); sound = c.requires }
+
+pub chain_behind-selects-preserved : goal.chain_behind-selects-preserved
+chain_behind-selects-preserved t c =
+    let at = rule_scope c.args.rule (names_are c.args.names.now) in
+    let j = rule_faults c.args.rule in
+    let led = subst (Leads j (cursor_is c.selects.end) (step at c.select-item.result)) c.in-Ok.is c.select_step.ensures in
+    record {
+      chains = subst (λ (z : List Pick). Chains j (cursor_is c.args.at) (map (step at) (take (c.selects.select-index + 1) c.args.selects.now)) z (cursor_is c.in-Ok.next)) (sym c.in_ok-push-in-Ok.ensures.ok)
+          (chain_next at j (cursor_is c.args.at) (cursor_is c.selects.end) (cursor_is c.in-Ok.next) c.args.selects.now c.selects.select-index c.select-item.result c.selects.picks c.in-Ok.pick c.selects-test.true c.select-item.is c.selects.invariant.chains led.0);
+      sound = led.1;
+    }

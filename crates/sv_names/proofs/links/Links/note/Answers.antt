@@ -1,3 +1,4 @@
+use Rattle.std.proofs.lemmas.Result.{IfOk-from_err}
 use Rattle.std.proofs.Common.{◌≡◌, ◌∙◌, ◌++◌, ◌∷◌, [], refl, ap, arith, length, List, Option, Some, ℕ, subst}
 use Rattle.std.proofs.lemmas.Grind.{common_steps}
 use Rattle.std.specs.HashMap as places
@@ -30,3 +31,12 @@ returns-clause-ok c = λ names linked.
     subst (λ (n : ℕ). places.UpdatesBy (λ x y. bytes_eq x.items y.items) (λ k. bytes_eq c.in_ok-key.key.items k.items) old.latest c.insert.new.self (Some n)) place c.in_ok-before.ensures.updates in
     noted old now c.args.name.now c.in_ok-key.key.items c.in_ok-before.before names key updates
     (c.push_reserved.ensures.items ∙ ap (λ (x : List (Option ℕ)). x ++ c.in_ok-before.before ∷ []) c.reserve.ensures.items) c.in_ok-before.ensures.old linked
+
+pub returns-in_err-before-clause-ok : goal.returns-in_err-before-clause-ok
+returns-in_err-before-clause-ok c = IfOk-from_err _ _ c.from_residual-in_err-before.ensures.0
+
+pub returns-in_err-key-clause-ok : goal.returns-in_err-key-clause-ok
+returns-in_err-key-clause-ok c = IfOk-from_err _ _ c.from_residual.ensures.0
+
+pub returns-in_err-reserve-clause-ok : goal.returns-in_err-reserve-clause-ok
+returns-in_err-reserve-clause-ok c = IfOk-from_err _ _ c.from_residual-in_err-reserve.ensures.0

@@ -1,0 +1,8 @@
+use Rattle.std.proofs.lemmas.Result.{IfOk-from_err}
+use Rattle.sv_actions.proofs.rules.only.Goals as goal
+
+pub returns-in_err-push-clause-is : goal.returns-in_err-push-clause-is
+returns-in_err-push-clause-is c = IfOk-from_err _ _ c.from_residual.ensures.0
+
+pub returns-in_err-push-clause-made : goal.returns-in_err-push-clause-made
+returns-in_err-push-clause-made c = IfOk-from_err _ _ c.from_residual.ensures.0
