@@ -1,7 +1,7 @@
 -- The top, and what is made of a walk's end.
 use Rattle.std.proofs.Common.{◌≡◌, ℕ, suc, ◌-◌, true, List, [], ◌∷◌, length, map, Option, Some, None, Result, Ok, Err, refl, sym, ap, ◌∙◌, subst, arith}
 use Rattle.std.specs.List.{slice_get}
-use Rattle.std.specs.Result.{IfErr, IfOk, IsErrAnd}
+use Rattle.std.specs.Result.{IsErrAnd}
 use Rattle.sv_outside.specs.declared.refusal.TextErr.{TextErr}
 use Rattle.sv_outside.specs.declared.refusal.TextErr.TheVariants.{No, Memory}
 use Rattle.sv_tree.specs.declared.design.Module.{Module}
@@ -152,11 +152,6 @@ reads_refused source v (Err y) e h g = λ top. subst (λ (z : TextErr). let r : 
 pub library_refused : (source : Source) (v : Walker) (file : Open) (q : Result Library TextErr) (e : TextErr) → IsErrAnd q (λ y. y ≡ e) → ((top : Option Name) → Answers Reached (m.scopes source top) (Err e)) → ReadsInto source v file q
 library_refused source v file (Ok x) e h g = absurd h
 library_refused source v file (Err y) e h g = λ top. subst (λ (z : TextErr). let r : Result (Unit {0}) TextErr = Err z in Answers Reached (m.scopes source top) r) (sym h) (g top)
-
--- the file level with its library
-pub reads_both : (source : Source) (v : Walker) (file : Open) (x : Result Library TextErr) (r : Result (Open × Library) TextErr) → ReadsInto source v file x → IfOk r (λ p. (p.0 ≡ file) × (x ≡ Ok p.1)) → IfErr r (λ e. x ≡ Err e) → Reads source v r
-reads_both source v file x (Ok p) h a b = subst (λ (f : Open). IsRead source v f p.1) (sym a.0) (subst (ReadsInto source v file) a.1 h)
-reads_both source v file x (Err e) h a b = subst (ReadsInto source v file) b h
 
 -- the parts of a source are read, and its modules are those of the library
 pub reads_all : (source : Source) (v : Walker) (rows : List SourcePart) (start : m.State) (file : Open) (above : List ℕ) (modules : Modules) → rows ≡ source.parts → start ≡ m.file_state →

@@ -12,7 +12,6 @@ ghost use Rattle.sv_levels.specs.Tasks.{work_is};
 ghost use Rattle.sv_walk.specs.Walks.{IsNothing, state_of};
 
 use crate::file::file_level;
-use crate::held::let_go;
 use items::{Items, both};
 use std::alloc::{AllocError, Global};
 use sv_levels::{Front, Instance, Known, Levels, Library, Work};
@@ -69,9 +68,7 @@ fn from_top<'a>(
     let at = walker.here(file);
     let given = Vec::new(walker.alloc);
     let mut own = walker.begin_instance(top, path, 0, given)?;
-    let done = walk_top(walker, &mut own, library, top.tree, at);
-    let_go(own);
-    done
+    walk_top(walker, &mut own, library, top.tree, at)
 }
 
 // The modules of a source, and how many names of the file level each sees.
@@ -98,8 +95,8 @@ fn filed<'a>(
     ensures { Reads source.now walker.new result }
 {
     let mut file = walker.begin_file()?;
-    let library = read_library(walker, &mut file, source);
-    both(file, library)
+    let library = read_library(walker, &mut file, source)?;
+    Ok((file, library))
 }
 
 // The top among the modules of a source, with all that is below it. Each number of a top is that of a module.

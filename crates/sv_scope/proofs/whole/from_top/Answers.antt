@@ -15,7 +15,7 @@ returns c = λ all h.
     let k = known_is c.args.top in
     let st = state_of c.args.walker.now c.args.file.now in
     let first = state_of c.begin_instance.new.self c.in_ok-own.own in
-    subst (λ (j : Judged m.State). Answers (λ (s : m.State) (u : Unit {0}). IsWalked s c.walk_top-done.new.walker) j c.walk_top-done.result)
+    subst (λ (j : Judged m.State). Answers (λ (s : m.State) (u : Unit {0}). IsWalked s c.walk_top.new.walker) j c.walk_top.result)
     (sym (top_walk all k st first (front_is c.here-at.result) []
     (top_begun k st first c.in_ok-path.path (map given_is c.new-given.result.items) c.in_ok-path.ensures (ap (map given_is) c.new-given.ensures.items) (c.in_ok-own.ensures c.args.file.now)) c.here-at.ensures refl))
-    (c.walk_top-done.ensures all h)
+    (c.walk_top.ensures all h)
