@@ -1,7 +1,7 @@
 -- Scopes as code holds them.
-use Rattle.std.specs.Prelude.{ℕ, List, length, map}
+use Rattle.std.specs.Prelude.{ℕ, List, [], ◌++◌, length, map}
 use Rattle.sv_names.specs.Kinds.{entries_are}
-use Rattle.sv_meaning.specs.Layouts.{Entry, Scope}
+use Rattle.sv_meaning.specs.Layouts.{Entry, Name, Scope}
 use Rattle.sv_hierarchy.specs.Scopes as m
 use Rattle.sv_levels.specs.declared.levels.Front.{Front}
 use Rattle.sv_levels.specs.declared.levels.Instance.{Instance}
@@ -27,6 +27,17 @@ levels_are levels = map level_is levels.list.items
 -- the place behind all that is declared in a scope
 abbrev pub front_of : List m.Level → ℕ → m.Front
 front_of all n = record { level = n; nets = length (m.level_at all n).nets; consts = length (m.level_at all n).consts }
+
+-- a block of a name in a path, behind all that is declared in a scope
+abbrev pub block_in : List m.Level → ℕ → Name → List Entry → m.Level
+block_in all n part more = record {
+  path = m.prefix_of (m.level_at all n).path ++ part;
+  module_number = (m.level_at all n).module_number;
+  parent = n;
+  around = m.fronts_at all (front_of all n);
+  nets = more;
+  consts = [];
+}
 
 abbrev pub seen_frames : List m.Level → List Front → List Entry
 seen_frames all fronts = m.seen_along all (map front_is fronts)

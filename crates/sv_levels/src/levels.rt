@@ -8,7 +8,7 @@ ghost use Rattle.sv_names.specs.Names.{above_of, frames_of, loops_of, names_are}
 ghost use Rattle.sv_meaning.specs.Layouts.{scope_of};
 ghost use Rattle.sv_hierarchy.specs.Scopes.{behind, fronts_at, instances_from, level_at, live_at, prefix_of, seen_at, with_const, with_level, with_net};
 ghost use Rattle.sv_levels.specs.Levels.{instance_is};
-ghost use Rattle.sv_levels.specs.Levels.{front_is, front_of, level_is, levels_are, live_scope, seen_frames};
+ghost use Rattle.sv_levels.specs.Levels.{block_in, front_is, front_of, level_is, levels_are, live_scope, seen_frames};
 
 use crate::held::let_go;
 use items::Items;
@@ -17,7 +17,7 @@ use sv_names::{Names, Scope, What};
 use sv_outside::Name;
 
 /// A place in a scope: so many of its nets and variables, and so many of its constants and types, are declared above.
-#[derive(Clone, Copy, PartialEq, Eq, Debug)]
+#[derive(Clone, Copy)]
 pub struct Front {
     /// The number of the scope: 0 is the file level.
     pub level: usize,
@@ -185,6 +185,30 @@ impl Levels {
                 Ok(())
             }
         }
+    }
+
+    /// A block of a name in a path, behind all that is declared in a scope so far, in which these names stand first.
+    pub fn block(
+        &self,
+        alloc: Global,
+        level: usize,
+        part: &[u8],
+        nets: Scope,
+    ) -> Result<Level, AllocError>
+        ensures { IfOk result (λ block. level_is block ≡ block_in (levels_are self.now) level part.now (entries_are nets)) }
+    {
+        let path = self.path(alloc, level, part)?;
+        let at = self.front(level);
+        let around = self.fronts(alloc, at)?;
+        let number = self.module(level);
+        Ok(Level {
+            path,
+            module: number,
+            parent: level,
+            around,
+            nets,
+            consts: Scope::new(alloc),
+        })
     }
 
     /// The places in the scopes whose names are seen at a place, that one the last.

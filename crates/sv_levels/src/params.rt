@@ -1,7 +1,7 @@
 // Parameters: which expression gives a value, of which type, at which names (IEEE 1800-2017, 6.20). An override keeps its
 // expression and the place where it is read and is evaluated only where the parameter is declared, since the type stands there.
 // Overrides are found by a hash index of their names, so that a list of parameters takes linear time.
-ghost use Rattle.std.specs.Prelude.{◌≡◌, None, Option, MatchOption, IfOk, map};
+ghost use Rattle.std.specs.Prelude.{◌≡◌, [], None, Option, MatchOption, IfOk, map};
 ghost use Rattle.std.specs.Option.{option_copied};
 ghost use Rattle.sv_tree.specs.declared.design.ParamType.{ParamType as TypeOfParam};
 ghost use Rattle.sv_tree.specs.declared.design.ParamWord.{ParamWord as WordOfParam};
@@ -12,10 +12,12 @@ ghost use Rattle.sv_types.specs.Values.{JudgesValue};
 ghost use Rattle.sv_hierarchy.specs.Scopes as m;
 ghost use Rattle.sv_hierarchy.specs.Scopes.{header_of};
 ghost use Rattle.sv_modules.specs.Naming.{Indexes};
+ghost use Rattle.sv_levels.specs.Levels.{front_is, levels_are};
 ghost use Rattle.sv_levels.specs.Overriding.{given_name};
 ghost use Rattle.sv_levels.specs.Tasks.{actual_is, given_is};
 
 use crate::held::let_go;
+use crate::levels::{Front, Levels};
 use crate::overrides::Overrides;
 use crate::tasks::{Actual, Given};
 use items::Items;
@@ -55,9 +57,24 @@ fn value_named(
     let text = word.text.copy()?;
     let place = word.place;
     let expr = Expr::Name(Word { text, place }, Items::new(alloc));
-    let found = param_value(alloc, form, names, &expr, value_names);
-    let_go(expr);
-    found
+    param_value(alloc, form, names, &expr, value_names)
+}
+
+/// The value of a parameter at a place of these levels, where it is given this.
+pub fn value_at(
+    alloc: Global,
+    levels: &Levels,
+    at: Front,
+    form: Option<&ParamType>,
+    given: Given<'_>,
+) -> Result<Known, TextErr>
+    ensures { JudgesValue (param_value (m.seen_at (levels_are levels.now) (front_is at)) (option_copied form.entry) (m.meant (levels_are levels.now) (given_is given.entry))) result }
+{
+    let names = levels.seen(alloc, at)?;
+    let value_names = levels.seen(alloc, given.at)?;
+    let known = value_of(alloc, form, &names, given.value, &value_names);
+    let_go((names, value_names));
+    known
 }
 
 /// What is given to a parameter, or else its own expression. A `localparam` is given nothing.
@@ -112,6 +129,13 @@ pub fn entry_word(port: &ParPort, before: ParamWord) -> ParamWord
 }
 
 impl<'a> Overrides<'a> {
+    /// Nothing is given.
+    pub fn none(alloc: Global) -> Result<Overrides<'a>, AllocError>
+        ensures { IfOk result (λ all. all.list.items ≡ []) }
+    {
+        Overrides::new(alloc, Vec::new(alloc))
+    }
+
     /// These.
     pub fn new(alloc: Global, list: Vec<Given<'a>>) -> Result<Overrides<'a>, AllocError>
         ensures { IfOk result (λ all. all.list.items ≡ list.entry.items) }

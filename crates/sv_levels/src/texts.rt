@@ -1,5 +1,6 @@
 // Names that the text does not spell.
-ghost use Rattle.std.specs.Prelude.{◌≡◌, ◌<◌, ◌≤◌, negsuc, length, IfOk};
+ghost use Rattle.std.specs.Prelude.{◌≡◌, ◌++◌, ◌<◌, ◌≤◌, codes, negsuc, length, IfOk, OnOk};
+ghost use Rattle.std.specs.Fmt.{signed_decimal};
 ghost use Rattle.std.specs.Option.{option_copied};
 ghost use Rattle.fourvec.specs.Bits.{is_negative, signed};
 ghost use Rattle.sv_hierarchy.specs.Scopes.{block_name, block_place, turn_name};
@@ -64,15 +65,22 @@ fn number_of(bits: &Four) -> i128
     }
 }
 
+// A number in brackets, behind so much.
+fn push_index(bytes: &mut Vec<u8>, number: i128) -> Result<(), AllocError>
+    ensures { OnOk result (bytes.new.items ≡ bytes.old.items ++ (codes "[" ++ (signed_decimal number ++ codes "]"))) }
+{
+    let mut buffer = Buffer::new();
+    bytes.push(b'[')?;
+    bytes.extend_from_slice(buffer.format(number).as_bytes())?;
+    bytes.push(b']')?;
+    Ok(())
+}
+
 /// The name of a turn's block, by the signed value of the loop's variable (27.4).
 pub fn turn_name(alloc: Global, block: &[u8], bits: &Four) -> Result<Name, AllocError>
     ensures { IfOk result (λ name. name ≡ turn_name block.now bits.now) }
 {
-    let number = number_of(bits);
-    let mut buffer = Buffer::new();
     let mut bytes = block.to_vec(alloc)?;
-    bytes.push(b'[')?;
-    bytes.extend_from_slice(buffer.format(number).as_bytes())?;
-    bytes.push(b']')?;
+    push_index(&mut bytes, number_of(bits))?;
     Name::new(alloc, &bytes)
 }

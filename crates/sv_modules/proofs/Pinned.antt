@@ -1,12 +1,13 @@
 -- Connections, one by one.
-use Rattle.std.proofs.Common.{◌≡◌, ℕ, ◌+◌, ◌<◌, ◌≤◌, Bool, true, false, ◌||◌, List, [], ◌∷◌, ◌++◌, length, take, drop, get_or, map, Some, refl, sym, ap, ◌∙◌, subst, append_assoc, Ok, Err, Result, arith, not, Vec, Global}
+use Rattle.std.proofs.Common.{◌≡◌, ◌⊎◌, inl, inr, ℕ, ◌+◌, ◌<◌, ◌≤◌, Bool, true, false, ◌||◌, List, [], ◌∷◌, ◌++◌, length, take, drop, get_or, map, Some, refl, sym, ap, ◌∙◌, subst, append_assoc, Ok, Err, Result, arith, not, Vec, Global}
 use Rattle.std.proofs.lemmas.List.{append-nil, map-append}
 use Rattle.std.specs.List.{Contains}
+use Rattle.std.specs.Result.{IsErrAnd}
 use Rattle.std.specs.Str.{bytes_eq}
 use Rattle.sv_outside.specs.declared.refusal.Refusal.{Refusal}
 use Rattle.sv_outside.specs.declared.refusal.Place.{Place}
 use Rattle.sv_outside.specs.declared.refusal.TextErr.{TextErr}
-use Rattle.sv_outside.specs.declared.refusal.TextErr.TheVariants.{No}
+use Rattle.sv_outside.specs.declared.refusal.TextErr.TheVariants.{No, Memory}
 use Rattle.sv_tree.specs.declared.word.Word.{Word}
 use Rattle.sv_tree.specs.declared.exprs.Expr.{Expr}
 use Rattle.sv_tree.specs.declared.design.NamedPin.{NamedPin}
@@ -20,7 +21,8 @@ use Rattle.sv_loops.proofs.Chains.{then_err, answers_err, answers_ok}
 use Rattle.sv_tree.specs.declared.design.Pin.{Pin}
 use Rattle.sv_modules.specs.declared.connect.Connection.{Connection as Coded}
 use Rattle.sv_modules.specs.Connections.{joined_is, connection_is}
-use Rattle.sv_modules.specs.Naming.{Holds, Adds}
+use Rattle.sv_modules.specs.Naming.{Holds, Adds, holds}
+use Rattle.sv_modules.specs.Putting.{IsPut, PutsPin}
 use Rattle.sv_modules.specs.declared.name_set.NameSet.{NameSet}
 use Rattle.sv_modules.proofs.Turns.{drop_next, drop_none, map_next}
 use Rattle.sv_modules.proofs.Sets.{has_append, holds_more}
@@ -170,3 +172,31 @@ listed_next old new c w p h e g =
 
 pub given_next : (old new : List Coded) (c : Coded) (n : Name) (x : Expr) → new ≡ old ++ c ∷ [] → connection_is c ≡ (n, Some x) → map connection_is new ≡ map connection_is old ++ (n, Some x) ∷ []
 given_next old new c n x h e = ap (map connection_is) h ∙ map-append connection_is old (c ∷ []) ∙ ap (λ y. map connection_is old ++ y ∷ []) e
+
+-- ---- a connection by name
+
+-- what refuses one refuses all
+pub put_refused : (j : Judged (List Connection)) (known used more : NameSet) (list now : List Coded) (names : List Name) (pins : List NamedPin) (i : ℕ) (x : NamedPin) (all : List Connection) (e : TextErr) → i < length pins → x ≡ get_or pins i x →
+    Holds known names → Holds used (pin_names (take i pins)) → j ≡ behind all (by_name names (pin_names (take i pins)) (drop i pins)) → PutsPin known used list x more now (Err e) → Listed j (Err e)
+put_refused j known used more list now names pins i x all (No r) h e k u g (inl p) =
+    listed_err j (No r) (subst (λ (q : Refusal). Gives j (Err (No q))) (sym p.1) (named_unknown j names pins i x all h e (sym (k x.name.text) ∙ p.0) g))
+put_refused j known used more list now names pins i x all (No r) h e k u g (inr p) =
+    listed_err j (No r) (subst (λ (q : Refusal). Gives j (Err (No q))) (sym p.2) (named_twice j names pins i x all h e (sym (k x.name.text) ∙ p.0) (sym (u x.name.text) ∙ p.1) g))
+put_refused (Ok y) known used more list now names pins i x all Memory h e k u g p = tt
+put_refused (Err y) known used more list now names pins i x all Memory h e k u g p = tt
+
+pub put_handed : (j : Judged (List Connection)) (known used more : NameSet) (list now : List Coded) (names : List Name) (pins : List NamedPin) (i : ℕ) (x : NamedPin) (all : List Connection) (e : TextErr) (z : Result (Vec Coded Global) TextErr) →
+    i < length pins → x ≡ get_or pins i x → Holds known names → Holds used (pin_names (take i pins)) → j ≡ behind all (by_name names (pin_names (take i pins)) (drop i pins)) → PutsPin known used list x more now (Err e) → IsErrAnd z (λ y. y ≡ e) → Listed j z
+put_handed j known used more list now names pins i x all e (Ok v) h g k u f p q = absurd q
+put_handed j known used more list now names pins i x all e (Err y) h g k u f p q = subst (λ (w : TextErr). Listed j (Err w)) (sym q) (put_refused j known used more list now names pins i x all e h g k u f p)
+
+pub put_handed_memory : (known used more : NameSet) (list now : List Coded) (x : NamedPin) (z : Result (Unit {0}) TextErr) → IsErrAnd z (λ y. y ≡ Memory) → PutsPin known used list x more now z
+put_handed_memory known used more list now x (Ok v) q = absurd q
+put_handed_memory known used more list now x (Err y) q = subst (λ (w : TextErr). PutsPin known used list x more now (Err w)) (sym q) tt
+
+pub put_next : (j : Judged (List Connection)) (known used more : NameSet) (list now : List Coded) (names : List Name) (pins : List NamedPin) (i : ℕ) (x : NamedPin) → i < length pins → x ≡ get_or pins i x →
+    Holds known names → Holds used (pin_names (take i pins)) → j ≡ behind (map connection_is list) (by_name names (pin_names (take i pins)) (drop i pins)) → IsPut known used list x more now →
+    j ≡ behind (map connection_is now) (by_name names (pin_names (take (i + 1) pins)) (drop (i + 1) pins))
+put_next j known used more list now names pins i x h e k u g p =
+    named_next j names pins i x (map connection_is list) h e (sym (k x.name.text) ∙ p.is_known) (sym (u x.name.text) ∙ p.is_new) g
+    ∙ ap (λ (all : List Connection). behind all (by_name names (pin_names (take (i + 1) pins)) (drop (i + 1) pins))) (sym p.all_is)

@@ -10,6 +10,7 @@ ghost use Rattle.sv_loops.specs.Answers.{Answers};
 ghost use Rattle.sv_tree.specs.declared.word.Word.{Word as Spelt};
 ghost use Rattle.sv_modules.specs.Naming.{Holds, texts_of};
 ghost use Rattle.sv_modules.specs.Connections.{joined_is, connection_is};
+ghost use Rattle.sv_modules.specs.Putting.{PutsPin};
 
 use crate::name_set::NameSet;
 use std::alloc::{AllocError, Global};
@@ -57,6 +58,29 @@ fn set_of(alloc: Global, words: &[&Word]) -> Result<NameSet, AllocError>
     Ok(names)
 }
 
+// A connection more: E17 where its name is none of those that are known, E18 where it is used before.
+fn put_pin<'a>(
+    known: &NameSet,
+    used: &mut NameSet,
+    list: &mut Vec<Connection<'a>>,
+    pin: &'a NamedPin,
+) -> Result<(), TextErr>
+    ensures { PutsPin known.now used.old list.old.items pin.now used.new list.new.items result }
+{
+    if !known.has(pin.name.text.bytes()) {
+        return Err(TextErr::No(refusal(17, pin.name.place)));
+    }
+    if used.has(pin.name.text.bytes()) {
+        return Err(TextErr::No(refusal(18, pin.name.place)));
+    }
+    used.add(pin.name.text.bytes())?;
+    list.push(Connection {
+        name: &pin.name,
+        joined: joined_of(&pin.pin),
+    })?;
+    Ok(())
+}
+
 // By name: each is one of the names, and comes once.
 fn by_name<'a>(
     alloc: Global,
@@ -69,17 +93,7 @@ fn by_name<'a>(
     let mut used = NameSet::new(alloc);
     let mut list = Vec::new(alloc);
     'pins: for pin in pins {
-        if !known.has(pin.name.text.bytes()) {
-            return Err(TextErr::No(refusal(17, pin.name.place)));
-        }
-        if used.has(pin.name.text.bytes()) {
-            return Err(TextErr::No(refusal(18, pin.name.place)));
-        }
-        used.add(pin.name.text.bytes())?;
-        list.push(Connection {
-            name: &pin.name,
-            joined: joined_of(&pin.pin),
-        })?;
+        put_pin(&known, &mut used, &mut list, pin)?;
     }
     Ok(list)
 }

@@ -19,7 +19,7 @@ use Rattle.sv_modules.specs.Listed.{modules_of}
 use Rattle.sv_modules.specs.declared.numbered.Modules.{Modules}
 use Rattle.sv_meaning.specs.Params.{Connection}
 use Rattle.sv_levels.specs.Levels.{levels_are}
-use Rattle.sv_scope.specs.Scoped.{IsRead, IsScoped, IsWalked, Reads}
+use Rattle.sv_scope.specs.Scoped.{IsRead, IsScoped, IsWalked, Reads, ReadsInto}
 use Rattle.sv_levels.specs.Tasks.{work_is}
 use Rattle.sv_walk.specs.Walks.{state_of}
 use Rattle.sv_levels.specs.declared.library.Library.{Library}
@@ -94,15 +94,6 @@ top_walk all k st last at pins e f g =
     ∙ ap (λ (a : m.Front). m.instance_walk true k.tree a [] last >>= m.below (m.child m.deepest all)) (sym f)
     ∙ ap (λ (p : List Connection). m.instance_walk true k.tree at p last >>= m.below (m.child m.deepest all)) (sym g)
 
-pub top_stopped : {B D : Type 0} (r : m.State → B → Type 0) (s : m.State → D → Type 0) (all : m.Library) (k : m.Known) (st last : m.State) (at : m.Front) (pins : List Connection) (e : TextErr) → last ≡ m.begun k [] 0 [] st → at ≡ m.here st → pins ≡ [] →
-    Answers r (m.instance_walk true k.tree at pins last) (Err e) → Answers s (m.from_top all k st) (Err e)
-top_stopped r s all k st last at pins e b f g h =
-    subst (λ (j : Judged m.State). Answers s j (Err e)) (sym (top_walk all k st last at pins b f g)) (refused_first r s (m.instance_walk true k.tree at pins last) (m.below (m.child m.deepest all)) e h)
-
-pub top_opened : (all : m.Library) (k : m.Known) (st last own : m.State) (at : m.Front) (pins : List Connection) → last ≡ m.begun k [] 0 [] st → at ≡ m.here st → pins ≡ [] →
-    m.instance_walk true k.tree at pins last ≡ Ok own → m.from_top all k st ≡ m.below (m.child m.deepest all) own
-top_opened all k st last own at pins b f g h = top_walk all k st last at pins b f g ∙ ap (λ (j : Judged m.State). j >>= m.below (m.child m.deepest all)) h
-
 pub ok_walked : (j : Judged m.State) (v : Walker) (u : Unit {0}) → Answers (λ st (x : Unit {0}). IsWalked st v) j (Ok u) → Answers (λ st (w : Walker). IsWalked st w) j (Ok v)
 ok_walked (Ok st) v u h = h
 ok_walked (Err all) v u h = absurd h
@@ -157,6 +148,10 @@ parts_refused r source rows start result e a b f h = λ top.
 pub reads_refused : (source : Source) (v : Walker) (q : Result (Open × Library) TextErr) (e : TextErr) → IsErrAnd q (λ y. y ≡ e) → ((top : Option Name) → Answers Reached (m.scopes source top) (Err e)) → Reads source v q
 reads_refused source v (Ok x) e h g = absurd h
 reads_refused source v (Err y) e h g = λ top. subst (λ (z : TextErr). let r : Result (Unit {0}) TextErr = Err z in Answers Reached (m.scopes source top) r) (sym h) (g top)
+
+pub library_refused : (source : Source) (v : Walker) (file : Open) (q : Result Library TextErr) (e : TextErr) → IsErrAnd q (λ y. y ≡ e) → ((top : Option Name) → Answers Reached (m.scopes source top) (Err e)) → ReadsInto source v file q
+library_refused source v file (Ok x) e h g = absurd h
+library_refused source v file (Err y) e h g = λ top. subst (λ (z : TextErr). let r : Result (Unit {0}) TextErr = Err z in Answers Reached (m.scopes source top) r) (sym h) (g top)
 
 -- the parts of a source are read, and its modules are those of the library
 pub reads_all : (source : Source) (v : Walker) (rows : List SourcePart) (start : m.State) (file : Open) (above : List ℕ) (modules : Modules) → rows ≡ source.parts → start ≡ m.file_state →

@@ -1,7 +1,8 @@
 -- The scopes of a source as code holds them.
-use Rattle.std.specs.Prelude.{◌≡◌, ℕ, [], List, map, Option, Result, Ok, Err}
+use Rattle.std.specs.Prelude.{◌≡◌, ℕ, true, [], List, map, Option, Result, Ok, Err}
 use Rattle.sv_outside.specs.declared.refusal.TextErr.{TextErr}
 use Rattle.sv_outside.specs.declared.text.Signal.{Signal}
+use Rattle.sv_tree.specs.declared.design.Module.{Module}
 use Rattle.sv_tree.specs.declared.design.Source.{Source}
 use Rattle.sv_meaning.specs.Faults.{◌>>=◌}
 use Rattle.sv_meaning.specs.Layouts.{Name}
@@ -13,7 +14,8 @@ use Rattle.sv_levels.specs.declared.library.Known.{Known}
 use Rattle.sv_scope.specs.declared.whole.DesignScopes.{DesignScopes}
 use Rattle.sv_walk.specs.declared.walker.Walker.{Walker}
 use Rattle.sv_walk.specs.declared.walker.Open.{Open}
-use Rattle.sv_levels.specs.Levels.{levels_are}
+use Rattle.sv_levels.specs.Levels.{front_is, levels_are}
+use Rattle.sv_levels.specs.declared.levels.Front.{Front}
 use Rattle.sv_levels.specs.Library.{IsLibrary, known_is}
 use Rattle.sv_levels.specs.Tasks.{work_is}
 use Rattle.sv_walk.specs.Walks.{state_of}
@@ -25,6 +27,10 @@ pub record IsWalked (st : m.State) (w : Walker) : Type 0 where
   pub turns : st.turns ≡ w.tally.turns
   pub wires : st.wires ≡ w.wires
   pub works : st.works ≡ map work_is w.works.items
+
+abbrev pub WalksTop : Library → Module → Front → Walker → Open → Walker → Result Unit TextErr → Type 0
+WalksTop library tree at w own v result =
+    (all : m.Library) → IsLibrary library all → Answers (λ st u. IsWalked st v) (m.instance_walk true tree (front_is at) [] (state_of w own) >>= m.below (m.child m.deepest all)) result
 
 abbrev pub FromTop : Library → Known → Walker → Open → Walker → Result Unit TextErr → Type 0
 FromTop library top w file v result =
@@ -40,6 +46,10 @@ pub record IsRead (source : Source) (v : Walker) (file : Open) (library : Librar
   pub all : m.Library
   pub read : m.library source.parts [] m.file_state ≡ Ok (all, state_of v file)
   pub listed : IsLibrary library all
+
+abbrev pub ReadsInto : Source → Walker → Open → Result Library TextErr → Type 0
+ReadsInto source v file (Ok library) = IsRead source v file library
+ReadsInto source v file (Err e) = (top : Option Name) → Answers (λ (st : m.State) (u : Unit {0}). Unit {0}) (m.scopes source top) (Err e)
 
 abbrev pub Reads : Source → Walker → Result (Open × Library) TextErr → Type 0
 Reads source v (Ok x) = IsRead source v x.0 x.1

@@ -3,7 +3,6 @@
 #![tactic(auto)]
 
 mod file;
-mod held;
 mod whole;
 
 pub use sv_levels::{Actual, Front, Instance, Task, Work};

@@ -7,19 +7,18 @@ ghost use Rattle.sv_loops.specs.Answers.{Answers};
 ghost use Rattle.sv_names.specs.Names.{names_are, loops_of};
 ghost use Rattle.sv_hierarchy.specs.Scopes as m;
 ghost use Rattle.sv_levels.specs.Levels.{front_is, instance_is};
-ghost use Rattle.sv_scope.specs.Scoped.{FromSome, FromTop, IsScoped, IsWalked, Reads, instances_of, levels_of, turns_of, wires_of, works_of};
+ghost use Rattle.sv_scope.specs.Scoped.{FromSome, FromTop, IsScoped, IsWalked, Reads, ReadsInto, WalksTop, instances_of, levels_of, turns_of, wires_of, works_of};
 ghost use Rattle.sv_levels.specs.Tasks.{work_is};
-ghost use Rattle.sv_walk.specs.Walks.{IsNothing};
+ghost use Rattle.sv_walk.specs.Walks.{IsNothing, state_of};
 
 use crate::file::file_level;
-use crate::held::let_go;
 use items::{Items, both};
 use std::alloc::{AllocError, Global};
 use sv_levels::{Front, Instance, Known, Levels, Library, Work};
 use sv_modules::{Modules, top_of};
 use sv_names::Names;
 use sv_outside::{Name, Place, Signal, TextErr};
-use sv_tree::Source;
+use sv_tree::{Module, Source};
 use sv_typing::refusal;
 use sv_walk::{Open, Walker};
 
@@ -42,6 +41,20 @@ pub struct DesignScopes<'a> {
     turns: u64,
 }
 
+// The items of the top, and all that is below it.
+fn walk_top<'a>(
+    walker: &mut Walker<'a>,
+    own: &mut Open<'a>,
+    library: &Library<'a>,
+    tree: &'a Module,
+    at: Front,
+) -> Result<(), TextErr>
+    ensures { WalksTop library.now tree.now at walker.old own.old walker.new result }
+{
+    walker.instance(own, true, tree, at, &[])?;
+    walker.below(own, library, DEEPEST)
+}
+
 // The top with all that is below it.
 fn from_top<'a>(
     walker: &mut Walker<'a>,
@@ -52,14 +65,25 @@ fn from_top<'a>(
     ensures { FromTop library.now top.entry walker.old file.now walker.new result }
 {
     let path = Name::new(walker.alloc, b"")?;
-    let none = Vec::new(walker.alloc);
     let at = walker.here(file);
     let given = Vec::new(walker.alloc);
     let mut own = walker.begin_instance(top, path, 0, given)?;
-    walker.instance(&mut own, true, top.tree, at, &none)?;
-    let done = walker.below(&own, library, DEEPEST);
-    let_go(own);
-    done
+    walk_top(walker, &mut own, library, top.tree, at)
+}
+
+// The modules of a source, and how many names of the file level each sees.
+fn read_library<'a>(
+    walker: &mut Walker<'a>,
+    file: &mut Open<'a>,
+    source: &'a Source,
+) -> Result<Library<'a>, TextErr>
+    requires { state_of walker.old file.old ≡ m.file_state }
+    ensures { ReadsInto source.now walker.new file.new result }
+{
+    let above = file_level(walker, file, source.parts.as_slice())?;
+    let modules = Modules::new(walker.alloc, source);
+    let (above, modules) = both(above, modules)?;
+    Ok(Library { modules, above })
 }
 
 // The file level of a source, and its modules.
@@ -71,10 +95,8 @@ fn filed<'a>(
     ensures { Reads source.now walker.new result }
 {
     let mut file = walker.begin_file()?;
-    let above = file_level(walker, &mut file, source.parts.as_slice());
-    let (file, above) = both(file, above)?;
-    let ((file, above), modules) = both((file, above), Modules::new(walker.alloc, source))?;
-    Ok((file, Library { modules, above }))
+    let library = read_library(walker, &mut file, source)?;
+    Ok((file, library))
 }
 
 // The top among the modules of a source, with all that is below it. Each number of a top is that of a module.

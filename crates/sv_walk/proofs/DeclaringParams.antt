@@ -9,9 +9,8 @@ use Rattle.sv_tree.specs.declared.design.ParamType.{ParamType}
 use Rattle.sv_tree.specs.declared.design.ParPort.{ParPort}
 use Rattle.sv_meaning.specs.Faults.{Judged, ◌>>=◌}
 use Rattle.sv_meaning.specs.Layouts as layouts
-use Rattle.sv_meaning.specs.Layouts.{Name, Scope}
+use Rattle.sv_meaning.specs.Layouts.{Name}
 use Rattle.sv_meaning.specs.Params.{param_value}
-use Rattle.sv_meaning.specs.Values.{mean}
 use Rattle.sv_names.specs.declared.layout.Known.{Known}
 use Rattle.sv_types.specs.Types.{Refused}
 use Rattle.sv_types.specs.Values.{JudgesValue}
@@ -20,7 +19,8 @@ use Rattle.sv_hierarchy.specs.Scopes as m
 use Rattle.sv_walk.specs.declared.walker.Walker.{Walker}
 use Rattle.sv_walk.specs.declared.walker.Open.{Open}
 use Rattle.sv_levels.specs.declared.tasks.Given.{Given}
-use Rattle.sv_levels.specs.Levels.{levels_are}
+use Rattle.sv_levels.specs.declared.levels.Front.{Front}
+use Rattle.sv_levels.specs.Levels.{front_is, levels_are}
 use Rattle.sv_levels.specs.Tasks.{given_is}
 use Rattle.sv_walk.specs.Walks.{state_of}
 use Rattle.sv_walk.proofs.Declaring.{Leads, led, leads, refused, refused_then, refused_by}
@@ -68,15 +68,11 @@ unfolding m.header_params
 header_end h all i j w o u l s = leads j w o u (s ∙ ap (λ (xs : List ParPort). m.header_params h xs (state_of w o)) (drop_none all i l))
 
 -- the value by what is declared above
-pub value_is : (w : Walker) (o : Open) (form : Option ParamType) (word : ParamWord) (name : Word) (value x : Expr) (names value_names : Scope) (own given : Given) (r : Result Known TextErr) →
-    JudgesValue (param_value names form (mean value_names x)) r → given_is own ≡ record { name = name.text; at = m.here (state_of w o); value = value } →
+pub value_is : (w : Walker) (o : Open) (form : Option ParamType) (word : ParamWord) (name : Word) (value : Expr) (at : Front) (own given : Given) (r : Result Known TextErr) →
+    JudgesValue (param_value (m.seen_at (levels_are w.levels) (front_is at)) form (m.meant (levels_are w.levels) (given_is given))) r → front_is at ≡ m.here (state_of w o) →
+    given_is own ≡ record { name = name.text; at = m.here (state_of w o); value = value } →
     given_is given ≡ m.given_or (given_is own).name (m.overriding word (map given_is o.overridden.list.items)) (given_is own) →
-    names ≡ m.seen_at (levels_are w.levels) (m.here (state_of w o)) → value_names ≡ m.seen_at (levels_are w.levels) (given_is given).at → x ≡ (given_is given).value →
     JudgesValue (param_value (m.seen (state_of w o)) form (m.meant (levels_are w.levels) (m.given_to word name value (state_of w o)))) r
-value_is w o form word name value x names value_names own given r h a b c d e =
+value_is w o form word name value at own given r h e a b =
     let g : given_is given ≡ m.given_to word name value (state_of w o) = b ∙ ap (λ (z : m.Given). m.given_or z.name (m.overriding word (map given_is o.overridden.list.items)) z) a in
-    let p : value_names ≡ m.seen_at (levels_are w.levels) (m.given_to word name value (state_of w o)).at = d ∙ ap (λ (z : m.Given). m.seen_at (levels_are w.levels) z.at) g in
-    let q : x ≡ (m.given_to word name value (state_of w o)).value = e ∙ ap (λ (z : m.Given). z.value) g in
-    let t : param_value names form (mean value_names x) ≡ param_value (m.seen (state_of w o)) form (m.meant (levels_are w.levels) (m.given_to word name value (state_of w o))) =
-    λ i. param_value (c i) form (mean (p i) (q i)) in
-    subst (λ (j : Judged layouts.What). JudgesValue j r) t h
+    subst (λ (j : Judged layouts.What). JudgesValue j r) (λ i. param_value (m.seen_at (levels_are w.levels) (e i)) form (m.meant (levels_are w.levels) (g i))) h

@@ -3,6 +3,7 @@ pub mod DeclaringParams
 pub mod DeclaringWires
 pub mod HeaderPorts
 pub mod Opening
+pub mod Sizes
 pub mod Walking
 pub mod WalkingBlocks
 pub mod WalkingChildren

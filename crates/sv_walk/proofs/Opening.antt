@@ -30,7 +30,7 @@ use Rattle.sv_levels.specs.declared.levels.Level.{Level}
 use Rattle.sv_levels.specs.declared.levels.Levels.{Levels}
 use Rattle.sv_levels.specs.declared.tasks.Child.{Child}
 use Rattle.sv_levels.specs.Tasks.{child_is, given_is, work_is}
-use Rattle.sv_walk.specs.Walks.{IsNothing, state_of}
+use Rattle.sv_walk.specs.Walks.{IsBare, IsNothing, state_of}
 use Rattle.sv_walk.specs.declared.walker.Walker.{Walker}
 use Rattle.sv_walk.specs.declared.walker.Open.{Open}
 use Rattle.sv_levels.specs.declared.tally.Tally.{Tally}
@@ -258,7 +258,7 @@ begun_is w levels children o current k path parent given x h p n q a b c e l g i
       children = map child_is (e z);
     }
 
-pub file_is : (w : Walker) (levels : Levels) (o : Open) (x : Level) → IsNothing w → levels_are levels ≡ levels_are w.levels ++ level_is x ∷ [] → x.path ≡ [] → x.module ≡ 0 → x.parent ≡ 0 → x.around ≡ [] → x.nets ≡ [] → x.consts ≡ [] →
+file_is : (w : Walker) (levels : Levels) (o : Open) (x : Level) → IsNothing w → levels_are levels ≡ levels_are w.levels ++ level_is x ∷ [] → x.path ≡ [] → x.module ≡ 0 → x.parent ≡ 0 → x.around ≡ [] → x.nets ≡ [] → x.consts ≡ [] →
     o.level ≡ 0 → o.constructs ≡ 0 → map given_is o.overridden.list.items ≡ [] → ((n : Name) → holds o.taken n ≡ has_name n []) → state_of (record w { levels = levels }) o ≡ m.file_state
 unfolding has_name
 file_is w levels o x none h p n q a b c l g i t =
@@ -277,6 +277,11 @@ file_is w levels o x none h p n q a b c l g i t =
       works = map work_is (none.works z);
       children = map child_is (none.children z);
     }
+
+pub file_begun : {E : Type 0} (w : Walker) (levels : Levels) (x : Level) (r : Result Open E) → IsNothing w → levels_are levels ≡ levels_are w.levels ++ level_is x ∷ [] → x.path ≡ [] → x.module ≡ 0 → x.parent ≡ 0 → x.around ≡ [] → x.nets ≡ [] →
+    x.consts ≡ [] → IfOk r (IsBare 0) → IfOk r (λ o. state_of (record w { levels = levels }) o ≡ m.file_state)
+file_begun w levels x (Ok o) none h p n q a e c b = file_is w levels o x none h p n q a e c b.level_is b.constructs b.overridden b.taken
+file_begun w levels x (Err e) none h p n q a f c b = tt
 
 -- an instance of the same path and the same that is given
 pub begun_as : {B E : Type 0} (g : B → m.State) (k : m.Known) (path name : Name) (parent : ℕ) (given all : List m.Given) (st : m.State) (r : Result B E) → path ≡ name → given ≡ all →

@@ -1,6 +1,6 @@
 -- Blocks that are begun and left, and the turns of loops.
 use Rattle.std.proofs.Common.{◌≡◌, ℕ, suc, List, [], ◌∷◌, ◌++◌, length, Bool, true, false, ◌||◌, Option, Some, None, Result, Ok, Err, refl, sym, ap, ◌∙◌, subst, arith}
-use Rattle.std.specs.Result.{IsErrAnd}
+use Rattle.std.specs.Result.{IfOk, IsErrAnd}
 use Rattle.std.proofs.lemmas.Result.{err_from_is_err_and}
 use Rattle.fourvec.specs.declared.Bit.{Bit}
 use Rattle.sv_outside.specs.declared.refusal.Place.{Place}
@@ -19,8 +19,12 @@ use Rattle.sv_loops.specs.Answers.{Answers, Gives}
 use Rattle.sv_hierarchy.specs.Scopes.{State, Walk, Level, walk_all, declare_at, block_place, block_name, block_walk, enclosed, inner, outer, mine, here, path_of, fronts_at, turn_walk, turn_name, count_turn, turns_walk, body_of, under, next_construct, genvar_faults, seen}
 use Rattle.sv_walk.specs.declared.walker.Walker.{Walker}
 use Rattle.sv_walk.specs.declared.walker.Open.{Open}
+use Rattle.sv_levels.specs.Levels.{block_in, level_is, levels_are}
+use Rattle.sv_levels.specs.declared.levels.Level.{Level as Coded}
+use Rattle.sv_levels.specs.declared.levels.Levels.{Levels}
 use Rattle.sv_levels.specs.declared.loops.Turns.{Turns}
-use Rattle.sv_walk.specs.Walks.{state_of}
+use Rattle.sv_modules.specs.Naming.{holds}
+use Rattle.sv_walk.specs.Walks.{IsBare, state_of}
 use Rattle.sv_walk.specs.Looping.{loop_judged}
 use Rattle.sv_walk.specs.Items.{Begins, BeginsLoop, IsLoop, opened_block, opened_turn, before_turns, declare_turns}
 use Rattle.sv_walk.proofs.Declaring.{out_of_memory, refused_as, refused_then}
@@ -36,14 +40,12 @@ unfolding has_name
 none_taken f h n = h n
 
 -- a block is begun
-pub begun_state : (s t : State) (part : Name) (nets : List Entry) (x : Level) → t.levels ≡ s.levels ++ x ∷ [] →
-    x.path ≡ path_of s part → x.module_number ≡ (mine s).module_number → x.parent ≡ s.me → x.around ≡ fronts_at s.levels (here s) → x.nets ≡ nets → x.consts ≡ [] →
-    t.me ≡ length s.levels → ((n : Name) → t.taken n ≡ has_name n []) → t.constructs ≡ 0 → t.overridden ≡ [] →
-    t.bits ≡ s.bits → t.turns ≡ s.turns → t.wires ≡ s.wires → t.works ≡ s.works → t.children ≡ s.children → t ≡ inner part nets s
-begun_state s t part nets x levels path number parent around n c me taken constructs overridden bits turns wires works children =
-    let level : x ≡ record { path = path_of s part; module_number = (mine s).module_number; parent = s.me; around = fronts_at s.levels (here s); nets = nets; consts = [] } =
-    λ i. record { path = path i; module_number = number i; parent = parent i; around = around i; nets = n i; consts = c i } in
-    same_state t (inner part nets s) (levels ∙ ap (λ (y : Level). s.levels ++ y ∷ []) level) me (λ i. λ name. none_taken t.taken taken name i) constructs overridden bits turns wires works children
+pub block_begun : {E : Type 0} (w : Walker) (levels : Levels) (o : Open) (part : Name) (nets : List Entry) (x : Coded) (n : ℕ) (r : Result Open E) → levels_are levels ≡ levels_are w.levels ++ level_is x ∷ [] →
+    level_is x ≡ block_in (levels_are w.levels) o.level part nets → n ≡ length (levels_are w.levels) → IfOk r (IsBare n) → IfOk r (λ block. state_of (record w { levels = levels }) block ≡ inner part nets (state_of w o))
+block_begun w levels o part nets x n (Ok block) h e k b =
+    same_state (state_of (record w { levels = levels }) block) (inner part nets (state_of w o)) (h ∙ ap (λ (y : Level). levels_are w.levels ++ y ∷ []) e) (b.level_is ∙ k)
+    (λ i. λ name. none_taken (holds block.taken) b.taken name i) b.constructs b.overridden refl refl refl refl refl
+block_begun w levels o part nets x n (Err e) h f k b = tt
 
 -- ---- blocks are left
 

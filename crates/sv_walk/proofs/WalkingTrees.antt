@@ -22,9 +22,9 @@ use Rattle.sv_tree.specs.declared.design.Gen.TheBlock.{shape-the_row-Item-0, hid
 use Rattle.sv_meaning.specs.Faults.{Judged, ◌>>=◌}
 use Rattle.sv_meaning.specs.Deeds.{fixed_truth}
 use Rattle.sv_meaning.specs.Values.{mean}
-use Rattle.sv_hierarchy.specs.Scopes.{State, Walk, walk_all, act, acts, under, add_wire, add_typedef, add_params, add_genvar, add_assignment, add_work, add_child, running, with_form, with_form_or_bit, numbered, conditional, chosen_branch, block_walk, stay, seen, turns_walk, body_of, then_walk, next_construct, turn_walk, block_name}
+use Rattle.sv_hierarchy.specs.Scopes.{State, Walk, walk_all, act, acts, under, add_wire, add_typedef, add_params, add_genvar, add_assignment, add_work, add_child, running, with_form, with_form_or_bit, numbered, conditional, chosen_branch, block_walk, seen, turns_walk, body_of, then_walk, next_construct, turn_walk, block_name}
 use Rattle.sv_loops.specs.Answers.{Answers, Gives}
-use Rattle.sv_walk.specs.Items.{BeginsLoop, OpensLoop, items_walk}
+use Rattle.sv_walk.specs.Items.{BeginsLoop, OpensLoop, else_of, items_walk}
 use Rattle.sv_walk.specs.Walks.{state_of}
 use Rattle.sv_walk.specs.declared.walker.Walker.{Walker}
 use Rattle.sv_walk.specs.declared.walker.Open.{Open}
@@ -79,10 +79,6 @@ pub for_walk : (p : Place) (header : Bool) (v : Word) (start test : Expr) (next 
     (loop_judged p header v start test next s >>= λ all. turns_walk (body_of p (under x)) v.text (suc s.constructs) all (record s { constructs = suc s.constructs }))
 unfolding act shape-the_row-Item-0 hidden-the_row-Item-0 shape-the_row-Item-1 hidden-the_row-Item-1 shape-the_row-Gen-2 hidden-the_row-Gen-2 denote.Hole.Carrier.hidden
 for_walk p header v start test next x s = refl
-
-abbrev pub else_of : Option Gen → ℕ → Walk
-else_of None n = stay
-else_of (Some y) n = (under y).branch n
 
 pub if_walk : (p : Place) (c : Expr) (x : Gen) (other : Option Gen) → (act (it.If p c x other)).item ≡ numbered (conditional c (under x) (else_of other))
 unfolding act shape-the_row-Item-0 hidden-the_row-Item-0 shape-the_row-Item-1 hidden-the_row-Item-1 shape-the_row-Gen-2 hidden-the_row-Gen-2 denote.Hole.Carrier.hidden

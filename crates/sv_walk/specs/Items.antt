@@ -1,10 +1,13 @@
 -- The walks through items, as the program takes them.
-use Rattle.std.specs.Prelude.{◌≡◌, ℕ, List, [], ◌∷◌, Option, Result, Ok, Err}
+use Rattle.std.specs.Prelude.{◌≡◌, ℕ, Bool, List, [], ◌∷◌, Option, Some, None, Result, Ok, Err}
 use Rattle.fourvec.specs.declared.Bit.{Bit}
 use Rattle.sv_outside.specs.declared.refusal.Place.{Place}
 use Rattle.sv_outside.specs.declared.refusal.TextErr.{TextErr}
 use Rattle.sv_tree.specs.declared.word.Word.{Word}
+use Rattle.sv_tree.specs.declared.exprs.Expr.{Expr}
+use Rattle.sv_tree.specs.declared.stmts.Step.{Step}
 use Rattle.sv_tree.specs.declared.design.Item.{Item}
+use Rattle.sv_tree.specs.declared.design.Item.TheVariants as it
 use Rattle.sv_tree.specs.declared.design.Gen.{Gen}
 use Rattle.sv_meaning.specs.Faults.{Judged, ◌>>=◌}
 use Rattle.sv_meaning.specs.Layouts.{Name}
@@ -19,6 +22,17 @@ use Rattle.sv_walk.specs.Walks.{state_of}
 -- items in order, as code lists them
 abbrev pub items_walk : List Item → m.Walk
 items_walk all = m.walk_all (λ x. (m.act x).item) all
+
+-- an item that holds no items
+pub record IsPlain (item : Item) : Type 0 where
+  pub no_region : (all : List Item) → item ≡ it.Generate all → ⊥
+  pub no_loop : (p : Place) (header : Bool) (v : Word) (start test : Expr) (next : Step) (body : Gen) → item ≡ it.For p header v start test next body → ⊥
+  pub no_choice : (p : Place) (test : Expr) (body : Gen) (other : Option Gen) → item ≡ it.If p test body other → ⊥
+
+-- the other branch of a conditional, if it has one
+abbrev pub else_of : Option Gen → ℕ → m.Walk
+else_of None n = m.stay
+else_of (Some x) n = (m.under x).branch n
 
 -- a name is declared, and the block of that name is begun
 abbrev pub opened_block : Option Word → Place → ℕ → m.State → Judged m.State

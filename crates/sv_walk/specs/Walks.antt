@@ -1,7 +1,9 @@
 -- The walk of the program, and the walk of the definition that it stands for.
-use Rattle.std.specs.Prelude.{◌≡◌, [], map, Result}
+use Rattle.std.specs.Prelude.{◌≡◌, ℕ, [], map, Result}
 use Rattle.sv_outside.specs.declared.refusal.TextErr.{TextErr}
 use Rattle.sv_meaning.specs.Faults.{Judged}
+use Rattle.sv_meaning.specs.Layouts.{Name as Bytes}
+use Rattle.sv_meaning.specs.Names.{has_name}
 use Rattle.sv_loops.specs.Answers.{Answers}
 use Rattle.sv_modules.specs.Naming.{holds}
 use Rattle.sv_hierarchy.specs.Scopes as m
@@ -31,6 +33,13 @@ Walks f w o v p result = Answers (λ st u. st ≡ state_of v p) (f (state_of w o
 -- the same of a walk that finds something
 abbrev pub Finds : {A B : Type 0} → (A → B → Type 0) → (m.State → Judged (A × m.State)) → Walker → Open → Walker → Open → Result B TextErr → Type 0
 Finds r f w o v p result = Answers (λ found x. r found.0 x × (found.1 ≡ state_of v p)) (f (state_of w o)) result
+
+-- a scope with no names, to whose parameters nothing is given
+pub record IsBare (level : ℕ) (o : Open) : Type 0 where
+  pub level_is : o.level ≡ level
+  pub constructs : o.constructs ≡ 0
+  pub overridden : map given_is o.overridden.list.items ≡ []
+  pub taken : (name : Bytes) → holds o.taken name ≡ has_name name []
 
 -- nothing was found
 pub record IsNothing (w : Walker) : Type 0 where

@@ -18,7 +18,7 @@ use crate::walker::{Open, Walker};
 use fourvec::Four;
 use items::Items;
 use std::alloc::AllocError;
-use sv_levels::{Level, Overrides, Turns, block_name, block_place, index_scope, turn_name};
+use sv_levels::{Turns, block_name, block_place, index_scope, turn_name};
 use sv_names::Scope;
 use sv_outside::{Place, TextErr};
 use sv_tree::{Expr, Gen, Step, Word};
@@ -67,21 +67,10 @@ impl<'a> Walker<'a> {
     ) -> Result<Open<'a>, AllocError>
         ensures { IfOk result (λ block. state_of self.new block ≡ inner part.now (entries_are nets) (state_of self.old current.now)) }
     {
-        let at = self.here(current);
-        let path = self.levels.path(self.alloc, current.level, part)?;
-        let around = self.levels.fronts(self.alloc, at)?;
-        let module = self.levels.module(current.level);
+        let block = self.levels.block(self.alloc, current.level, part, nets)?;
         let level = self.levels.len();
-        self.levels.push(Level {
-            path,
-            module,
-            parent: current.level,
-            around,
-            nets,
-            consts: Scope::new(self.alloc),
-        })?;
-        let overridden = Overrides::new(self.alloc, Vec::new(self.alloc))?;
-        Ok(Open::new(self.alloc, level, overridden))
+        self.levels.push(block)?;
+        Open::bare(self.alloc, level)
     }
 
     /// A block with a label, or with the number of its construct, is declared and begun; or E13 (27.6).

@@ -1,5 +1,5 @@
 // The ports of a module's header (IEEE 1800-2017, 23.2.2).
-ghost use Rattle.std.specs.Prelude.{◌≡◌, false, map, IfOk};
+ghost use Rattle.std.specs.Prelude.{◌≡◌, [], ◌∷◌, ◌++◌, false, map, IfOk, OnOk};
 ghost use Rattle.sv_tree.specs.declared.design.Way.TheVariants as way;
 ghost use Rattle.sv_names.specs.Kinds.{IsSound, layout_is};
 ghost use Rattle.sv_meaning.specs.Layouts as layouts;
@@ -9,11 +9,27 @@ ghost use Rattle.sv_walk.specs.Walks.{Finds};
 
 use crate::declare::scalar;
 use crate::walker::{Open, Walker};
+use std::alloc::{AllocError, Global};
 use sv_levels::{OpenPort, is_bare, is_read};
 use sv_names::Layout;
 use sv_outside::TextErr;
 use sv_tree::{Port, Way};
 use sv_types::copy;
+
+// A port more, whose layout the next may take over.
+fn put_port<'a>(
+    alloc: Global,
+    one: OpenPort<'a>,
+    ports: &mut Vec<OpenPort<'a>>,
+) -> Result<Layout, AllocError>
+    requires { IsSound one.layout }
+    ensures ports { OnOk result (ports.new.items ≡ ports.old.items ++ one.entry ∷ []) }
+    ensures layout { IfOk result (λ layout. layout ≡ one.entry.layout) }
+{
+    let layout = copy(alloc, &one.layout)?;
+    ports.push(one)?;
+    Ok(layout)
+}
 
 impl<'a> Walker<'a> {
     // The layout of a port: where nothing but the name is written that of the port before it, and one bit where no type is.
@@ -77,8 +93,7 @@ impl<'a> Walker<'a> {
         'list: for port in list {
             let one = self.open_port(current, top, way, &before, port)?;
             way = one.way;
-            before = copy(self.alloc, &one.layout)?;
-            ports.push(one)?;
+            before = put_port(self.alloc, one, &mut ports)?;
         }
         Ok(ports)
     }

@@ -8,9 +8,8 @@ ghost use Rattle.sv_hierarchy.specs.Scopes as m;
 ghost use Rattle.sv_hierarchy.specs.Scopes.{add_param, add_params, header_params, meant, seen};
 ghost use Rattle.sv_walk.specs.Walks.{Walks, state_of};
 
-use crate::held::let_go;
 use crate::walker::{Open, Walker};
-use sv_levels::{Actual, Given, entry_type, entry_word, given_to, value_of};
+use sv_levels::{Actual, Given, entry_type, entry_word, given_to, value_at};
 use sv_names::{Known, What};
 use sv_outside::TextErr;
 use sv_tree::{Expr, ParPort, Param, ParamType, ParamWord, Word};
@@ -34,11 +33,7 @@ impl<'a> Walker<'a> {
             value: Actual::Written(value),
         };
         let given = given_to(&current.overridden, word, own);
-        let names = self.levels.seen(self.alloc, at)?;
-        let value_names = self.levels.seen(self.alloc, given.at)?;
-        let known = value_of(self.alloc, form, &names, given.value, &value_names);
-        let_go((names, value_names));
-        known
+        value_at(self.alloc, &self.levels, at, form, given)
     }
 
     // A parameter.

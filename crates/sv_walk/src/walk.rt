@@ -1,22 +1,23 @@
-// The items of modules and generate blocks, one after another (IEEE 1800-2017, 23.2.4 and 27). It is one cycle of four
-// functions, since generate constructs hold items. All that needs no items stands outside: declarations, conditions, turns and
-// the beginnings of blocks. A conditional alone in a branch belongs to the construct round it and makes no block of its own
+// The items of modules and generate blocks, one after another (IEEE 1800-2017, 23.2.4 and 27). It is one cycle of six
+// functions, since generate constructs hold items. All that needs no items stands outside: declarations, conditions and the
+// beginnings of blocks. A conditional alone in a branch belongs to the construct round it and makes no block of its own
 // (27.5).
-ghost use Rattle.sv_hierarchy.specs.Scopes.{act, turn_walk, under};
-ghost use Rattle.sv_walk.specs.Items.{items_walk};
+ghost use Rattle.sv_hierarchy.specs.Scopes.{act, conditional, turn_walk, under, walk_all};
+ghost use Rattle.sv_walk.specs.Items.{IsPlain, else_of, items_walk};
 ghost use Rattle.sv_walk.specs.Walks.{Walks};
 
 use crate::held::let_go;
 use crate::walker::{Open, Walker};
 use fourvec::Four;
-use sv_levels::Task;
+use items::Boxed;
+use sv_levels::{Task, Turns};
 use sv_outside::{Place, TextErr};
-use sv_tree::{Gen, Item, Word};
+use sv_tree::{Expr, Gen, Item, Word};
 
 impl<'a> Walker<'a> {
-    /// An item.
-    #[cycle(item)]
-    pub(crate) fn item(&mut self, current: &mut Open<'a>, item: &'a Item) -> Result<(), TextErr>
+    // An item that holds no items.
+    fn plain_item(&mut self, current: &mut Open<'a>, item: &'a Item) -> Result<(), TextErr>
+        requires { IsPlain item.now }
         ensures { Walks (act item.now).item self.old current.old self.new current.new result }
     {
         match item {
@@ -28,6 +29,18 @@ impl<'a> Walker<'a> {
             Item::Assign(list) => self.add_assignments(current, list.as_slice()),
             Item::Always(block) => self.add_work(current, Task::Running(block)),
             Item::Inst(inst) => self.add_children(current, inst),
+            Item::Generate(_) => Ok(()),
+            Item::For(_, _, _, _, _, _, _) => Ok(()),
+            Item::If(_, _, _, _) => Ok(()),
+        }
+    }
+
+    /// An item.
+    #[cycle(item)]
+    pub(crate) fn item(&mut self, current: &mut Open<'a>, item: &'a Item) -> Result<(), TextErr>
+        ensures { Walks (act item.now).item self.old current.old self.new current.new result }
+    {
+        match item {
             Item::Generate(items) => self.items(current, items.as_slice()),
             Item::For(place, header, variable, start, test, next, body) => {
                 let opened = self.open_loop(
@@ -40,30 +53,14 @@ impl<'a> Walker<'a> {
                     next,
                     body.get(),
                 )?;
-                'turns: for bits in opened.values.as_slice() {
-                    self.turn(
-                        current,
-                        *place,
-                        opened.name.bytes(),
-                        variable,
-                        *bits,
-                        body.get(),
-                    )?;
-                }
-                Ok(())
+                self.turns(current, *place, opened, variable, body.get())
             }
             Item::If(_, test, body, other) => {
                 current.next_construct()?;
                 let number = current.constructs;
-                if self.holds(current, test)? {
-                    self.branch(current, body.get(), number)
-                } else {
-                    match other {
-                        Some(other) => self.branch(current, other.get(), number),
-                        None => Ok(()),
-                    }
-                }
+                self.conditional(current, test, body.get(), other, number)
             }
+            plain => self.plain_item(current, plain),
         }
     }
 
@@ -74,6 +71,24 @@ impl<'a> Walker<'a> {
     {
         'items: for item in items {
             self.item(current, item)?;
+        }
+        Ok(())
+    }
+
+    // The turns of a loop at a place, one after another.
+    #[cycle(item)]
+    fn turns(
+        &mut self,
+        current: &Open<'a>,
+        place: Place,
+        opened: Turns,
+        variable: &Word,
+        body: &'a Gen,
+    ) -> Result<(), TextErr>
+        ensures { Walks (walk_all (turn_walk place opened.name variable.now.text (under body.now).body) opened.values) self.old current.now self.new current.now result }
+    {
+        'turns: for bits in opened.values.as_slice() {
+            self.turn(current, place, opened.name.bytes(), variable, *bits, body)?;
         }
         Ok(())
     }
@@ -106,6 +121,27 @@ impl<'a> Walker<'a> {
         }
     }
 
+    // The branch that a condition chooses of the construct of a number.
+    #[cycle(item)]
+    fn conditional(
+        &mut self,
+        current: &mut Open<'a>,
+        test: &Expr,
+        body: &'a Gen,
+        other: &'a Option<Boxed<Gen>>,
+        number: usize,
+    ) -> Result<(), TextErr>
+        ensures { Walks (conditional test.now (under body.now) (else_of other.now) number) self.old current.old self.new current.new result }
+    {
+        if self.holds(current, test)? {
+            return self.branch(current, body, number);
+        }
+        match other {
+            Some(other) => self.branch(current, other.get(), number),
+            None => Ok(()),
+        }
+    }
+
     // A branch of the construct of a number. A conditional alone in it belongs to the same construct (27.5).
     #[cycle(item)]
     fn branch(
@@ -125,14 +161,7 @@ impl<'a> Walker<'a> {
             }
             Gen::Single(place, item) => match item.get() {
                 Item::If(_, test, body, other) => {
-                    if self.holds(current, test)? {
-                        self.branch(current, body.get(), number)
-                    } else {
-                        match other {
-                            Some(other) => self.branch(current, other.get(), number),
-                            None => Ok(()),
-                        }
-                    }
+                    self.conditional(current, test, body.get(), other, number)
                 }
                 other => {
                     let mut block = self.block(current, None, *place, number)?;

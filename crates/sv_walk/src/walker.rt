@@ -9,7 +9,7 @@ ghost use Rattle.sv_hierarchy.specs.Scopes.{add_work, declare_at, file_state, ne
 ghost use Rattle.sv_walk.specs.declared.walker.Walker.{Walker as Walking};
 ghost use Rattle.sv_levels.specs.Levels.{front_is};
 ghost use Rattle.sv_levels.specs.Tasks.{given_is, task_is};
-ghost use Rattle.sv_walk.specs.Walks.{IsNothing, Walks, state_of};
+ghost use Rattle.sv_walk.specs.Walks.{IsBare, IsNothing, Walks, state_of};
 
 use items::Items;
 use std::alloc::{AllocError, Global};
@@ -64,6 +64,14 @@ impl<'a> Open<'a> {
             constructs: 0,
             overridden,
         }
+    }
+
+    /// A scope with no names, to whose parameters nothing is given.
+    pub(crate) fn bare(alloc: Global, level: usize) -> Result<Open<'a>, AllocError>
+        ensures { IfOk result (IsBare level) }
+    {
+        let overridden = Overrides::none(alloc)?;
+        Ok(Open::new(alloc, level, overridden))
     }
 
     /// Declares a name, or E13 at a place (3.13, 23.9).
@@ -135,7 +143,6 @@ impl<'a> Walker<'a> {
             nets: Scope::new(self.alloc),
             consts: Scope::new(self.alloc),
         })?;
-        let overridden = Overrides::new(self.alloc, Vec::new(self.alloc))?;
-        Ok(Open::new(self.alloc, 0, overridden))
+        Open::bare(self.alloc, 0)
     }
 }

@@ -4,7 +4,6 @@ use items::Items;
 use sv_outside::Name;
 
 /// A variable of a table, as wide as the first input that it drives.
-#[derive(Debug)]
 pub struct VarDecl {
     pub name: Name,
     /// In bits, 1 to 128.
@@ -18,7 +17,7 @@ impl Drop for VarDecl {
 }
 
 /// What drives an input in one phase.
-#[derive(Clone, Copy, Debug, PartialEq, Eq)]
+#[derive(Clone, Copy)]
 pub enum Drive {
     /// This vector, as wide as the input.
     Fixed(Four),
@@ -29,7 +28,6 @@ pub enum Drive {
 }
 
 /// A signal at the end of a phase, under a name.
-#[derive(Debug)]
 pub struct Sample {
     pub name: Name,
     /// The number of the wire, from 0.
@@ -52,7 +50,6 @@ impl Drop for Sample {
 }
 
 /// A table over the wires of a design.
-#[derive(Debug)]
 pub struct Bound {
     pub phases: usize,
     /// In the order in which they appear.

@@ -7,7 +7,7 @@ ghost use Rattle.svtv_words.specs.Seen.{option_is, verb_is};
 use crate::settings::OptionName;
 
 /// What a command does.
-#[derive(Clone, Copy, PartialEq, Eq, Debug)]
+#[derive(Clone, Copy)]
 pub enum Verb {
     Prove,
     Sim,

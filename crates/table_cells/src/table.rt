@@ -4,7 +4,6 @@ use sv_literal::Literal;
 use sv_outside::Name;
 
 /// What a cell says of one signal in one phase.
-#[derive(Debug)]
 pub enum Cell {
     /// Nothing of its own: a stimulus is that of the cell before, read once more, and free in the first phase.
     Empty,
@@ -34,7 +33,7 @@ impl Drop for Cell {
 }
 
 /// What the cells of a row are.
-#[derive(Clone, Copy, Debug, PartialEq, Eq)]
+#[derive(Clone, Copy)]
 pub enum RowKind {
     /// Stimuli of an input.
     In,
@@ -43,7 +42,6 @@ pub enum RowKind {
 }
 
 /// A row of a table: one cell for each phase, in order.
-#[derive(Debug)]
 pub struct Row {
     pub kind: RowKind,
     /// The path of the signal as written: any bytes.
@@ -62,7 +60,6 @@ impl Drop for Row {
 }
 
 /// A table: its number of phases and its rows, in order.
-#[derive(Debug)]
 pub struct Table {
     pub phases: usize,
     pub rows: Items<Row>,

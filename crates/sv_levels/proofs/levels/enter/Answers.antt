@@ -1,3 +1,4 @@
+use Rattle.std.proofs.lemmas.Result.{IfOk-from_err}
 use Rattle.std.proofs.Common.{◌≡◌, ◌++◌, take, refl}
 use Rattle.sv_names.specs.Names.{above_of, frames_of}
 use Rattle.sv_levels.proofs.LevelsHeld.{got, not_got, done_as}
@@ -23,3 +24,12 @@ returns-in-None-clause-frames c = not_entered c.args.levels.now c.args.front.lev
 
 pub returns-in-None-clause-above : goal.returns-in-None-clause-above
 returns-in-None-clause-above c = not_entered c.args.levels.now c.args.front.level c.args.front.nets c.args.front.consts (above_of c.args.names.now) (not_got c.args.levels.now c.args.levels.now c.args.front.level refl c.in-None.ensures.lookup.3)
+
+pub returns-in_err-push_scope-in-Some-clause-above : goal.returns-in_err-push_scope-in-Some-clause-above
+returns-in_err-push_scope-in-Some-clause-above c = IfOk-from_err _ _ c.from_residual.ensures.0
+
+pub returns-in_err-push_scope-in-Some-clause-frames : goal.returns-in_err-push_scope-in-Some-clause-frames
+returns-in_err-push_scope-in-Some-clause-frames c = IfOk-from_err _ _ c.from_residual.ensures.0
+
+pub returns-in_err-push_scope-in-Some-clause-loops : goal.returns-in_err-push_scope-in-Some-clause-loops
+returns-in_err-push_scope-in-Some-clause-loops c = IfOk-from_err _ _ c.from_residual.ensures.0

@@ -1,3 +1,4 @@
+use Rattle.std.proofs.lemmas.Result.{IfOk-from_err}
 use Rattle.std.proofs.Common.{◌∙◌, map, get_or, arith}
 use Rattle.sv_names.specs.Kinds.{entries_are}
 use Rattle.sv_names.specs.Names.{above_of, frames_of, stack_of}
@@ -27,3 +28,9 @@ fronts-preserved c =
 
 pub returns-clause-names : goal.returns-clause-names
 returns-clause-names c = all_seen c.fronts.names (map level_is c.args.levels.now) c.args.fronts.now c.fronts.front-index (omega (arith, c.fronts-test.false)) c.fronts.invariant.names c.fronts.invariant.above c.fronts.invariant.loops
+
+pub returns-in_err-enter-clause-loops : goal.returns-in_err-enter-clause-loops
+returns-in_err-enter-clause-loops c = IfOk-from_err _ _ c.from_residual.ensures.0
+
+pub returns-in_err-enter-clause-names : goal.returns-in_err-enter-clause-names
+returns-in_err-enter-clause-names c = IfOk-from_err _ _ c.from_residual.ensures.0

@@ -5,4 +5,4 @@ use Rattle.sv_levels.proofs.params.value_named.Goals as goal
 
 pub returns : goal.returns
 returns c =
-    value_alone (constants_are c.args.names.now) (constants_are c.args.value_names.now) (option_copied c.args.form) c.args.word.now c.in_ok-text.text c.new.result c.param_value-found.result c.in_ok-text.ensures c.new.ensures c.param_value-found.ensures
+    value_alone (constants_are c.args.names.now) (constants_are c.args.value_names.now) (option_copied c.args.form) c.args.word.now c.in_ok-text.text c.new.result c.param_value.result c.in_ok-text.ensures c.new.ensures c.param_value.ensures

@@ -1,3 +1,4 @@
+use Rattle.std.proofs.lemmas.Result.{IfOk-from_err}
 use Rattle.std.proofs.Common.{◌++◌, List, map, ap}
 use Rattle.sv_modules.specs.Connections.{connection_is}
 use Rattle.sv_hierarchy.specs.Scopes.{given_by}
@@ -19,3 +20,6 @@ connections-preserved c =
 pub returns : goal.returns
 returns c =
     given_end (front_is c.args.at) c.args.connections.now c.connections.connection-index (map given_is c.connections.given.items) (given_by (front_is c.args.at) (map connection_is c.args.connections.now)) c.connections-test.false c.connections.invariant
+
+pub returns-in_err-add_given : goal.returns-in_err-add_given
+returns-in_err-add_given c = IfOk-from_err _ _ c.from_residual.ensures.0

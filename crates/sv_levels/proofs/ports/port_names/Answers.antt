@@ -1,3 +1,4 @@
+use Rattle.std.proofs.lemmas.Result.{IfOk-from_err}
 use Rattle.std.proofs.Common.{◌∙◌, ap, refl}
 use Rattle.std.proofs.lemmas.List.{take_all}
 use Rattle.sv_hierarchy.specs.Scopes.{port_texts}
@@ -14,3 +15,6 @@ ports-preserved c =
 
 pub returns : goal.returns
 returns c = c.ports.invariant ∙ ap port_texts (take_all c.ports.port-index c.args.ports.now c.ports-test.false)
+
+pub returns-in_err-push : goal.returns-in_err-push
+returns-in_err-push c = IfOk-from_err _ _ c.from_residual.ensures.0

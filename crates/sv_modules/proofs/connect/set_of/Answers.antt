@@ -1,3 +1,4 @@
+use Rattle.std.proofs.lemmas.Result.{IfOk-from_err}
 use Rattle.std.proofs.Common.{◌∷◌, [], List, take, sym, subst, arith, Bor}
 use Rattle.std.proofs.lemmas.List.{take_all}
 use Rattle.sv_tree.specs.declared.word.Word.{Word}
@@ -16,3 +17,6 @@ words-preserved c =
 pub returns : goal.returns
 returns c =
     subst (λ (ws : List (Bor Word)). Holds c.words.names (texts_of ws)) (take_all c.words.word-index c.args.words.now (omega (arith, c.words-test.false))) c.words.invariant
+
+pub returns-in_err-add : goal.returns-in_err-add
+returns-in_err-add c = IfOk-from_err _ _ c.from_residual.ensures.0

@@ -1,3 +1,4 @@
+use Rattle.std.proofs.lemmas.Result.{IfOk-from_err}
 use Rattle.std.proofs.Common.{◌≡◌, ◌∙◌, ◌+◌, ◌∷◌, ◌++◌, [], List, map, take, drop, sym, ap, subst}
 use Rattle.std.specs.List.{Contains}
 use Rattle.std.proofs.lemmas.List.{length-map, map-append}
@@ -30,3 +31,6 @@ modules-preserved c =
           (subst (λ (n : Name). Indexes c.note.new.self (map module_name front ++ n ∷ [])) c.bytes-in-modules.ensures
           (c.in_ok-note.ensures (map module_name front) c.modules.invariant.indexed (sym (length-map front module_name ∙ trees_len c.args.list.now c.modules.number c.modules-test.true)))));
     }
+
+pub returns-in_err-note-clause-ok : goal.returns-in_err-note-clause-ok
+returns-in_err-note-clause-ok c = IfOk-from_err _ _ c.from_residual.ensures.0

@@ -1,3 +1,4 @@
+use Rattle.std.proofs.lemmas.Result.{IfOk-from_err}
 use Rattle.std.proofs.Common.{◌∙◌, ◌∷◌, ◌++◌, [], List, ap, sym, refl, Bor, Vec, Global}
 use Rattle.sv_tree.specs.declared.design.Module.{Module}
 use Rattle.sv_modules.specs.Libraries.{trees_of}
@@ -21,3 +22,6 @@ parts-preserved c = elim c.match-part.branch [
       ap (λ (v : Vec (Bor Module) Global). trees_of v.items) w.list-is ∙ c.parts.invariant
       ∙ sym (param_next c.args.parts.now c.parts.part-index c.part-item.result w.in-Param.field-0 c.parts-test.true c.part-item.is w.in-Param.is)
 ]
+
+pub returns-in_err-push-in-Module : goal.returns-in_err-push-in-Module
+returns-in_err-push-in-Module c = IfOk-from_err _ _ c.from_residual.ensures.0

@@ -1,3 +1,4 @@
+use Rattle.std.proofs.lemmas.Result.{IfOk-from_err}
 use Rattle.std.proofs.Common.{◌≡◌, ◌∙◌, ◌++◌, List, [], sym, ap, subst, append_assoc}
 use Rattle.std.specs.Result.{OnOk}
 use Rattle.sv_meaning.specs.Layouts.{Name}
@@ -54,3 +55,6 @@ add_of_items-items-preserved t c =
     c.in_ok-add_of_item.ensures ∙ ap (λ (x : List Name). x ++ body_params c.item-item.result) c.items.invariant
     ∙ append_assoc (texts_of c.args.words.now.items) _ (body_params c.item-item.result)
     ∙ ap (λ (x : List Name). texts_of c.args.words.now.items ++ x) (sym (items_next c.args.items.now c.items.item-index c.item-item.result c.items-test.true c.item-item.is))
+
+pub add_of_items-returns-in_err-add_of_item : goal.add_of_items-returns-in_err-add_of_item
+add_of_items-returns-in_err-add_of_item t c = IfOk-from_err _ _ c.from_residual.ensures.0

@@ -1,3 +1,4 @@
+use Rattle.std.proofs.lemmas.Result.{IfOk-from_err}
 use Rattle.std.proofs.Common.{◌∙◌, ◌+◌, ◌++◌, List, drop, sym, ap, refl, arith, Bor, Vec, Global}
 use Rattle.std.proofs.lemmas.List.{append-nil}
 use Rattle.sv_tree.specs.declared.word.Word.{Word}
@@ -24,3 +25,6 @@ pub returns : goal.returns
 returns c =
     sym (ap (λ (x : List Name). texts_of c.list.words.items ++ x) (ap (list_params c.list.word) (drop_none c.args.list.now c.list.port-index (omega (arith, c.list-test.false))) ∙ no_ports c.list.word) ∙ append-nil (texts_of c.list.words.items))
     ∙ c.list.invariant
+
+pub returns-in_err-push : goal.returns-in_err-push
+returns-in_err-push c = IfOk-from_err _ _ c.from_residual.ensures.0

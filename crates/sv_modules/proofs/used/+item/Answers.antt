@@ -1,3 +1,4 @@
+use Rattle.std.proofs.lemmas.Result.{IfOk-from_err}
 use Rattle.std.proofs.Common.{◌∙◌, ◌++◌, ◌∷◌, [], List, take, Option, sym, ap, subst}
 use Rattle.std.specs.Result.{OnOk}
 use Rattle.sv_tree.specs.declared.design.Gen.{Gen}
@@ -76,3 +77,9 @@ pub add_items-items-preserved : goal.add_items-items-preserved
 add_items-items-preserved t c =
     subst (λ (ns : List Name). Adds c.args.used.now ns c.add_item.new.used) (sym (by_next c.args.items.now c.items.item-index c.item-item.result c.items-test.true c.item-item.is))
     (adds_more c.args.used.now c.items.used c.add_item.new.used (instantiated_by (take c.items.item-index c.args.items.now)) (instantiated c.item-item.result) c.items.invariant c.in_ok-add_item.ensures)
+
+pub add_item-returns-in_err-add_body-in-Some : goal.add_item-returns-in_err-add_body-in-Some
+add_item-returns-in_err-add_body-in-Some t c = IfOk-from_err _ _ c.from_residual.ensures.0
+
+pub add_items-returns-in_err-add_item : goal.add_items-returns-in_err-add_item
+add_items-returns-in_err-add_item t c = IfOk-from_err _ _ c.from_residual.ensures.0

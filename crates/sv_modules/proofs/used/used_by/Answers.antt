@@ -1,3 +1,4 @@
+use Rattle.std.proofs.lemmas.Result.{IfOk-from_err}
 use Rattle.std.proofs.Common.{List, take, sym, subst, arith, Bor}
 use Rattle.std.proofs.lemmas.List.{take_all}
 use Rattle.sv_tree.specs.declared.design.Item.{Item}
@@ -21,3 +22,6 @@ modules-preserved c =
 pub returns : goal.returns
 returns c =
     subst (λ (ms : List (Bor Module)). Holds c.modules.used (used_in (trees_of ms))) (take_all c.modules.module-index c.args.modules.now (omega (arith, c.modules-test.false))) c.modules.invariant
+
+pub returns-in_err-add_items : goal.returns-in_err-add_items
+returns-in_err-add_items c = IfOk-from_err _ _ c.from_residual.ensures.0

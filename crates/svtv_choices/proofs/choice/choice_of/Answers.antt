@@ -1,3 +1,4 @@
+use Rattle.std.proofs.lemmas.Result.{IfOk-from_err}
 use Rattle.std.proofs.Common.{◌+◌, ◌/◌, ◌^◌, [], ◌∷◌, ◌++◌, drop, ◌∙◌, ap, arith}
 use Rattle.svtv_choices.specs.Choices as spec
 use Rattle.svtv_choices.specs.Choices.{bits_of}
@@ -27,3 +28,6 @@ vars-preserved c =
 
 pub returns : goal.returns
 returns c = none_left c.args.vars.now c.vars.var-index c.vars.left c.vars.choice (spec.choice_of c.args.vars.now c.args.number) c.vars-test.false c.vars.invariant.is
+
+pub returns-in_err-push : goal.returns-in_err-push
+returns-in_err-push c = IfOk-from_err _ _ c.from_residual.ensures.0

@@ -1,3 +1,4 @@
+use Rattle.std.proofs.lemmas.Result.{IfOk-from_err}
 use Rattle.std.proofs.Common.{length}
 use Rattle.std.proofs.lemmas.List.{length_push}
 use Rattle.std.proofs.lemmas.Slice.Zip.{zip_turn, zip_end}
@@ -15,3 +16,6 @@ pub returns : goal.returns
 returns c =
     let t = zip_end c.args.samples.now c.args.values.now c.samples.yielded c.into_iter-sample-iterator.result c.samples.sample-iterator c.next.new.self _ (cc) (cc) c.samples.yielded_by c.in-None.is c.next.ensures.steps in
     lines_end (λ (s : Sample). s.name) c.args.before.now _ c.samples.text.items c.args.samples.now c.args.values.now (length c.samples.yielded) t c.samples.invariant
+
+pub returns-in_err-push_line : goal.returns-in_err-push_line
+returns-in_err-push_line c = IfOk-from_err _ _ c.from_residual.ensures.0

@@ -1,3 +1,4 @@
+use Rattle.std.proofs.lemmas.Result.{IfOk-from_err}
 use Rattle.std.proofs.Common.{codes, length}
 use Rattle.std.proofs.lemmas.List.{length_push}
 use Rattle.std.proofs.lemmas.Slice.Zip.{zip_turn, zip_end}
@@ -15,3 +16,6 @@ pub returns : goal.returns
 returns c =
     let t = zip_end c.args.vars.now c.args.values.now c.vars.yielded c.into_iter-var-iterator.result c.vars.var-iterator c.next.new.self _ (cc) (cc) c.vars.yielded_by c.in-None.is c.next.ensures.steps in
     lines_end (λ (s : VarDecl). s.name) (codes "  var ") _ c.vars.text.items c.args.vars.now c.args.values.now (length c.vars.yielded) t c.vars.invariant
+
+pub returns-in_err-push_line : goal.returns-in_err-push_line
+returns-in_err-push_line c = IfOk-from_err _ _ c.from_residual.ensures.0

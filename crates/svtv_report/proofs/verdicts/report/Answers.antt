@@ -1,3 +1,4 @@
+use Rattle.std.proofs.lemmas.Result.{IfOk-from_err}
 use Rattle.std.proofs.Common.{◌++◌, List, map, drop, ap, ◌∙◌, arith}
 use Rattle.fourvec.specs.declared.Bit.{Bit}
 use Rattle.svtv_report.specs.Seen.{verdict_is}
@@ -19,3 +20,6 @@ goals-preserved c =
 pub returns : goal.returns
 returns c =
     goals_end (var_texts c.args.vars.now) (sample_texts c.args.samples.now) _ c.goals.text.items c.args.names.now (map verdict_is (drop c.goals.at c.args.verdicts.now)) (drop c.goals.at c.args.shown.now) c.goals.at (omega (arith, c.goals-test.false)) c.goals.invariant
+
+pub returns-in_err-push_verdict : goal.returns-in_err-push_verdict
+returns-in_err-push_verdict c = IfOk-from_err _ _ c.from_residual.ensures.0

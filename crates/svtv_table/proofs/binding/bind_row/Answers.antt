@@ -1,3 +1,4 @@
+use Rattle.std.proofs.lemmas.Result.{IfOk-from_err}
 use Rattle.std.proofs.Common.{◌+◌, length}
 use Rattle.svtv_table.specs.Binding.{faults_after, faults_by, wire_faults}
 use Rattle.svtv_table.specs.Faults.{Stops}
@@ -20,3 +21,9 @@ returns-in-In-clause-follows c =
     on_ok_all c.bind_in.result c.bind_in.ensures.drives c.bind_in.ensures.driven c.bind_in.ensures.samples
     (after_in c.args.wires.now.list.now c.args.variables.now.list.items c.args.before.now c.args.row.now c.args.work.now c.bind_in.new.work c.in_ok-target.target.wire c.in_ok-target.target.width
     c.in-In.is c.in_ok-target.ensures.wire c.in_ok-target.ensures.within c.in_ok-target.ensures.width c.requires.follows)
+
+pub returns-in_err-target-clause-fine : goal.returns-in_err-target-clause-fine
+returns-in_err-target-clause-fine c = IfOk-from_err _ _ c.from_residual.ensures.0
+
+pub returns-in_err-target-clause-follows : goal.returns-in_err-target-clause-follows
+returns-in_err-target-clause-follows c = IfOk-from_err _ _ c.from_residual.ensures.0

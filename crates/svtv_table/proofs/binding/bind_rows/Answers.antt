@@ -1,3 +1,4 @@
+use Rattle.std.proofs.lemmas.Result.{IfOk-from_err}
 use Rattle.std.proofs.Common.{◌≡◌, ◌+◌, ◌++◌, ◌∷◌, [], ℕ, List, length, take, sym, ◌∙◌, ap, subst, arith}
 use Rattle.std.proofs.lemmas.List.{length-take-le, take_all, take_more}
 use Rattle.svtv_table.specs.Binding.{faults_after, row_faults}
@@ -46,3 +47,15 @@ returns-in_err-bind_row-clause-err c =
     (stop_at (row_faults wires vars rows) rows at row all e c.loop-at-test.true c.loop-at.invariant.fine
     (subst (λ (r : Row). Stops (faults_after wires vars (take at rows) (at + 1) r) e) c.index-rows-at.is
     (subst (λ (n : ℕ). Stops (faults_after wires vars (take at rows) (n + 1) row) e) long c.in_err-bind_row.ensures.err)))
+
+pub returns-in_err-bind_row-clause-fine : goal.returns-in_err-bind_row-clause-fine
+returns-in_err-bind_row-clause-fine c = IfOk-from_err _ _ c.from_residual-in_err-bind_row.ensures.0
+
+pub returns-in_err-bind_row-clause-follows : goal.returns-in_err-bind_row-clause-follows
+returns-in_err-bind_row-clause-follows c = IfOk-from_err _ _ c.from_residual-in_err-bind_row.ensures.0
+
+pub returns-in_err-vec-clause-fine : goal.returns-in_err-vec-clause-fine
+returns-in_err-vec-clause-fine c = IfOk-from_err _ _ c.from_residual.ensures.0
+
+pub returns-in_err-vec-clause-follows : goal.returns-in_err-vec-clause-follows
+returns-in_err-vec-clause-follows c = IfOk-from_err _ _ c.from_residual.ensures.0

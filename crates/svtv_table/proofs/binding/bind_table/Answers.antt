@@ -1,3 +1,4 @@
+use Rattle.std.proofs.lemmas.Result.{IfOk-from_err}
 use Rattle.std.proofs.Common.{◌∙◌, sym, subst}
 use Rattle.svtv_table.specs.Binding.{bind_faults}
 use Rattle.svtv_table.specs.Faults.{Stops}
@@ -23,3 +24,21 @@ pub returns-clause-fine : goal.returns-clause-fine
 returns-clause-fine c =
     sym (faults_are c.args.wires.now c.in_ok-wires.wires.list.now c.args.table.now c.as_slice-rows.result.now c.in_ok-variables.variables.list.items c.in_ok-wires.ensures c.as_slice-rows.ensures c.in_ok-variables.ensures)
     ∙ c.in_ok-work.ensures.fine
+
+pub returns-in_err-variables-clause-bound : goal.returns-in_err-variables-clause-bound
+returns-in_err-variables-clause-bound c = IfOk-from_err _ _ c.from_residual-in_err-variables.ensures.0
+
+pub returns-in_err-variables-clause-fine : goal.returns-in_err-variables-clause-fine
+returns-in_err-variables-clause-fine c = IfOk-from_err _ _ c.from_residual-in_err-variables.ensures.0
+
+pub returns-in_err-wires-clause-bound : goal.returns-in_err-wires-clause-bound
+returns-in_err-wires-clause-bound c = IfOk-from_err _ _ c.from_residual.ensures.0
+
+pub returns-in_err-wires-clause-fine : goal.returns-in_err-wires-clause-fine
+returns-in_err-wires-clause-fine c = IfOk-from_err _ _ c.from_residual.ensures.0
+
+pub returns-in_err-work-clause-bound : goal.returns-in_err-work-clause-bound
+returns-in_err-work-clause-bound c = IfOk-from_err _ _ c.from_residual-in_err-work.ensures.0
+
+pub returns-in_err-work-clause-fine : goal.returns-in_err-work-clause-fine
+returns-in_err-work-clause-fine c = IfOk-from_err _ _ c.from_residual-in_err-work.ensures.0

@@ -1,3 +1,4 @@
+use Rattle.std.proofs.lemmas.Result.{IfOk-from_err}
 use Rattle.std.proofs.Common.{◌≡◌, ◌∷◌, ◌++◌, [], ap, sym, ◌∙◌, arith, map, get_or, subst}
 use Rattle.std.proofs.lemmas.List.{get_or-map, length-map, map_more}
 use Rattle.svtv_table.specs.Faults.{at_each, Stops}
@@ -24,3 +25,15 @@ loop-at-preserved c =
       rows = c.in_ok-push.ensures.ok ∙ (ap (λ r. c.loop-at.rows ++ r ∷ []) (c.in_ok-row_of.ensures.row ∙ ap row_of (sym here))
           ∙ (ap (λ rs. rs ++ row_of (get_or rows c.loop-at.at []) ∷ []) c.loop-at.invariant.rows ∙ sym (map_more row_of rows c.loop-at.at [] (omega (arith, length-map c.args.records.now fields_in)))));
     }
+
+pub returns-in_err-push-clause-fine : goal.returns-in_err-push-clause-fine
+returns-in_err-push-clause-fine c = IfOk-from_err _ _ c.from_residual-in_err-push.ensures.0
+
+pub returns-in_err-push-clause-rows : goal.returns-in_err-push-clause-rows
+returns-in_err-push-clause-rows c = IfOk-from_err _ _ c.from_residual-in_err-push.ensures.0
+
+pub returns-in_err-row_of-clause-fine : goal.returns-in_err-row_of-clause-fine
+returns-in_err-row_of-clause-fine c = IfOk-from_err _ _ c.from_residual.ensures.0
+
+pub returns-in_err-row_of-clause-rows : goal.returns-in_err-row_of-clause-rows
+returns-in_err-row_of-clause-rows c = IfOk-from_err _ _ c.from_residual.ensures.0

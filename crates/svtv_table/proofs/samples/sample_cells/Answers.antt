@@ -1,3 +1,4 @@
+use Rattle.std.proofs.lemmas.Result.{IfOk-from_err}
 use Rattle.std.proofs.Common.{arith, map, subst}
 use Rattle.svtv_table.specs.Binding.{name_faults, sample_faults, sample_name}
 use Rattle.svtv_table.specs.Faults.{Stops, at_each}
@@ -15,3 +16,12 @@ returns-in_err-sample_cell-clause-err c =
     (stop_at faults cells c.loop-phase.phase c.index-cells-phase.result (at_each faults 0 cells) e (omega arith) c.loop-phase.invariant.fine
     (subst (λ cell. Stops (faults c.loop-phase.phase cell) e) c.index-cells-phase.is
     (subst (λ names. Stops (name_faults vars names c.args.target.now.line c.loop-phase.phase c.index-cells-phase.result) e) c.loop-phase.invariant.names c.in_err-sample_cell.ensures.err)))
+
+pub returns-in_err-sample_cell-clause-fine : goal.returns-in_err-sample_cell-clause-fine
+returns-in_err-sample_cell-clause-fine c = IfOk-from_err _ _ c.from_residual.ensures.0
+
+pub returns-in_err-sample_cell-clause-list : goal.returns-in_err-sample_cell-clause-list
+returns-in_err-sample_cell-clause-list c = IfOk-from_err _ _ c.from_residual.ensures.0
+
+pub returns-in_err-sample_cell-clause-named : goal.returns-in_err-sample_cell-clause-named
+returns-in_err-sample_cell-clause-named c = IfOk-from_err _ _ c.from_residual.ensures.0

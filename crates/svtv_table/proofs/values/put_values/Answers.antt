@@ -1,3 +1,4 @@
+use Rattle.std.proofs.lemmas.Result.{IfOk-from_err}
 use Rattle.std.proofs.Common.{◌≡◌, ◌+◌, ◌++◌, ◌∷◌, ◌≤◌, [], length, ap, sym, ◌∙◌, arith, map, take, subst, get_or}
 use Rattle.std.specs.Prelude.{unwrap_or}
 use Rattle.std.specs.List.{list_any}
@@ -60,3 +61,21 @@ returns-clause-fine c =
     let rows = map fields_in c.args.records.now in
     let past : length rows ≤ c.loop-at.at = omega (arith, length-map c.args.records.now fields_in) in
     sym c.loop-at.invariant.fine ∙ each_none (record_faults c.args.vars.now rows) rows c.loop-at.at past
+
+pub returns-in_err-index-clause-fine : goal.returns-in_err-index-clause-fine
+returns-in_err-index-clause-fine c = IfOk-from_err _ _ c.from_residual.ensures.0
+
+pub returns-in_err-index-clause-values : goal.returns-in_err-index-clause-values
+returns-in_err-index-clause-values c = IfOk-from_err _ _ c.from_residual.ensures.0
+
+pub returns-in_err-put_value-clause-fine : goal.returns-in_err-put_value-clause-fine
+returns-in_err-put_value-clause-fine c = IfOk-from_err _ _ c.from_residual-in_err-put_value.ensures.0
+
+pub returns-in_err-put_value-clause-values : goal.returns-in_err-put_value-clause-values
+returns-in_err-put_value-clause-values c = IfOk-from_err _ _ c.from_residual-in_err-put_value.ensures.0
+
+pub returns-in_err-values-clause-fine : goal.returns-in_err-values-clause-fine
+returns-in_err-values-clause-fine c = IfOk-from_err _ _ c.from_residual-in_err-values.ensures.0
+
+pub returns-in_err-values-clause-values : goal.returns-in_err-values-clause-values
+returns-in_err-values-clause-values c = IfOk-from_err _ _ c.from_residual-in_err-values.ensures.0

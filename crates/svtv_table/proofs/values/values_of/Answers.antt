@@ -1,3 +1,4 @@
+use Rattle.std.proofs.lemmas.Result.{IfOk-from_err}
 use Rattle.std.proofs.Common.{◌∙◌, ap, sym, map, subst}
 use Rattle.std.specs.Prelude.{is_some, not}
 use Rattle.std.specs.List.{list_all}
@@ -30,3 +31,15 @@ returns-clause-fine c =
     let rows = map fields_in c.args.records.now in
     let same = ap (λ vs. fault_if (not (list_all is_some vs)) (fault 35 1 1)) (c.deref.ensures.value ∙ c.in_ok-values.ensures.values) ∙ ap (λ b. fault_if (not b) (fault 35 1 1)) (all_given_is rows vars) in
     no_faults (at_each (record_faults vars rows) 0 rows) (fault_if (not (list_all (is_given rows) vars)) (fault 35 1 1)) c.in_ok-values.ensures.fine (sym same ∙ c.in_ok-given.ensures.fine)
+
+pub returns-in_err-given-clause-fine : goal.returns-in_err-given-clause-fine
+returns-in_err-given-clause-fine c = IfOk-from_err _ _ c.from_residual-in_err-given.ensures.0
+
+pub returns-in_err-given-clause-values : goal.returns-in_err-given-clause-values
+returns-in_err-given-clause-values c = IfOk-from_err _ _ c.from_residual-in_err-given.ensures.0
+
+pub returns-in_err-values-clause-fine : goal.returns-in_err-values-clause-fine
+returns-in_err-values-clause-fine c = IfOk-from_err _ _ c.from_residual.ensures.0
+
+pub returns-in_err-values-clause-values : goal.returns-in_err-values-clause-values
+returns-in_err-values-clause-values c = IfOk-from_err _ _ c.from_residual.ensures.0

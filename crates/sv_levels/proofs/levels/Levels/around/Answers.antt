@@ -1,3 +1,4 @@
+use Rattle.std.proofs.lemmas.Result.{IfOk-from_err}
 use Rattle.std.proofs.Common.{◌∙◌, sym, ap, map}
 use Rattle.sv_hierarchy.specs.Scopes as m
 use Rattle.sv_levels.specs.Levels.{front_is}
@@ -11,3 +12,6 @@ returns-in_ok-to_vec-in-Some c =
 
 pub returns-in-None : goal.returns-in-None
 returns-in-None c = ap (map front_is) c.new.ensures ∙ sym (ap (λ (y : m.Level). y.around) (level_past c.args.self.now.list.items c.args.level (not_got c.deref.result.now c.args.self.now.list.items c.args.level c.deref.ensures.value c.in-None.ensures.lookup.3)))
+
+pub returns-in_err-to_vec-in-Some : goal.returns-in_err-to_vec-in-Some
+returns-in_err-to_vec-in-Some c = IfOk-from_err _ _ c.from_residual.ensures.0

@@ -1,4 +1,4 @@
-use Rattle.std.proofs.Common.{◌≡◌, ◌∙◌, List, true, false, Option, None, Ok, Err, sym, ap, subst}
+use Rattle.std.proofs.Common.{◌≡◌, ◌∙◌, List, true, false, Option, None, Ok, Err, sym, ap, subst, arith}
 use Rattle.std.specs.Option.{option_copied}
 use Rattle.fourvec.specs.declared.Bit.{Bit}
 use Rattle.sv_tree.specs.declared.design.Gen.{Gen}
@@ -9,14 +9,129 @@ use Rattle.sv_meaning.specs.Deeds.{fixed_truth}
 use Rattle.sv_meaning.specs.Layouts.{Name}
 use Rattle.sv_meaning.specs.Values.{mean}
 use Rattle.sv_loops.proofs.Chains.{gives_ok}
-use Rattle.sv_hierarchy.specs.Scopes.{State, Walk, act, add_genvar, add_wire, add_assignment, block_name, block_walk, chosen_branch, conditional, next_construct, seen, turn_walk, under, walk_all, with_form, with_form_or_bit}
-use Rattle.sv_walk.specs.Items.{Begins, OpensLoop, items_walk, opened_turn}
+use Rattle.sv_hierarchy.specs.Scopes.{Walk, act, block_walk, chosen_branch, conditional, next_construct, seen, State, turn_walk, under, walk_all}
+use Rattle.sv_walk.specs.Items.{Begins, OpensLoop, else_of, items_walk, opened_turn}
 use Rattle.sv_walk.specs.Walks.{state_of}
 use Rattle.sv_walk.proofs.Declaring.{refused_as}
 use Rattle.sv_walk.proofs.Walking.{Ends, ended, ends, handed, handed_same, same_ends, same_walk, walk_next, walk_none, walk_refused}
 use Rattle.sv_walk.proofs.WalkingBlocks.{answered, block_ends, block_refused, not_opened, turn_ends}
-use Rattle.sv_walk.proofs.WalkingTrees.{always_walk, assign_walk, block_body, block_branch, else_of, generate_walk, genvar_walk, if_branch, if_counted, if_is, inst_walk, net_walk, other_branch, param_walk, single_body, single_branch, taken_branch, typedef_walk, variable_walk}
+use Rattle.sv_walk.proofs.WalkingTrees.{block_body, block_branch, generate_walk, if_branch, if_counted, if_is, other_branch, single_body, single_branch, taken_branch}
+use Rattle.sv_walk.proofs.Sizes.{block_less, choice_less, inner_less, item_less, loop_less, other_less, region_less, single_less}
 use Rattle.sv_walk.proofs.walker.Walker.+item.Goals as goal
+
+pub item-returns-in-Generate : goal.item-returns-in-Generate
+item-returns-in-Generate t c =
+    same_walk (act c.args.item.now).item _ c.args.self.now c.args.current.now c.items.new.self c.items.new.current c.items.result (ap (λ (x : Item). (act x).item) c.in-Generate.is ∙ generate_walk c.in-Generate.items ∙ ap items_walk (sym c.as_slice.ensures)) c.items.ensures
+
+pub item-returns-in_err-opened-in-For : goal.item-returns-in_err-opened-in-For
+item-returns-in_err-opened-in-For t c =
+    let s = state_of c.args.self.now c.args.current.now in
+    let loop : OpensLoop c.args.item.now c.in-For.place c.in-For.variable c.in-For.body c.args.self.now c.args.current.now c.open_loop.new.current (Err c.in_err-opened-in-For.field-0.0) =
+    subst (λ (x : Gen). (item : Item) → item ≡ it.For c.in-For.place c.in-For.header c.in-For.variable c.in-For.start c.in-For.test c.in-For.next x → OpensLoop item c.in-For.place c.in-For.variable x c.args.self.now c.args.current.now c.open_loop.new.current (Err c.in_err-opened-in-For.field-0.0))
+    c.get.ensures c.in_err-opened-in-For.ensures c.args.item.now c.in-For.is in
+    handed_same (state_of c.args.self.now c.open_loop.new.current) ((act c.args.item.now).item s) c.in_err-opened-in-For.field-0.0 c.from_residual.result
+    (refused_as (λ (x : State) (y : State). x ≡ y) (λ st (u : Unit {0}). st ≡ state_of c.args.self.now c.open_loop.new.current) ((act c.args.item.now).item s) c.in_err-opened-in-For.field-0.0 loop) c.from_residual.ensures.1
+
+pub item-returns-in_err-next_construct-in-If : goal.item-returns-in_err-next_construct-in-If
+item-returns-in_err-next_construct-in-If t c =
+    let s = state_of c.args.self.now c.args.current.now in
+    let t = state_of c.args.self.now c.next_construct.new.self in
+    if_counted c.in-If.field-0 c.in-If.test c.in-If.body c.in-If.other c.args.item.now s t t c.next_construct.result c.in_err-next_construct-in-If.field-0.0 c.from_residual-in_err-next_construct-in-If.result c.in-If.is c.in_err-next_construct-in-If.was (c.next_construct.ensures c.args.self.now)
+    c.from_residual-in_err-next_construct-in-If.ensures.1
+
+pub item-returns-in_ok-opened-in-For : goal.item-returns-in_ok-opened-in-For
+item-returns-in_ok-opened-in-For t c =
+    let s = state_of c.args.self.now c.args.current.now in
+    let q = state_of c.args.self.now c.open_loop.new.current in
+    let u = state_of c.turns.new.self c.open_loop.new.current in
+    let opened = c.in_ok-opened-in-For.opened in
+    let loop : OpensLoop c.args.item.now c.in-For.place c.in-For.variable c.in-For.body c.args.self.now c.args.current.now c.open_loop.new.current (Ok opened) =
+    subst (λ (x : Gen). (item : Item) → item ≡ it.For c.in-For.place c.in-For.header c.in-For.variable c.in-For.start c.in-For.test c.in-For.next x → OpensLoop item c.in-For.place c.in-For.variable x c.args.self.now c.args.current.now c.open_loop.new.current (Ok opened))
+    c.get.ensures c.in_ok-opened-in-For.ensures c.args.item.now c.in-For.is in
+    let walks = λ (n : Name). walk_all (turn_walk c.in-For.place n c.in-For.variable.text (under c.in-For.body).body) opened.values q in
+    same_ends u ((act c.args.item.now).item s) (walks opened.name) c.turns.result (loop.0 ∙ ap walks (sym loop.1))
+    (subst (λ (x : Gen). Ends u (walk_all (turn_walk c.in-For.place opened.name c.in-For.variable.text (under x).body) opened.values q) c.turns.result) c.get-in-For.ensures c.turns.ensures)
+
+pub item-returns-in_ok-next_construct-in-If : goal.item-returns-in_ok-next_construct-in-If
+item-returns-in_ok-next_construct-in-If t c =
+    let s = state_of c.args.self.now c.args.current.now in
+    let q = state_of c.args.self.now c.next_construct.new.self in
+    let n = c.next_construct.new.self.constructs in
+    let u = state_of c.conditional.new.self c.conditional.new.current in
+    same_ends u ((act c.args.item.now).item s) (conditional c.in-If.test (under c.in-If.body) (else_of c.in-If.other) n q) c.conditional.result
+    (if_is c.in-If.field-0 c.in-If.test c.in-If.body c.in-If.other c.args.item.now s q c.in-If.is (ended q (next_construct s) (tt {0}) (c.in_ok-next_construct-in-If.ensures c.args.self.now)))
+    (subst (λ (x : Gen). Ends u (conditional c.in-If.test (under x) (else_of c.in-If.other) n q) c.conditional.result) c.get-in-If.ensures c.conditional.ensures)
+
+pub item-returns-in_default : goal.item-returns-in_default
+item-returns-in_default t c = c.plain_item.ensures
+
+pub item-plain_item-requires : goal.item-plain_item-requires
+item-plain_item-requires t c = record { no_region = c.in_default.not-Generate; no_loop = c.in_default.not-For; no_choice = c.in_default.not-If }
+
+pub item-items-requires : goal.item-items-requires
+item-items-requires t c = (region_less c.args.item.now c.in-Generate.items c.as_slice.result.now t c.in-Generate.is c.as_slice.ensures c.decreases, tt)
+
+pub item-turns-requires : goal.item-turns-requires
+item-turns-requires t c = (loop_less c.args.item.now _ _ _ _ _ _ c.in-For.body c.get-in-For.result.now t c.in-For.is c.get-in-For.ensures c.decreases, tt)
+
+pub item-conditional-requires : goal.item-conditional-requires
+item-conditional-requires t c = (choice_less c.args.item.now _ _ c.in-If.body c.in-If.other c.get-in-If.result.now t c.in-If.is c.get-in-If.ensures c.decreases, tt)
+
+pub items-returns-in_err-item : goal.items-returns-in_err-item
+items-returns-in_err-item t c =
+    let s = state_of c.args.self.now c.args.current.now in
+    let t = state_of c.item.new.self c.item.new.current in
+    walk_refused (λ (x : Item). (act x).item) c.args.items.now c.items.item-index c.item-item.result (items_walk c.args.items.now s) (state_of c.items.self c.items.current) t t c.item.result c.in_err-item.field-0.0 c.from_residual.result
+    c.items-test.true c.item-item.is c.items.invariant c.in_err-item.was c.item.ensures c.from_residual.ensures.1
+
+pub items-items-preserved : goal.items-items-preserved
+items-items-preserved t c =
+    let s = state_of c.args.self.now c.args.current.now in
+    let t = state_of c.item.new.self c.item.new.current in
+    walk_next (λ (x : Item). (act x).item) c.args.items.now c.items.item-index c.item-item.result (items_walk c.args.items.now s) (state_of c.items.self c.items.current) t c.items-test.true c.item-item.is c.items.invariant
+    (ended t ((act c.item-item.result).item (state_of c.items.self c.items.current)) (tt {0}) c.in_ok-item.ensures)
+
+pub items-returns : goal.items-returns
+items-returns t c =
+    let s = state_of c.args.self.now c.args.current.now in
+    let t = state_of c.items.self c.items.current in
+    ends t (items_walk c.args.items.now s) (tt {0}) (walk_none (λ (x : Item). (act x).item) c.args.items.now c.items.item-index (items_walk c.args.items.now s) t c.items-test.false c.items.invariant)
+
+pub items-item-requires : goal.items-item-requires
+items-item-requires t c = (item_less c.args.items.now c.items.item-index c.item-item.result t c.items-test.true c.item-item.is c.decreases, tt)
+
+pub turns-turns-init : goal.turns-turns-init
+turns-turns-init t c =
+    ap (λ (l : List (List Bit)). walk_all (turn_walk c.args.place c.args.opened.name c.args.variable.now.text (under c.args.body.now).body) l (state_of c.args.self.now c.args.current.now)) (sym c.as_slice-bits-items.ensures)
+
+pub turns-returns-in_err-turn : goal.turns-returns-in_err-turn
+turns-returns-in_err-turn t c =
+    let f = turn_walk c.args.place c.args.opened.name c.args.variable.now.text (under c.args.body.now).body in
+    let s = state_of c.args.self.now c.args.current.now in
+    let now = state_of c.turns.self c.args.current.now in
+    let t = state_of c.turn.new.self c.args.current.now in
+    walk_refused f c.as_slice-bits-items.result.now c.turns.bits-index c.bits-item.result (walk_all f c.args.opened.values s) now t t c.turn.result c.in_err-turn.field-0.0 c.from_residual.result c.turns-test.true c.bits-item.is c.turns.invariant c.in_err-turn.was
+    (subst (λ (n : Name). Ends t (turn_walk c.args.place n c.args.variable.now.text (under c.args.body.now).body c.bits-item.result now) c.turn.result) c.bytes.ensures c.turn.ensures) c.from_residual.ensures.1
+
+pub turns-turns-preserved : goal.turns-turns-preserved
+turns-turns-preserved t c =
+    let f = turn_walk c.args.place c.args.opened.name c.args.variable.now.text (under c.args.body.now).body in
+    let s = state_of c.args.self.now c.args.current.now in
+    let now = state_of c.turns.self c.args.current.now in
+    let t = state_of c.turn.new.self c.args.current.now in
+    walk_next f c.as_slice-bits-items.result.now c.turns.bits-index c.bits-item.result (walk_all f c.args.opened.values s) now t c.turns-test.true c.bits-item.is c.turns.invariant
+    (ended t (f c.bits-item.result now) (tt {0})
+    (subst (λ (n : Name). Ends {A = Unit {0}} t (turn_walk c.args.place n c.args.variable.now.text (under c.args.body.now).body c.bits-item.result now) (Ok (tt {0}))) c.bytes.ensures c.in_ok-turn.ensures))
+
+pub turns-returns : goal.turns-returns
+turns-returns t c =
+    let f = turn_walk c.args.place c.args.opened.name c.args.variable.now.text (under c.args.body.now).body in
+    let s = state_of c.args.self.now c.args.current.now in
+    let t = state_of c.turns.self c.args.current.now in
+    ends t (walk_all f c.args.opened.values s) (tt {0}) (walk_none f c.as_slice-bits-items.result.now c.turns.bits-index (walk_all f c.args.opened.values s) t c.turns-test.false c.turns.invariant)
+
+pub turns-turn-requires : goal.turns-turn-requires
+turns-turn-requires t c = (omega (arith, c.decreases), tt)
 
 pub turn-returns-in_err-block : goal.turn-returns-in_err-block
 turn-returns-in_err-block t c =
@@ -55,171 +170,46 @@ turn-returns-in-Single t c =
     (turn_ends c.args.place c.args.name.now c.args.variable.now.text (act c.in-Single.item).item c.args.bits s b e c.item-done.result opened
     (subst (λ (x : Item). Ends e ((act x).item b) c.item-done.result) c.get.ensures c.item-done.ensures))
 
-pub item-returns-in-Net : goal.item-returns-in-Net
-item-returns-in-Net t c =
-    same_walk (act c.args.item.now).item _ c.args.self.now c.args.current.now c.add_nets.new.self c.add_nets.new.current c.add_nets.result (ap (λ (x : Item). (act x).item) c.in-Net.is ∙ net_walk c.in-Net.field-0 c.in-Net.form c.in-Net.words ∙ sym (λ i. with_form_or_bit (c.as_ref.ensures.value i) (λ x. walk_all (add_wire false x) (c.as_slice.ensures i)))) c.add_nets.ensures
+pub turn-items-done-requires : goal.turn-items-done-requires
+turn-items-done-requires t c = (block_less c.args.body.now _ _ c.in-Block.items _ c.as_slice.result.now t c.in-Block.is c.as_slice.ensures c.decreases, tt)
 
-pub item-returns-in-Variable : goal.item-returns-in-Variable
-item-returns-in-Variable t c =
-    same_walk (act c.args.item.now).item _ c.args.self.now c.args.current.now c.add_variables.new.self c.add_variables.new.current c.add_variables.result (ap (λ (x : Item). (act x).item) c.in-Variable.is ∙ variable_walk c.in-Variable.form c.in-Variable.words ∙ sym (λ i. with_form c.in-Variable.form (λ x. walk_all (add_wire false x) (c.as_slice-in-Variable.ensures i)))) c.add_variables.ensures
+pub turn-item-done-requires : goal.turn-item-done-requires
+turn-item-done-requires t c = (single_less c.args.body.now _ c.in-Single.item c.get.result.now t c.in-Single.is c.get.ensures c.decreases, tt)
 
-pub item-returns-in-Typedef : goal.item-returns-in-Typedef
-item-returns-in-Typedef t c =
-    same_walk (act c.args.item.now).item _ c.args.self.now c.args.current.now c.add_typedef.new.self c.add_typedef.new.current c.add_typedef.result (ap (λ (x : Item). (act x).item) c.in-Typedef.is ∙ typedef_walk c.in-Typedef.tree) c.add_typedef.ensures
-
-pub item-returns-in-Param : goal.item-returns-in-Param
-item-returns-in-Param t c =
-    same_walk (act c.args.item.now).item _ c.args.self.now c.args.current.now c.add_params.new.self c.add_params.new.current c.add_params.result (ap (λ (x : Item). (act x).item) c.in-Param.is ∙ param_walk c.in-Param.tree) c.add_params.ensures
-
-pub item-returns-in-Genvar : goal.item-returns-in-Genvar
-item-returns-in-Genvar t c =
-    same_walk (act c.args.item.now).item _ c.args.self.now c.args.current.now c.add_genvars.new.self c.add_genvars.new.current c.add_genvars.result (ap (λ (x : Item). (act x).item) c.in-Genvar.is ∙ genvar_walk c.in-Genvar.words ∙ ap (walk_all add_genvar) (sym c.as_slice-in-Genvar.ensures)) c.add_genvars.ensures
-
-pub item-returns-in-Assign : goal.item-returns-in-Assign
-item-returns-in-Assign t c =
-    same_walk (act c.args.item.now).item _ c.args.self.now c.args.current.now c.add_assignments.new.self c.add_assignments.new.current c.add_assignments.result (ap (λ (x : Item). (act x).item) c.in-Assign.is ∙ assign_walk c.in-Assign.list ∙ ap (walk_all add_assignment) (sym c.as_slice-in-Assign.ensures)) c.add_assignments.ensures
-
-pub item-returns-in-Always : goal.item-returns-in-Always
-item-returns-in-Always t c =
-    same_walk (act c.args.item.now).item _ c.args.self.now c.args.current.now c.add_work.new.self c.args.current.now c.add_work.result (ap (λ (x : Item). (act x).item) c.in-Always.is ∙ always_walk c.in-Always.block) c.add_work.ensures
-
-pub item-returns-in-Inst : goal.item-returns-in-Inst
-item-returns-in-Inst t c =
-    same_walk (act c.args.item.now).item _ c.args.self.now c.args.current.now c.add_children.new.self c.add_children.new.current c.add_children.result (ap (λ (x : Item). (act x).item) c.in-Inst.is ∙ inst_walk c.in-Inst.inst) c.add_children.ensures
-
-pub item-returns-in-Generate : goal.item-returns-in-Generate
-item-returns-in-Generate t c =
-    same_walk (act c.args.item.now).item _ c.args.self.now c.args.current.now c.items.new.self c.items.new.current c.items.result (ap (λ (x : Item). (act x).item) c.in-Generate.is ∙ generate_walk c.in-Generate.items ∙ ap items_walk (sym c.as_slice-in-Generate.ensures)) c.items.ensures
-
-pub item-returns-in_err-opened-in-For : goal.item-returns-in_err-opened-in-For
-item-returns-in_err-opened-in-For t c =
+pub conditional-returns-in_err-holds : goal.conditional-returns-in_err-holds
+conditional-returns-in_err-holds t c =
     let s = state_of c.args.self.now c.args.current.now in
-    let loop : OpensLoop c.args.item.now c.in-For.place c.in-For.variable c.in-For.body c.args.self.now c.args.current.now c.open_loop.new.current (Err c.in_err-opened-in-For.field-0.0) =
-    subst (λ (x : Gen). (item : Item) → item ≡ it.For c.in-For.place c.in-For.header c.in-For.variable c.in-For.start c.in-For.test c.in-For.next x → OpensLoop item c.in-For.place c.in-For.variable x c.args.self.now c.args.current.now c.open_loop.new.current (Err c.in_err-opened-in-For.field-0.0))
-    c.get.ensures c.in_err-opened-in-For.ensures c.args.item.now c.in-For.is in
-    handed_same (state_of c.args.self.now c.open_loop.new.current) ((act c.args.item.now).item s) c.in_err-opened-in-For.field-0.0 c.from_residual.result
-    (refused_as (λ (x : State) (y : State). x ≡ y) (λ st (u : Unit {0}). st ≡ state_of c.args.self.now c.open_loop.new.current) ((act c.args.item.now).item s) c.in_err-opened-in-For.field-0.0 loop) c.from_residual.ensures.1
+    handed (λ x y. x ≡ y) (λ st u. st ≡ s) (fixed_truth (mean (seen s) c.args.test.now)) (λ b. chosen_branch b (under c.args.body.now) (else_of c.args.other.now) c.args.number s) c.holds.result c.in_err-holds.field-0.0 c.from_residual.result
+    c.in_err-holds.was c.holds.ensures c.from_residual.ensures.1
 
-pub item-turns-init : goal.item-turns-init
-item-turns-init t c =
-    let q = state_of c.args.self.now c.open_loop.new.current in
-    let loop : OpensLoop c.args.item.now c.in-For.place c.in-For.variable c.in-For.body c.args.self.now c.args.current.now c.open_loop.new.current (Ok c.in_ok-opened-in-For.opened) =
-    subst (λ (x : Gen). (item : Item) → item ≡ it.For c.in-For.place c.in-For.header c.in-For.variable c.in-For.start c.in-For.test c.in-For.next x → OpensLoop item c.in-For.place c.in-For.variable x c.args.self.now c.args.current.now c.open_loop.new.current (Ok c.in_ok-opened-in-For.opened))
-    c.get.ensures c.in_ok-opened-in-For.ensures c.args.item.now c.in-For.is in
-    loop.0 ∙ ap (λ (l : List (List Bit)). walk_all (turn_walk c.in-For.place (block_name (under c.in-For.body).label c.open_loop.new.current.constructs) c.in-For.variable.text (under c.in-For.body).body) l q) (sym c.as_slice-bits-items.ensures)
-
-pub item-returns-in_err-turn-in-For : goal.item-returns-in_err-turn-in-For
-item-returns-in_err-turn-in-For t c =
+pub conditional-returns-then-branch : goal.conditional-returns-then-branch
+conditional-returns-then-branch t c =
     let s = state_of c.args.self.now c.args.current.now in
-    let loop : OpensLoop c.args.item.now c.in-For.place c.in-For.variable c.in-For.body c.args.self.now c.args.current.now c.open_loop.new.current (Ok c.in_ok-opened-in-For.opened) =
-    subst (λ (x : Gen). (item : Item) → item ≡ it.For c.in-For.place c.in-For.header c.in-For.variable c.in-For.start c.in-For.test c.in-For.next x → OpensLoop item c.in-For.place c.in-For.variable x c.args.self.now c.args.current.now c.open_loop.new.current (Ok c.in_ok-opened-in-For.opened))
-    c.get.ensures c.in_ok-opened-in-For.ensures c.args.item.now c.in-For.is in
-    let name = block_name (under c.in-For.body).label c.open_loop.new.current.constructs in
-    let inside = (under c.in-For.body).body in
-    let now = state_of c.turns.self c.open_loop.new.current in
-    let t = state_of c.turn.new.self c.open_loop.new.current in
-    let walks : Ends t (turn_walk c.in-For.place name c.in-For.variable.text inside c.bits-item.result now) c.turn.result =
-    subst (λ (n : Name). Ends t (turn_walk c.in-For.place n c.in-For.variable.text inside c.bits-item.result now) c.turn.result) (c.bytes.ensures ∙ loop.1)
-    (subst (λ (x : Gen). Ends t (turn_walk c.in-For.place c.bytes.result.now c.in-For.variable.text (under x).body c.bits-item.result now) c.turn.result) c.get-in-turns.ensures c.turn.ensures) in
-    walk_refused (turn_walk c.in-For.place name c.in-For.variable.text inside) c.as_slice-bits-items.result.now c.turns.bits-index c.bits-item.result ((act c.args.item.now).item s) now t t c.turn.result c.in_err-turn-in-For.field-0.0 c.from_residual-in_err-turn-in-For.result
-    c.turns-test.true c.bits-item.is c.turns.invariant c.in_err-turn-in-For.was walks c.from_residual-in_err-turn-in-For.ensures.1
+    let u = state_of c.branch-self.new.self c.branch-self.new.current in
+    let true_ok : fixed_truth (mean (seen s) c.args.test.now) ≡ Ok true = gives_ok (fixed_truth (mean (seen s) c.args.test.now)) c.in_ok-holds.field-0 c.in_ok-holds.ensures ∙ ap Ok c.if-branch.true in
+    same_ends u (conditional c.args.test.now (under c.args.body.now) (else_of c.args.other.now) c.args.number s) ((under c.args.body.now).branch c.args.number s) c.branch-self.result
+    (taken_branch c.args.test.now c.args.body.now c.args.other.now c.args.number s true_ok) c.branch-self.ensures
 
-pub item-turns-preserved : goal.item-turns-preserved
-item-turns-preserved t c =
+pub conditional-returns-in-Some : goal.conditional-returns-in-Some
+conditional-returns-in-Some t c =
     let s = state_of c.args.self.now c.args.current.now in
-    let loop : OpensLoop c.args.item.now c.in-For.place c.in-For.variable c.in-For.body c.args.self.now c.args.current.now c.open_loop.new.current (Ok c.in_ok-opened-in-For.opened) =
-    subst (λ (x : Gen). (item : Item) → item ≡ it.For c.in-For.place c.in-For.header c.in-For.variable c.in-For.start c.in-For.test c.in-For.next x → OpensLoop item c.in-For.place c.in-For.variable x c.args.self.now c.args.current.now c.open_loop.new.current (Ok c.in_ok-opened-in-For.opened))
-    c.get.ensures c.in_ok-opened-in-For.ensures c.args.item.now c.in-For.is in
-    let name = block_name (under c.in-For.body).label c.open_loop.new.current.constructs in
-    let inside = (under c.in-For.body).body in
-    let now = state_of c.turns.self c.open_loop.new.current in
-    let t = state_of c.turn.new.self c.open_loop.new.current in
-    let walks : Ends {A = Unit {0}} t (turn_walk c.in-For.place name c.in-For.variable.text inside c.bits-item.result now) (Ok (tt {0})) =
-    subst (λ (n : Name). Ends {A = Unit {0}} t (turn_walk c.in-For.place n c.in-For.variable.text inside c.bits-item.result now) (Ok (tt {0}))) (c.bytes.ensures ∙ loop.1)
-    (subst (λ (x : Gen). Ends {A = Unit {0}} t (turn_walk c.in-For.place c.bytes.result.now c.in-For.variable.text (under x).body c.bits-item.result now) (Ok (tt {0}))) c.get-in-turns.ensures c.in_ok-turn-in-For.ensures) in
-    walk_next (turn_walk c.in-For.place name c.in-For.variable.text inside) c.as_slice-bits-items.result.now c.turns.bits-index c.bits-item.result ((act c.args.item.now).item s) now t c.turns-test.true c.bits-item.is c.turns.invariant
-    (ended t (turn_walk c.in-For.place name c.in-For.variable.text inside c.bits-item.result now) (tt {0}) walks)
+    let u = state_of c.branch-self-in-Some.new.self c.branch-self-in-Some.new.current in
+    let false_ok : fixed_truth (mean (seen s) c.args.test.now) ≡ Ok false = gives_ok (fixed_truth (mean (seen s) c.args.test.now)) c.in_ok-holds.field-0 c.in_ok-holds.ensures ∙ ap Ok c.if-branch.false in
+    same_ends u (conditional c.args.test.now (under c.args.body.now) (else_of c.args.other.now) c.args.number s) ((under c.in-Some.other).branch c.args.number s) c.branch-self-in-Some.result
+    (other_branch c.args.test.now c.args.body.now c.args.other.now c.args.number s false_ok ∙ ap (λ (o : Option Gen). else_of o c.args.number s) c.in-Some.is)
+    (subst (λ (x : Gen). Ends u ((under x).branch c.args.number s) c.branch-self-in-Some.result) c.get.ensures c.branch-self-in-Some.ensures)
 
-pub item-returns-after-turns : goal.item-returns-after-turns
-item-returns-after-turns t c =
+pub conditional-returns-in-None : goal.conditional-returns-in-None
+conditional-returns-in-None t c =
     let s = state_of c.args.self.now c.args.current.now in
-    let name = block_name (under c.in-For.body).label c.open_loop.new.current.constructs in
-    let inside = (under c.in-For.body).body in
-    let t = state_of c.turns.self c.open_loop.new.current in
-    ends t ((act c.args.item.now).item s) (tt {0}) (walk_none (turn_walk c.in-For.place name c.in-For.variable.text inside) c.as_slice-bits-items.result.now c.turns.bits-index ((act c.args.item.now).item s) t c.turns-test.false c.turns.invariant)
+    let false_ok : fixed_truth (mean (seen s) c.args.test.now) ≡ Ok false = gives_ok (fixed_truth (mean (seen s) c.args.test.now)) c.in_ok-holds.field-0 c.in_ok-holds.ensures ∙ ap Ok c.if-branch.false in
+    ends s (conditional c.args.test.now (under c.args.body.now) (else_of c.args.other.now) c.args.number s) (tt {0}) (other_branch c.args.test.now c.args.body.now c.args.other.now c.args.number s false_ok ∙ ap (λ (o : Option Gen). else_of o c.args.number s) c.in-None.is)
 
-pub item-returns-in_err-next_construct-in-If : goal.item-returns-in_err-next_construct-in-If
-item-returns-in_err-next_construct-in-If t c =
-    let s = state_of c.args.self.now c.args.current.now in
-    let t = state_of c.args.self.now c.next_construct.new.self in
-    if_counted c.in-If.field-0 c.in-If.test c.in-If.body c.in-If.other c.args.item.now s t t c.next_construct.result c.in_err-next_construct-in-If.field-0.0 c.from_residual-in_err-next_construct-in-If.result c.in-If.is c.in_err-next_construct-in-If.was (c.next_construct.ensures c.args.self.now)
-    c.from_residual-in_err-next_construct-in-If.ensures.1
+pub conditional-branch-self-requires : goal.conditional-branch-self-requires
+conditional-branch-self-requires t c = (omega (arith, c.decreases), tt)
 
-pub item-returns-in_err-holds-in-If : goal.item-returns-in_err-holds-in-If
-item-returns-in_err-holds-in-If t c =
-    let s = state_of c.args.self.now c.args.current.now in
-    let q = state_of c.args.self.now c.next_construct.new.self in
-    let n = c.next_construct.new.self.constructs in
-    let cond = conditional c.in-If.test (under c.in-If.body) (else_of c.in-If.other) n q in
-    let is : (act c.args.item.now).item s ≡ cond = if_is c.in-If.field-0 c.in-If.test c.in-If.body c.in-If.other c.args.item.now s q c.in-If.is (ended q (next_construct s) (tt {0}) (c.in_ok-next_construct-in-If.ensures c.args.self.now)) in
-    same_ends q ((act c.args.item.now).item s) cond c.from_residual-in_err-holds-in-If.result is
-    (handed (λ x y. x ≡ y) (λ st u. st ≡ q) (fixed_truth (mean (seen q) c.in-If.test)) (λ b. chosen_branch b (under c.in-If.body) (else_of c.in-If.other) n q) c.holds.result c.in_err-holds-in-If.field-0.0 c.from_residual-in_err-holds-in-If.result
-    c.in_err-holds-in-If.was c.holds.ensures c.from_residual-in_err-holds-in-If.ensures.1)
-
-pub item-returns-then-branch : goal.item-returns-then-branch
-item-returns-then-branch t c =
-    let s = state_of c.args.self.now c.args.current.now in
-    let q = state_of c.args.self.now c.next_construct.new.self in
-    let n = c.next_construct.new.self.constructs in
-    let cond = conditional c.in-If.test (under c.in-If.body) (else_of c.in-If.other) n q in
-    let is : (act c.args.item.now).item s ≡ cond = if_is c.in-If.field-0 c.in-If.test c.in-If.body c.in-If.other c.args.item.now s q c.in-If.is (ended q (next_construct s) (tt {0}) (c.in_ok-next_construct-in-If.ensures c.args.self.now)) in
-    let true_ok : (fixed_truth (mean (seen q) c.in-If.test)) ≡ Ok true = gives_ok (fixed_truth (mean (seen q) c.in-If.test)) c.in_ok-holds-in-If.field-0 c.in_ok-holds-in-If.ensures ∙ ap Ok c.if-branch.true in
-    let t = state_of c.branch-self.new.self c.branch-self.new.current in
-    same_ends t ((act c.args.item.now).item s) ((under c.in-If.body).branch n q) c.branch-self.result (is ∙ taken_branch c.in-If.test c.in-If.body c.in-If.other n q true_ok)
-    (subst (λ (x : Gen). Ends t ((under x).branch n q) c.branch-self.result) c.get-then-branch.ensures c.branch-self.ensures)
-
-pub item-returns-in-Some : goal.item-returns-in-Some
-item-returns-in-Some t c =
-    let s = state_of c.args.self.now c.args.current.now in
-    let q = state_of c.args.self.now c.next_construct.new.self in
-    let n = c.next_construct.new.self.constructs in
-    let cond = conditional c.in-If.test (under c.in-If.body) (else_of c.in-If.other) n q in
-    let is : (act c.args.item.now).item s ≡ cond = if_is c.in-If.field-0 c.in-If.test c.in-If.body c.in-If.other c.args.item.now s q c.in-If.is (ended q (next_construct s) (tt {0}) (c.in_ok-next_construct-in-If.ensures c.args.self.now)) in
-    let false_ok : (fixed_truth (mean (seen q) c.in-If.test)) ≡ Ok false = gives_ok (fixed_truth (mean (seen q) c.in-If.test)) c.in_ok-holds-in-If.field-0 c.in_ok-holds-in-If.ensures ∙ ap Ok c.if-branch.false in
-    let t = state_of c.branch-self-in-Some.new.self c.branch-self-in-Some.new.current in
-    same_ends t ((act c.args.item.now).item s) ((under c.in-Some.other).branch n q) c.branch-self-in-Some.result
-    (is ∙ other_branch c.in-If.test c.in-If.body c.in-If.other n q false_ok ∙ ap (λ (o : Option Gen). else_of o n q) c.in-Some.is)
-    (subst (λ (x : Gen). Ends t ((under x).branch n q) c.branch-self-in-Some.result) c.get-in-Some.ensures c.branch-self-in-Some.ensures)
-
-pub item-returns-in-None : goal.item-returns-in-None
-item-returns-in-None t c =
-    let s = state_of c.args.self.now c.args.current.now in
-    let q = state_of c.args.self.now c.next_construct.new.self in
-    let n = c.next_construct.new.self.constructs in
-    let cond = conditional c.in-If.test (under c.in-If.body) (else_of c.in-If.other) n q in
-    let is : (act c.args.item.now).item s ≡ cond = if_is c.in-If.field-0 c.in-If.test c.in-If.body c.in-If.other c.args.item.now s q c.in-If.is (ended q (next_construct s) (tt {0}) (c.in_ok-next_construct-in-If.ensures c.args.self.now)) in
-    let false_ok : (fixed_truth (mean (seen q) c.in-If.test)) ≡ Ok false = gives_ok (fixed_truth (mean (seen q) c.in-If.test)) c.in_ok-holds-in-If.field-0 c.in_ok-holds-in-If.ensures ∙ ap Ok c.if-branch.false in
-    ends q ((act c.args.item.now).item s) (tt {0}) (is ∙ other_branch c.in-If.test c.in-If.body c.in-If.other n q false_ok ∙ ap (λ (o : Option Gen). else_of o n q) c.in-None.is)
-
-pub items-returns-in_err-item : goal.items-returns-in_err-item
-items-returns-in_err-item t c =
-    let s = state_of c.args.self.now c.args.current.now in
-    let t = state_of c.item.new.self c.item.new.current in
-    walk_refused (λ (x : Item). (act x).item) c.args.items.now c.items.item-index c.item-item.result (items_walk c.args.items.now s) (state_of c.items.self c.items.current) t t c.item.result c.in_err-item.field-0.0 c.from_residual.result
-    c.items-test.true c.item-item.is c.items.invariant c.in_err-item.was c.item.ensures c.from_residual.ensures.1
-
-pub items-items-preserved : goal.items-items-preserved
-items-items-preserved t c =
-    let s = state_of c.args.self.now c.args.current.now in
-    let t = state_of c.item.new.self c.item.new.current in
-    walk_next (λ (x : Item). (act x).item) c.args.items.now c.items.item-index c.item-item.result (items_walk c.args.items.now s) (state_of c.items.self c.items.current) t c.items-test.true c.item-item.is c.items.invariant
-    (ended t ((act c.item-item.result).item (state_of c.items.self c.items.current)) (tt {0}) c.in_ok-item.ensures)
-
-pub items-returns : goal.items-returns
-items-returns t c =
-    let s = state_of c.args.self.now c.args.current.now in
-    let t = state_of c.items.self c.items.current in
-    ends t (items_walk c.args.items.now s) (tt {0}) (walk_none (λ (x : Item). (act x).item) c.args.items.now c.items.item-index (items_walk c.args.items.now s) t c.items-test.false c.items.invariant)
+pub conditional-branch-self-requires-in-Some : goal.conditional-branch-self-requires-in-Some
+conditional-branch-self-requires-in-Some t c = (other_less c.args.body.now c.args.other.now c.in-Some.other c.get.result.now t c.in-Some.is c.get.ensures c.decreases, tt)
 
 pub branch-returns-in_err-block-in-Block : goal.branch-returns-in_err-block-in-Block
 branch-returns-in_err-block-in-Block t c =
@@ -245,56 +235,6 @@ branch-returns-in_ok-block-in-Block t c =
     (block_ends (option_copied c.as_ref.result) c.in-Block.place c.args.number (items_walk c.in-Block.items) s (state_of c.args.self.now c.block.new.current) b e c.items-done.result
     c.in_ok-block-in-Block.ensures.declared c.in_ok-block-in-Block.ensures.begun (subst (λ (l : List Item). Ends e (items_walk l b) c.items-done.result) c.as_slice.ensures c.items-done.ensures))
 
-pub branch-returns-in_err-holds-in-If : goal.branch-returns-in_err-holds-in-If
-branch-returns-in_err-holds-in-If t c =
-    let s = state_of c.args.self.now c.args.current.now in
-    let item : c.in-Single.item ≡ it.If c.in-If.field-0 c.in-If.test c.in-If.body c.in-If.other = sym c.get.ensures ∙ c.in-If.is in
-    let cond = conditional c.in-If.test (under c.in-If.body) (else_of c.in-If.other) c.args.number s in
-    let is : (under c.args.body.now).branch c.args.number s ≡ cond =
-    ap (λ (x : Gen). (under x).branch c.args.number s) (c.in-Single.is ∙ ap (λ (x : Item). ge.Single c.in-Single.place x) item)
-    ∙ ap (λ (f : Walk). f s) (if_branch c.in-If.field-0 c.in-Single.place c.in-If.test c.in-If.body c.in-If.other c.args.number) in
-    same_ends s ((under c.args.body.now).branch c.args.number s) cond c.from_residual-in_err-holds-in-If.result is
-    (handed (λ x y. x ≡ y) (λ st u. st ≡ s) (fixed_truth (mean (seen s) c.in-If.test)) (λ b. chosen_branch b (under c.in-If.body) (else_of c.in-If.other) c.args.number s) c.holds.result c.in_err-holds-in-If.field-0.0 c.from_residual-in_err-holds-in-If.result
-    c.in_err-holds-in-If.was c.holds.ensures c.from_residual-in_err-holds-in-If.ensures.1)
-
-pub branch-returns-then-branch : goal.branch-returns-then-branch
-branch-returns-then-branch t c =
-    let s = state_of c.args.self.now c.args.current.now in
-    let item : c.in-Single.item ≡ it.If c.in-If.field-0 c.in-If.test c.in-If.body c.in-If.other = sym c.get.ensures ∙ c.in-If.is in
-    let cond = conditional c.in-If.test (under c.in-If.body) (else_of c.in-If.other) c.args.number s in
-    let is : (under c.args.body.now).branch c.args.number s ≡ cond =
-    ap (λ (x : Gen). (under x).branch c.args.number s) (c.in-Single.is ∙ ap (λ (x : Item). ge.Single c.in-Single.place x) item)
-    ∙ ap (λ (f : Walk). f s) (if_branch c.in-If.field-0 c.in-Single.place c.in-If.test c.in-If.body c.in-If.other c.args.number) in
-    let true_ok : (fixed_truth (mean (seen s) c.in-If.test)) ≡ Ok true = gives_ok (fixed_truth (mean (seen s) c.in-If.test)) c.in_ok-holds-in-If.field-0 c.in_ok-holds-in-If.ensures ∙ ap Ok c.if-branch.true in
-    let t = state_of c.branch-self.new.self c.branch-self.new.current in
-    same_ends t ((under c.args.body.now).branch c.args.number s) ((under c.in-If.body).branch c.args.number s) c.branch-self.result (is ∙ taken_branch c.in-If.test c.in-If.body c.in-If.other c.args.number s true_ok)
-    (subst (λ (x : Gen). Ends t ((under x).branch c.args.number s) c.branch-self.result) c.get-then-branch.ensures c.branch-self.ensures)
-
-pub branch-returns-in-Some : goal.branch-returns-in-Some
-branch-returns-in-Some t c =
-    let s = state_of c.args.self.now c.args.current.now in
-    let item : c.in-Single.item ≡ it.If c.in-If.field-0 c.in-If.test c.in-If.body c.in-If.other = sym c.get.ensures ∙ c.in-If.is in
-    let cond = conditional c.in-If.test (under c.in-If.body) (else_of c.in-If.other) c.args.number s in
-    let is : (under c.args.body.now).branch c.args.number s ≡ cond =
-    ap (λ (x : Gen). (under x).branch c.args.number s) (c.in-Single.is ∙ ap (λ (x : Item). ge.Single c.in-Single.place x) item)
-    ∙ ap (λ (f : Walk). f s) (if_branch c.in-If.field-0 c.in-Single.place c.in-If.test c.in-If.body c.in-If.other c.args.number) in
-    let false_ok : (fixed_truth (mean (seen s) c.in-If.test)) ≡ Ok false = gives_ok (fixed_truth (mean (seen s) c.in-If.test)) c.in_ok-holds-in-If.field-0 c.in_ok-holds-in-If.ensures ∙ ap Ok c.if-branch.false in
-    let t = state_of c.branch-self-in-Some.new.self c.branch-self-in-Some.new.current in
-    same_ends t ((under c.args.body.now).branch c.args.number s) ((under c.in-Some.other).branch c.args.number s) c.branch-self-in-Some.result
-    (is ∙ other_branch c.in-If.test c.in-If.body c.in-If.other c.args.number s false_ok ∙ ap (λ (o : Option Gen). else_of o c.args.number s) c.in-Some.is)
-    (subst (λ (x : Gen). Ends t ((under x).branch c.args.number s) c.branch-self-in-Some.result) c.get-in-Some.ensures c.branch-self-in-Some.ensures)
-
-pub branch-returns-in-None : goal.branch-returns-in-None
-branch-returns-in-None t c =
-    let s = state_of c.args.self.now c.args.current.now in
-    let item : c.in-Single.item ≡ it.If c.in-If.field-0 c.in-If.test c.in-If.body c.in-If.other = sym c.get.ensures ∙ c.in-If.is in
-    let cond = conditional c.in-If.test (under c.in-If.body) (else_of c.in-If.other) c.args.number s in
-    let is : (under c.args.body.now).branch c.args.number s ≡ cond =
-    ap (λ (x : Gen). (under x).branch c.args.number s) (c.in-Single.is ∙ ap (λ (x : Item). ge.Single c.in-Single.place x) item)
-    ∙ ap (λ (f : Walk). f s) (if_branch c.in-If.field-0 c.in-Single.place c.in-If.test c.in-If.body c.in-If.other c.args.number) in
-    let false_ok : (fixed_truth (mean (seen s) c.in-If.test)) ≡ Ok false = gives_ok (fixed_truth (mean (seen s) c.in-If.test)) c.in_ok-holds-in-If.field-0 c.in_ok-holds-in-If.ensures ∙ ap Ok c.if-branch.false in
-    ends s ((under c.args.body.now).branch c.args.number s) (tt {0}) (is ∙ other_branch c.in-If.test c.in-If.body c.in-If.other c.args.number s false_ok ∙ ap (λ (o : Option Gen). else_of o c.args.number s) c.in-None.is)
-
 pub branch-returns-in_err-block-in_default : goal.branch-returns-in_err-block-in_default
 branch-returns-in_err-block-in_default t c =
     let s = state_of c.args.self.now c.args.current.now in
@@ -318,3 +258,24 @@ branch-returns-in_ok-block-in_default t c =
     same_ends t ((under c.args.body.now).branch c.args.number s) (block_walk None c.in-Single.place c.args.number (act c.in-Single.item).item s) c.item-done.result (λ i. is i s)
     (block_ends None c.in-Single.place c.args.number (act c.in-Single.item).item s (state_of c.args.self.now c.block-in_default.new.current) b e c.item-done.result
     c.in_ok-block-in_default.ensures.declared c.in_ok-block-in_default.ensures.begun (subst (λ (x : Item). Ends e ((act x).item b) c.item-done.result) c.get.ensures c.item-done.ensures))
+
+pub branch-returns-in-If : goal.branch-returns-in-If
+branch-returns-in-If t c =
+    let s = state_of c.args.self.now c.args.current.now in
+    let u = state_of c.conditional.new.self c.conditional.new.current in
+    let item : c.in-Single.item ≡ it.If c.in-If.field-0 c.in-If.test c.in-If.body c.in-If.other = sym c.get.ensures ∙ c.in-If.is in
+    let cond = conditional c.in-If.test (under c.in-If.body) (else_of c.in-If.other) c.args.number s in
+    let is : (under c.args.body.now).branch c.args.number s ≡ cond =
+    ap (λ (x : Gen). (under x).branch c.args.number s) (c.in-Single.is ∙ ap (λ (x : Item). ge.Single c.in-Single.place x) item)
+    ∙ ap (λ (f : Walk). f s) (if_branch c.in-If.field-0 c.in-Single.place c.in-If.test c.in-If.body c.in-If.other c.args.number) in
+    same_ends u ((under c.args.body.now).branch c.args.number s) cond c.conditional.result is
+    (subst (λ (x : Gen). Ends u (conditional c.in-If.test (under x) (else_of c.in-If.other) c.args.number s) c.conditional.result) c.get-in-If.ensures c.conditional.ensures)
+
+pub branch-items-done-requires : goal.branch-items-done-requires
+branch-items-done-requires t c = (block_less c.args.body.now _ _ c.in-Block.items _ c.as_slice.result.now t c.in-Block.is c.as_slice.ensures c.decreases, tt)
+
+pub branch-conditional-requires : goal.branch-conditional-requires
+branch-conditional-requires t c = (inner_less c.args.body.now _ c.in-Single.item c.get.result.now _ _ c.in-If.body c.in-If.other c.get-in-If.result.now t c.in-Single.is c.get.ensures c.in-If.is c.get-in-If.ensures c.decreases, tt)
+
+pub branch-item-done-requires : goal.branch-item-done-requires
+branch-item-done-requires t c = (single_less c.args.body.now _ c.in-Single.item c.get.result.now t c.in-Single.is c.get.ensures c.decreases, tt)

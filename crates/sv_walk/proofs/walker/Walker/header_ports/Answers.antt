@@ -36,10 +36,10 @@ list-preserved c =
       rest = ports_next c.args.top c.list.way (layout_is c.list.before) c.args.list.now c.list.port-index c.port-item.result (map port_is c.list.ports.items) (state_of c.list.self c.list.current)
           (header_ports c.args.top way.Input (scalar false) c.args.list.now (state_of c.args.self.now c.args.current.now)) (port_is c.in_ok-one.one) t c.list-test.true c.port-item.is c.list.invariant.rest
           (found_is port_is t (one_port c.args.top c.list.way (layout_is c.list.before) c.port-item.result (state_of c.list.self c.list.current)) c.in_ok-one.one c.in_ok-one.ensures.is)
-          ∙ λ i. behind (sym (ap (map port_is) c.in_ok-push.ensures.items ∙ map-append port_is c.list.ports.items (c.in_ok-one.one ∷ [])) i)
-          (header_ports c.args.top c.in_ok-one.one.way (layout_is (sym c.in_ok-before.ensures i)) (drop (c.list.port-index + 1) c.args.list.now) t);
-      before = subst (λ (l : Coded). IsSound l) (sym c.in_ok-before.ensures) c.in_ok-one.ensures.sound;
-      sound = subst PortsAreSound (sym c.in_ok-push.ensures.items) (All-push (λ (p : OpenPort). IsSound p.layout) c.list.ports.items c.in_ok-one.one c.list.invariant.sound c.in_ok-one.ensures.sound);
+          ∙ λ i. behind (sym (ap (map port_is) c.in_ok-before.ensures.ports ∙ map-append port_is c.list.ports.items (c.in_ok-one.one ∷ [])) i)
+          (header_ports c.args.top c.in_ok-one.one.way (layout_is (sym c.in_ok-before.ensures.layout i)) (drop (c.list.port-index + 1) c.args.list.now) t);
+      before = subst (λ (l : Coded). IsSound l) (sym c.in_ok-before.ensures.layout) c.in_ok-one.ensures.sound;
+      sound = subst PortsAreSound (sym c.in_ok-before.ensures.ports) (All-push (λ (p : OpenPort). IsSound p.layout) c.list.ports.items c.in_ok-one.one c.list.invariant.sound c.in_ok-one.ensures.sound);
     }
 
 pub returns-clause-is : goal.returns-clause-is

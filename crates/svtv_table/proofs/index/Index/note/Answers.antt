@@ -1,3 +1,4 @@
+use Rattle.std.proofs.lemmas.Result.{IfOk-from_err}
 use Rattle.std.proofs.Common.{◌≡◌, ◌∙◌, sym, arith}
 use Rattle.std.proofs.lemmas.Grind.{common_steps}
 use Rattle.svtv_table.specs.declared.index.Index.{Index}
@@ -15,3 +16,9 @@ pub returns-then-is_some : goal.returns-then-is_some
 returns-then-is_some c = λ names indexed count.
     let found = some_from c.number.result (sym c.is_some.ensures ∙ c.if-is_some.true) in
     noted_before c.args.self.now c.args.name.now names found.0 (sym c.number.ensures ∙ found.1) indexed
+
+pub returns-in_err-insert : goal.returns-in_err-insert
+returns-in_err-insert c = IfOk-from_err _ _ c.from_residual-in_err-insert.ensures.0
+
+pub returns-in_err-key : goal.returns-in_err-key
+returns-in_err-key c = IfOk-from_err _ _ c.from_residual.ensures.0
