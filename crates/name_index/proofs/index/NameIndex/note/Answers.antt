@@ -1,12 +1,12 @@
 use Rattle.std.proofs.Common.{◌≡◌, ◌∙◌, sym, arith}
 use Rattle.std.proofs.lemmas.Grind.{common_steps}
-use Rattle.svtv_table.specs.declared.index.Index.{Index}
-use Rattle.svtv_table.proofs.Places.{noted, noted_before, none_from, some_from}
-use Rattle.svtv_table.proofs.index.Index.note.Goals as goal
+use Rattle.name_index.specs.declared.index.NameIndex.{NameIndex}
+use Rattle.name_index.proofs.Indexes.{noted, noted_before, none_from, some_from}
+use Rattle.name_index.proofs.index.NameIndex.note.Goals as goal
 
 pub returns : goal.returns
 returns c = λ names indexed count.
-    let now : Index = record { alloc = c.args.self.now.alloc; numbers = c.insert.new.self } in
+    let now : NameIndex = record { alloc = c.args.self.now.alloc; numbers = c.insert.new.self } in
     let key : c.in_ok-key.key.items ≡ c.args.name.now = grind (arith, common_steps) in
     noted c.args.self.now now c.args.name.now c.in_ok-key.key.items c.args.number names key
     (sym c.number.ensures ∙ none_from c.number.result (sym c.is_some.ensures ∙ c.if-is_some.false)) c.in_ok-insert.ensures.updates indexed count
