@@ -52,7 +52,7 @@ impl<'a> Bits<'a> {
     }
 }
 
-/// Segments of these bits, the most significant first.
+/// Segments of these bits, the most significant first, in one where they adjoin. The bits stand with the least significant first.
 pub fn segs_of(alloc: Global, bits: &[WireBit]) -> Result<Vec<Seg>, AllocError>
     requires { All (λ bit. bit.at < 128) bits.now }
     ensures bits { IfOk result (λ segs. lhs_bits segs.items ≡ bits.now) }

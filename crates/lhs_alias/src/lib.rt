@@ -8,6 +8,7 @@ mod laws;
 mod lhs;
 mod segs;
 
+pub use bits::segs_of;
 pub use joins::{JoinErr, Joins};
 pub use laws::{first_is_unique, linked_is_equivalence};
 pub use lhs::Lhs;

@@ -4,8 +4,8 @@ use Rattle.std.specs.List.{position_from, find, slice_get}
 use Rattle.std.specs.Str.{bytes_eq}
 use Rattle.std.proofs.lemmas.List.{length-map, take_all}
 use Rattle.std.proofs.Math.ListN.{length-take}
-use Rattle.sv_modules.specs.Naming.{place_of, number_under, Indexes}
-use Rattle.sv_modules.specs.declared.name_index.NameIndex.{NameIndex}
+use Rattle.name_index.specs.Indexing.{place_of, number_under, Indexes}
+use Rattle.name_index.specs.declared.index.NameIndex.{NameIndex}
 use Rattle.sv_modules.proofs.Turns.{map_next}
 
 goes_on_if : (b : Bool) (n : ℕ) (o : Option ℕ) → cond b (Some n) o ≡ None → (b ≡ false) × (o ≡ None)

@@ -18,7 +18,7 @@ use Rattle.sv_meaning.specs.Names.{has_name}
 use Rattle.sv_hierarchy.specs.Scopes.{Known, Library, module_named, all_used, unused, the_one, top_named, top_module, instantiated_by, design_start, unclear}
 use Rattle.sv_typing.proofs.Lists.{in_first, in_second, in_fault, no_fault, then_clear, first_clear, second_clear}
 use Rattle.sv_loops.specs.Answers.{Answers, Gives}
-use Rattle.sv_modules.specs.Naming.{place_of}
+use Rattle.name_index.specs.Indexing.{place_of}
 use Rattle.sv_hierarchy.specs.Libraries.{modules_in, repeated, IsLibraryOf}
 use Rattle.sv_modules.specs.Libraries.{module_name, trees_of, used_in, unused_from, only_one}
 use Rattle.sv_modules.proofs.Turns.{take_next, drop_next, map_next}

@@ -6,7 +6,6 @@
 
 mod connect;
 mod library;
-mod name_index;
 mod name_set;
 mod numbered;
 mod parameters;

@@ -8,8 +8,8 @@ ghost use Rattle.sv_hierarchy.specs.Libraries.{modules_in, repeated, IsLibraryOf
 ghost use Rattle.sv_modules.specs.Libraries.{module_name, modules_once, trees_of};
 ghost use Rattle.sv_modules.specs.Listed.{modules_of};
 
-use crate::name_index::NameIndex;
 use crate::numbered::Modules;
+use name_index::NameIndex;
 use std::alloc::{AllocError, Global};
 use sv_outside::{Refusal, TextErr};
 use sv_tree::{Module, Source, SourcePart};

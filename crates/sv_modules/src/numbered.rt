@@ -3,7 +3,7 @@ ghost use Rattle.std.specs.Prelude.{map};
 ghost use Rattle.sv_modules.specs.Naming.{Indexes};
 ghost use Rattle.sv_modules.specs.Libraries.{module_name, trees_of};
 
-use crate::name_index::NameIndex;
+use name_index::NameIndex;
 use sv_tree::Module;
 
 /// The modules of a text in its order, no two of one name.

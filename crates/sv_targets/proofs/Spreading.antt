@@ -1,6 +1,6 @@
 -- Runs of bits as parts.
-use Rattle.std.proofs.Common.{◌≡◌, ℕ, zero, suc, ◌+◌, ◌-◌, ◌≤◌, ◌<◌, Bool, false, List, [], ◌∷◌, ◌++◌, length, take, get_or, map, replicate, Option, Some, None, Result, Ok, Err, IfOk, All, reverse, refl, sym, ap, ◌∙◌, subst, arith, append_assoc}
-use Rattle.std.proofs.lemmas.List.{append-nil, map-append, take_all, reverse-append}
+use Rattle.std.proofs.Common.{◌≡◌, ℕ, zero, suc, ◌+◌, ◌-◌, ◌≤◌, ◌<◌, Bool, false, List, [], ◌∷◌, ◌++◌, length, take, get_or, map, replicate, Option, Some, None, Result, Ok, Err, IfOk, All, refl, sym, ap, ◌∙◌, subst, arith, append_assoc}
+use Rattle.std.proofs.lemmas.List.{append-nil, map-append, take_all}
 use Rattle.std.proofs.lemmas.List.Elements.{All-from_recursion, recursion_from_All, All-push}
 use Rattle.std.specs.Prelude.{◌==◌}
 use Rattle.std.proofs.lemmas.Bool.Decides.{nat_tests}
@@ -8,7 +8,7 @@ use Rattle.std.proofs.Math.Seq.{take-suc}
 use Rattle.std.specs.List.{AllByRecursion}
 use Rattle.lhs_alias.specs.declared.segs.Seg.{Seg}
 use Rattle.lhs_alias.specs.declared.segs.WireBit.{WireBit}
-use Rattle.lhs_alias.specs.Segs.{lhs_bits, seg_bits, IsSeg, AreSegs}
+use Rattle.lhs_alias.specs.Segs.{lhs_bits, AreSegs}
 use Rattle.sv_targets.specs.declared.parts.Part.{Part}
 use Rattle.sv_targets.specs.Slots.{Slots, spread, Ascend, end_of, Runs, AreParts}
 
@@ -119,38 +119,6 @@ runs_end all end parts lt h = record {
   some = h.some;
 }
 
--- ---- bits as segments
-
-one_bit : (wire at : ℕ) → seg_bits (record { wire = wire; lo = at; width = 1 }) ≡ record { wire = wire; at = at } ∷ []
-unfolding seg_bits
-one_bit wire at = refl
-
-reverse_push : (a : List Seg) (s : Seg) → reverse (a ++ s ∷ []) ≡ s ∷ reverse a
-reverse_push a s = reverse-append a (s ∷ [])
-
-take_bit : (run : List WireBit) (i : ℕ) (b : WireBit) → i < length run → b ≡ get_or run i b → take (i + 1) run ≡ take i run ++ b ∷ []
-take_bit run i b h e = ap (λ (k : ℕ). take k run) (next i) ∙ take-suc run i b h ∙ ap (λ (z : WireBit). take i run ++ z ∷ []) (sym e)
-
-pub bits_more : (run : List WireBit) (i : ℕ) (b : WireBit) (segs now : List Seg) → i < length run → b ≡ get_or run i b → lhs_bits (reverse segs) ≡ take i run → now ≡ segs ++ record { wire = b.wire; lo = b.at; width = 1 } ∷ [] → lhs_bits (reverse now) ≡ take (i + 1) run
-bits_more run i b segs now h e a c =
-    let s : Seg = record { wire = b.wire; lo = b.at; width = 1 } in
-    ap (λ (z : List Seg). lhs_bits (reverse z)) c ∙ ap lhs_bits (reverse_push segs s) ∙ (λ i. a i ++ one_bit b.wire b.at i) ∙ sym (take_bit run i b h e)
-
-pub segs_more_reversed : (segs now : List Seg) (b : WireBit) → now ≡ segs ++ record { wire = b.wire; lo = b.at; width = 1 } ∷ [] → AreSegs (reverse segs) → b.at < 128 → AreSegs (reverse now)
-segs_more_reversed segs now b e h k =
-    let s : Seg = record { wire = b.wire; lo = b.at; width = 1 } in
-    let i : IsSeg s = record { some = omega arith; ends = omega arith } in
-    subst AreSegs (sym (ap reverse e ∙ reverse_push segs s)) (All-from_recursion IsSeg (s ∷ reverse segs) (i, recursion_from_All IsSeg (reverse segs) h))
-
-pub bits_begin : (run : List WireBit) (segs : List Seg) → segs ≡ [] → lhs_bits (reverse segs) ≡ take 0 run
-bits_begin run segs e = ap (λ (z : List Seg). lhs_bits (reverse z)) e
-
-pub segs_none : (segs : List Seg) → segs ≡ [] → AreSegs (reverse segs)
-segs_none segs e = subst (λ (z : List Seg). AreSegs (reverse z)) (sym e) (λ k d lt. absurd (omega arith))
-
-pub bits_end : (run : List WireBit) (i : ℕ) (segs now : List Seg) (to : List Seg) → length run ≤ i → lhs_bits (reverse segs) ≡ take i run → now ≡ reverse segs → lhs_bits to ≡ lhs_bits now → lhs_bits to ≡ run
-bits_end run i segs now to h a e t = t ∙ ap lhs_bits e ∙ a ∙ take_all i run h
-
 pub parts_final : {E : Type 0} (all : Slots) (end : ℕ) (r : Result (List Part) E) → length all ≤ end → IfOk r (λ parts. Runs all end parts []) → IfOk r (λ parts. AreParts all parts)
 parts_final all end (Ok parts) h k = runs_end all end parts h k
 parts_final all end (Err e) h k = tt
@@ -161,8 +129,3 @@ near_by (x ∷ run) b h k = (h.0, near_by run b h.1 k)
 
 pub near_more : (run now : List WireBit) (b : WireBit) → now ≡ run ++ b ∷ [] → All (λ x. x.at < 128) run → b.at < 128 → All (λ x. x.at < 128) now
 near_more run now b e h k = subst (All (λ x. x.at < 128)) (sym e) (All-from_recursion (λ x. x.at < 128) (run ++ b ∷ []) (near_by run b (recursion_from_All (λ x. x.at < 128) run h) k))
-
-pub same_or : (run : List WireBit) (i : ℕ) (d e : WireBit) → i < length run → get_or run i d ≡ get_or run i e
-same_or [] i d e h = absurd (omega arith)
-same_or (x ∷ run) zero d e h = refl
-same_or (x ∷ run) (suc i) d e h = same_or run i d e (omega arith)

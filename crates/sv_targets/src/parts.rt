@@ -3,7 +3,6 @@
 // part says where in the target it lies; a value is cut by these places and nothing is written where there is no bit.
 ghost use Rattle.std.specs.Prelude.{◌≡◌, ◌≤◌, ◌<◌, All, IfOk, List, [], length, slice_index_or, ◌+◌};
 ghost use Rattle.sv_names.specs.Names.{names_are};
-ghost use Rattle.lhs_alias.specs.Segs.{lhs_bits, AreSegs};
 ghost use Rattle.sv_meaning.specs.Designs.{as_targets, actual_faults, index_scope};
 ghost use Rattle.sv_meaning.specs.Faults.{Faults};
 ghost use Rattle.sv_meaning.specs.Meanings.{fixed_faults};
@@ -16,7 +15,7 @@ use crate::fixed::are_fixed;
 use crate::slots::all_slots;
 use crate::targets::{TypedTarget, typed_targets, width_of_all};
 use items::Items;
-use lhs_alias::{Lhs, Seg, WireBit};
+use lhs_alias::{Lhs, WireBit, segs_of};
 use std::alloc::{AllocError, Global};
 use sv_names::Names;
 use sv_outside::TextErr;
@@ -53,24 +52,6 @@ impl Drop for Target {
     }
 }
 
-// Bits from the least significant on as segments, neighbours as one.
-fn united(alloc: Global, run: &[WireBit]) -> Result<Lhs, AllocError>
-    requires { All (λ b. b.at < 128) run.now }
-    ensures bits { IfOk result (λ to. lhs_bits to ≡ run.now) }
-    ensures segs { IfOk result (λ to. AreSegs to) }
-{
-    let mut segs = Vec::new(alloc);
-    'bits: for bit in run {
-        segs.push(Seg {
-            wire: bit.wire,
-            lo: bit.at,
-            width: 1,
-        })?;
-    }
-    segs.reverse();
-    Lhs::from_vec(segs).normal()
-}
-
 // A run of bits that ends at a place as a part of its own.
 fn closed(
     alloc: Global,
@@ -85,11 +66,11 @@ fn closed(
     if run.is_empty() {
         return Ok(parts);
     }
-    let to = united(alloc, run)?;
+    let segs = segs_of(alloc, run)?;
     let mut parts = parts;
     parts.push(Part {
         lo: end - run.len(),
-        to,
+        to: Lhs::from_vec(segs),
     })?;
     Ok(parts)
 }

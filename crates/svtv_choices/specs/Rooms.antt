@@ -1,5 +1,5 @@
 -- Tables of so many variable bits that their choices are not tried (this project's limit for now).
-use Rattle.std.specs.Prelude.{ℕ, ◌+◌, nat_lt, List, [], ◌∷◌, Option, Some, None, if◌then◌else◌}
+use Rattle.std.specs.Prelude.{◌≡◌, ℕ, ◌+◌, nat_lt, List, [], ◌∷◌, Option, Some, None, All, Contains, if◌then◌else◌}
 use Rattle.std.specs.Str.{bytes_eq}
 use Rattle.sv_outside.specs.declared.refusal.Refusal.{Refusal}
 use Rattle.svtv_table.specs.Faults.{fault, fault_if, at_each}
@@ -36,15 +36,21 @@ abbrev pub naming : List Row → Option (List ℕ) → List Refusal
 naming rows None = []
 naming rows (Some name) = at_each (row_naming name) 0 rows
 
--- at the table's start where no cell names it, which no table has whose variables these are
-abbrev pub or_start : List Refusal → List Refusal
-or_start [] = fault 40 1 1 ∷ []
-or_start (refusal ∷ more) = refusal ∷ more
-
 abbrev pub exceeding_faults : List Row → Option (List ℕ) → List Refusal
 exceeding_faults rows None = []
-exceeding_faults rows (Some name) = or_start (naming rows (Some name))
+exceeding_faults rows (Some name) = naming rows (Some name)
 
 -- E40 at each cell of the first variable that exceeds the most
 unfoldable pub room_faults : List Row → List VarDecl → List Refusal
 room_faults rows vars = exceeding_faults rows (exceeding 0 vars)
+
+-- a cell of an `in` row has the name
+pub record IsNamed (rows : List Row) (name : List ℕ) : Type 0 where
+  pub row : Row
+  pub there : Contains rows row
+  pub kind : row.kind ≡ In
+  pub named : Contains row.cells (cell.Named name)
+
+-- so it is with the name of each variable
+abbrev pub AreNamed : List Row → List VarDecl → Type 0
+AreNamed rows vars = All (λ var. IsNamed rows var.name) vars

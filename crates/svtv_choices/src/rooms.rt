@@ -2,7 +2,7 @@
 ghost use Rattle.std.specs.Prelude.{◌≡◌, ◌≤◌, ◌<◌, ◌+◌, ◌^◌, IfErr, IfOk, Some};
 ghost use Rattle.svtv_choices.specs.Choices.{bits_of};
 ghost use Rattle.svtv_choices.specs.Rooms as spec;
-ghost use Rattle.svtv_choices.specs.Rooms.{cell_naming, exceeding, naming, row_naming};
+ghost use Rattle.svtv_choices.specs.Rooms.{AreNamed, IsNamed, cell_naming, exceeding, naming, row_naming};
 ghost use Rattle.svtv_table.specs.Faults.{at_each, first_of};
 
 use sv_outside::{Name, Place, Refusal};
@@ -73,19 +73,24 @@ fn first_with(rows: &[Row], name: &Name) -> Option<Refusal>
     None
 }
 
+// E40 at the first cell of an `in` row with a name, which some cell has.
+fn refusal_at(rows: &[Row], name: &Name) -> Refusal
+    requires { IsNamed rows.now name.now }
+    ensures { first_of (naming rows.now (Some name.now)) ≡ Some result }
+{
+    first_with(rows, name).unwrap()
+}
+
 /// The number of bits of the variables of a table, at most 16; or E40 at the first cell of the variable at which the sum of bits, in
 /// the order of variables, exceeds 16.
 pub fn room(table: &Table, vars: &[VarDecl]) -> Result<u32, Refusal>
+    requires { AreNamed table.now.rows vars.now }
     ensures bits { IfOk result (λ bits. bits ≡ bits_of vars.now) }
     ensures most { IfOk result (λ bits. bits ≤ 16) }
     ensures err { IfErr result (λ refusal. first_of (spec.room_faults table.now.rows vars.now) ≡ Some refusal) }
 {
-    let name = match sum_of(vars) {
-        Ok(bits) => return Ok(bits),
-        Err(name) => name,
-    };
-    match first_with(table.rows.as_slice(), name) {
-        Some(refusal) => Err(refusal),
-        None => Err(refused(1, 1)),
+    match sum_of(vars) {
+        Ok(bits) => Ok(bits),
+        Err(name) => Err(refusal_at(table.rows.as_slice(), name)),
     }
 }

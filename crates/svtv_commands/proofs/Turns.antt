@@ -15,7 +15,8 @@ use Rattle.sv_outside.specs.declared.refusal.TextErr.TheVariants as e
 use Rattle.sv_outside.specs.declared.text.Signal.{Signal}
 use Rattle.svex_shape.specs.declared.shape.Shape.{Shape}
 use Rattle.svtv_choices.specs.Choices.{bits_of}
-use Rattle.svtv_choices.specs.Rooms.{room_faults}
+use Rattle.svtv_choices.specs.Rooms.{AreNamed, room_faults}
+use Rattle.svtv_choices.proofs.Named.{bound_named}
 use Rattle.svtv_choices.proofs.Values.{values_choice}
 use Rattle.svtv_decide.specs.Trials.{Poses, bench}
 use Rattle.svtv_report.specs.Shown.{sample_texts, var_texts}
@@ -87,6 +88,10 @@ module _ (told : Told) (d t : Text) (top : Option Text) (x : Setup) (s : Stands 
 
   pub vars_distinct : (vars : List VarDecl) → vars ≡ x.bound.vars → IsDistinct bytes_eq (map name_of vars)
   vars_distinct vars h = subst (λ vs. IsDistinct bytes_eq (map name_of vs)) (sym (h ∙ vars_are)) (bounds.vars_distinct s.design.wires x.table.rows)
+
+  -- each variable is named by a cell of the table
+  pub vars_named : (vars : List VarDecl) → vars ≡ x.bound.vars → AreNamed x.table.rows vars
+  vars_named vars h = subst (λ vs. AreNamed x.table.rows vs) (sym (h ∙ ap (λ (b : Bound). b.vars) s.bound)) (bound_named s.design.wires x.table)
 
   -- the table fits the wires
   pub fits : IsBound x.flat.wires x.bound

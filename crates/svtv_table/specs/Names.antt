@@ -1,15 +1,11 @@
 -- Names, wires and variables by their numbers.
 use Rattle.std.specs.Prelude.{ℕ, List, [], ◌∷◌, Bool, false, Option, Some, None, is_some, unwrap_or, map, slice_index_or}
-use Rattle.std.specs.List.{position_from, flat_map}
-use Rattle.std.specs.Str.{bytes_eq}
+use Rattle.std.specs.List.{flat_map}
 use Rattle.sv_outside.specs.declared.text.Signal.{Signal}
 use Rattle.svtv_table.specs.declared.bound.VarDecl.{VarDecl}
 use Rattle.table_cells.specs.declared.table.Cell.{Cell}
 use Rattle.table_cells.specs.declared.table.Cell.TheVariants as cell
-
--- the number of the first of the names that is this one, from 0
-unfoldable pub place_of : List (List ℕ) → List ℕ → Option ℕ
-place_of names name = position_from (bytes_eq name) 0 names
+pub use Rattle.name_index.specs.Indexing.{place_of}
 
 abbrev pub is_among : List (List ℕ) → List ℕ → Bool
 is_among names name = is_some (place_of names name)

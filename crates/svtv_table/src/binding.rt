@@ -15,10 +15,10 @@ ghost use Rattle.svtv_table.specs.Stimuli.{Means};
 use crate::bound::{Bound, Drive};
 use crate::drives::drives_of;
 use crate::faults::refused;
-use crate::index::Index;
 use crate::names::{Target, Variables, Wires, variables_of, wire_of, wires_of};
 use crate::samples::{Samples, sample_cells};
 use items::Items;
+use name_index::NameIndex;
 use std::alloc::Global;
 use sv_outside::{Signal, TextErr};
 use table_cells::{Row, RowKind, Table};
@@ -130,7 +130,7 @@ fn bind_rows(
         driven: vec![in alloc; false; wires.list.len()]?,
         samples: Samples {
             list: Items::new(alloc),
-            taken: Index::new(alloc),
+            taken: NameIndex::new(alloc),
         },
     };
     for (at, row) in rows.iter().enumerate() {

@@ -10,7 +10,6 @@ mod bound;
 mod drives;
 mod faults;
 mod fields;
-mod index;
 mod names;
 mod read;
 mod samples;

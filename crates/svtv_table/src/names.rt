@@ -8,7 +8,7 @@ ghost use Rattle.svtv_table.specs.Names as spec;
 ghost use Rattle.svtv_table.specs.Names.{name_in, name_of, names_in, path_of};
 
 use crate::bound::VarDecl;
-use crate::index::Index;
+use name_index::NameIndex;
 use std::alloc::{AllocError, Global};
 use sv_outside::{Name, Signal};
 use table_cells::{Cell, Row, RowKind};
@@ -17,7 +17,7 @@ use table_cells::{Cell, Row, RowKind};
 #[derive(Drop)]
 pub struct Wires<'a> {
     pub list: &'a [Signal],
-    pub index: Index,
+    pub index: NameIndex,
     ghost indexed: { Indexes index (map path_of list.now) },
 }
 
@@ -25,7 +25,7 @@ pub struct Wires<'a> {
 #[derive(Drop)]
 pub struct Variables {
     pub list: Vec<VarDecl>,
-    pub index: Index,
+    pub index: NameIndex,
     ghost indexed: { Indexes index (map name_of list.items) },
 }
 
@@ -39,10 +39,10 @@ pub struct Target {
     ghost most: { width ≤ 128 },
 }
 
-fn by_path(alloc: Global, wires: &[Signal]) -> Result<Index, AllocError>
+fn by_path(alloc: Global, wires: &[Signal]) -> Result<NameIndex, AllocError>
     ensures { IfOk result (λ index. Indexes index (map path_of wires.now)) }
 {
-    let mut index = Index::new(alloc);
+    let mut index = NameIndex::new(alloc);
     for (at, wire) in wires.iter().enumerate() {
         index.note(wire.path.bytes(), at)?;
     }
@@ -50,10 +50,10 @@ fn by_path(alloc: Global, wires: &[Signal]) -> Result<Index, AllocError>
 }
 
 /// The numbers of variables by their names.
-pub fn by_name(alloc: Global, vars: &[VarDecl]) -> Result<Index, AllocError>
+pub fn by_name(alloc: Global, vars: &[VarDecl]) -> Result<NameIndex, AllocError>
     ensures { IfOk result (λ index. Indexes index (map name_of vars.now)) }
 {
-    let mut index = Index::new(alloc);
+    let mut index = NameIndex::new(alloc);
     for (at, var) in vars.iter().enumerate() {
         index.note(var.name.bytes(), at)?;
     }
@@ -61,7 +61,7 @@ pub fn by_name(alloc: Global, vars: &[VarDecl]) -> Result<Index, AllocError>
 }
 
 /// The number of a variable, by an index of the names.
-pub fn number_in(vars: &[VarDecl], index: &Index, name: &[u8]) -> Option<usize>
+pub fn number_in(vars: &[VarDecl], index: &NameIndex, name: &[u8]) -> Option<usize>
     requires { Indexes index.now (map name_of vars.now) }
     ensures is { result ≡ spec.number_of vars.now name.now }
     ensures within { IfSome result (λ number. number < length vars.now) }
@@ -78,7 +78,7 @@ pub fn wires_of(alloc: Global, list: &[Signal]) -> Result<Wires<'_>, AllocError>
 }
 
 /// The number of the first wire with a path.
-#[tactic(auto, using(crate::proofs::Places::place_within))]
+#[tactic(auto, using(name_index::proofs::Indexes::place_within))]
 pub fn wire_of(wires: &Wires, path: &Name) -> Option<usize>
     ensures is { result ≡ spec.wire_of wires.now.list.now path.now }
     ensures within { IfSome result (λ number. number < length wires.now.list.now) }
@@ -99,7 +99,7 @@ fn width_of(wires: &Wires, path: &Name) -> u8
 }
 
 /// The number of a variable.
-#[tactic(auto, using(crate::proofs::Places::place_within))]
+#[tactic(auto, using(name_index::proofs::Indexes::place_within))]
 pub fn number_of(variables: &Variables, name: &Name) -> Option<usize>
     ensures is { result ≡ spec.number_of variables.now.list.items name.now }
     ensures within { IfSome result (λ number. number < length variables.now.list.items) }
@@ -117,7 +117,12 @@ pub fn width_under(variables: &Variables, name: &Name) -> Option<u8>
     }
 }
 
-fn add(list: &mut Vec<VarDecl>, index: &mut Index, name: &Name, width: u8) -> Result<(), AllocError>
+fn add(
+    list: &mut Vec<VarDecl>,
+    index: &mut NameIndex,
+    name: &Name,
+    width: u8,
+) -> Result<(), AllocError>
     requires { Indexes index.old (map name_of list.old.items) }
     ensures list { OnOk result (list.new.items ≡ with_var list.old.items (record { name = name.now; width = width })) }
     ensures indexed { OnOk result (Indexes index.new (map name_of list.new.items)) }
@@ -133,7 +138,7 @@ fn add(list: &mut Vec<VarDecl>, index: &mut Index, name: &Name, width: u8) -> Re
 
 fn add_cell(
     list: &mut Vec<VarDecl>,
-    index: &mut Index,
+    index: &mut NameIndex,
     cell: &Cell,
     width: u8,
 ) -> Result<(), AllocError>
@@ -149,7 +154,7 @@ fn add_cell(
 
 fn add_cells(
     list: &mut Vec<VarDecl>,
-    index: &mut Index,
+    index: &mut NameIndex,
     cells: &[Cell],
     width: u8,
 ) -> Result<(), AllocError>
@@ -165,7 +170,7 @@ fn add_cells(
 
 fn add_row(
     list: &mut Vec<VarDecl>,
-    index: &mut Index,
+    index: &mut NameIndex,
     wires: &Wires,
     row: &Row,
 ) -> Result<(), AllocError>
@@ -189,7 +194,7 @@ pub fn variables_of(alloc: Global, wires: &Wires, rows: &[Row]) -> Result<Variab
     ensures { IfOk result (λ variables. variables.list.items ≡ variables_of wires.now.list.now rows.now) }
 {
     let mut list = Vec::new(alloc);
-    let mut index = Index::new(alloc);
+    let mut index = NameIndex::new(alloc);
     for row in rows {
         add_row(&mut list, &mut index, wires, row)?;
     }

@@ -8,9 +8,9 @@ ghost use Rattle.svtv_table.specs.Names.{is_among};
 
 use crate::bound::Sample;
 use crate::faults::refused;
-use crate::index::Index;
 use crate::names::{Target, Variables, number_of};
 use items::Items;
+use name_index::NameIndex;
 use sv_outside::{Name, TextErr};
 use table_cells::Cell;
 
@@ -18,7 +18,7 @@ use table_cells::Cell;
 #[derive(Drop)]
 pub struct Samples {
     pub list: Items<Sample>,
-    pub taken: Index,
+    pub taken: NameIndex,
 }
 
 fn is_taken(samples: &Samples, name: &Name) -> bool

@@ -18,10 +18,10 @@ ghost use Rattle.svtv_table.specs.Valuing as spec;
 use crate::bound::VarDecl;
 use crate::faults::refused;
 use crate::fields::{all_records, count_of, field_at};
-use crate::index::Index;
 use crate::names::{by_name, number_in};
 use csv::ByteRecord;
 use fourvec::Four;
+use name_index::NameIndex;
 use std::alloc::{AllocError, Global};
 use sv_outside::TextErr;
 use table_cells::{constant, fits, known_literal};
@@ -60,7 +60,7 @@ fn new_value(so_far: &Option<Four>, text: &[u8], width: u8, line: usize) -> Resu
 #[tactic(auto, unfolding(crate::specs::Valuing::value_faults, crate::specs::Faults::Stops))]
 fn put_value(
     vars: &[VarDecl],
-    index: &Index,
+    index: &NameIndex,
     line: usize,
     csv_record: &ByteRecord,
     values: &mut Vec<Option<Four>>,

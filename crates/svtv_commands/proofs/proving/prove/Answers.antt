@@ -3,9 +3,13 @@ use Rattle.std.specs.List.{All}
 use Rattle.svtv_commands.specs.Inputs.{AreGoalsIn}
 use Rattle.svtv_texts.specs.Rights.{IsThere}
 use Rattle.std.specs.Option.{option_copied}
-use Rattle.svtv_commands.proofs.Turns.{fits, goals_turn, is_proof, room_turn, samples_all_wide, same_told, vars_wide}
+use Rattle.svtv_commands.proofs.Turns.{fits, goals_turn, is_proof, room_turn, samples_all_wide, same_told, vars_named, vars_wide}
 use Rattle.svtv_texts.proofs.Verdicts.{all_there}
 use Rattle.svtv_commands.proofs.proving.prove.Goals as goal
+
+pub room-requires : goal.room-requires
+room-requires g c =
+    vars_named (g.F.Files.contents c.args.files.now) c.args.design.now c.args.table.now (option_copied c.args.top) c.in-Ok.setup c.in-Ok.ensures.stands c.as_slice.result.now c.as_slice.ensures
 
 pub returns-in-Err-room-clause-stop : goal.returns-in-Err-room-clause-stop
 returns-in-Err-room-clause-stop g c =

@@ -1,5 +1,5 @@
 use Rattle.svtv_table.specs.Names.{name_of}
-use Rattle.svtv_table.proofs.Places.{number_within}
+use Rattle.name_index.proofs.Indexes.{number_within}
 use Rattle.svtv_table.proofs.names.number_in.Goals as goal
 
 pub returns-clause-within : goal.returns-clause-within

@@ -1,7 +1,7 @@
 use Rattle.std.proofs.Common.{◌∙◌}
 use Rattle.sv_modules.specs.Libraries.{module_name}
 use Rattle.sv_modules.specs.Listed.{modules_of}
-use Rattle.sv_modules.proofs.Indexes.{number_within}
+use Rattle.name_index.proofs.Indexes.{number_within}
 use Rattle.sv_modules.proofs.Libraries.{number_is}
 use Rattle.sv_modules.proofs.numbered.Modules.find.Goals as goal
 

@@ -1,26 +1,24 @@
 // Numbers by name.
-ghost use Rattle.std.specs.Prelude.{◌≡◌, ◌∷◌, [], ◌++◌, ℕ, List, length, None, OnOk};
-ghost use Rattle.svtv_table.specs.Indexing.{number_under, Indexes};
+ghost use Rattle.std.specs.Prelude.{◌≡◌, ◌∷◌, [], ◌++◌, ℕ, List, length, OnOk};
+ghost use Rattle.name_index.specs.Indexing.{number_under, Indexes};
 
 use std::alloc::{AllocError, Global};
 use std::collections::HashMap;
 
-/// The numbers of names in a list, of which the first counts.
+/// The places of names in a list, of which the first counts.
 #[derive(Drop)]
-pub struct Index {
+pub struct NameIndex {
     alloc: Global,
     numbers: HashMap<Vec<u8>, usize>,
 }
 
-impl Index {
-    ghost use Rattle.svtv_table.specs.Indexing.{number_under, Indexes};
-
+impl NameIndex {
     /// Of no names.
-    #[tactic(auto, using(crate::proofs::Places::indexes_none))]
-    pub fn new(alloc: Global) -> Index
+    #[tactic(auto, using(crate::proofs::Indexes::indexes_none))]
+    pub fn new(alloc: Global) -> NameIndex
         ensures { Indexes result [] }
     {
-        Index {
+        NameIndex {
             alloc,
             numbers: HashMap::new(alloc),
         }

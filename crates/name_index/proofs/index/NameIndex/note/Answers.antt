@@ -1,9 +1,9 @@
 use Rattle.std.proofs.lemmas.Result.{IfOk-from_err}
 use Rattle.std.proofs.Common.{◌≡◌, ◌∙◌, sym, arith}
 use Rattle.std.proofs.lemmas.Grind.{common_steps}
-use Rattle.sv_modules.specs.declared.name_index.NameIndex.{NameIndex}
-use Rattle.sv_modules.proofs.Indexes.{noted, noted_before, none_from, some_from}
-use Rattle.sv_modules.proofs.name_index.NameIndex.note.Goals as goal
+use Rattle.name_index.specs.declared.index.NameIndex.{NameIndex}
+use Rattle.name_index.proofs.Indexes.{noted, noted_before, none_from, some_from}
+use Rattle.name_index.proofs.index.NameIndex.note.Goals as goal
 
 pub returns : goal.returns
 returns c = λ names indexed count.
