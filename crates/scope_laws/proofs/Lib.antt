@@ -4,3 +4,5 @@ pub mod Plain
 pub mod Keeping
 pub mod Seen
 pub mod Closing
+pub mod Pairs
+pub mod Connecting

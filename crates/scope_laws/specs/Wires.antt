@@ -1,7 +1,8 @@
--- Signals that are wires of a design.
-use Rattle.std.specs.Prelude.{◌≡◌, ℕ, ◌<◌, List, length, map, slice_index_or}
+-- Signals that are wires of a design, and the wires of connected ports.
+use Rattle.std.specs.Prelude.{◌≡◌, ℕ, ◌<◌, List, [], ◌∷◌, ◌++◌, length, map, slice_index_or}
 use Rattle.sv_outside.specs.declared.text.Signal.{Signal}
 use Rattle.sv_meaning.specs.Layouts.{of_wires, NamedSignal}
+use Rattle.sv_hierarchy.specs.Scopes.{Task, assigning, running, connecting, Standing}
 
 abbrev pub widths : List Signal → List ℕ
 widths wires = map (λ w. w.width) wires
@@ -11,3 +12,14 @@ pub record IsWire (wires : List Signal) (s : NamedSignal) : Type 0 where
   pub owner : s.owner ≡ of_wires
   pub there : s.number < length wires
   pub width : slice_index_or (widths wires) s.number 0 ≡ s.width
+
+-- the wire of the port that a task connects
+abbrev pub port_wire : Task → List ℕ
+port_wire (assigning to x) = []
+port_wire (running b) = []
+port_wire (connecting way n x actual) = n ∷ []
+
+-- the wires of connected ports, in the order of the works
+unfoldable pub connected_wires : List Standing → List ℕ
+connected_wires [] = []
+connected_wires (w ∷ more) = port_wire w.task ++ connected_wires more

@@ -1,13 +1,13 @@
 //! Laws of the scopes of a design.
 #![tactic(auto)]
 
-ghost use Rattle.std.specs.Prelude.{◌≡◌, ◌<◌, ℕ, Contains, Option, Ok};
+ghost use Rattle.std.specs.Prelude.{◌≡◌, ◌≢◌, ◌<◌, ℕ, AllPairs, Contains, Option, Ok};
 ghost use Rattle.sv_tree.specs.declared.design.Source.{Source};
 ghost use Rattle.sv_tree.specs.declared.design.Way.{Way};
 ghost use Rattle.sv_tree.specs.declared.exprs.Expr.{Expr};
 ghost use Rattle.sv_meaning.specs.Layouts.{Name, Layout, width, of_wires, NamedSignal, Declared};
 ghost use Rattle.sv_hierarchy.specs.Scopes.{Front, State, connecting, live_at, scopes};
-ghost use Rattle.scope_laws.specs.Wires.{IsWire};
+ghost use Rattle.scope_laws.specs.Wires.{IsWire, connected_wires};
 
 /// Each signal that a place in a design sees is a wire of the design, of its width, and so is each connected port, which is numbered
 /// above all that the place of its instance sees (IEEE 1800-2017 23.3.3; the order of wires is this tool's own).
@@ -21,4 +21,9 @@ pub fn names_are_wires()
     ensures above { (source : Source) (top : Option Name) (st : State) → scopes source top ≡ Ok st
         → (at : Front) (way : Way) (n : ℕ) (x : Layout) (actual : Expr) → Contains st.works (record { at = at; task = connecting way n x actual })
         → (s : NamedSignal) → Declared (live_at st.levels at) s → s.number < n }
+{}
+
+/// No two connected ports have one wire (IEEE 1800-2017 23.3.2: each port is connected once).
+pub fn connected_ports_have_own_wires()
+    ensures { (source : Source) (top : Option Name) (st : State) → scopes source top ≡ Ok st → AllPairs ◌≢◌ (connected_wires st.works) }
 {}

@@ -1,6 +1,7 @@
 pub mod Good
 pub mod Rising
 pub mod Declaring
+pub mod Constants
 pub mod Stores
 pub mod Contributions
 pub mod Leasts
