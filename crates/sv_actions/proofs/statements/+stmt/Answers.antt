@@ -1,4 +1,4 @@
-use Rattle.std.proofs.Common.{◌+◌, ◌++◌, map, take, refl, ◌∙◌, subst, arith, Ok}
+use Rattle.std.proofs.Common.{◌+◌, ◌++◌, Option, map, take, refl, sym, ◌∙◌, subst, arith, Ok}
 use Rattle.std.proofs.lemmas.Result.{err_from_is_err_and, IfOk-from_err}
 use Rattle.sv_tree.specs.declared.stmts.Stmt.{Stmt}
 use Rattle.sv_meaning.specs.Layouts.{Scope, constant_scope}
@@ -400,3 +400,42 @@ typed_turn-returns-clause-aims t c = λ named w.
     c.typed_stmt-acted.ensures.aims named
     (within_turn (names_are c.args.names.now) (names_are c.enter.new.names) c.args.variable.now.text c.args.bits c.args.body.now named
     (entered c.args.names.now c.enter.new.names c.args.variable.now.text c.args.bits c.enter.ensures.frames c.in_ok-enter.ensures.loops) w)
+
+-- ---- an `else`, and what stays
+
+pub typed_else-returns-in-Some-clause-is : goal.typed_else-returns-in-Some-clause-is
+typed_else-returns-in-Some-clause-is t c =
+    let at = names_are c.args.names.now in
+    subst (λ (o : Option Stmt). JudgesDeed (else_deed at o) c.args.made c.typed_stmt.result) (sym c.in-Some.is)
+    (subst (λ (b : Stmt). JudgesDeed (deed b at) c.args.made c.typed_stmt.result) c.get.ensures c.typed_stmt.ensures.is)
+
+pub typed_else-returns-in-None-clause-is : goal.typed_else-returns-in-None-clause-is
+typed_else-returns-in-None-clause-is t c =
+    subst (λ (o : Option Stmt). JudgesDeed (else_deed (names_are c.args.names.now) o) c.args.made (Ok c.nothing.result)) (sym c.in-None.is) c.nothing.ensures.is
+
+pub typed_else-returns-in-Some-clause-frames : goal.typed_else-returns-in-Some-clause-frames
+typed_else-returns-in-Some-clause-frames t c = c.typed_stmt.ensures.frames
+
+pub typed_arm-returns-in-Labels-clause-frames : goal.typed_arm-returns-in-Labels-clause-frames
+typed_arm-returns-in-Labels-clause-frames t c = c.typed_stmt-body.ensures.frames
+
+pub typed_stmt-returns-in-Block-clause-frames : goal.typed_stmt-returns-in-Block-clause-frames
+typed_stmt-returns-in-Block-clause-frames t c = c.typed_all.ensures.frames
+
+pub typed_turn-returns-in_err-enter-clause-frames : goal.typed_turn-returns-in_err-enter-clause-frames
+typed_turn-returns-in_err-enter-clause-frames t c = c.enter.ensures.frames
+
+pub typed_else-returns-in-Some-clause-loops : goal.typed_else-returns-in-Some-clause-loops
+typed_else-returns-in-Some-clause-loops t c = c.typed_stmt.ensures.loops
+
+pub typed_arm-returns-in-Labels-clause-loops : goal.typed_arm-returns-in-Labels-clause-loops
+typed_arm-returns-in-Labels-clause-loops t c = c.typed_stmt-body.ensures.loops
+
+pub typed_stmt-returns-in-Block-clause-loops : goal.typed_stmt-returns-in-Block-clause-loops
+typed_stmt-returns-in-Block-clause-loops t c = c.typed_all.ensures.loops
+
+pub typed_turn-returns-in_err-enter-clause-loops : goal.typed_turn-returns-in_err-enter-clause-loops
+typed_turn-returns-in_err-enter-clause-loops t c = c.in_err-enter.ensures.err
+
+pub typed_stmt-returns-in-Err-clause-frames : goal.typed_stmt-returns-in-Err-clause-frames
+typed_stmt-returns-in-Err-clause-frames t c = c.turns.ensures.frames

@@ -1,5 +1,5 @@
 use Rattle.std.proofs.Common.{List, ◌++◌, All, sym, ◌∙◌, subst}
-use Rattle.std.proofs.lemmas.Result.{err_from_is_err_and}
+use Rattle.std.proofs.lemmas.Result.{err_from_is_err_and, IfOk-from_err}
 use Rattle.sv_typing.specs.Judging.{IsCause}
 use Rattle.sv_names.specs.Names.{names_are}
 use Rattle.sv_meaning.specs.Layouts.{Scope}
@@ -55,3 +55,63 @@ drivers_in-requires-clause-names c =
 
 pub drivers_in-requires-clause-widths : goal.drivers_in-requires-clause-widths
 drivers_in-requires-clause-widths c = subst OneWidth (sym (c.in_ok-actions.ensures.names)) c.requires
+
+pub returns-in_err-actions-clause-clear : goal.returns-in_err-actions-clause-clear
+returns-in_err-actions-clause-clear c = IfOk-from_err _ _ c.from_residual-in_err-actions.ensures.0
+
+pub returns-in_err-actions-clause-gives : goal.returns-in_err-actions-clause-gives
+returns-in_err-actions-clause-gives c = IfOk-from_err _ _ c.from_residual-in_err-actions.ensures.0
+
+pub returns-in_err-actions-clause-mentions : goal.returns-in_err-actions-clause-mentions
+returns-in_err-actions-clause-mentions c = IfOk-from_err _ _ c.from_residual-in_err-actions.ensures.0
+
+pub returns-in_err-actions-clause-sound : goal.returns-in_err-actions-clause-sound
+returns-in_err-actions-clause-sound c = IfOk-from_err _ _ c.from_residual-in_err-actions.ensures.0
+
+pub returns-in_err-actions-clause-turns : goal.returns-in_err-actions-clause-turns
+returns-in_err-actions-clause-turns c = IfOk-from_err _ _ c.from_residual-in_err-actions.ensures.0
+
+pub returns-in_err-all-clause-clear : goal.returns-in_err-all-clause-clear
+returns-in_err-all-clause-clear c = IfOk-from_err _ _ c.from_residual-in_err-all.ensures.0
+
+pub returns-in_err-all-clause-gives : goal.returns-in_err-all-clause-gives
+returns-in_err-all-clause-gives c = IfOk-from_err _ _ c.from_residual-in_err-all.ensures.0
+
+pub returns-in_err-all-clause-mentions : goal.returns-in_err-all-clause-mentions
+returns-in_err-all-clause-mentions c = IfOk-from_err _ _ c.from_residual-in_err-all.ensures.0
+
+pub returns-in_err-all-clause-sound : goal.returns-in_err-all-clause-sound
+returns-in_err-all-clause-sound c = IfOk-from_err _ _ c.from_residual-in_err-all.ensures.0
+
+pub returns-in_err-all-clause-turns : goal.returns-in_err-all-clause-turns
+returns-in_err-all-clause-turns c = IfOk-from_err _ _ c.from_residual-in_err-all.ensures.0
+
+pub returns-in_err-clock-clause-clear : goal.returns-in_err-clock-clause-clear
+returns-in_err-clock-clause-clear c = IfOk-from_err _ _ c.from_residual.ensures.0
+
+pub returns-in_err-clock-clause-gives : goal.returns-in_err-clock-clause-gives
+returns-in_err-clock-clause-gives c = IfOk-from_err _ _ c.from_residual.ensures.0
+
+pub returns-in_err-clock-clause-mentions : goal.returns-in_err-clock-clause-mentions
+returns-in_err-clock-clause-mentions c = IfOk-from_err _ _ c.from_residual.ensures.0
+
+pub returns-in_err-clock-clause-sound : goal.returns-in_err-clock-clause-sound
+returns-in_err-clock-clause-sound c = IfOk-from_err _ _ c.from_residual.ensures.0
+
+pub returns-in_err-clock-clause-turns : goal.returns-in_err-clock-clause-turns
+returns-in_err-clock-clause-turns c = IfOk-from_err _ _ c.from_residual.ensures.0
+
+pub returns-in_err-judge_marks-clause-clear : goal.returns-in_err-judge_marks-clause-clear
+returns-in_err-judge_marks-clause-clear c = IfOk-from_err _ _ c.from_residual-in_err-judge_marks.ensures.0
+
+pub returns-in_err-judge_marks-clause-gives : goal.returns-in_err-judge_marks-clause-gives
+returns-in_err-judge_marks-clause-gives c = IfOk-from_err _ _ c.from_residual-in_err-judge_marks.ensures.0
+
+pub returns-in_err-judge_marks-clause-mentions : goal.returns-in_err-judge_marks-clause-mentions
+returns-in_err-judge_marks-clause-mentions c = IfOk-from_err _ _ c.from_residual-in_err-judge_marks.ensures.0
+
+pub returns-in_err-judge_marks-clause-sound : goal.returns-in_err-judge_marks-clause-sound
+returns-in_err-judge_marks-clause-sound c = IfOk-from_err _ _ c.from_residual-in_err-judge_marks.ensures.0
+
+pub returns-in_err-judge_marks-clause-turns : goal.returns-in_err-judge_marks-clause-turns
+returns-in_err-judge_marks-clause-turns c = IfOk-from_err _ _ c.from_residual-in_err-judge_marks.ensures.0

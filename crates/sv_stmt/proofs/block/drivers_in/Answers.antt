@@ -1,3 +1,4 @@
+use Rattle.std.proofs.lemmas.Result.{IfOk-from_err}
 use Rattle.std.proofs.Common.{List, All, sym, ◌∙◌, subst}
 use Rattle.lhs_alias.specs.declared.segs.WireBit.{WireBit}
 use Rattle.sv_names.specs.Names.{names_are}
@@ -51,3 +52,12 @@ returns-clause-ok c =
     contributes at (target_signals at c.args.body.now) c.args.clock c.args.actions.now c.in_ok-scene.scene marked (writes_all c.args.actions.now) c.scene_drivers.new.arena c.in_ok-all.all c.in_ok-scene.ensures.begun
     (λ i. writes_all c.args.actions.now) c.in_ok-scene-2.ensures (have_bits c.args.actions.now c.requires.fits)
     (subst (λ (z : List WireBit). Finishes marked.scene c.scene_drivers.new.arena c.args.clock c.args.actions.now z c.in_ok-all.all) c.as_slice.ensures c.in_ok-all.ensures.ok)
+
+pub returns-in_err-all-clause-ok : goal.returns-in_err-all-clause-ok
+returns-in_err-all-clause-ok c = IfOk-from_err _ _ c.from_residual-in_err-all.ensures.0
+
+pub returns-in_err-scene-2-clause-ok : goal.returns-in_err-scene-2-clause-ok
+returns-in_err-scene-2-clause-ok c = IfOk-from_err _ _ c.from_residual-in_err-scene-2.ensures.0
+
+pub returns-in_err-scene-clause-ok : goal.returns-in_err-scene-clause-ok
+returns-in_err-scene-clause-ok c = IfOk-from_err _ _ c.from_residual.ensures.0

@@ -1,3 +1,4 @@
+use Rattle.std.proofs.lemmas.Result.{IfOk-from_err}
 use Rattle.std.proofs.Common.{◌≡◌, List, ◌++◌, All, sym, ap, ◌∙◌, subst}
 use Rattle.sv_names.specs.Names.{names_are}
 use Rattle.sv_actions.specs.Texts.{target_signals}
@@ -19,3 +20,9 @@ returns-clause-there c =
     let targets = target_signals (names_are c.args.names.now) c.args.body.now in
     let found : wires_are c.stmt_wires.new.wires.items ≡ targets = c.in_ok-stmt_wires.ensures.is ∙ ap (λ (z : List Wire). wires_are z ++ targets) c.new-wires.ensures.items in
     there_by c.scene_of.result targets c.deref.result.now (ap wires_are c.deref.ensures.value ∙ found) c.scene_of.ensures.there
+
+pub returns-in_err-stmt_wires-clause-begun : goal.returns-in_err-stmt_wires-clause-begun
+returns-in_err-stmt_wires-clause-begun c = IfOk-from_err _ _ c.from_residual.ensures.0
+
+pub returns-in_err-stmt_wires-clause-there : goal.returns-in_err-stmt_wires-clause-there
+returns-in_err-stmt_wires-clause-there c = IfOk-from_err _ _ c.from_residual.ensures.0

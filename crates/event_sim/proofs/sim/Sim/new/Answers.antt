@@ -1,3 +1,4 @@
+use Rattle.std.proofs.lemmas.Result.{IfOk-from_err}
 use Rattle.std.proofs.Common.{ℕ, ◌≤◌, List, sym, ap, ◌∙◌, subst}
 use Rattle.std.specs.Prelude.{All}
 use Rattle.driver_resolve.specs.Drivers.{widths_of}
@@ -11,3 +12,18 @@ pub env_of-requires : goal.env_of-requires
 env_of-requires c =
     let P : List ℕ → Type 0 = All (λ width. (1 ≤ width) × (width ≤ 128)) in
     subst P (sym (c.deref-2.ensures.value ∙ c.in_ok-widths.ensures ∙ ap (λ l. widths_of l) c.as_slice.ensures)) (wires-narrow c.args.flat.now.wires c.requires.wires)
+
+pub returns-in_err-env : goal.returns-in_err-env
+returns-in_err-env c = IfOk-from_err _ _ c.from_residual-in_err-env.ensures.0
+
+pub returns-in_err-tables : goal.returns-in_err-tables
+returns-in_err-tables c = IfOk-from_err _ _ c.from_residual-in_err-tables.ensures.0
+
+pub returns-in_err-values : goal.returns-in_err-values
+returns-in_err-values c = IfOk-from_err _ _ c.from_residual-in_err-values.ensures.0
+
+pub returns-in_err-walk : goal.returns-in_err-walk
+returns-in_err-walk c = IfOk-from_err _ _ c.from_residual-in_err-walk.ensures.0
+
+pub returns-in_err-widths : goal.returns-in_err-widths
+returns-in_err-widths c = IfOk-from_err _ _ c.from_residual.ensures.0
