@@ -8,3 +8,4 @@ pub mod Working
 pub mod Making
 pub mod Wholes
 pub mod Reaching
+pub mod Owning
