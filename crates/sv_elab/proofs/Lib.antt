@@ -9,3 +9,4 @@ pub mod Making
 pub mod Wholes
 pub mod Reaching
 pub mod Owning
+pub mod Ending

@@ -39,6 +39,11 @@ use Rattle.sv_elab.specs.Elaborated.{names_only, Stem, AllStem}
 
 -- ---- parts of targets
 
+-- A part has some bits, which end within so many.
+pub record IsWithin (width : ℕ) (part : Part) : Type 0 where
+  pub some : 1 ≤ length (lhs_bits part.to)
+  pub ends : part.lo + length (lhs_bits part.to) ≤ width
+
 -- A driver gives a part of a target its bits of a value.
 pub record Puts (widths : List ℕ) (old new : List Shape) (value : ℕ) (part : Part) (d : Driver) : Type 0 where
   pub target : d.target ≡ part.to
