@@ -8,3 +8,5 @@ pub mod Working
 pub mod Making
 pub mod Wholes
 pub mod Reaching
+pub mod Owning
+pub mod Ending

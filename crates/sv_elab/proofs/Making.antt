@@ -1,15 +1,13 @@
 -- What is made of one task after another.
-use Rattle.std.proofs.Common.{◌≡◌, ℕ, ◌+◌, Bool, true, false, List, [], ◌∷◌, ◌++◌, Result, Ok, Err, refl, sym, ap, ◌∙◌, subst, arith, append_assoc}
+use Rattle.std.proofs.Common.{◌≡◌, ◌≢◌, ℕ, ◌+◌, List, [], ◌∷◌, ◌++◌, refl, sym, ap, ◌∙◌, subst, arith, append_assoc}
 use Rattle.std.specs.List.{All, zip}
-use Rattle.std.specs.Result.{OnOk, is_err}
-use Rattle.lhs_alias.specs.declared.segs.WireBit.{WireBit}
 use Rattle.std.proofs.lemmas.List.{append-nil}
 use Rattle.std.proofs.lemmas.List.Elements.{All-nil, All-append, All-weaker, Contains-append_left, Contains-append_right}
 use Rattle.sv_outside.specs.declared.text.Signal.{Signal}
 use Rattle.sv_outside.specs.declared.refusal.TextErr.{TextErr}
 use Rattle.sv_outside.specs.declared.refusal.TextErr.TheVariants.{No, Memory}
 use Rattle.lhs_alias.specs.Segs.{lhs_bits}
-use Rattle.lhs_alias.specs.Joined as j
+use Rattle.lhs_alias.specs.Pairs.{HaveOwnChildren}
 use Rattle.settling.specs.Settling.{Store, Link}
 use Rattle.svex_shape.specs.declared.shape.Shape.{Shape}
 use Rattle.svex_arena.specs.Arenas.{Extends}
@@ -28,6 +26,7 @@ use Rattle.sv_elab.specs.declared.works.Parts.{Parts}
 use Rattle.sv_elab.specs.declared.whole.Making.{Making}
 use Rattle.sv_elab.specs.Elaborated.{names_only, Stem, AllStem, none, more}
 use Rattle.sv_elab.specs.Working.{join_list, IsWorked, turns_in, IsMade}
+use Rattle.scope_laws.proofs.Pairs.{pairs_none}
 use Rattle.sv_elab.proofs.Lists.{left_all, right_all}
 
 -- ---- what stands against works
@@ -100,27 +99,10 @@ all_given wires shapes _ _ (more {before} {w} {drivers} {own} s k) p =
 
 -- ---- joins
 
-pub links_append : (a b : List Join) → f.links_of (a ++ b) ≡ f.links_of a ++ f.links_of b
+links_append : (a b : List Join) → f.links_of (a ++ b) ≡ f.links_of a ++ f.links_of b
 unfolding f.links_of
 links_append [] b = refl
 links_append (x ∷ a) b = ap (λ (z : List Link). zip (lhs_bits x.child) (lhs_bits x.parent) ++ z) (links_append a b) ∙ sym (append_assoc (zip (lhs_bits x.child) (lhs_bits x.parent)) (f.links_of a) (f.links_of b))
-
-abbrev IsOk : {T E : Type 0} → Result T E → Type 0
-IsOk (Ok x) = Unit {0}
-IsOk (Err x) = ⊥
-
--- a join that was made
-pub no_error : {T E : Type 0} (r : Result T E) (b : Bool) → (b ≡ is_err r) → b ≡ false → IsOk r
-no_error (Ok x) b e f = tt
-no_error (Err x) b e f = let z : true ≡ false = sym e ∙ f in cc
-
-pub joined_now : {T E : Type 0} (r : Result T E) (old new : j.Kept) (a b : List WireBit) → IsOk r → OnOk r ((pairs : List Link) → j.Stands old pairs → j.Stands new (pairs ++ zip a b)) → (pairs : List Link) → j.Stands old pairs → j.Stands new (pairs ++ zip a b)
-joined_now (Ok x) old new a b k h = h
-joined_now (Err x) old new a b k h = absurd k
-
-pub links_one : (x : Join) → f.links_of (x ∷ []) ≡ zip (lhs_bits x.child) (lhs_bits x.parent)
-unfolding f.links_of
-links_one x = append-nil (zip (lhs_bits x.child) (lhs_bits x.parent))
 
 works_links : (works : List Work) (w : Work) → d.links_of (works ++ w ∷ []) ≡ d.links_of works ++ d.links_of_work w
 unfolding d.links_of
@@ -129,29 +111,30 @@ works_links (x ∷ works) w = ap (λ (z : List Link). d.links_of_work x ++ z) (w
 
 -- ---- one task more
 
-pub nothing_made : (wires : List Signal) (turns : ℕ) (x : Making) → x.made ≡ turns → x.drivers ≡ [] → x.list ≡ [] → j.widths_of x.joins ≡ widths_of wires → j.Stands x.joins [] → IsMade wires [] turns x
+pub nothing_made : (wires : List Signal) (turns : ℕ) (x : Making) → x.made ≡ turns → x.drivers ≡ [] → x.joins ≡ [] → IsMade wires [] turns x
 unfolding faults_from turns_in d.links_of f.links_of
-nothing_made wires turns x m e l w s = record {
+nothing_made wires turns x m e l = record {
   clear = refl;
   made = (let z : x.made ≡ turns + 0 = omega arith in z);
   stem = subst (AllStem wires x.arena []) (sym e) none;
   sound = subst (All (IsDriver (widths_of wires) x.arena)) (sym e) (All-nil (IsDriver (widths_of wires) x.arena));
   links = ap f.links_of l;
   joins_are = subst (All (f.IsJoin (widths_of wires))) (sym l) (All-nil (f.IsJoin (widths_of wires)));
-  widths_are = w;
-  stands = subst (λ (z : List Join). j.Stands x.joins (f.links_of z)) (sym l) s;
+  own_children = subst (λ (z : List Join). HaveOwnChildren (f.links_of z)) (sym l) (pairs_none ◌≢◌);
 }
 
 pub made_more : (wires : List Signal) (works : List Work) (w : Work) (turns : ℕ) (old new : Making) (x : Parts) → IsMade wires works turns old → IsWorked wires w old.made new.arena x → Extends old.arena new.arena → new.drivers ≡ old.drivers ++ x.drivers
-    → new.list ≡ old.list ++ join_list x.join → j.widths_of new.joins ≡ j.widths_of old.joins → (j.Stands old.joins (f.links_of old.list) → j.Stands new.joins (f.links_of new.list)) → new.made ≡ x.made → IsMade wires (works ++ w ∷ []) turns new
-made_more wires works w turns old new x h k e dr li wi st ma = record {
-  clear = faults_push turns works w ∙ ap (λ (z : Faults). z ++ work_faults w (turns + turns_in works)) h.clear ∙ ap (work_faults w) (sym h.made) ∙ k.clear;
-  made = (let a = turns_push works w in let b = h.made in let c = k.made in omega arith);
-  stem = subst (AllStem wires new.arena (works ++ w ∷ [])) (sym dr) (more (stems_kept wires old.arena new.arena e works old.drivers (placed_of (widths_of wires) old.arena old.drivers h.sound) h.stem) k.stem);
-  sound = subst (All (IsDriver (widths_of wires) new.arena)) (sym dr)
-      (All-append (IsDriver (widths_of wires) new.arena) old.drivers x.drivers (All-weaker (IsDriver (widths_of wires) old.arena) (IsDriver (widths_of wires) new.arena) (driver_kept (widths_of wires) old.arena new.arena e) old.drivers h.sound) k.sound);
-  links = ap f.links_of li ∙ links_append old.list (join_list x.join) ∙ ap (λ (z : List Link). z ++ f.links_of (join_list x.join)) h.links ∙ ap (λ (z : List Link). d.links_of works ++ z) k.links ∙ sym (works_links works w);
-  joins_are = subst (All (f.IsJoin (widths_of wires))) (sym li) (All-append (f.IsJoin (widths_of wires)) old.list (join_list x.join) h.joins_are k.join_is);
-  widths_are = wi ∙ h.widths_are;
-  stands = st h.stands;
-}
+    → new.joins ≡ old.joins ++ join_list x.join → HaveOwnChildren (f.links_of old.joins ++ d.links_of_work w) → new.made ≡ x.made → IsMade wires (works ++ w ∷ []) turns new
+made_more wires works w turns old new x h k e dr li own ma =
+    let joined : f.links_of new.joins ≡ f.links_of old.joins ++ d.links_of_work w =
+    ap f.links_of li ∙ links_append old.joins (join_list x.join) ∙ ap (λ (z : List Link). f.links_of old.joins ++ z) k.links in
+    record {
+      clear = faults_push turns works w ∙ ap (λ (z : Faults). z ++ work_faults w (turns + turns_in works)) h.clear ∙ ap (work_faults w) (sym h.made) ∙ k.clear;
+      made = (let a = turns_push works w in let b = h.made in let c = k.made in omega arith);
+      stem = subst (AllStem wires new.arena (works ++ w ∷ [])) (sym dr) (more (stems_kept wires old.arena new.arena e works old.drivers (placed_of (widths_of wires) old.arena old.drivers h.sound) h.stem) k.stem);
+      sound = subst (All (IsDriver (widths_of wires) new.arena)) (sym dr)
+          (All-append (IsDriver (widths_of wires) new.arena) old.drivers x.drivers (All-weaker (IsDriver (widths_of wires) old.arena) (IsDriver (widths_of wires) new.arena) (driver_kept (widths_of wires) old.arena new.arena e) old.drivers h.sound) k.sound);
+      links = joined ∙ ap (λ (z : List Link). z ++ d.links_of_work w) h.links ∙ sym (works_links works w);
+      joins_are = subst (All (f.IsJoin (widths_of wires))) (sym li) (All-append (f.IsJoin (widths_of wires)) old.joins (join_list x.join) h.joins_are k.join_is);
+      own_children = subst HaveOwnChildren (sym joined) own;
+    }

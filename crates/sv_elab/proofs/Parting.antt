@@ -1,6 +1,6 @@
 -- Drivers of parts of targets.
-use Rattle.std.proofs.Common.{◌≡◌, ℕ, zero, suc, ◌+◌, ◌-◌, ◌<◌, ◌≤◌, List, [], ◌∷◌, ◌++◌, length, take, drop, min, map, get_or, refl, sym, ap, ◌∙◌, subst, arith, IsTrue, length-append, append_assoc}
-use Rattle.std.specs.List.{zip, range_with_len}
+use Rattle.std.proofs.Common.{◌≡◌, ℕ, zero, suc, ◌+◌, ◌<◌, ◌≤◌, List, [], ◌∷◌, ◌++◌, length, take, drop, min, map, get_or, refl, sym, ap, ◌∙◌, subst, arith, IsTrue, length-append, append_assoc}
+use Rattle.std.specs.List.{All, zip, range_with_len}
 use Rattle.std.proofs.lemmas.List.{append-nil, take_all, at_drop_more, at_drop_all}
 use Rattle.std.proofs.lemmas.List.Elements.{All-nil, All-push, All-weaker}
 use Rattle.fourvec.specs.declared.Bit.{Bit}
@@ -22,7 +22,7 @@ use Rattle.sv_targets.specs.declared.parts.Part.{Part}
 use Rattle.sv_targets.specs.Slots.{Slots, AreParts}
 use Rattle.sv_blocks.specs.Driving.{IsPlaced}
 use Rattle.sv_blocks.proofs.Driving.{gives_push, gives_kept, placed_kept, mentions_kept}
-use Rattle.sv_elab.specs.Working.{Puts, PutAll, Fills, parts_give}
+use Rattle.sv_elab.specs.Working.{IsWithin, Puts, PutAll, Fills, parts_give}
 use Rattle.sv_elab.proofs.Slotting.{Lies, driven_are}
 
 -- ---- how many bits segments have
@@ -49,21 +49,27 @@ sum_end count rest all c r e = grind (arith, c, r, e)
 
 -- ---- one part
 
-counted : (count n room : ℕ) → count ≡ min 255 n → count ≤ room → room ≤ 128 → count ≡ n
-counted count n room e l m = grind (arith, e, l, m)
+counted : (count n : ℕ) → count ≡ min 255 n → n ≤ 128 → count ≡ n
+counted count n e l = grind (arith, e, l)
 
-pub puts : (widths : List ℕ) (old new : List Shape) (value lo count node : ℕ) (part : Part) (target : List Seg) → width_at old value ≤ 128 → count ≡ min 255 (length (lhs_bits part.to)) → lo ≡ part.lo → part.lo ≤ width_at old value → count ≤ width_at old value - lo
-    → LieIn widths part.to → FromOne old new (λ v. slice_of v lo count) value count node → target ≡ part.to → Puts widths old new value part (record { target = target; value = node })
-puts widths old new value lo count node part target most short l low room lies h t = let c = counted count (length (lhs_bits part.to)) (width_at old value - lo) short room (omega (arith, most)) in record {
-  target = t;
-  within = omega arith;
-  value_is = λ bits. h.value bits ∙ ap (λ n. slice_of (bits_at_node bits old value) n count) l ∙ ap (λ n. slice_of (bits_at_node bits old value) part.lo n) c;
-  lies = subst (LieIn widths) (sym t) lies;
-  placed = record { there = h.within; wide = h.width ∙ c ∙ ap (λ xs. length (lhs_bits xs)) (sym t) };
-  mentions = h.mentions;
-}
+pub puts : (widths : List ℕ) (old new : List Shape) (value count node : ℕ) (part : Part) (target : List Seg) → width_at old value ≤ 128 → count ≡ min 255 (length (lhs_bits part.to)) → IsWithin (width_at old value) part → LieIn widths part.to
+    → FromOne old new (λ v. slice_of v part.lo count) value count node → target ≡ part.to → Puts widths old new value part (record { target = target; value = node })
+puts widths old new value count node part target most short within lies h t =
+    let ends = within.ends in
+    let c = counted count (length (lhs_bits part.to)) short (omega (arith, most, ends)) in
+    record {
+      target = t;
+      within = within.ends;
+      value_is = λ bits. h.value bits ∙ ap (λ n. slice_of (bits_at_node bits old value) part.lo n) c;
+      lies = subst (LieIn widths) (sym t) lies;
+      placed = record { there = h.within; wide = h.width ∙ c ∙ ap (λ xs. length (lhs_bits xs)) (sym t) };
+      mentions = h.mentions;
+    }
 
 -- ---- parts one after another
+
+pub part_within : (old mid : List Shape) (value : ℕ) (parts : List Part) (i : ℕ) (part : Part) → Extends old mid → value < length old → i < length parts → part ≡ get_or parts i part → All (IsWithin (width_at old value)) parts → IsWithin (width_at mid value) part
+part_within old mid value parts i part e there l is h = subst (λ w. IsWithin w part) (sym (width-extends old mid value e there)) (subst (IsWithin (width_at old value)) (sym is) (h i part l))
 
 give_push : (v : List Bit) (parts : List Part) (p : Part) → parts_give v (parts ++ p ∷ []) ≡ parts_give v parts ++ zip (lhs_bits p.to) (slice_of v p.lo (length (lhs_bits p.to)))
 unfolding parts_give

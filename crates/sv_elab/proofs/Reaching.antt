@@ -20,8 +20,9 @@ use Rattle.sv_meaning.specs.Patterns.{paren, cast_literal, cast_name, cast_paren
 use Rattle.sv_meaning.specs.Faults.{Faults, or_then}
 use Rattle.sv_meaning.specs.Layouts.{Name, Layout, width, Scope, What, signal_is, number_is, type_is, genvar_is, of_wires, of_choice, of_samples, find, last_of, or_else, Declared, Entry}
 use Rattle.sv_meaning.specs.Meanings.{Step, Part as Stepped, step_in, with_part, fixed_faults}
-use Rattle.sv_meaning.specs.Values.{mean, steps}
-use Rattle.sv_meaning.specs.Targets.{Target, target_of, target_faults, wide_target, bit_names, flat, slot_at, slots_from, with_place, fixed_place, chain_slots, slots}
+use Rattle.sv_tree.specs.declared.stmts.Lvalue.{Lvalue, Name as LvName, Concat' as Braces, Row_of-Lvalue, end_of-Lvalue, more_of-Lvalue}
+use Rattle.sv_meaning.specs.Values.{mean, step, steps}
+use Rattle.sv_meaning.specs.Targets.{Target, target_of, target_faults, targets, targets_of, lvalue_faults, all_lvalue_faults, wide_target, bit_names, flat, slot_at, slots_from, with_place, fixed_place, chain_slots, slots}
 use Rattle.sv_meaning.specs.Designs.{as_targets, all_as_targets, actual_faults, part_faults, all_part_faults}
 use Rattle.sv_targets.specs.declared.parts.Part.{Part}
 use Rattle.sv_targets.specs.declared.parts.Target as lowered
@@ -160,6 +161,19 @@ mutual
       subst (AllThere P) (sym (slots_append (as_targets index at x) (all_as_targets index at all)))
       (there_append P (slots (all_as_targets index at all)) (slots (as_targets index at x)) (actuals_there P q index at all h (right_clear (part_faults q index at x) (all_part_faults q index at all) c)) (actual_there P q index at x h (left_clear (part_faults q index at x) (all_part_faults q index at all) c)))
 
+mutual
+  unfolding targets lvalue_faults
+
+  lvalue_there : (P : WireBit → Type 0) (index at : Scope) (to : Lvalue) → OfNames P at → lvalue_faults fixed_faults index at to ≡ [] → AllThere P (slots (targets index at to))
+  lvalue_there P index at (LvName w all) h c = name_there P at w.place w (map (step index) all) h (find w.text at) refl c
+  lvalue_there P index at (Braces p s all) h c = lvalues_there P index at all h (first_clear (all_lvalue_faults fixed_faults index at all) (wide_target p (targets_of index at all)) c)
+
+  lvalues_there : {m : Count} (P : WireBit → Type 0) (index at : Scope) (all : Row_of-Lvalue m) → OfNames P at → all_lvalue_faults fixed_faults index at all ≡ [] → AllThere P (slots (targets_of index at all))
+  lvalues_there P index at end_of-Lvalue h c = no_slots P
+  lvalues_there P index at (more_of-Lvalue x all) h c =
+      subst (AllThere P) (sym (slots_append (targets index at x) (targets_of index at all)))
+      (there_append P (slots (targets_of index at all)) (slots (targets index at x)) (lvalues_there P index at all h (right_clear (lvalue_faults fixed_faults index at x) (all_lvalue_faults fixed_faults index at all) c)) (lvalue_there P index at x h (left_clear (lvalue_faults fixed_faults index at x) (all_lvalue_faults fixed_faults index at all) c)))
+
 -- ---- the bits of parts
 
 somes_all : (P : WireBit → Type 0) (bits : List WireBit) → AllThere P (map Some bits) → All P bits
@@ -263,6 +277,12 @@ named_bits at widths a name n x e j l =
 
 named_below : (at : Scope) (top : ℕ) → AreBelow top at → OfNames (λ b. b.wire < top) at
 named_below at top a name n x e j l = a (record { owner = of_wires; number = n; width = width x }) (named_declared at name n x e)
+
+-- the parts of an assigned target lie in the wires
+pub assigned_lies : (index at : Scope) (to : Lvalue) (t : lowered.Target) (widths : List ℕ) → AreWires at widths → IsLowered (lvalue_faults fixed_faults index at to) (targets index at to) t → All (λ (p : Part). LieIn widths p.to) t.parts
+assigned_lies index at to t widths a h =
+    let parts = h.parts in
+    parts_lie widths t.parts parts.segs (parts_are (IsBitOf widths) (slots (targets index at to)) t.parts parts (lvalue_there (IsBitOf widths) index at to (named_bits at widths a) h.clear))
 
 -- the parts of an actual lie in the wires, and their bits below a port
 pub actual_lies : (index at : Scope) (x : Expr) (t : lowered.Target) (widths : List ℕ) → AreWires at widths → IsLowered (actual_faults index at x) (as_targets index at x) t → All (λ (p : Part). LieIn widths p.to) t.parts

@@ -1,7 +1,7 @@
 -- Whole designs.
-use Rattle.std.proofs.Common.{◌≡◌, ℕ, suc, ◌+◌, ◌<◌, ◌≤◌, eqb, true, List, [], ◌∷◌, ◌++◌, length, map, take, drop, get_or, Option, Result, Ok, Err, refl, sym, ap, ◌∙◌, subst, arith, IsTrue}
+use Rattle.std.proofs.Common.{◌≡◌, ◌≢◌, ℕ, suc, ◌+◌, ◌<◌, ◌≤◌, eqb, true, List, [], ◌∷◌, ◌++◌, length, map, take, drop, get_or, Option, Result, Ok, Err, refl, sym, ap, ◌∙◌, subst, arith, IsTrue}
 use Rattle.std.specs.Prelude.{nat_lt, IfOk, IfErr}
-use Rattle.std.specs.List.{All, Contains}
+use Rattle.std.specs.List.{All, AllPairs, Contains}
 use Rattle.std.proofs.lemmas.List.{take_all, length-map, map-append}
 use Rattle.std.proofs.lemmas.List.Elements.{All-map, All-weaker}
 use Rattle.std.proofs.lemmas.Bool.Decides.{nat_tests}
@@ -9,7 +9,8 @@ use Rattle.fourvec.proofs.Order.{both}
 use Rattle.sv_outside.specs.declared.text.Signal.{Signal}
 use Rattle.sv_outside.specs.declared.refusal.TextErr.{TextErr}
 use Rattle.sv_outside.specs.declared.refusal.TextErr.TheVariants.{No, Memory}
-use Rattle.settling.specs.Settling.{Store, SettlesBy}
+use Rattle.lhs_alias.specs.Pairs.{HaveOwnChildren}
+use Rattle.settling.specs.Settling.{Store, Link, SettlesBy}
 use Rattle.driver_resolve.specs.Drivers.{Phase, drivers_give, widths_of, is_wire, stimuli_from}
 use Rattle.flat_net.specs.declared.flat.Flat.{Flat}
 use Rattle.flat_net.specs.Flats as f
@@ -26,17 +27,19 @@ use Rattle.sv_scope.specs.declared.whole.DesignScopes.{DesignScopes}
 use Rattle.sv_levels.specs.declared.tasks.Work as walker
 use Rattle.sv_levels.specs.Tasks.{work_is}
 use Rattle.sv_scope.specs.Scoped.{IsScoped, design_is, levels_of, wires_of, works_of, turns_of}
-use Rattle.scope_laws.specs.Wires.{IsWire}
+use Rattle.scope_laws.specs.Wires.{IsWire, connected_wires}
 use Rattle.scope_laws.proofs.Seen.{seen_are_wires, ports_are_wires}
 use Rattle.scope_laws.proofs.Closing.{ports_stand_above}
+use Rattle.scope_laws.proofs.Connecting.{wires_are_distinct}
 use Rattle.sv_stmt.specs.Blocks.{AreWires}
 use Rattle.sv_elab.specs.declared.whole.Making.{Making}
 use Rattle.sv_elab.specs.Elaborated.{IsElaborated, sound_design}
-use Rattle.sv_elab.specs.Working.{TaskFits, TaskStandsAbove, AreSound, IsMade}
+use Rattle.sv_elab.specs.Working.{TaskFits, TaskIsFree, TaskStandsAbove, AreSound, IsMade}
 use Rattle.sv_elab.proofs.Wires.{stimuli_are}
 use Rattle.sv_lower.proofs.Trees.{taken_more}
 use Rattle.sv_elab.proofs.Lists.{map_twice, split_map}
 use Rattle.sv_elab.proofs.Making.{all_given, one_cause}
+use Rattle.sv_elab.proofs.Owning.{next_free}
 
 -- ---- names are wires
 
@@ -76,6 +79,7 @@ sound_scopes source top st s e k = record {
       subst (λ wires. TaskFits (widths_of wires) x.task) k.wires (task_fits source top st e x (subst (λ works. Contains works x) (sym k.works) i));
   above = λ x i.
       subst (λ levels. TaskStandsAbove (live_at levels x.at) x.task) k.levels (task_above source top st e x (subst (λ works. Contains works x) (sym k.works) i));
+  apart = subst (λ works. AllPairs ◌≢◌ (connected_wires works)) k.works (wires_are_distinct source top st e);
 }
 
 -- ---- the flat design
@@ -83,7 +87,7 @@ sound_scopes source top st s e k = record {
 same_sides : (a b : Type 0) → a ≡ b → (a → b) × (b → a)
 same_sides a b e = (λ x. subst (λ t. t) e x, λ x. subst (λ t. t) (sym e) x)
 
-pub elaborated : (design : Design) (flat : Flat) (x : Making) → All f.IsSignal flat.wires → flat.wires ≡ design.wires → flat.arena ≡ x.arena → flat.drivers ≡ x.drivers → flat.joins ≡ x.list → IsMade design.wires design.works design.turns x → IsElaborated design flat
+pub elaborated : (design : Design) (flat : Flat) (x : Making) → All f.IsSignal flat.wires → flat.wires ≡ design.wires → flat.arena ≡ x.arena → flat.drivers ≡ x.drivers → flat.joins ≡ x.joins → IsMade design.wires design.works design.turns x → IsElaborated design flat
 elaborated design flat x signals w a dr jo m = record {
   clear = m.clear;
   sound = record {
@@ -93,7 +97,7 @@ elaborated design flat x signals w a dr jo m = record {
         (subst (λ shapes. All (Rattle.driver_resolve.specs.Drivers.IsDriver (widths_of design.wires) shapes) flat.drivers) (sym a)
         (subst (All (Rattle.driver_resolve.specs.Drivers.IsDriver (widths_of design.wires) x.arena)) (sym dr) m.sound));
     joins = subst (λ wires. All (f.IsJoin (widths_of wires)) flat.joins) (sym w) (subst (All (f.IsJoin (widths_of design.wires))) (sym jo) m.joins_are);
-    own_children = subst (λ all. Rattle.lhs_alias.specs.Pairs.HaveOwnChildren (f.links_of all)) (sym jo) m.stands.own_children;
+    own_children = subst (λ all. HaveOwnChildren (f.links_of all)) (sym jo) m.own_children;
   };
   wires = w;
   stem = stems;
@@ -191,6 +195,15 @@ pub walk_more : (s : DesignScopes) (items : List walker.Work) (i : ℕ) (x : wal
     → IsMade (wires_of s) (map (work_here s) (take (i + 1) items)) (turns_of s) making
 walk_more s items i x making l e g =
     subst (λ (all : List Work). IsMade (wires_of s) all (turns_of s) making) (sym (ap (map (work_here s)) (taken_more items i x l e) ∙ map-append (work_here s) (take i items) (x ∷ []))) g
+
+pub walk_free : (s : DesignScopes) (items : List walker.Work) (i : ℕ) (x : walker.Work) (making : Making) → AreSound s → map work_is items ≡ works_of s → i < length items → x ≡ get_or items i x
+    → IsMade (wires_of s) (map (work_here s) (take i items)) (turns_of s) making → TaskIsFree (f.links_of making.joins) (work_is x).task
+walk_free s items i x making sound is l g k =
+    let front = map work_is (take i items) in
+    let rest = map work_is (drop (suc i) items) in
+    let apart : AllPairs ◌≢◌ (connected_wires (front ++ work_is x ∷ rest)) = subst (λ (all : List Standing). AllPairs ◌≢◌ (connected_wires all)) (sym is ∙ split_map work_is items i x l g) sound.apart in
+    let links : f.links_of making.joins ≡ d.links_of (map (h.work_at (levels_of s)) front) = k.links ∙ ap d.links_of (sym (map_twice (h.work_at (levels_of s)) work_is (take i items))) in
+    subst (λ (z : List Link). TaskIsFree z (work_is x).task) (sym links) (next_free (levels_of s) front rest (work_is x) apart)
 
 whole_works : (s : DesignScopes) (items : List walker.Work) → map work_is items ≡ works_of s → map (h.work_at (levels_of s)) (works_of s) ≡ map (work_here s) items
 whole_works s items is = ap (map (h.work_at (levels_of s))) (sym is) ∙ map_twice (h.work_at (levels_of s)) work_is items

@@ -1,6 +1,6 @@
 -- What is made of one task after another: words of the inner functions.
-use Rattle.std.specs.Prelude.{◌≡◌, ℕ, ◌+◌, ◌<◌, ◌≤◌, Bool, List, [], ◌∷◌, ◌++◌, length, slice_index_or, Option, Some, None, Result, Ok, Err, IsTrue}
-use Rattle.std.specs.List.{All, zip, Contains}
+use Rattle.std.specs.Prelude.{◌≡◌, ◌≢◌, ℕ, ◌+◌, ◌<◌, ◌≤◌, Bool, List, [], ◌∷◌, ◌++◌, length, slice_index_or, Option, Some, None, Result, Ok, Err, IsTrue}
+use Rattle.std.specs.List.{All, AllPairs, zip, Contains}
 use Rattle.fourvec.specs.declared.Bit.{Bit}
 use Rattle.fourvec.specs.Bits.{slice_of}
 use Rattle.sv_outside.specs.declared.text.Signal.{Signal}
@@ -9,8 +9,8 @@ use Rattle.lhs_alias.specs.declared.segs.WireBit.{WireBit}
 use Rattle.lhs_alias.specs.declared.segs.Seg.{Seg}
 use Rattle.lhs_alias.specs.Segs.{lhs_bits}
 use Rattle.lhs_alias.specs.Lies.{LieIn}
-use Rattle.lhs_alias.specs.Joined as j
-use Rattle.settling.specs.Settling.{Store, Contribution}
+use Rattle.lhs_alias.specs.Pairs.{HaveOwnChildren}
+use Rattle.settling.specs.Settling.{Store, Contribution, Link}
 use Rattle.svex_shape.specs.declared.shape.VarName.{VarName}
 use Rattle.svex_shape.specs.declared.shape.Shape.{Shape}
 use Rattle.svex_shape.specs.Shapes.{width_at}
@@ -25,6 +25,7 @@ use Rattle.sv_meaning.specs.Designs as d
 use Rattle.sv_meaning.specs.Designs.{Work, driven, work_faults, work_turns, faults_from}
 use Rattle.sv_typing.specs.Judging.{IsCause}
 use Rattle.sv_hierarchy.specs.Scopes as h
+use Rattle.scope_laws.specs.Wires.{connected_wires}
 use Rattle.sv_scope.specs.declared.whole.DesignScopes.{DesignScopes}
 use Rattle.sv_scope.specs.Scoped.{levels_of, wires_of, works_of}
 use Rattle.sv_lower.specs.Nodes.{bits_at_node}
@@ -37,6 +38,11 @@ use Rattle.sv_elab.specs.declared.whole.Making.{Making}
 use Rattle.sv_elab.specs.Elaborated.{names_only, Stem, AllStem}
 
 -- ---- parts of targets
+
+-- A part has some bits, which end within so many.
+pub record IsWithin (width : ℕ) (part : Part) : Type 0 where
+  pub some : 1 ≤ length (lhs_bits part.to)
+  pub ends : part.lo + length (lhs_bits part.to) ≤ width
 
 -- A driver gives a part of a target its bits of a value.
 pub record Puts (widths : List ℕ) (old new : List Shape) (value : ℕ) (part : Part) (d : Driver) : Type 0 where
@@ -132,17 +138,24 @@ TaskStandsAbove at (h.assigning to x) = Unit {0}
 TaskStandsAbove at (h.running b) = Unit {0}
 TaskStandsAbove at (h.connecting way n x actual) = AreBelow n at
 
+-- no bit of the wire of a connected port is the child of a join
+abbrev pub TaskIsFree : List Link → h.Task → Type 0
+TaskIsFree links (h.assigning to x) = Unit {0}
+TaskIsFree links (h.running b) = Unit {0}
+TaskIsFree links (h.connecting way n x actual) = All (λ link. link.0.wire ≢ n) links
+
 -- 1 to 128 bits each
 abbrev pub AreSizes : List ℕ → Type 0
 AreSizes widths = All (λ width. (1 ≤ width) × (width ≤ 128)) widths
 
 -- ---- all tasks
 
--- Each name stands for a wire of its width, and so does each connected port, above all that its place sees.
+-- Each name stands for a wire of its width, and so does each connected port, above all that its place sees; no two ports have one wire.
 pub record AreSound (s : DesignScopes) : Type 0 where
   pub names : (at : h.Front) → AreWires (h.live_at (levels_of s) at) (widths_of (wires_of s))
   pub ports : (x : h.Standing) → Contains (works_of s) x → TaskFits (widths_of (wires_of s)) x.task
   pub above : (x : h.Standing) → Contains (works_of s) x → TaskStandsAbove (h.live_at (levels_of s) x.at) x.task
+  pub apart : AllPairs ◌≢◌ (connected_wires (works_of s))
 
 -- the turns of all loops in works
 unfoldable pub turns_in : List Work → ℕ
@@ -155,7 +168,6 @@ pub record IsMade (wires : List Signal) (works : List Work) (before : ℕ) (x : 
   pub made : x.made ≡ before + turns_in works
   pub stem : AllStem wires x.arena works x.drivers
   pub sound : All (IsDriver (widths_of wires) x.arena) x.drivers
-  pub links : f.links_of x.list ≡ d.links_of works
-  pub joins_are : All (f.IsJoin (widths_of wires)) x.list
-  pub widths_are : j.widths_of x.joins ≡ widths_of wires
-  pub stands : j.Stands x.joins (f.links_of x.list)
+  pub links : f.links_of x.joins ≡ d.links_of works
+  pub joins_are : All (f.IsJoin (widths_of wires)) x.joins
+  pub own_children : HaveOwnChildren (f.links_of x.joins)

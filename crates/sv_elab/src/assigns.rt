@@ -1,5 +1,6 @@
 // Continuous assignments (IEEE 1800-2017, 10.3).
-ghost use Rattle.std.specs.Prelude.{◌++◌, ◌≤◌, List, false};
+ghost use Rattle.std.specs.Prelude.{◌++◌, ◌≤◌, List, All, false};
+ghost use Rattle.lhs_alias.specs.Lies.{LieIn};
 ghost use Rattle.svex_arena.specs.Arenas.{Extends};
 ghost use Rattle.sv_names.specs.Names.{names_are};
 ghost use Rattle.sv_meaning.specs.Faults.{Faults};
@@ -9,7 +10,7 @@ ghost use Rattle.sv_meaning.specs.Targets as t;
 ghost use Rattle.sv_meaning.specs.Designs.{assigned_to, wires_named};
 ghost use Rattle.sv_targets.specs.Slots.{IsLowered};
 ghost use Rattle.sv_stmt.specs.Blocks.{AreWires};
-ghost use Rattle.sv_elab.specs.Working.{JudgesSupply};
+ghost use Rattle.sv_elab.specs.Working.{IsWithin, JudgesSupply};
 
 use crate::parts::part_drivers;
 use driver_resolve::Driver;
@@ -34,13 +35,15 @@ fn valued(
     requires names { AreWires (names_are names.now) widths.now }
     requires some { 1 ≤ target.now.width }
     requires most { target.now.width ≤ 128 }
+    requires parts { All (IsWithin target.now.width) target.now.parts }
+    requires lie { All (λ p. LieIn widths.now p.to) target.now.parts }
     ensures stays { Extends arena.old arena.new }
     ensures is { (f : Faults) (ts : List t.Target) → IsLowered f ts target.now
         → JudgesSupply widths.now (wires_named (mean (names_are names.now) value.now).names) arena.new (assigned_to ts (mean (names_are names.now) value.now)) ((mean (names_are names.now) value.now).faults false) result }
 {
     let _ = arena.len();
     let node = lower_expr(alloc, arena, value, names, target.width as u8)?;
-    let all = part_drivers(alloc, arena, widths, target.parts.as_slice(), node)?;
+    let all = part_drivers(alloc, arena, target.parts.as_slice(), node)?;
     Ok(all)
 }
 

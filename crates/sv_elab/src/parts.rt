@@ -1,9 +1,11 @@
 // The drivers of parts of targets.
-ghost use Rattle.std.specs.Prelude.{◌≡◌, ◌<◌, length, min, IfOk};
+ghost use Rattle.std.specs.Prelude.{◌≡◌, ◌+◌, ◌<◌, ◌≤◌, ℕ, List, All, length, min, IfOk};
 ghost use Rattle.lhs_alias.specs.Segs.{lhs_bits};
+ghost use Rattle.lhs_alias.specs.Lies.{LieIn};
+ghost use Rattle.svex_shape.specs.Shapes.{width_at};
 ghost use Rattle.svex_arena.specs.Arenas.{Extends};
 ghost use Rattle.sv_targets.specs.Slots.{Slots, AreParts};
-ghost use Rattle.sv_elab.specs.Working.{Puts, Fills};
+ghost use Rattle.sv_elab.specs.Working.{Puts, Fills, IsWithin};
 
 use driver_resolve::Driver;
 use items::Items;
@@ -28,23 +30,18 @@ pub(crate) fn bits_of(to: &Lhs) -> u8
 fn part_driver(
     alloc: Global,
     arena: &mut Arena,
-    widths: &[u8],
     part: &Part,
     value: Node,
 ) -> Result<Driver, AllocError>
-    requires { value < length arena.old }
+    requires value { value < length arena.old }
+    requires some { 1 ≤ length (lhs_bits part.now.to) }
+    requires ends { part.now.lo + length (lhs_bits part.now.to) ≤ width_at arena.old value }
     ensures stays { Extends arena.old arena.new }
-    ensures ok { IfOk result (λ d. Puts widths.now arena.old arena.new value part.now d) }
+    ensures ok { (widths : List ℕ) → LieIn widths part.now.to → IfOk result (λ d. Puts widths arena.old arena.new value part.now d) }
 {
-    let width = arena.width(value);
+    let _ = arena.width(value);
     let count = bits_of(&part.to);
-    if count == 0 || part.lo > width as usize {
-        return Err(AllocError);
-    }
     let lo = part.lo as u8;
-    if count > width - lo || !part.to.lies_in(widths) {
-        return Err(AllocError);
-    }
     let value = sliced(alloc, arena, value, lo, count)?;
     let target = part.to.copy()?;
     Ok(Driver { target, value })
@@ -55,18 +52,19 @@ fn part_driver(
 pub(crate) fn part_drivers(
     alloc: Global,
     arena: &mut Arena,
-    widths: &[u8],
     parts: &[Part],
     value: Node,
 ) -> Result<Items<Driver>, AllocError>
-    requires { value < length arena.old }
+    requires value { value < length arena.old }
+    requires parts { All (IsWithin (width_at arena.old value)) parts.now }
     ensures stays { Extends arena.old arena.new }
-    ensures ok { IfOk result (λ all. (slots : Slots) → AreParts slots parts.now → Fills widths.now arena.old arena.new value slots all) }
+    ensures ok { (widths : List ℕ) (slots : Slots) → All (λ p. LieIn widths p.to) parts.now → AreParts slots parts.now
+        → IfOk result (λ all. Fills widths arena.old arena.new value slots all) }
 {
     let _ = arena.len();
     let mut all = Items::new(alloc);
     'parts: for part in parts {
-        let driver = part_driver(alloc, arena, widths, part, value)?;
+        let driver = part_driver(alloc, arena, part, value)?;
         all.push(driver)?;
     }
     Ok(all)

@@ -2,7 +2,8 @@
 // and in range, the bits are joined, whatever the direction, so that both sides are one net. Else an input is driven with the
 // value and an output assigned to the target, each one way. An `inout` can only be joined, so what is told then is what stands
 // against its actual as an expression, or else E19.
-ghost use Rattle.std.specs.Prelude.{◌≡◌, ◌≤◌, ◌∷◌, [], List, false, Some, IsTrue, IfOk};
+ghost use Rattle.std.specs.Prelude.{◌≡◌, ◌≤◌, ◌∷◌, [], List, All, false, Some, IsTrue, IfOk};
+ghost use Rattle.lhs_alias.specs.Lies.{LieIn};
 ghost use Rattle.svex_arena.specs.Arenas.{Extends};
 ghost use Rattle.driver_resolve.specs.Drivers.{is_wire};
 ghost use Rattle.sv_names.specs.Names.{names_are};
@@ -20,7 +21,7 @@ ghost use Rattle.driver_resolve.specs.Drivers.{widths_of};
 ghost use Rattle.sv_targets.specs.Slots.{IsLowered};
 ghost use Rattle.sv_stmt.specs.Blocks.{AreWires};
 ghost use Rattle.sv_typing.specs.Judging.{IsCause};
-ghost use Rattle.sv_elab.specs.Working.{AreBelow, JudgesSupply, Supplies, JudgesWork};
+ghost use Rattle.sv_elab.specs.Working.{AreBelow, IsWithin, JudgesSupply, Supplies, JudgesWork};
 
 use crate::joins::{is_joined, join_of, whole_wire};
 use crate::parts::part_drivers;
@@ -85,6 +86,8 @@ fn output(
     requires most { port.width ≤ 128 }
     requires some_there { 1 ≤ target.now.width }
     requires most_there { target.now.width ≤ 128 }
+    requires parts { All (IsWithin target.now.width) target.now.parts }
+    requires lie { All (λ p. LieIn widths.now p.to) target.now.parts }
     ensures stays { Extends arena.old arena.new }
     ensures is { (f : Faults) (ts : List t.Target) (x : Meant) → IsLowered f ts target.now → m.width x ≡ port.width → m.is_signed x ≡ port.signed
         → IfOk result (λ all. Supplies widths.now (port.wire ∷ []) arena.new (assigned_to ts (named no_word (Some (signal_is of_wires port.wire x)) [])) all) }
@@ -97,7 +100,7 @@ fn output(
     };
     let typed = Typed::named(root, Items::new(alloc), port.signed);
     let node = lower_assigned(alloc, arena, &typed, &Look::Present, target.width as u8)?;
-    let all = part_drivers(alloc, arena, widths, target.parts.as_slice(), node)?;
+    let all = part_drivers(alloc, arena, target.parts.as_slice(), node)?;
     Ok(all)
 }
 

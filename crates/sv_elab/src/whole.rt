@@ -1,12 +1,11 @@
 // The flat design of a source: one task after another becomes drivers or a join. Behind each task the drivers give just what
 // the works so far contribute, in the same order, so the two designs are equal list by list and no law of resolution is needed.
-// Joins are made as they come, too, in order to see that no bit is joined twice.
-ghost use Rattle.std.specs.Prelude.{◌≡◌, ℕ, ◌++◌, ◌∷◌, [], List, All, IfOk, IfErr, OnOk};
+// No bit is joined twice, since no two connected ports have one wire.
+ghost use Rattle.std.specs.Prelude.{◌≡◌, ℕ, ◌++◌, ◌∷◌, [], List, IfOk, IfErr, OnOk};
 ghost use Rattle.std.specs.Option.{option_copied};
 ghost use Rattle.driver_resolve.specs.Drivers.{widths_of};
 ghost use Rattle.sv_outside.specs.declared.text.Signal.{Signal};
-ghost use Rattle.lhs_alias.specs.Joined as j;
-ghost use Rattle.flat_net.specs.Flats.{IsFlat, IsJoin, links_of};
+ghost use Rattle.flat_net.specs.Flats.{IsFlat, links_of};
 ghost use Rattle.sv_typing.specs.Judging.{IsCause};
 ghost use Rattle.sv_loops.specs.Answers.{Answers};
 ghost use Rattle.sv_meaning.specs.Designs as d;
@@ -15,14 +14,13 @@ ghost use Rattle.sv_hierarchy.specs.Scopes.{live_at, work_at};
 ghost use Rattle.sv_scope.specs.Scoped.{design_is, levels_of, wires_of, works_of};
 ghost use Rattle.sv_levels.specs.Tasks.{work_is};
 ghost use Rattle.sv_elab.specs.Elaborated.{IsElaborated, sound_design};
-ghost use Rattle.sv_elab.specs.Working.{AreSizes, AreSound, IsMade, TaskFits, TaskStandsAbove, join_list};
+ghost use Rattle.sv_elab.specs.Working.{AreSizes, AreSound, IsMade, TaskFits, TaskIsFree, TaskStandsAbove, join_list};
 
 use crate::signals::{copied, widths};
 use crate::works::{Parts, work_parts};
 use driver_resolve::Driver;
 use flat_net::{Flat, Join};
 use items::Items;
-use lhs_alias::Joins;
 use std::alloc::{AllocError, Global};
 use sv_outside::{Name, TextErr};
 use sv_scope::{DesignScopes, Work, scopes};
@@ -34,25 +32,17 @@ use svex_arena::Arena;
 struct Making {
     arena: Arena,
     drivers: Items<Driver>,
-    list: Items<Join>,
-    /// The same joins, by which no bit is joined twice.
-    joins: Joins,
+    joins: Items<Join>,
     /// The turns of loops.
     made: u64,
 }
 
 // One join more, if there is one.
-fn add_join(list: &mut Items<Join>, joins: &mut Joins, join: Option<Join>) -> Result<(), AllocError>
-    requires { All (IsJoin (j.widths_of joins.old)) (join_list join) }
-    ensures list { OnOk result (list.new ≡ list.old ++ join_list join) }
-    ensures widths { j.widths_of joins.new ≡ j.widths_of joins.old }
-    ensures stands { OnOk result (j.Stands joins.old (links_of list.old) → j.Stands joins.new (links_of list.new)) }
+fn add_join(joins: &mut Items<Join>, join: Option<Join>) -> Result<(), AllocError>
+    ensures { OnOk result (joins.new ≡ joins.old ++ join_list join) }
 {
     if let Some(join) = join {
-        if joins.join(&join.child, &join.parent).is_err() {
-            return Err(AllocError);
-        }
-        list.push(join)?;
+        joins.push(join)?;
     }
     Ok(())
 }
@@ -70,7 +60,7 @@ fn add_work(
     requires task { TaskFits widths.now (work_is work.now).task }
     requires above { TaskStandsAbove (live_at (levels_of scopes.now) (work_is work.now).at) (work_is work.now).task }
     requires sizes { AreSizes widths.now }
-    requires joins { j.widths_of making.old.joins ≡ widths_of (wires_of scopes.now) }
+    requires free { TaskIsFree (links_of making.old.joins) (work_is work.now).task }
     ensures ok { (works : List d.Work) (before : ℕ) → IsMade (wires_of scopes.now) works before making.old
         → OnOk result (IsMade (wires_of scopes.now) (works ++ work_at (levels_of scopes.now) (work_is work.now) ∷ []) before making.new) }
     ensures err { (works : List d.Work) (before : ℕ) → IsMade (wires_of scopes.now) works before making.old
@@ -90,23 +80,21 @@ fn add_work(
         making.made,
     )?;
     making.drivers.append(drivers)?;
-    add_join(&mut making.list, &mut making.joins, join)?;
+    add_join(&mut making.joins, join)?;
     making.made = made;
     Ok(())
 }
 
 // Nothing is made.
-fn begun(alloc: Global, widths: &[u8], turns: u64) -> Result<Making, AllocError>
-    requires { AreSizes widths.now }
-    ensures { (wires : List Signal) → widths_of wires ≡ widths.now → IfOk result (λ making. IsMade wires [] turns making) }
+fn begun(alloc: Global, turns: u64) -> Making
+    ensures { (wires : List Signal) → IsMade wires [] turns result }
 {
-    Ok(Making {
+    Making {
         arena: Arena::new(alloc),
         drivers: Items::new(alloc),
-        list: Items::new(alloc),
-        joins: Joins::new(alloc, widths)?,
+        joins: Items::new(alloc),
         made: turns,
-    })
+    }
 }
 
 // The flat design of scopes.
@@ -117,21 +105,21 @@ fn flattened(alloc: Global, scopes: &DesignScopes<'_>) -> Result<Flat, TextErr>
 {
     let wires = copied(alloc, scopes.wires())?;
     let widths = widths(alloc, scopes.wires())?;
-    let mut making = begun(alloc, &widths, scopes.turns())?;
+    let mut making = begun(alloc, scopes.turns());
     'works: for work in scopes.works() {
         add_work(alloc, &mut making, scopes, &widths, work)?;
     }
     let Making {
         arena,
         drivers,
-        list,
-        ..
+        joins,
+        made: _,
     } = making;
     Ok(Flat {
         arena,
         wires,
         drivers,
-        joins: list,
+        joins,
     })
 }
 

@@ -10,6 +10,7 @@ use Rattle.sv_meaning.specs.Designs.{actual_faults, as_targets, is_joined, index
 use Rattle.sv_targets.specs.declared.parts.Part.{Part}
 use Rattle.sv_targets.specs.Slots.{IsLowered}
 use Rattle.sv_elab.specs.Working.{JoinsTo, IsWorked, JudgesWork, parts_bits}
+use Rattle.sv_elab.proofs.Ending.{actual_within}
 use Rattle.sv_elab.proofs.Reaching.{actual_lies, actual_below}
 use Rattle.sv_elab.proofs.Working.{joined_by, joined_port, refused_port, supplied_port}
 use Rattle.sv_elab.proofs.ports.to_target.Goals as goal
@@ -56,3 +57,9 @@ returns-in-Inout-clause-is c = λ wires x s k g.
     let apart : is_joined (index_scope ways.Inout at) at x actual ≡ false = joined_by (index_scope ways.Inout at) at x actual c.args.target.now c.args.port.width c.is_joined.result h k (c.is_joined.ensures.is (actual_faults (index_scope ways.Inout at) at actual) (as_targets (index_scope ways.Inout at) at actual) h) ∙ c.if-is_joined.false in
     subst (λ (z : Way). JudgesWork wires (d.port at z c.args.port.wire x actual) c.args.made c.args.arena.now (Err c.not_joined.result)) (sym c.in-Inout.is)
     (refused_port at ways.Inout c.args.port.wire x actual wires c.args.made c.args.arena.now c.not_joined.result apart c.not_joined.ensures)
+
+pub output-requires-clause-parts : goal.output-requires-clause-parts
+output-requires-clause-parts c = let at = names_are c.args.names.now in actual_within (index_scope c.args.port.way at) at c.args.actual.now c.args.target.now c.requires.target
+
+pub output-requires-clause-lie : goal.output-requires-clause-lie
+output-requires-clause-lie c = let at = names_are c.args.names.now in actual_lies (index_scope c.args.port.way at) at c.args.actual.now c.args.target.now c.args.widths.now c.requires.names c.requires.target
