@@ -1,8 +1,8 @@
--- Signals that are wires of a design, and the wires of connected ports.
-use Rattle.std.specs.Prelude.{◌≡◌, ℕ, ◌<◌, List, [], ◌∷◌, ◌++◌, length, map, slice_index_or}
+-- Signals that are wires of a design, the wires of connected ports, and paths.
+use Rattle.std.specs.Prelude.{◌≡◌, ℕ, ◌<◌, ◌≤◌, List, [], ◌∷◌, ◌++◌, length, map, slice_index_or, All, IsTrue}
 use Rattle.sv_outside.specs.declared.text.Signal.{Signal}
-use Rattle.sv_meaning.specs.Layouts.{of_wires, NamedSignal}
-use Rattle.sv_hierarchy.specs.Scopes.{Task, assigning, running, connecting, Standing}
+use Rattle.sv_meaning.specs.Layouts.{Name, of_wires, NamedSignal}
+use Rattle.sv_hierarchy.specs.Scopes.{is_printed, Task, assigning, running, connecting, Standing}
 
 abbrev pub widths : List Signal → List ℕ
 widths wires = map (λ w. w.width) wires
@@ -23,3 +23,12 @@ port_wire (connecting way n x actual) = n ∷ []
 unfoldable pub connected_wires : List Standing → List ℕ
 connected_wires [] = []
 connected_wires (w ∷ more) = port_wire w.task ++ connected_wires more
+
+-- a path: bytes, of which each is printed
+pub record IsPath (path : Name) : Type 0 where
+  pub some : 1 ≤ length path
+  pub printed : All (λ b. IsTrue (is_printed b)) path
+
+-- each wire has a path
+abbrev pub HavePaths : List Signal → Type 0
+HavePaths wires = All (λ w. IsPath w.path) wires

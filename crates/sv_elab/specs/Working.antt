@@ -25,7 +25,7 @@ use Rattle.sv_meaning.specs.Designs as d
 use Rattle.sv_meaning.specs.Designs.{Work, driven, work_faults, work_turns, faults_from}
 use Rattle.sv_typing.specs.Judging.{IsCause}
 use Rattle.sv_hierarchy.specs.Scopes as h
-use Rattle.scope_laws.specs.Wires.{connected_wires}
+use Rattle.scope_laws.specs.Wires.{HavePaths, connected_wires}
 use Rattle.sv_scope.specs.declared.whole.DesignScopes.{DesignScopes}
 use Rattle.sv_scope.specs.Scoped.{levels_of, wires_of, works_of}
 use Rattle.sv_lower.specs.Nodes.{bits_at_node}
@@ -150,12 +150,14 @@ AreSizes widths = All (λ width. (1 ≤ width) × (width ≤ 128)) widths
 
 -- ---- all tasks
 
--- Each name stands for a wire of its width, and so does each connected port, above all that its place sees; no two ports have one wire.
+-- Each name stands for a wire of its width, and so does each connected port, above all that its place sees; no two ports have one wire; each
+-- wire has a path.
 pub record AreSound (s : DesignScopes) : Type 0 where
   pub names : (at : h.Front) → AreWires (h.live_at (levels_of s) at) (widths_of (wires_of s))
   pub ports : (x : h.Standing) → Contains (works_of s) x → TaskFits (widths_of (wires_of s)) x.task
   pub above : (x : h.Standing) → Contains (works_of s) x → TaskStandsAbove (h.live_at (levels_of s) x.at) x.task
   pub apart : AllPairs ◌≢◌ (connected_wires (works_of s))
+  pub paths : HavePaths (wires_of s)
 
 -- the turns of all loops in works
 unfoldable pub turns_in : List Work → ℕ

@@ -1,6 +1,7 @@
 -- The scopes of a design: its instances and generate blocks, their names, its wires, and all that contributes.
-use Rattle.std.specs.Prelude.{ℕ, zero, suc, ◌+◌, Bool, true, false, ◌&&◌, ◌||◌, nat_lt, List, [], ◌∷◌, ◌++◌, length, map, take, bytes_eq, Option, Some, None, Ok, Err, decimal, codes, if◌then◌else◌}
+use Rattle.std.specs.Prelude.{ℕ, zero, suc, ◌+◌, Bool, true, false, ◌&&◌, ◌||◌, not, nat_lt, nat_le, List, [], ◌∷◌, ◌++◌, length, map, take, bytes_eq, Option, Some, None, Ok, Err, decimal, codes, if◌then◌else◌}
 use Rattle.std.specs.Fmt.{signed_decimal}
+use Rattle.std.specs.List.{list_all}
 use mathlib.Core.Former.{Count}
 use Rattle.fourvec.specs.declared.Bit.{Bit}
 use Rattle.fourvec.specs.Bits.{signed}
@@ -31,7 +32,7 @@ use Rattle.sv_tree.specs.declared.design.Item.{Item, Net, Variable, Typedef, Par
 use Rattle.sv_tree.specs.declared.design.Gen.{Gen, Block', Single'}
 use Rattle.sv_outside.specs.declared.refusal.Place.{Place}
 use Rattle.sv_outside.specs.declared.text.Signal.{Signal}
-use Rattle.sv_meaning.specs.Faults.{Faults, fault, fault_if, Judged, provided, faults_of, ◌>>=◌, unknown_module, unknown_name, twice, instance_deep, too_many_bits, top_unclear}
+use Rattle.sv_meaning.specs.Faults.{Faults, fault, fault_if, or_then, Judged, provided, faults_of, ◌>>=◌, bad_token, unknown_module, unknown_name, twice, instance_deep, too_many_bits, top_unclear}
 use Rattle.sv_meaning.specs.Layouts.{Name, Entry, Layout, scalar, width, Scope, scope_of, What, type_is, signal_is, genvar_is, of_wires, find}
 use Rattle.sv_meaning.specs.Names.{has_name}
 use Rattle.sv_meaning.specs.Meanings.{Meaning}
@@ -172,9 +173,22 @@ seen st = seen_at st.levels (here st)
 
 -- ---- declarations, sections 6.5, 6.18 and 6.20
 
+-- a byte of a name: it is printed, and no blank
+abbrev pub is_printed : ℕ → Bool
+is_printed b = nat_le 33 b && nat_le b 126
+
+-- A name has bytes, and each is printed, as those of every identifier are (5.6).
+abbrev pub is_name : Name → Bool
+is_name [] = false
+is_name (c ∷ more) = list_all is_printed (c ∷ more)
+
+-- what stands against the declaration of a name in a scope that has taken it or not; only a tree that no text spells declares what is no name
+abbrev pub name_faults : Bool → Place → Name → Faults
+name_faults taken p n = or_then (fault_if (not (is_name n)) bad_token p) (fault_if taken twice p)
+
 -- a name is declared once in its scope
 abbrev pub declare_at : Place → Name → Walk
-declare_at p n st = provided (fault_if (st.taken n) twice p) (record st { taken = λ other. has_name other (n ∷ []) || st.taken other })
+declare_at p n st = provided (name_faults (st.taken n) p n) (record st { taken = λ other. has_name other (n ∷ []) || st.taken other })
 
 abbrev pub declare : Word → Walk
 declare w st = declare_at w.place w.text st

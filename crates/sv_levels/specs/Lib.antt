@@ -3,3 +3,4 @@ pub mod Tasks
 pub mod Overriding
 pub mod Ports
 pub mod Library
+pub mod Wires

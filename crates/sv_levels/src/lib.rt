@@ -16,6 +16,7 @@ mod ports;
 mod tally;
 mod tasks;
 mod texts;
+mod wires;
 
 pub use levels::{Front, Instance, Level, Levels};
 pub use library::{Known, Library, Wiring, wiring_of};
@@ -25,4 +26,5 @@ pub use params::{entry_type, entry_word, given_to, value_at, value_of};
 pub use ports::{OpenPort, add_port_works, given_by, is_bare, is_read, ports_of};
 pub use tally::Tally;
 pub use tasks::{Actual, Child, Given, Task, Work};
-pub use texts::{block_name, block_place, turn_name};
+pub use texts::{block_name, block_place, is_name, turn_name};
+pub use wires::Wires;

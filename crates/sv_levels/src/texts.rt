@@ -1,15 +1,22 @@
-// Names that the text does not spell.
+// Names that the text does not spell, and which bytes are a name.
 ghost use Rattle.std.specs.Prelude.{◌≡◌, ◌++◌, ◌<◌, ◌≤◌, codes, negsuc, length, IfOk, OnOk};
 ghost use Rattle.std.specs.Fmt.{signed_decimal};
 ghost use Rattle.std.specs.Option.{option_copied};
 ghost use Rattle.fourvec.specs.Bits.{is_negative, signed};
-ghost use Rattle.sv_hierarchy.specs.Scopes.{block_name, block_place, turn_name};
+ghost use Rattle.sv_hierarchy.specs.Scopes.{block_name, block_place, is_name, turn_name};
 
 use fourvec::{Bit, Four};
 use itoa::Buffer;
 use std::alloc::{AllocError, Global};
 use sv_outside::{Name, Place};
 use sv_tree::Word;
+
+/// Whether bytes are a name: there are some, and each is printed and no blank (5.6).
+pub fn is_name(bytes: &[u8]) -> bool
+    ensures { result ≡ is_name bytes.now }
+{
+    !bytes.is_empty() && bytes.iter().all(|b| *b >= 33 && *b <= 126)
+}
 
 /// The name of a block: its label, or that of the construct with a number (27.6).
 pub fn block_name(alloc: Global, label: Option<&Word>, number: usize) -> Result<Name, AllocError>

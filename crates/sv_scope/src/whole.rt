@@ -1,7 +1,7 @@
 // The scopes of a source: the file level, then the top, and all that is below it (IEEE 1800-2017, 23). The walk is given a
 // depth of 32 levels, so that it ends. What it leaves is handed out as plain lists, and what a place sees is made from its
 // counts when it is asked for, so that no list of names is kept for each place.
-ghost use Rattle.std.specs.Prelude.{◌≡◌, [], length, map, slice_get, IfOk, option_map};
+ghost use Rattle.std.specs.Prelude.{◌≡◌, [], length, map, slice_get, All, IfOk, option_map};
 ghost use Rattle.std.specs.Option.{option_copied};
 ghost use Rattle.sv_loops.specs.Answers.{Answers};
 ghost use Rattle.sv_names.specs.Names.{names_are, loops_of};
@@ -9,12 +9,13 @@ ghost use Rattle.sv_hierarchy.specs.Scopes as m;
 ghost use Rattle.sv_levels.specs.Levels.{front_is, instance_is};
 ghost use Rattle.sv_scope.specs.Scoped.{FromSome, FromTop, IsScoped, IsWalked, Reads, ReadsInto, WalksTop, instances_of, levels_of, turns_of, wires_of, works_of};
 ghost use Rattle.sv_levels.specs.Tasks.{work_is};
+ghost use Rattle.sv_levels.specs.Wires.{HasBits};
 ghost use Rattle.sv_walk.specs.Walks.{IsNothing, state_of};
 
 use crate::file::file_level;
-use items::{Items, both};
+use items::both;
 use std::alloc::{AllocError, Global};
-use sv_levels::{Front, Instance, Known, Levels, Library, Work};
+use sv_levels::{Front, Instance, Known, Levels, Library, Wires, Work};
 use sv_modules::{Modules, top_of};
 use sv_names::Names;
 use sv_outside::{Name, Place, Signal, TextErr};
@@ -36,7 +37,7 @@ const START: Place = Place {
 #[derive(Drop)]
 pub struct DesignScopes<'a> {
     levels: Levels,
-    wires: Items<Signal>,
+    wires: Wires,
     works: Vec<Work<'a>>,
     turns: u64,
 }
@@ -166,7 +167,8 @@ pub fn scopes<'a>(
 impl<'a> DesignScopes<'a> {
     /// The wires by number.
     pub fn wires(&self) -> &[Signal]
-        ensures { result.now ≡ wires_of self.now }
+        ensures wires { result.now ≡ wires_of self.now }
+        ensures widths { All HasBits (wires_of self.now) }
     {
         self.wires.as_slice()
     }

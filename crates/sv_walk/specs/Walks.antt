@@ -1,5 +1,5 @@
 -- The walk of the program, and the walk of the definition that it stands for.
-use Rattle.std.specs.Prelude.{◌≡◌, ℕ, [], map, Result}
+use Rattle.std.specs.Prelude.{◌≡◌, ℕ, [], length, map, Result}
 use Rattle.sv_outside.specs.declared.refusal.TextErr.{TextErr}
 use Rattle.sv_meaning.specs.Faults.{Judged}
 use Rattle.sv_meaning.specs.Layouts.{Name as Bytes}
@@ -17,7 +17,7 @@ state_of w o = record {
   levels = levels_are w.levels;
   me = o.level;
   taken = holds o.taken;
-  constructs = o.constructs;
+  constructs = length o.constructs.items;
   overridden = map given_is o.overridden.list.items;
   bits = w.tally.bits;
   turns = w.tally.turns;
@@ -37,7 +37,7 @@ Finds r f w o v p result = Answers (λ found x. r found.0 x × (found.1 ≡ stat
 -- a scope with no names, to whose parameters nothing is given
 pub record IsBare (level : ℕ) (o : Open) : Type 0 where
   pub level_is : o.level ≡ level
-  pub constructs : o.constructs ≡ 0
+  pub constructs : o.constructs.items ≡ []
   pub overridden : map given_is o.overridden.list.items ≡ []
   pub taken : (name : Bytes) → holds o.taken name ≡ has_name name []
 

@@ -55,9 +55,9 @@ impl<'a> Walker<'a> {
                 )?;
                 self.turns(current, *place, opened, variable, body.get())
             }
-            Item::If(_, test, body, other) => {
-                current.next_construct()?;
-                let number = current.constructs;
+            Item::If(place, test, body, other) => {
+                current.next_construct(*place)?;
+                let number = current.constructs.len();
                 self.conditional(current, test, body.get(), other, number)
             }
             plain => self.plain_item(current, plain),

@@ -13,10 +13,10 @@ ghost use Rattle.sv_walk.specs.Walks.{IsBare, IsNothing, Walks, state_of};
 
 use items::Items;
 use std::alloc::{AllocError, Global};
-use sv_levels::{Child, Front, Level, Levels, Overrides, Tally, Task, Work};
+use sv_levels::{Child, Front, Level, Levels, Overrides, Tally, Task, Wires, Work, is_name};
 use sv_modules::NameSet;
 use sv_names::Scope;
-use sv_outside::{Name, Place, Signal, TextErr};
+use sv_outside::{Name, Place, TextErr};
 use sv_typing::refusal;
 
 /// All that was found so far.
@@ -25,17 +25,18 @@ pub struct Walker<'a> {
     pub alloc: Global,
     pub levels: Levels,
     pub tally: Tally,
-    pub wires: Items<Signal>,
+    pub wires: Wires,
     pub works: Vec<Work<'a>>,
     /// The instances below the one that is read.
     pub children: Vec<Child<'a>>,
 }
 
-/// The scope that is read: its number, its names, the number of its generate constructs, and what its parameters are given.
+/// The scope that is read: its number, its names, where its generate constructs stand, and what its parameters are given.
 pub struct Open<'a> {
     pub level: usize,
     pub taken: NameSet,
-    pub constructs: usize,
+    /// The places of its generate constructs so far. The newest has their count as its number (27.6).
+    pub constructs: Vec<Place>,
     pub overridden: Overrides<'a>,
 }
 
@@ -54,14 +55,14 @@ impl<'a> Open<'a> {
     /// A scope with no names, to whose parameters this is given.
     pub fn new(alloc: Global, level: usize, overridden: Overrides<'a>) -> Open<'a>
         ensures level { result.level ≡ level }
-        ensures constructs { result.constructs ≡ 0 }
+        ensures constructs { result.constructs.items ≡ [] }
         ensures overridden { map given_is result.overridden.list.items ≡ map given_is overridden.entry.list.items }
         ensures taken { (name : Bytes) → holds result.taken name ≡ has_name name [] }
     {
         Open {
             level,
             taken: NameSet::new(alloc),
-            constructs: 0,
+            constructs: Vec::new(alloc),
             overridden,
         }
     }
@@ -74,10 +75,13 @@ impl<'a> Open<'a> {
         Ok(Open::new(alloc, level, overridden))
     }
 
-    /// Declares a name, or E13 at a place (3.13, 23.9).
+    /// Declares a name: E2 at a place where no text spells such a name (5.6), E13 where it is taken (3.13, 23.9).
     pub(crate) fn declare_at(&mut self, place: Place, name: &[u8]) -> Result<(), TextErr>
         ensures { (w : Walking) → Walks (declare_at place name.now) w self.old w self.new result }
     {
+        if !is_name(name) {
+            return Err(TextErr::No(refusal(2, place)));
+        }
         if self.taken.has(name) {
             return Err(TextErr::No(refusal(13, place)));
         }
@@ -85,17 +89,12 @@ impl<'a> Open<'a> {
         Ok(())
     }
 
-    /// One generate construct more.
-    pub(crate) fn next_construct(&mut self) -> Result<(), TextErr>
+    /// One generate construct more, at a place.
+    pub(crate) fn next_construct(&mut self, place: Place) -> Result<(), TextErr>
         ensures { (w : Walking) → Walks next_construct w self.old w self.new result }
     {
-        match self.constructs.checked_add(1) {
-            Some(next) => {
-                self.constructs = next;
-                Ok(())
-            }
-            None => Err(TextErr::Memory),
-        }
+        self.constructs.push(place)?;
+        Ok(())
     }
 }
 
@@ -108,7 +107,7 @@ impl<'a> Walker<'a> {
             alloc,
             levels: Levels::new(alloc),
             tally: Tally::new(),
-            wires: Items::new(alloc),
+            wires: Wires::new(alloc),
             works: Vec::new(alloc),
             children: Vec::new(alloc),
         }

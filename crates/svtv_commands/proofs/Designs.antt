@@ -27,7 +27,7 @@ text_stops told name top (Unread file place) h = h
 text_stops told name top Memory h = tt
 
 pub parse_stops : (told : Told) (name : Text) (top : Option Text) (tokens : TokenList) (error : TextErr) (stop : Stop) → IsWholeText (Possible told) name tokens
-    → IsParsed tokens.list tokens.end (Err error) → IsInFile tokens error stop → Stops (RefusesDesign told name top) (UnreadDesign told name) stop
+    → IsParsed tokens.list tokens.end (Err error) → IsInFile name tokens error stop → Stops (RefusesDesign told name top) (UnreadDesign told name) stop
 parse_stops told name top tokens (e.No r) (Refused file own) text p h =
     subst (λ (x : Refusal). RefusesDesign told name top file x) (sym h.0) (inr (inl (record { tokens = tokens; text = text; why = p; place = h.1 })))
 parse_stops told name top tokens (e.No r) (Unread file place) text p h = absurd h
@@ -45,7 +45,7 @@ judged_no (Ok d) r h = absurd h
 judged_no (Err all) r h = (all, refl, h)
 
 pub elaborate_stops : (told : Told) (name : Text) (top : Option Text) (tokens : TokenList) (tree : Source) (error : TextErr) (stop : Stop) → IsWholeText (Possible told) name tokens
-    → IsSpelled tree tokens.list → Answers {B = Flat} (λ d f. IsElaborated d f) (sound_design tree top) (Err error) → IsInFile tokens error stop → Stops (RefusesDesign told name top) (UnreadDesign told name) stop
+    → IsSpelled tree tokens.list → Answers {B = Flat} (λ d f. IsElaborated d f) (sound_design tree top) (Err error) → IsInFile name tokens error stop → Stops (RefusesDesign told name top) (UnreadDesign told name) stop
 elaborate_stops told name top tokens tree (e.No r) (Refused file own) text s a h =
     let j = judged_no (sound_design tree top) r a in
     subst (λ (x : Refusal). RefusesDesign told name top file x) (sym h.0)

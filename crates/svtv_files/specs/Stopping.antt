@@ -39,14 +39,14 @@ StopsText told name stop = Stops (λ file r. StopsIn (Possible told) name (no r)
 abbrev pub StopsAt : Told → Text → Stop → Type 0
 StopsAt told name stop = Stops (λ file r. (file ≡ name) × TooLong told name r) (λ file place. (file ≡ name) × (place ≡ at_first)) stop
 
--- an error of a text, with the name of the file of its place
-abbrev pub IsInFile : TokenList → TextErr → Stop → Type 0
-IsInFile tokens (e.No r) (Refused file own) = (own ≡ r) × IsIn tokens r file
-IsInFile tokens (e.No r) (Unread file place) = ⊥
-IsInFile tokens (e.No r) Memory = Unit {0}
-IsInFile tokens e.Memory (Refused file own) = ⊥
-IsInFile tokens e.Memory (Unread file place) = ⊥
-IsInFile tokens e.Memory Memory = Unit {0}
+-- an error of the text of a file, with the name of the file of its place
+abbrev pub IsInFile : Text → TokenList → TextErr → Stop → Type 0
+IsInFile name tokens (e.No r) (Refused file own) = (own ≡ r) × IsIn name tokens r file
+IsInFile name tokens (e.No r) (Unread file place) = ⊥
+IsInFile name tokens (e.No r) Memory = Unit {0}
+IsInFile name tokens e.Memory (Refused file own) = ⊥
+IsInFile name tokens e.Memory (Unread file place) = ⊥
+IsInFile name tokens e.Memory Memory = Unit {0}
 
 -- an error of the one file of that name
 abbrev pub IsOf : Text → TextErr → Stop → Type 0
