@@ -1,9 +1,10 @@
 // Names that the text does not spell, and which bytes are a name.
 ghost use Rattle.std.specs.Prelude.{◌≡◌, ◌++◌, ◌<◌, ◌≤◌, codes, negsuc, length, IfOk, OnOk};
 ghost use Rattle.std.specs.Fmt.{signed_decimal};
+ghost use Rattle.std.specs.List.{list_all};
 ghost use Rattle.std.specs.Option.{option_copied};
 ghost use Rattle.fourvec.specs.Bits.{is_negative, signed};
-ghost use Rattle.sv_hierarchy.specs.Scopes.{block_name, block_place, is_name, turn_name};
+ghost use Rattle.sv_hierarchy.specs.Scopes.{block_name, block_place, is_name, is_printed, turn_name};
 
 use fourvec::{Bit, Four};
 use itoa::Buffer;
@@ -11,11 +12,18 @@ use std::alloc::{AllocError, Global};
 use sv_outside::{Name, Place};
 use sv_tree::Word;
 
+// Whether each byte is printed and no blank.
+fn are_printed(bytes: &[u8]) -> bool
+    ensures { result ≡ list_all is_printed bytes.now }
+{
+    bytes.iter().all(|b| *b >= 33 && *b <= 126)
+}
+
 /// Whether bytes are a name: there are some, and each is printed and no blank (5.6).
 pub fn is_name(bytes: &[u8]) -> bool
     ensures { result ≡ is_name bytes.now }
 {
-    !bytes.is_empty() && bytes.iter().all(|b| *b >= 33 && *b <= 126)
+    !bytes.is_empty() && are_printed(bytes)
 }
 
 /// The name of a block: its label, or that of the construct with a number (27.6).
