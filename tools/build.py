@@ -22,7 +22,7 @@ LANES = f"{FOLDER}/out/lanes"
 # What one check takes at most, in bytes (docs/PROVING.md has the budget of a crate).
 MEMORY = 2_500_000_000
 # Lines of code, definitions and proofs that one processor proves in a minute, as measured.
-LINES_A_MINUTE = 1300
+LINES_A_MINUTE = 750
 
 
 def crates():
