@@ -35,18 +35,18 @@ use Rattle.sv_tree.specs.declared.design.SourcePart.{SourcePart}
 use Rattle.sv_tree.specs.declared.design.SourcePart.TheVariants as source_part
 use Rattle.sv_tree.specs.declared.design.Item.{Item, Net, Variable, Typedef, Param, Genvar, Assign, Always, Inst, For', If', Generate', Row_of-Item, end_of-Item, more_of-Item, end_of-Gen, more_of-Gen, Held-Item-If-3, None', Some'}
 use Rattle.sv_tree.specs.declared.design.Gen.{Gen, Block', Single'}
-use Rattle.sv_meaning.specs.Faults.{Faults, Judged, provided, both, ◌>>=◌, fault_if, or_then, twice, port_unknown, port_twice}
+use Rattle.sv_meaning.specs.Faults.{Judged, provided, both, ◌>>=◌, fault_if, bad_token, twice, port_unknown, port_twice}
 use Rattle.sv_meaning.specs.Layouts.{Name, Layout, scalar, Scope, What, type_is, genvar_is, find}
 use Rattle.sv_meaning.specs.Names.{has_name}
 use Rattle.sv_meaning.specs.Forms.{Declared, Formed, entry_of, form}
 use Rattle.sv_meaning.specs.Values.{mean}
 use Rattle.sv_meaning.specs.Deeds.{index_entry, turns, fixed_truth}
 use Rattle.sv_meaning.specs.Params.{Connection, connections, by_name, in_order, joined_pins, pin_faults, param_value}
-use Rattle.sv_hierarchy.specs.Scopes.{Front, State, Walk, stay, then_walk, here, Task, assigning, running, connecting, Standing, Child, seen_at, genvar_faults, open_params, port_texts, is_there, module_named, walk_all, declare_at, declare, see_const, add_constant, add_constants, with_wire, add_wire, formed, with_form, with_form_or_bit, add_typedef, meant, given_to, seen, add_param, add_param_item, add_params, add_genvar, add_work, add_assignment, add_child, child_of, inner, outer, enclosed, block_name, block_place, block_walk, turn_name, count_turn, turn_walk, Body, turns_walk, loop_walk, Act, Branch, act_of, chosen_branch, conditional, numbered, body_of, act, acts, under, under_else, Header, header_of, header_params, OpenPort, is_input, or_way, add_port, port_form, header_ports, ports_of, Known, Library, begun, port_named, connected, port_works, instance_walk, given_by, module_of, count_instance, below, child, file_state, library, top_module, deepest, scopes}
+use Rattle.sv_hierarchy.specs.Scopes.{Front, State, Walk, stay, then_walk, here, Task, assigning, running, connecting, Standing, Child, seen_at, genvar_faults, open_params, port_texts, is_there, module_named, walk_all, is_name, name_faults, declare_at, declare, see_const, add_constant, add_constants, with_wire, add_wire, formed, with_form, with_form_or_bit, add_typedef, meant, given_to, seen, add_param, add_param_item, add_params, add_genvar, add_work, add_assignment, add_child, child_of, inner, outer, enclosed, block_name, block_place, block_walk, turn_name, count_turn, turn_walk, Body, turns_walk, loop_walk, Act, Branch, act_of, chosen_branch, conditional, numbered, body_of, act, acts, under, under_else, Header, header_of, header_params, OpenPort, is_input, or_way, add_port, port_form, header_ports, ports_of, Library, begun, port_named, connected, port_works, instance_walk, given_by, module_of, count_instance, below, child, file_state, library, top_module, deepest, scopes}
 use Rattle.scope_laws.specs.Wires.{port_wire, connected_wires}
 use Rattle.scope_laws.proofs.Pairs.{pairs_none, pairs_both}
 use Rattle.scope_laws.proofs.Good.{WorksAreGood, TaskIsGood}
-use Rattle.scope_laws.proofs.Plain.{same_ok, bind_ok, provided_ok}
+use Rattle.scope_laws.proofs.Plain.{same_ok, bind_ok, provided_ok, no_faults, then_clear, if_not}
 use Rattle.scope_laws.proofs.Keeping.{Inv, header_keeps, instance_keeps, begun_good, library_keeps, file_good, wire_added, formed_wires}
 
 -- ---- numbers
@@ -318,9 +318,8 @@ formed_remembers t st y h =
     let s : State = b.0 in
     subst (λ (z : Layout × State). Remembers st z.1) (same_ok (x.0, s) y b.2) (constants_remember x.1 st s b.1)
 
-untaken : {A : Type 0} (b : Bool) (number : ℕ) (p : Place) (x y : A) → provided (fault_if b number p) x ≡ Ok y → b ≡ false
-untaken false number p x y h = refl
-untaken true number p x y h = cc
+untaken : {A : Type 0} (b : Bool) (p : Place) (n : Name) (x y : A) → provided (name_faults b p n) x ≡ Ok y → b ≡ false
+untaken b p n x y h = if_not b twice p (then_clear (fault_if (not (is_name n)) bad_token p) (fault_if b twice p) (no_faults (name_faults b p n) x y h))
 
 not_yet : (st last : State) → Remembers st last → (n : Name) → last.taken n ≡ false → st.taken n ≡ false
 not_yet st last r n h = go (st.taken n) refl
@@ -344,7 +343,7 @@ wire_declares input x w st last h =
     let told : now ≡ s = provided_ok _ now s b.1 in
     let own : now.taken w.text ≡ true = ap (λ z. z || st.taken w.text) (first_named w.text []) in
     record {
-      free = untaken (st.taken w.text) twice w.place now s b.1;
+      free = untaken (st.taken w.text) w.place w.text now s b.1;
       now = subst (λ (z : State). z.taken w.text ≡ true) made (subst (λ (z : State). z.taken w.text ≡ true) told own);
       stays = subst (Remembers st) made (declare_remembers w.place w.text st s b.1);
     }
@@ -441,18 +440,6 @@ both_ok : {A B : Type 0} (j : Judged A) (k : Judged B) (y : A × B) → both j k
 both_ok (Ok x) (Ok z) y h = let e = same_ok (x, z) y h in (λ i. Ok ((e i).0), λ i. Ok ((e i).1))
 both_ok (Ok x) (Err all) y h = cc
 both_ok (Err all) k y h = cc
-
-no_faults : {A : Type 0} (all : Faults) (x y : A) → provided all x ≡ Ok y → all ≡ []
-no_faults [] x y h = refl
-no_faults (f ∷ all) x y h = cc
-
-then_clear : (a b : Faults) → or_then a b ≡ [] → b ≡ []
-then_clear [] b h = h
-then_clear (f ∷ a) b h = cc
-
-if_not : (b : Bool) (number : ℕ) (p : Place) → fault_if b number p ≡ [] → b ≡ false
-if_not false number p h = refl
-if_not true number p h = cc
 
 record Named-once (used : List Name) (all : List Connection) : Type 0 where
   free : AreFree (λ n. has_name n used) (names_of all)

@@ -6,3 +6,5 @@ pub mod Seen
 pub mod Closing
 pub mod Pairs
 pub mod Connecting
+pub mod Names
+pub mod Printing

@@ -1,15 +1,16 @@
--- The constants and types that declarations bring are no signals.
-use Rattle.std.proofs.Common.{◌≡◌, ℕ, Bool, List, [], ◌∷◌, ◌++◌, Option, Some, None, Ok, Err, refl, subst}
+-- The constants and types that declarations bring are no signals; and what is judged, where nothing stands against it.
+use Rattle.std.proofs.Common.{◌≡◌, ℕ, Bool, true, false, List, [], ◌∷◌, ◌++◌, Option, Some, None, Ok, Err, refl, subst}
 use mathlib.Core.Former.{Count}
 use Rattle.std.specs.Prelude.{ℤ, ◌+ℤ◌, pos, ◌+◌}
 use Rattle.fourvec.specs.Bits.{signed_vector}
+use Rattle.sv_outside.specs.declared.refusal.Place.{Place}
 use Rattle.sv_outside.specs.declared.text.Signal.{Signal}
 use Rattle.sv_tree.specs.declared.forms.EnumLabel.{EnumLabel}
 use Rattle.sv_tree.specs.declared.forms.TypeTree.{TypeTree, Vector, Integer, Struct', Enum, Named, Row_of-Member, end_of-Member, more_of-Member}
 use Rattle.sv_tree.specs.declared.forms.Member.{Of', end_of-TypeTree, more_of-TypeTree}
 use Rattle.sv_tree.specs.declared.design.ParamType.{ParamType}
 use Rattle.sv_tree.specs.declared.design.ParamType.TheVariants as param_type
-use Rattle.sv_meaning.specs.Faults.{Faults, Judged, provided, ◌>>=◌}
+use Rattle.sv_meaning.specs.Faults.{Faults, fault_if, or_then, Judged, provided, ◌>>=◌}
 use Rattle.sv_meaning.specs.Layouts.{Name, Layout, Members, width, Scope, with_names, What, number_is, find}
 use Rattle.sv_meaning.specs.Meanings.{Meaning}
 use Rattle.sv_meaning.specs.Forms.{Declared, Formed, entry_of, entries_of, has_sign, option_to_list, vector_layout, struct_layout, named_layout, label_number, label_entry, labels, texts_of, bits_of, member_faults, some_member, alone, form, forms}
@@ -32,6 +33,23 @@ bind_ok (Err e) f y h = cc
 pub provided_ok : {A : Type 0} (all : Faults) (x y : A) → provided all x ≡ Ok y → x ≡ y
 provided_ok [] x y h = same_ok x y h
 provided_ok (f ∷ all) x y h = cc
+
+pub no_faults : {A : Type 0} (all : Faults) (x y : A) → provided all x ≡ Ok y → all ≡ []
+no_faults [] x y h = refl
+no_faults (f ∷ all) x y h = cc
+
+-- the parts of what is judged in turn, where nothing stands against the whole
+pub first_clear : (a b : Faults) → or_then a b ≡ [] → a ≡ []
+first_clear [] b h = refl
+first_clear (f ∷ a) b h = cc
+
+pub then_clear : (a b : Faults) → or_then a b ≡ [] → b ≡ []
+then_clear [] b h = h
+then_clear (f ∷ a) b h = cc
+
+pub if_not : (b : Bool) (number : ℕ) (p : Place) → fault_if b number p ≡ [] → b ≡ false
+if_not false number p h = refl
+if_not true number p h = cc
 
 -- ---- no signals
 
