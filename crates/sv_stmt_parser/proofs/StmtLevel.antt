@@ -40,8 +40,10 @@ use Rattle.sv_word_parser.specs.declared.openers.StmtOpener.TheVariants as stmt_
 use Rattle.sv_word_parser.specs.Combined.{word_of, word_test, sort_test}
 use Rattle.sv_word_parser.specs.Words.{uniq_by_word, stmt_by_sort}
 use Rattle.sv_stmt_parser.specs.Targets.{end_label}
-use Rattle.sv_stmt_parser.specs.Stmts.{made_assign, assign, empty, made_block, made_if, made_case, made_branch, made_for, stmts, block_rest, block, maybe_else, conditional, choice, branched, branch, loop, stmt_for, stmt_level, stmt}
+use Rattle.sv_stmt_parser.specs.Stmts.{made_assign, assign, empty, made_block, made_if, made_case, made_branch, made_for, block, conditional, choice, branched, branch, loop, stmt_for, stmt_level, stmt}
 use Rattle.sv_stmt_parser.specs.Loops.{Turns, LoopHead}
+use Rattle.sv_stmt_parser.specs.Within.{block_rest, maybe_else}
+use Rattle.sv_type_parser.specs.Lists.{while_told}
 use Rattle.sv_type_parser.proofs.Rules.{Rule, Fixed, the_mark, the_key, placed, before, opening, seq, seq_by, seq_up, closing, optional, several, Shut, shut, rule_of, Way, choose_reads, fork_reads, fork_moved, ReadBy, reader_of, moved_counted, key_begins, first_of_key, told_sort, told_word, no_key}
 use Rattle.sv_type_parser.proofs.Words.{uniq_rule, uniq_begins, case_rule, case_first}
 use Rattle.sv_type_parser.proofs.Limits.{Over, expression_rule, end_mark, stated}
@@ -268,12 +270,12 @@ module _ (limit s g t : ℕ) (le : suc s ≤ 200) (f : Parser Stmt) (reads : IsS
   abbrev StmtsStop : List Token → Type 0
   StmtsStop o = (told (sort_test stmt_by_sort) o ≡ None) × NoColon o
 
-  stmts_reads : IsReader (Over limit g t) s (each DoneStmt) (each DoneStmt) (each_depths stmt_depths) StmtsStop (stmts f)
-  unfolding stmts
+  stmts_reads : IsReader (Over limit g t) s (each DoneStmt) (each DoneStmt) (each_depths stmt_depths) StmtsStop (while_told (sort_test stmt_by_sort) f)
+  unfolding while_told
   stmts_reads = several_stmts.reads
 
   abbrev stmts_rule : Rule (Over limit g t) s (List Stmt)
-  stmts_rule = record { spelled = each DoneStmt; nests = each_depths stmt_depths; stops = StmtsStop; parser = stmts f; reads = stmts_reads; moved = several_stmts.moved }
+  stmts_rule = record { spelled = each DoneStmt; nests = each_depths stmt_depths; stops = StmtsStop; parser = while_told (sort_test stmt_by_sort) f; reads = stmts_reads; moved = several_stmts.moved }
 
   abbrev end_rule : Option Word → Rule (Over limit g t) s (Option Word)
   end_rule b = record { spelled = label_of b; nests = if_given label_depths; stops = NoColon; parser = end_label b; reads = end_label_reads (Over limit g t) s b; moved = end_label_moved b }
@@ -284,7 +286,7 @@ module _ (limit s g t : ℕ) (le : suc s ≤ 200) (f : Parser Stmt) (reads : IsS
   abbrev block_rule : Rule (Over limit g t) (suc s) (Place × (Option Word × (List Stmt × Option Word)))
   block_rule =
       seq_up (placed (ky k.Begin))
-      (seq_by (block_label_rule (Over limit g t) s) (λ b c. (rest_rule b).spelled c) (λ c. each_depths stmt_depths c.0 ++ (one ++ if_given label_depths c.1)) NoColon (block_rest f)
+      (seq_by (block_label_rule (Over limit g t) s) (λ b c. (rest_rule b).spelled c) (λ c. each_depths stmt_depths c.0 ++ (one ++ if_given label_depths c.1)) NoColon (block_rest (sort_test stmt_by_sort) f)
       (λ b. (rest_rule b).reads) (λ b. (rest_rule b).moved) (λ b c i o h stops. first_no_colon c.0 i h.0 h.2.0 h.1 h.2.1))
       (λ x y i o h stops. tt) (λ x i o h. omega arith)
 

@@ -1,3 +1,4 @@
 pub mod Loops
 pub mod Stmts
 pub mod Targets
+pub mod Within

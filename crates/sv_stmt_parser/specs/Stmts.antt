@@ -25,8 +25,9 @@ use Rattle.sv_word_parser.specs.declared.openers.StmtOpener.TheVariants as stmt_
 use Rattle.sv_word_parser.specs.Combined.{◌▸◌, ◌◂◌, word_test, sign_of, sort_test, listed}
 use Rattle.sv_word_parser.specs.Words.{uniq_by_word, case_by_word, assign_by_mark, stmt_by_sort}
 use Rattle.sv_type_parser.specs.Forms.{expression}
-use Rattle.sv_stmt_parser.specs.Targets.{lvalue, block_label, end_label}
+use Rattle.sv_stmt_parser.specs.Targets.{lvalue}
 use Rattle.sv_stmt_parser.specs.Loops.{LoopHead, loop_head}
+use Rattle.sv_stmt_parser.specs.Within as within
 
 -- ---- assignments
 
@@ -78,20 +79,11 @@ made_for c = st.For c.0 c.1.0.0 c.1.0.1.0 c.1.0.1.1.0 c.1.0.1.1.1.0 c.1.0.1.1.1.
 
 -- A function value reads the statements in a statement.
 module _ (stmt : Parser Stmt) where
-  unfoldable pub stmts : Parser (List Stmt)
-  stmts = many (sort_test stmt_by_sort) stmt
-
-  abbrev pub block_rest : Option Word → Parser (List Stmt × Option Word)
-  block_rest b = stmts ⊗ (keyword key.End ▸ end_label b)
-
   unfoldable pub block : Parser Stmt
-  block = made_block <$> (keyword key.Begin ⊗ (block_label ▷ block_rest))
-
-  unfoldable pub maybe_else : Parser (Option Stmt)
-  maybe_else = maybe_read (keyword_test key.Else) (keyword key.Else ▸ stmt)
+  block = made_block <$> within.block (sort_test stmt_by_sort) stmt
 
   unfoldable pub conditional : Parser BranchTail
-  conditional = made_if <$> (keyword key.If ▸ (mark m.LeftParen ▸ (expression ⊗ (mark m.RightParen ▸ (stmt ⊗ maybe_else)))))
+  conditional = made_if <$> (keyword key.If ▸ (mark m.LeftParen ▸ (expression ⊗ (mark m.RightParen ▸ within.branches stmt))))
 
   unfoldable pub labelled : Parser Arm
   labelled = made_labels <$> (listed expression ⊗ (mark m.Colon ▸ stmt))
@@ -123,7 +115,7 @@ module _ (stmt : Parser Stmt) where
   branch = made_branch <$> (maybe_read (word_test uniq_by_word) (token (word_test uniq_by_word)) ⊗ branched)
 
   unfoldable pub loop : Parser Stmt
-  loop = made_for <$> (keyword key.For ⊗ (loop_head ⊗ stmt))
+  loop = made_for <$> within.counted loop_head stmt
 
   abbrev pub stmt_for : StmtOpener → Parser Stmt
   stmt_for stmt_by.Empty = empty

@@ -9,9 +9,11 @@ mod labels;
 mod lvalues;
 mod statements;
 mod tails;
+mod within;
 
 pub use heads::{Turns, with_variable};
 pub use labels::{block_label, end_label, label_behind, step};
 pub use lvalues::lvalue;
 pub use statements::{is_given, stmt};
 pub use tails::{BranchTail, StepTail};
+pub use within::{BlockParts, Bodied, Nested, block, branches, counted, parts};

@@ -3,18 +3,22 @@
 ghost use Rattle.std.specs.Prelude.{◌≡◌};
 ghost use Rattle.sv_cursor.specs.Parsers as parser;
 ghost use Rattle.sv_cursor.specs.Parsers.{Reads, told};
+ghost use Rattle.sv_cursor.specs.Tests as test;
+ghost use Rattle.sv_cursor.specs.declared.sort.Mark.TheVariants as mark;
 ghost use Rattle.sv_word_parser.specs.Combined.{listed, sort_test};
 ghost use Rattle.sv_type_parser.specs.Lists as list;
 ghost use Rattle.sv_type_parser.specs.Lists.{Nests};
 ghost use Rattle.sv_stmt_parser.specs.Targets as spec;
 ghost use Rattle.sv_word_parser.specs.Words as words;
 
+use crate::within::{Nested, parts};
 use items::Items;
 use std::alloc::Global;
 use sv_cursor::{Cursor, Mark, ParseErr, Sort};
 use sv_expr_reader::selects;
+use sv_outside::Place;
 use sv_tree::Lvalue;
-use sv_type_parser::{MOST_NESTING, keep, with_more};
+use sv_type_parser::{MOST_NESTING, with_more};
 use sv_word_parser::{TargetOpener, sees};
 
 #[tactic(auto, unfolding(crate::specs::Targets::named_target))]
@@ -62,45 +66,42 @@ struct Braces<F> {
     target: F,
 }
 
+// Targets behind the first, each with the comma before it.
+impl<F: Fn(Global, &mut Cursor<'_>, u8) -> Result<Lvalue, ParseErr>> Nested<Lvalue> for Braces<F> {
+    type Opener = Place;
+
+    ghost ready = { λ rules. Nests (spec.target rules.depth) rules.depth (F.pre rules.target) (F.post rules.target) };
+
+    ghost parser = { λ rules. list.behind_comma (spec.target rules.depth) };
+
+    ghost test = { test.mark_test mark.Comma };
+
+    fn comes(tokens: &Cursor<'_>) -> bool {
+        sees(tokens, Mark::Comma)
+    }
+
+    #[tactic(auto, unfolding(sv_type_parser::specs::Lists::behind_comma))]
+    fn part(&self, tokens: &mut Cursor<'_>) -> Result<Lvalue, ParseErr> {
+        tokens.mark(Mark::Comma)?;
+        self.target(tokens)
+    }
+}
+
 impl<F: Fn(Global, &mut Cursor<'_>, u8) -> Result<Lvalue, ParseErr>> Braces<F> {
-    fn part(&self, tokens: &mut Cursor<'_>) -> Result<Lvalue, ParseErr>
+    fn target(&self, tokens: &mut Cursor<'_>) -> Result<Lvalue, ParseErr>
         requires { Nests (spec.target self.now.depth) self.now.depth (F.pre self.now.target) (F.post self.now.target) }
         ensures { Reads (spec.target self.now.depth tokens.old) result tokens.new }
     {
         (self.target)(self.alloc, tokens, self.depth)
     }
 
-    #[tactic(auto, unfolding(sv_type_parser::specs::Lists::behind_comma))]
-    fn comma_part(&self, tokens: &mut Cursor<'_>) -> Result<Lvalue, ParseErr>
-        requires { Nests (spec.target self.now.depth) self.now.depth (F.pre self.now.target) (F.post self.now.target) }
-        ensures { Reads (list.behind_comma (spec.target self.now.depth) tokens.old) result tokens.new }
-    {
-        tokens.mark(Mark::Comma)?;
-        self.part(tokens)
-    }
-
-    fn more_parts(&self, tokens: &mut Cursor<'_>) -> Result<Items<Lvalue>, ParseErr>
-        requires { Nests (spec.target self.now.depth) self.now.depth (F.pre self.now.target) (F.post self.now.target) }
-        ensures { Reads (list.more (spec.target self.now.depth) tokens.old) result tokens.new }
-    {
-        let mut found = Items::new(self.alloc);
-        for _turn in 0..tokens.left() {
-            if !sees(tokens, Mark::Comma) {
-                return Ok(found);
-            }
-            let part = self.comma_part(tokens);
-            keep(&mut found, part)?;
-        }
-        Ok(found)
-    }
-
-    #[tactic(auto, unfolding(sv_type_parser::specs::Lists::more, sv_type_parser::specs::Lists::behind_comma))]
-    fn parts(&self, tokens: &mut Cursor<'_>) -> Result<Items<Lvalue>, ParseErr>
+    #[tactic(auto, unfolding(sv_type_parser::specs::Lists::more, sv_type_parser::specs::Lists::behind_comma, sv_type_parser::specs::Lists::while_told))]
+    fn targets(&self, tokens: &mut Cursor<'_>) -> Result<Items<Lvalue>, ParseErr>
         requires { Nests (spec.target self.now.depth) self.now.depth (F.pre self.now.target) (F.post self.now.target) }
         ensures { Reads (listed (spec.target self.now.depth) tokens.old) result tokens.new }
     {
-        let first = self.part(tokens)?;
-        let more = self.more_parts(tokens);
+        let first = self.target(tokens)?;
+        let more = parts(self.alloc, tokens, self);
         with_more(self.alloc, first, more)
     }
 
@@ -110,7 +111,7 @@ impl<F: Fn(Global, &mut Cursor<'_>, u8) -> Result<Lvalue, ParseErr>> Braces<F> {
         ensures { Reads (spec.braced_targets (spec.target self.now.depth) tokens.old) result tokens.new }
     {
         let place = tokens.mark(Mark::LeftBrace)?;
-        let all = self.parts(tokens)?;
+        let all = self.targets(tokens)?;
         tokens.mark(Mark::RightBrace)?;
         Ok(Lvalue::Concat(place, all))
     }

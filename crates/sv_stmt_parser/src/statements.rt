@@ -2,31 +2,30 @@
 // reader of those as a parameter, so that each is proved by itself, and `stmt` closes the cycle with one depth less. Arms
 // before the default, the default and the arms behind it are read one after another and then joined, so that a second default
 // is refused at its word.
-ghost use Rattle.std.specs.Prelude.{◌≡◌, ◌≢◌, ◌∷◌, ◌++◌, Ok, Err, is_some, IfOk, IfErr};
+ghost use Rattle.std.specs.Prelude.{◌≡◌, ◌∷◌, ◌++◌, IfOk};
 ghost use Rattle.sv_cursor.specs.Parsers as parser;
 ghost use Rattle.sv_cursor.specs.Parsers.{Reads, ◌⊗◌, told};
 ghost use Rattle.sv_cursor.specs.Tests as test;
-ghost use Rattle.sv_cursor.specs.declared.error.ParseErr.TheVariants.{Memory};
 ghost use Rattle.sv_expr_words.specs.Signs.{opener_test};
 ghost use Rattle.sv_word_parser.specs.Combined.{◌▸◌, ◌◂◌, sign_of, sort_test};
 ghost use Rattle.sv_type_parser.specs.Forms as forms;
-ghost use Rattle.sv_type_parser.specs.Lists as list;
 ghost use Rattle.sv_type_parser.specs.Lists.{Nests};
+ghost use Rattle.sv_stmt_parser.specs.Loops as loops;
 ghost use Rattle.sv_stmt_parser.specs.Stmts as spec;
-ghost use Rattle.sv_tree.specs.declared.stmts.Stmt.{Stmt as StmtTree};
+ghost use Rattle.sv_stmt_parser.specs.Within as within;
 ghost use Rattle.sv_word_parser.specs.Words as words;
 
 use crate::heads::{LoopHead, loop_head};
-use crate::labels::{block_label, end_label};
 use crate::lvalues::lvalue;
 use crate::tails::BranchTail;
+use crate::within::{Bodied, Nested, block, branches, counted, parts};
 use items::{Boxed, Items, both};
 use std::alloc::{AllocError, Global};
 use sv_cursor::{Cursor, Keyword, Mark, ParseErr, Sort};
-use sv_expr_words::begins;
+use sv_expr_words::{Opener, begins};
 use sv_outside::Place;
-use sv_tree::{Arm, AssignMark, Expr, Stmt, Word};
-use sv_type_parser::{boxed, expression, expressions, keep, with_first};
+use sv_tree::{Arm, AssignMark, Expr, Stmt};
+use sv_type_parser::{boxed, expression, expressions, with_first};
 use sv_word_parser::{StmtOpener, maybe_uniq, take_case, taken};
 
 // ---- assignments
@@ -151,18 +150,6 @@ fn stmt_next(tokens: &Cursor<'_>) -> Option<StmtOpener>
     stmt_of(tokens.sort())
 }
 
-fn sees_stmt(tokens: &Cursor<'_>) -> bool
-    ensures { result ≡ is_some (told (sort_test words.stmt_by_sort) tokens.now) }
-{
-    stmt_next(tokens).is_some()
-}
-
-fn sees_expression(tokens: &Cursor<'_>) -> bool
-    ensures { result ≡ is_some (told opener_test tokens.now) }
-{
-    begins(tokens).is_some()
-}
-
 // ---- arms
 
 /// Whether something is there.
@@ -199,19 +186,6 @@ fn joined(
     Ok(all)
 }
 
-// A loop of this head and of the body that was read behind it.
-fn loop_of(
-    place: Place,
-    head: LoopHead,
-    body: Result<Boxed<Stmt>, ParseErr>,
-) -> Result<Stmt, ParseErr>
-    ensures made { IfOk result (λ x. (inner : StmtTree) × (body ≡ Ok inner) × (x ≡ spec.made_for (place, (head, inner)))) }
-    ensures failed { IfErr result (λ e. e ≢ Memory → body ≡ Err e) }
-{
-    let (word, (variable, (start, (condition, step)))) = head;
-    Ok(Stmt::For(place, word, variable, start, condition, step, body?))
-}
-
 /// The rules of statements, over a reader of the statements in a statement.
 #[derive(Drop)]
 struct Statements<F> {
@@ -222,77 +196,81 @@ struct Statements<F> {
     stmt: F,
 }
 
-impl<F: Fn(Global, &mut Cursor<'_>, u8) -> Result<Stmt, ParseErr>> Statements<F> {
-    fn stmt(&self, tokens: &mut Cursor<'_>) -> Result<Stmt, ParseErr>
-        requires { Nests (spec.stmt self.now.depth) self.now.depth (F.pre self.now.stmt) (F.post self.now.stmt) }
-        ensures { Reads (spec.stmt self.now.depth tokens.old) result tokens.new }
-    {
+impl<F: Fn(Global, &mut Cursor<'_>, u8) -> Result<Stmt, ParseErr>> Nested<Stmt> for Statements<F> {
+    type Opener = StmtOpener;
+
+    ghost ready = { λ rules. Nests (spec.stmt rules.depth) rules.depth (F.pre rules.stmt) (F.post rules.stmt) };
+
+    ghost parser = { λ rules. spec.stmt rules.depth };
+
+    ghost test = { sort_test words.stmt_by_sort };
+
+    fn comes(tokens: &Cursor<'_>) -> bool {
+        stmt_next(tokens).is_some()
+    }
+
+    fn part(&self, tokens: &mut Cursor<'_>) -> Result<Stmt, ParseErr> {
         (self.stmt)(self.alloc, tokens, self.depth)
     }
+}
 
-    fn body(&self, tokens: &mut Cursor<'_>) -> Result<Boxed<Stmt>, ParseErr>
-        requires { Nests (spec.stmt self.now.depth) self.now.depth (F.pre self.now.stmt) (F.post self.now.stmt) }
-        ensures { Reads (spec.stmt self.now.depth tokens.old) result tokens.new }
-    {
-        boxed(self.alloc, self.stmt(tokens))
+impl<F: Fn(Global, &mut Cursor<'_>, u8) -> Result<Stmt, ParseErr>> Bodied for Statements<F> {
+    type Head = LoopHead;
+
+    type Body = Stmt;
+
+    ghost ready = { λ rules. Nests (spec.stmt rules.depth) rules.depth (F.pre rules.stmt) (F.post rules.stmt) };
+
+    ghost heading = { loops.loop_head };
+
+    ghost inner = { λ rules. spec.stmt rules.depth };
+
+    fn head(alloc: Global, tokens: &mut Cursor<'_>) -> Result<LoopHead, ParseErr> {
+        loop_head(alloc, tokens)
     }
 
+    fn body(&self, tokens: &mut Cursor<'_>) -> Result<Boxed<Stmt>, ParseErr> {
+        let part: Result<Stmt, ParseErr> = self.part(tokens);
+        boxed(self.alloc, part)
+    }
+}
+
+// Arms that are no default.
+impl<F: Fn(Global, &mut Cursor<'_>, u8) -> Result<Stmt, ParseErr>> Nested<Arm> for Statements<F> {
+    type Opener = Opener;
+
+    ghost ready = { λ rules. Nests (spec.stmt rules.depth) rules.depth (F.pre rules.stmt) (F.post rules.stmt) };
+
+    ghost parser = { λ rules. spec.labelled (spec.stmt rules.depth) };
+
+    ghost test = { opener_test };
+
+    fn comes(tokens: &Cursor<'_>) -> bool {
+        begins(tokens).is_some()
+    }
+
+    #[tactic(auto, unfolding(crate::specs::Stmts::labelled))]
+    fn part(&self, tokens: &mut Cursor<'_>) -> Result<Arm, ParseErr> {
+        let labels = expressions(self.alloc, tokens)?;
+        tokens.mark(Mark::Colon)?;
+        let body = self.body(tokens)?;
+        Ok(Arm::Labels(labels, body))
+    }
+}
+
+impl<F: Fn(Global, &mut Cursor<'_>, u8) -> Result<Stmt, ParseErr>> Statements<F> {
     // ---- blocks
-
-    fn stmts(&self, tokens: &mut Cursor<'_>) -> Result<Items<Stmt>, ParseErr>
-        requires { Nests (spec.stmt self.now.depth) self.now.depth (F.pre self.now.stmt) (F.post self.now.stmt) }
-        ensures { Reads (spec.stmts (spec.stmt self.now.depth) tokens.old) result tokens.new }
-    {
-        let mut found = Items::new(self.alloc);
-        for _turn in 0..tokens.left() {
-            if !sees_stmt(tokens) {
-                return Ok(found);
-            }
-            let part = self.stmt(tokens);
-            keep(&mut found, part)?;
-        }
-        Ok(found)
-    }
-
-    fn block_rest(
-        &self,
-        tokens: &mut Cursor<'_>,
-        name: &Option<Word>,
-    ) -> Result<(Items<Stmt>, Option<Word>), ParseErr>
-        requires { Nests (spec.stmt self.now.depth) self.now.depth (F.pre self.now.stmt) (F.post self.now.stmt) }
-        ensures { Reads (spec.block_rest (spec.stmt self.now.depth) name.now tokens.old) result tokens.new }
-    {
-        let all = self.stmts(tokens)?;
-        tokens.keyword(Keyword::End)?;
-        both(all, end_label(self.alloc, tokens, name))
-    }
 
     #[tactic(auto, unfolding(crate::specs::Stmts::block))]
     fn block(&self, tokens: &mut Cursor<'_>) -> Result<Stmt, ParseErr>
         requires { Nests (spec.stmt self.now.depth) self.now.depth (F.pre self.now.stmt) (F.post self.now.stmt) }
         ensures { Reads (spec.block (spec.stmt self.now.depth) tokens.old) result tokens.new }
     {
-        let place = tokens.keyword(Keyword::Begin)?;
-        let name = block_label(self.alloc, tokens)?;
-        let (all, label) = self.block_rest(tokens, &name)?;
+        let (place, (name, (all, label))) = block(self.alloc, tokens, self)?;
         Ok(Stmt::Block(place, name, all, label))
     }
 
     // ---- branches
-
-    #[tactic(auto, unfolding(crate::specs::Stmts::maybe_else))]
-    fn maybe_else(&self, tokens: &mut Cursor<'_>) -> Result<Option<Boxed<Stmt>>, ParseErr>
-        requires { Nests (spec.stmt self.now.depth) self.now.depth (F.pre self.now.stmt) (F.post self.now.stmt) }
-        ensures { Reads (spec.maybe_else (spec.stmt self.now.depth) tokens.old) result tokens.new }
-    {
-        match tokens.peek_keyword(Keyword::Else) {
-            Some(_) => {
-                tokens.keyword(Keyword::Else)?;
-                self.body(tokens).map(Some)
-            }
-            None => Ok(None),
-        }
-    }
 
     // From the `)` behind the condition on.
     fn behind_condition(
@@ -300,11 +278,10 @@ impl<F: Fn(Global, &mut Cursor<'_>, u8) -> Result<Stmt, ParseErr>> Statements<F>
         tokens: &mut Cursor<'_>,
     ) -> Result<(Boxed<Stmt>, Option<Boxed<Stmt>>), ParseErr>
         requires { Nests (spec.stmt self.now.depth) self.now.depth (F.pre self.now.stmt) (F.post self.now.stmt) }
-        ensures { Reads ((test.mark Mark.RightParen ▸ (spec.stmt self.now.depth ⊗ spec.maybe_else (spec.stmt self.now.depth))) tokens.old) result tokens.new }
+        ensures { Reads ((test.mark Mark.RightParen ▸ within.branches (spec.stmt self.now.depth)) tokens.old) result tokens.new }
     {
         tokens.mark(Mark::RightParen)?;
-        let first = self.body(tokens)?;
-        both(first, self.maybe_else(tokens))
+        branches(tokens, self)
     }
 
     #[tactic(auto, unfolding(crate::specs::Stmts::conditional))]
@@ -319,30 +296,12 @@ impl<F: Fn(Global, &mut Cursor<'_>, u8) -> Result<Stmt, ParseErr>> Statements<F>
         Ok(BranchTail::If(condition, first, second))
     }
 
-    #[tactic(auto, unfolding(crate::specs::Stmts::labelled))]
-    fn labelled(&self, tokens: &mut Cursor<'_>) -> Result<Arm, ParseErr>
-        requires { Nests (spec.stmt self.now.depth) self.now.depth (F.pre self.now.stmt) (F.post self.now.stmt) }
-        ensures { Reads (spec.labelled (spec.stmt self.now.depth) tokens.old) result tokens.new }
-    {
-        let labels = expressions(self.alloc, tokens)?;
-        tokens.mark(Mark::Colon)?;
-        let body = self.body(tokens)?;
-        Ok(Arm::Labels(labels, body))
-    }
-
+    #[tactic(auto, unfolding(crate::specs::Stmts::all_labelled, sv_type_parser::specs::Lists::while_told))]
     fn all_labelled(&self, tokens: &mut Cursor<'_>) -> Result<Items<Arm>, ParseErr>
         requires { Nests (spec.stmt self.now.depth) self.now.depth (F.pre self.now.stmt) (F.post self.now.stmt) }
         ensures { Reads (spec.all_labelled (spec.stmt self.now.depth) tokens.old) result tokens.new }
     {
-        let mut found = Items::new(self.alloc);
-        for _turn in 0..tokens.left() {
-            if !sees_expression(tokens) {
-                return Ok(found);
-            }
-            let part = self.labelled(tokens);
-            keep(&mut found, part)?;
-        }
-        Ok(found)
+        parts(self.alloc, tokens, self)
     }
 
     #[tactic(auto, unfolding(crate::specs::Stmts::default, crate::specs::Stmts::from_default))]
@@ -450,10 +409,9 @@ impl<F: Fn(Global, &mut Cursor<'_>, u8) -> Result<Stmt, ParseErr>> Statements<F>
         requires { Nests (spec.stmt self.now.depth) self.now.depth (F.pre self.now.stmt) (F.post self.now.stmt) }
         ensures { Reads (spec.loop (spec.stmt self.now.depth) tokens.old) result tokens.new }
     {
-        let place = tokens.keyword(Keyword::For)?;
-        let head = loop_head(self.alloc, tokens)?;
-        let body = self.body(tokens);
-        loop_of(place, head, body)
+        let (place, (head, body)) = counted(self.alloc, tokens, self)?;
+        let (word, (variable, (start, (condition, step)))) = head;
+        Ok(Stmt::For(place, word, variable, start, condition, step, body))
     }
 
     // ---- a statement

@@ -9,7 +9,3 @@ returns g c = search rules
 pub returns-in_err-place : goal.returns-in_err-place
 unfolding loop
 returns-in_err-place g c = search rules
-
-pub returns-in_err-head : goal.returns-in_err-head
-unfolding loop
-returns-in_err-head g c = search rules
