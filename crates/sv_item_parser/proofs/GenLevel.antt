@@ -41,7 +41,9 @@ use Rattle.sv_tree.proofs.CountedDesign.{length_in_generate}
 use Rattle.sv_cursor.specs.Parsers.{Parser, ◌<$>◌, pure, refuse}
 use Rattle.sv_cursor.proofs.Readers.{IsReader, IsMoved, Meets, then_meets, equal_reader, less_reader, choose_reader, refuse_reader}
 use Rattle.sv_stmt_parser.specs.Targets.{end_label}
-use Rattle.sv_item_parser.specs.Items.{place_test, items, gen_rest, gen_block, single, gen, maybe_gen, cond_head, gen_if, LoopHead, loop_head, gen_loop, region}
+use Rattle.sv_stmt_parser.specs.Within.{block_rest, maybe_else}
+use Rattle.sv_type_parser.specs.Lists.{while_told}
+use Rattle.sv_item_parser.specs.Items.{place_test, items, gen_block, single, gen, cond_head, gen_if, LoopHead, loop_head, gen_loop, region}
 use Rattle.sv_type_parser.proofs.Rules.{Rule, the_mark, the_key, placed, before, opening, closing, seq, seq_by, seq_up, optional, several, shut, rule_of, Way, ReadBy, reader_of, way_reader}
 use Rattle.sv_type_parser.proofs.Limits.{Over, expression_rule, end_mark, generated}
 use Rattle.sv_stmt_parser.proofs.Steps.{block_label_rule, end_label_reads, end_label_moved}
@@ -166,16 +168,23 @@ module _ (h d : ℕ) (le : d ≤ 200) (f : Parser Item) (reads : IsReader (Over 
   abbrev pub items_rule : Rule (Over 201 h 201) d (List Item)
   items_rule = record { spelled = each DoneItem; nests = each_depths item_depths; stops = λ o. (told (sort_test item_by_sort) o ≡ None) × NoColon o; parser = items f; reads = items_reads; moved = items_moved }
 
+  parts_reads : IsReader B d (each DoneItem) (each DoneItem) (each_depths item_depths) ItemsStop (while_told (sort_test item_by_sort) f)
+  unfolding while_told
+  parts_reads = several_items.reads
+
+  abbrev parts_rule : Rule B d (List Item)
+  parts_rule = record { spelled = each DoneItem; nests = each_depths item_depths; stops = ItemsStop; parser = while_told (sort_test item_by_sort) f; reads = parts_reads; moved = several_items.moved }
+
   abbrev end_rule : Option Word → Rule B d (Option Word)
   end_rule b = record { spelled = label_of b; nests = if_given label_depths; stops = NoColon; parser = end_label b; reads = end_label_reads B d b; moved = end_label_moved b }
 
   abbrev rest_rule : Option Word → Rule B d (List Item × Option Word)
-  rest_rule b = seq items_rule (before (the_key B k.End) (end_rule b)) (λ x y i o v stops. no_item k.End refl i v.0 v.1)
+  rest_rule b = seq parts_rule (before (the_key B k.End) (end_rule b)) (λ x y i o v stops. no_item k.End refl i v.0 v.1)
 
   abbrev gen_block_rule : Rule B d (Place × (Option Word × (List Item × Option Word)))
   gen_block_rule =
       seq (placed (the_key B k.Begin))
-      (seq_by (block_label_rule B d) (λ b c. (rest_rule b).spelled c) (λ c. each_depths item_depths c.0 ++ (one_token ++ if_given label_depths c.1)) NoColon (gen_rest f)
+      (seq_by (block_label_rule B d) (λ b c. (rest_rule b).spelled c) (λ c. each_depths item_depths c.0 ++ (one_token ++ if_given label_depths c.1)) NoColon (block_rest (sort_test item_by_sort) f)
       (λ b. (rest_rule b).reads) (λ b. (rest_rule b).moved) (λ b c i o v stops. first_no_colon c.0 i v.0 v.2.0 v.1 v.2.1))
       (λ x y i o v stops. tt)
 
@@ -220,12 +229,12 @@ module _ (h d : ℕ) (le : d ≤ 200) (f : Parser Item) (reads : IsReader (Over 
   abbrev maybe_rule : Rule B d (Option Gen)
   maybe_rule = shut (keyword_test k.Else) else_rule (λ x i o v. key_begins k.Else i v.0 v.1)
 
-  else_reads : IsReader B d (Shut (keyword_test k.Else) OtherGen) (Shut (keyword_test k.Else) OtherGen) maybe_rule.nests NoColon (maybe_gen f)
-  unfolding maybe_gen
+  else_reads : IsReader B d (Shut (keyword_test k.Else) OtherGen) (Shut (keyword_test k.Else) OtherGen) maybe_rule.nests NoColon (maybe_else (gen f))
+  unfolding maybe_else
   else_reads = maybe_rule.reads
 
   abbrev other_rule : Rule B d (Option Gen)
-  other_rule = record { spelled = Shut (keyword_test k.Else) OtherGen; nests = maybe_rule.nests; stops = NoColon; parser = maybe_gen f; reads = else_reads; moved = maybe_rule.moved }
+  other_rule = record { spelled = Shut (keyword_test k.Else) OtherGen; nests = maybe_rule.nests; stops = NoColon; parser = maybe_else (gen f); reads = else_reads; moved = maybe_rule.moved }
 
   abbrev cond_head_tuple : Rule B d Expr
   cond_head_tuple = before (the_mark B m.LeftParen) (closing (expression_rule 201 h 201 d le) (the_mark B m.RightParen) (end_mark m.RightParen refl))

@@ -33,9 +33,10 @@ use Rattle.sv_word_parser.specs.Combined.{◌▸◌, ◌◂◌, word_test, sort_
 use Rattle.sv_word_parser.specs.Words.{net_by_word, edge_by_word, always_by_word, item_by_sort}
 use Rattle.sv_type_parser.specs.Forms.{expression, given, names, form, typedef}
 use Rattle.sv_type_parser.specs.Params.{TypedName, typed_name, param}
-use Rattle.sv_stmt_parser.specs.Targets.{lvalue, block_label, end_label}
+use Rattle.sv_stmt_parser.specs.Targets.{lvalue}
 use Rattle.sv_stmt_parser.specs.Loops.{Turns, head_turns}
 use Rattle.sv_stmt_parser.specs.Stmts.{is_given, stmt}
+use Rattle.sv_stmt_parser.specs.Within as within
 use Rattle.sv_instance_parser.specs.Instances.{more_names, named_item}
 
 -- ---- blocks
@@ -154,11 +155,8 @@ module _ (item : Parser Item) where
   unfoldable pub region : Parser Item
   region = it.Generate <$> (keyword key.Generate ▸ (items ◂ keyword key.Endgenerate))
 
-  abbrev pub gen_rest : Option Word → Parser (List Item × Option Word)
-  gen_rest b = items ⊗ (keyword key.End ▸ end_label b)
-
   unfoldable pub gen_block : Parser Gen
-  gen_block = made_gen_block <$> (keyword key.Begin ⊗ (block_label ▷ gen_rest))
+  gen_block = made_gen_block <$> within.block (sort_test item_by_sort) item
 
   unfoldable pub single : Parser Gen
   single = by_told place_test (λ p. ge.Single p <$> item) refuse
@@ -166,14 +164,11 @@ module _ (item : Parser Item) where
   unfoldable pub gen : Parser Gen
   gen = by_told (keyword_test key.Begin) (λ _. gen_block) single
 
-  unfoldable pub maybe_gen : Parser (Option Gen)
-  maybe_gen = maybe_read (keyword_test key.Else) (keyword key.Else ▸ gen)
-
   unfoldable pub gen_if : Parser Item
-  gen_if = made_cond <$> (keyword key.If ⊗ (cond_head ⊗ (gen ⊗ maybe_gen)))
+  gen_if = made_cond <$> (keyword key.If ⊗ (cond_head ⊗ within.branches gen))
 
   unfoldable pub gen_loop : Parser Item
-  gen_loop = made_loop <$> (keyword key.For ⊗ (loop_head ⊗ gen))
+  gen_loop = made_loop <$> within.counted loop_head gen
 
 -- Function values read loops, conditions and regions.
 module _ (loop cond generated : Parser Item) where

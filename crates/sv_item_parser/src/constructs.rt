@@ -1,44 +1,21 @@
 // Generate constructs: loops, conditions and regions, which hold items to a depth. The rules take the reader of the items
 // in them as a parameter, so that each is proved by itself; the reader of an item gives itself to them, with one construct
 // less to hold a token.
-ghost use Rattle.std.specs.Prelude.{◌≡◌, ◌≢◌, Ok, Err, IfOk, IfErr};
-ghost use Rattle.sv_cursor.specs.Parsers.{Reads, ◌⊗◌};
-ghost use Rattle.sv_cursor.specs.declared.error.ParseErr.TheVariants.{Memory};
+ghost use Rattle.sv_cursor.specs.Parsers.{Reads};
+ghost use Rattle.sv_word_parser.specs.Combined.{sort_test};
 ghost use Rattle.sv_item_parser.specs.Items as spec;
-ghost use Rattle.sv_tree.specs.declared.design.Gen.{Gen as GenTree};
 ghost use Rattle.sv_type_parser.specs.Lists.{Nests};
+ghost use Rattle.sv_word_parser.specs.Words as words;
 
 use crate::heads::{LoopHead, cond_head, loop_head};
 use crate::module_items::{flat_item, item_next, sees_item};
-use items::{Boxed, Items, both};
+use items::{Boxed, both};
 use std::alloc::Global;
 use sv_cursor::{Cursor, Keyword, ParseErr};
-use sv_outside::Place;
-use sv_stmt_parser::{block_label, end_label, is_given};
-use sv_tree::{Gen, Item, Word};
-use sv_type_parser::{boxed, keep};
+use sv_stmt_parser::{Bodied, Nested, block, branches, counted, is_given, parts};
+use sv_tree::{Gen, Item};
+use sv_type_parser::boxed;
 use sv_word_parser::ItemOpener;
-
-// A loop of this head and of the body that was read behind it.
-fn loop_of(
-    place: Place,
-    head: LoopHead,
-    body: Result<Boxed<Gen>, ParseErr>,
-) -> Result<Item, ParseErr>
-    ensures made { IfOk result (λ x. (inner : GenTree) × (body ≡ Ok inner) × (x ≡ spec.made_loop (place, (head, inner)))) }
-    ensures failed { IfErr result (λ e. e ≢ Memory → body ≡ Err e) }
-{
-    let (word, (variable, (start, (condition, step)))) = head;
-    Ok(Item::For(
-        place,
-        is_given(word),
-        variable,
-        start,
-        condition,
-        step,
-        body?,
-    ))
-}
 
 /// The rules of generate constructs, over a reader of the items in them.
 #[derive(Drop)]
@@ -50,51 +27,51 @@ struct Generates<F> {
     item: F,
 }
 
-impl<F: Fn(Global, &mut Cursor<'_>, u8) -> Result<Item, ParseErr>> Generates<F> {
-    fn item(&self, tokens: &mut Cursor<'_>) -> Result<Item, ParseErr>
-        requires { Nests (spec.item self.now.depth) self.now.depth (F.pre self.now.item) (F.post self.now.item) }
-        ensures { Reads (spec.item self.now.depth tokens.old) result tokens.new }
-    {
+impl<F: Fn(Global, &mut Cursor<'_>, u8) -> Result<Item, ParseErr>> Nested<Item> for Generates<F> {
+    type Opener = ItemOpener;
+
+    ghost ready = { λ rules. Nests (spec.item rules.depth) rules.depth (F.pre rules.item) (F.post rules.item) };
+
+    ghost parser = { λ rules. spec.item rules.depth };
+
+    ghost test = { sort_test words.item_by_sort };
+
+    fn comes(tokens: &Cursor<'_>) -> bool {
+        sees_item(tokens)
+    }
+
+    fn part(&self, tokens: &mut Cursor<'_>) -> Result<Item, ParseErr> {
         (self.item)(self.alloc, tokens, self.depth)
     }
+}
 
-    fn items(&self, tokens: &mut Cursor<'_>) -> Result<Items<Item>, ParseErr>
-        requires { Nests (spec.item self.now.depth) self.now.depth (F.pre self.now.item) (F.post self.now.item) }
-        ensures { Reads (spec.items (spec.item self.now.depth) tokens.old) result tokens.new }
-    {
-        let mut found = Items::new(self.alloc);
-        for _turn in 0..tokens.left() {
-            if !sees_item(tokens) {
-                return Ok(found);
-            }
-            let part = self.item(tokens);
-            keep(&mut found, part)?;
-        }
-        Ok(found)
+impl<F: Fn(Global, &mut Cursor<'_>, u8) -> Result<Item, ParseErr>> Bodied for Generates<F> {
+    type Head = LoopHead;
+
+    type Body = Gen;
+
+    ghost ready = { λ rules. Nests (spec.item rules.depth) rules.depth (F.pre rules.item) (F.post rules.item) };
+
+    ghost heading = { spec.loop_head };
+
+    ghost inner = { λ rules. spec.gen (spec.item rules.depth) };
+
+    fn head(alloc: Global, tokens: &mut Cursor<'_>) -> Result<LoopHead, ParseErr> {
+        loop_head(alloc, tokens)
     }
 
-    fn gen_rest(
-        &self,
-        tokens: &mut Cursor<'_>,
-        name: &Option<Word>,
-    ) -> Result<(Items<Item>, Option<Word>), ParseErr>
-        requires { Nests (spec.item self.now.depth) self.now.depth (F.pre self.now.item) (F.post self.now.item) }
-        ensures { Reads (spec.gen_rest (spec.item self.now.depth) name.now tokens.old) result tokens.new }
-    {
-        let all = self.items(tokens)?;
-        tokens.keyword(Keyword::End)?;
-        both(all, end_label(self.alloc, tokens, name))
+    fn body(&self, tokens: &mut Cursor<'_>) -> Result<Boxed<Gen>, ParseErr> {
+        boxed(self.alloc, self.gen_body(tokens))
     }
+}
 
+impl<F: Fn(Global, &mut Cursor<'_>, u8) -> Result<Item, ParseErr>> Generates<F> {
     #[tactic(auto, unfolding(crate::specs::Items::gen_block))]
     fn gen_block(&self, tokens: &mut Cursor<'_>) -> Result<Gen, ParseErr>
         requires { Nests (spec.item self.now.depth) self.now.depth (F.pre self.now.item) (F.post self.now.item) }
         ensures { Reads (spec.gen_block (spec.item self.now.depth) tokens.old) result tokens.new }
     {
-        let place = tokens.keyword(Keyword::Begin)?;
-        let name = block_label(self.alloc, tokens)?;
-        let rest = self.gen_rest(tokens, &name);
-        let (name, (all, label)) = both(name, rest)?;
+        let (place, (name, (all, label))) = block(self.alloc, tokens, self)?;
         Ok(Gen::Block(place, name, all, label))
     }
 
@@ -105,7 +82,7 @@ impl<F: Fn(Global, &mut Cursor<'_>, u8) -> Result<Item, ParseErr>> Generates<F> 
     {
         match tokens.place() {
             Some(place) => {
-                let inner = boxed(self.alloc, self.item(tokens))?;
+                let inner = boxed(self.alloc, self.part(tokens))?;
                 Ok(Gen::Single(place, inner))
             }
             None => Err(tokens.refuse()),
@@ -123,39 +100,6 @@ impl<F: Fn(Global, &mut Cursor<'_>, u8) -> Result<Item, ParseErr>> Generates<F> 
         }
     }
 
-    fn body(&self, tokens: &mut Cursor<'_>) -> Result<Boxed<Gen>, ParseErr>
-        requires { Nests (spec.item self.now.depth) self.now.depth (F.pre self.now.item) (F.post self.now.item) }
-        ensures { Reads (spec.gen (spec.item self.now.depth) tokens.old) result tokens.new }
-    {
-        boxed(self.alloc, self.gen_body(tokens))
-    }
-
-    #[tactic(auto, unfolding(crate::specs::Items::maybe_gen))]
-    fn maybe_else(&self, tokens: &mut Cursor<'_>) -> Result<Option<Boxed<Gen>>, ParseErr>
-        requires { Nests (spec.item self.now.depth) self.now.depth (F.pre self.now.item) (F.post self.now.item) }
-        ensures { Reads (spec.maybe_gen (spec.item self.now.depth) tokens.old) result tokens.new }
-    {
-        match tokens.peek_keyword(Keyword::Else) {
-            Some(_) => {
-                tokens.keyword(Keyword::Else)?;
-                self.body(tokens).map(Some)
-            }
-            None => Ok(None),
-        }
-    }
-
-    // The branches of a condition.
-    fn branches(
-        &self,
-        tokens: &mut Cursor<'_>,
-    ) -> Result<(Boxed<Gen>, Option<Boxed<Gen>>), ParseErr>
-        requires { Nests (spec.item self.now.depth) self.now.depth (F.pre self.now.item) (F.post self.now.item) }
-        ensures { Reads ((spec.gen (spec.item self.now.depth) ⊗ spec.maybe_gen (spec.item self.now.depth)) tokens.old) result tokens.new }
-    {
-        let first = self.body(tokens)?;
-        both(first, self.maybe_else(tokens))
-    }
-
     /// A generate `if` (A.4.2, if_generate_construct).
     #[tactic(auto, unfolding(crate::specs::Items::gen_if))]
     fn conditional(&self, tokens: &mut Cursor<'_>) -> Result<Item, ParseErr>
@@ -164,7 +108,7 @@ impl<F: Fn(Global, &mut Cursor<'_>, u8) -> Result<Item, ParseErr>> Generates<F> 
     {
         let place = tokens.keyword(Keyword::If)?;
         let condition = cond_head(self.alloc, tokens)?;
-        let (condition, (first, second)) = both(condition, self.branches(tokens))?;
+        let (condition, (first, second)) = both(condition, branches(tokens, self))?;
         Ok(Item::If(place, condition, first, second))
     }
 
@@ -174,20 +118,27 @@ impl<F: Fn(Global, &mut Cursor<'_>, u8) -> Result<Item, ParseErr>> Generates<F> 
         requires { Nests (spec.item self.now.depth) self.now.depth (F.pre self.now.item) (F.post self.now.item) }
         ensures { Reads (spec.gen_loop (spec.item self.now.depth) tokens.old) result tokens.new }
     {
-        let place = tokens.keyword(Keyword::For)?;
-        let head = loop_head(self.alloc, tokens)?;
-        let body = self.body(tokens);
-        loop_of(place, head, body)
+        let (place, (head, body)) = counted(self.alloc, tokens, self)?;
+        let (word, (variable, (start, (condition, step)))) = head;
+        Ok(Item::For(
+            place,
+            is_given(word),
+            variable,
+            start,
+            condition,
+            step,
+            body,
+        ))
     }
 
     /// A generate region (A.4.2, generate_region).
-    #[tactic(auto, unfolding(crate::specs::Items::region))]
+    #[tactic(auto, unfolding(crate::specs::Items::region, crate::specs::Items::items, sv_type_parser::specs::Lists::while_told))]
     fn region(&self, tokens: &mut Cursor<'_>) -> Result<Item, ParseErr>
         requires { Nests (spec.item self.now.depth) self.now.depth (F.pre self.now.item) (F.post self.now.item) }
         ensures { Reads (spec.region (spec.item self.now.depth) tokens.old) result tokens.new }
     {
         tokens.keyword(Keyword::Generate)?;
-        let all = self.items(tokens)?;
+        let all = parts(self.alloc, tokens, self)?;
         tokens.keyword(Keyword::Endgenerate)?;
         Ok(Item::Generate(all))
     }
