@@ -27,7 +27,7 @@ use Rattle.sv_tree.specs.declared.design.SourcePart.TheVariants as source_part
 use Rattle.sv_tree.specs.declared.design.Item.{Item, Variable, Param, Assign, Always, Inst, For', If', end_of-Item, more_of-Item, end_of-Gen, more_of-Gen, None'}
 use Rattle.sv_tree.specs.declared.design.Gen.{Block' as GenBlock}
 use Rattle.sv_meaning.specs.Patterns.{index}
-use Rattle.sv_meaning.specs.Faults.{Faults, Judged, fault, top_unclear, unknown_module, unknown_name, twice, bad_width, not_constant, port_unknown, port_twice, bad_target, loop_long, instance_deep, wrong_assign}
+use Rattle.sv_meaning.specs.Faults.{Faults, Judged, fault, bad_token, top_unclear, unknown_module, unknown_name, twice, bad_width, not_constant, port_unknown, port_twice, bad_target, loop_long, instance_deep, wrong_assign}
 use Rattle.lhs_alias.specs.declared.segs.WireBit.{WireBit}
 use Rattle.lhs_alias.specs.Segs.{bit as wire_bit}
 use Rattle.settling.specs.Settling.{Store, Contribution, given_to}
@@ -132,6 +132,21 @@ twice_named = alone [] (Variable bit (word 3 (codes "a") ∷ []) ∷ Variable bi
 twice_named_fault : source_faults twice_named None ≡ fault twice (at 6)
 unfolding designs_on_trees
 twice_named_fault = refl
+
+-- trees that no text spells: a name of no bytes, and one with a blank, are E2
+unnamed_wire : Source
+unnamed_wire = alone [] (Variable bit (word 3 [] ∷ []) ∷ [])
+
+unnamed_wire_fault : source_faults unnamed_wire None ≡ fault bad_token (at 3)
+unfolding designs_on_trees unnamed_wire
+unnamed_wire_fault = refl
+
+blank_name : Source
+blank_name = alone [] (Variable bit (word 3 (codes "a") ∷ word 5 (codes "a b") ∷ []) ∷ [])
+
+blank_name_fault : source_faults blank_name None ≡ fault bad_token (at 5)
+unfolding designs_on_trees blank_name
+blank_name_fault = refl
 
 -- an empty file has no top
 no_top : source_faults (record { parts = [] }) None ≡ record { number = top_unclear; place = at 1; count = 0 } ∷ []
