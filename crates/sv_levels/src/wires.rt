@@ -49,7 +49,7 @@ impl Wires {
     /// One wire more.
     pub fn push(&mut self, wire: Signal) -> Result<(), AllocError>
         requires { HasBits wire }
-        ensures { OnOk result (self.new ≡ self.old ++ wire.entry ∷ []) }
+        ensures { OnOk result (self.new ≡ self.old ++ wire ∷ []) }
     {
         self.list.push(wire)
     }
