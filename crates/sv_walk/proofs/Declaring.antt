@@ -1,13 +1,16 @@
 -- Walks one after the other, and the declarations of a scope.
-use Rattle.std.proofs.Common.{◌≡◌, ℕ, ◌+◌, ◌<◌, ◌≤◌, List, [], ◌∷◌, length, map, drop, get_or, Result, Ok, Err, refl, sym, ap, ◌∙◌, subst}
+use Rattle.std.proofs.Common.{◌≡◌, ℕ, suc, ◌+◌, ◌<◌, ◌≤◌, Bool, true, false, ◌||◌, not, List, [], ◌∷◌, ◌++◌, length, map, drop, get_or, Result, Ok, Err, refl, sym, ap, ◌∙◌, subst, arith, Vec, Global}
+use Rattle.std.proofs.lemmas.List.{length-append}
 use Rattle.std.specs.Result.{IsErrAnd}
 use Rattle.sv_outside.specs.declared.refusal.Place.{Place}
+use Rattle.sv_outside.specs.declared.refusal.Refusal.{Refusal}
 use Rattle.sv_outside.specs.declared.refusal.TextErr.{TextErr}
 use Rattle.sv_outside.specs.declared.refusal.TextErr.TheVariants.{No, Memory}
 use Rattle.sv_tree.specs.declared.word.Word.{Word}
-use Rattle.sv_meaning.specs.Faults.{Judged, ◌>>=◌}
+use Rattle.sv_meaning.specs.Faults.{Judged, ◌>>=◌, provided, or_then, fault, fault_if, bad_token, twice}
 use Rattle.sv_meaning.specs.Layouts as layouts
 use Rattle.sv_meaning.specs.Layouts.{Name}
+use Rattle.sv_meaning.specs.Names.{has_name}
 use Rattle.sv_names.specs.declared.layout.What.{What}
 use Rattle.sv_names.specs.Kinds.{entry_is, what_is}
 use Rattle.sv_typing.proofs.Lists.{none_in}
@@ -63,6 +66,39 @@ after r j w o u f x h g = subst (λ k. Answers r (k >>= f) x) (sym (led j w o u 
 
 pub refused : (j : Judged m.State) (f : m.State → Judged m.State) (w v : Walker) (o p : Open) (e : TextErr) → Leads j w o (Err e) → Leads (j >>= f) v p (Err e)
 refused j f w v o p e h = refused_then (λ (st : m.State) (u : Unit {0}). st ≡ state_of w o) (λ (st : m.State) (u : Unit {0}). st ≡ state_of v p) j f e h
+
+-- ---- names
+
+abbrev pub with_name : Name → m.State → m.State
+with_name n s = record s { taken = λ other. has_name other (n ∷ []) || s.taken other }
+
+-- what is no name is refused
+pub no_name : (p : Place) (n : Name) (s t : m.State) (r : Refusal) → m.is_name n ≡ false → r ≡ record { number = bad_token; place = p; count = 0 } →
+    Answers (λ (st : m.State) (u : Unit {0}). st ≡ t) (m.declare_at p n s) (Err (No r))
+no_name p n s t r h e =
+    let none : provided (fault bad_token p) (with_name n s) ≡ m.declare_at p n s = λ i. provided (or_then (fault_if (not (sym h i)) bad_token p) (fault_if (s.taken n) twice p)) (with_name n s) in
+    subst (λ (j : Judged m.State). Answers (λ (st : m.State) (u : Unit {0}). st ≡ t) j (Err (No r))) none (0, omega arith, sym e)
+
+-- and a name that is taken
+pub name_taken : (p : Place) (n : Name) (s t : m.State) (r : Refusal) → m.is_name n ≡ true → s.taken n ≡ true → r ≡ record { number = twice; place = p; count = 0 } →
+    Answers (λ (st : m.State) (u : Unit {0}). st ≡ t) (m.declare_at p n s) (Err (No r))
+name_taken p n s t r h k e =
+    let again : provided (fault twice p) (with_name n s) ≡ m.declare_at p n s = λ i. provided (or_then (fault_if (not (sym h i)) bad_token p) (fault_if (sym k i) twice p)) (with_name n s) in
+    subst (λ (j : Judged m.State). Answers (λ (st : m.State) (u : Unit {0}). st ≡ t) j (Err (No r))) again (0, omega arith, sym e)
+
+pub name_declared : (p : Place) (n : Name) (s t : m.State) → m.is_name n ≡ true → s.taken n ≡ false → with_name n s ≡ t → m.declare_at p n s ≡ Ok t
+name_declared p n s t h k e =
+    let once : m.declare_at p n s ≡ Ok (with_name n s) = λ i. provided (or_then (fault_if (not (h i)) bad_token p) (fault_if (k i) twice p)) (with_name n s) in
+    once ∙ ap Ok e
+
+-- ---- constructs
+
+pub construct_counted : (w : Walker) (o : Open) (all : Vec Place Global) (p : Place) → all.items ≡ o.constructs.items ++ p ∷ [] → m.next_construct (state_of w o) ≡ Ok (state_of w (record o { constructs = all }))
+construct_counted w o all p h =
+    let long = length-append o.constructs.items (p ∷ []) in
+    let same = ap (λ (list : List Place). length list) h in
+    let more : suc (length o.constructs.items) ≡ length all.items = omega (arith, long, same) in
+    λ i. Ok (record (state_of w o) { constructs = more i })
 
 -- ---- walks through a list
 

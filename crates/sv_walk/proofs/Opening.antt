@@ -238,7 +238,7 @@ one_front around none f h e = ap (map front_is) (h ∙ ap (λ (x : List Front). 
 
 pub begun_is : (w : Walker) (levels : Levels) (children : Vec Child Global) (o current : Open) (k : m.Known) (path : Name) (parent : ℕ) (given : List m.Given) (x : Level) → levels_are levels ≡ levels_are w.levels ++ level_is x ∷ [] →
     x.path ≡ path → x.module ≡ k.number → x.parent ≡ parent → map front_is x.around ≡ record { level = 0; nets = 0; consts = k.above } ∷ [] → x.nets ≡ [] → x.consts ≡ [] → children.items ≡ [] →
-    o.level ≡ length (levels_are w.levels) → o.constructs ≡ 0 → map given_is o.overridden.list.items ≡ given → ((n : Name) → holds o.taken n ≡ has_name n []) →
+    o.level ≡ length (levels_are w.levels) → o.constructs.items ≡ [] → map given_is o.overridden.list.items ≡ given → ((n : Name) → holds o.taken n ≡ has_name n []) →
     state_of (record w { levels = levels; children = children }) o ≡ m.begun k path parent given (state_of w current)
 unfolding has_name
 begun_is w levels children o current k path parent given x h p n q a b c e l g i t =
@@ -249,7 +249,7 @@ begun_is w levels children o current k path parent given x h p n q a b c e l g i
       levels = all z;
       me = l z;
       taken = taken z;
-      constructs = g z;
+      constructs = length (g z);
       overridden = i z;
       bits = w.tally.bits;
       turns = w.tally.turns;
@@ -259,7 +259,7 @@ begun_is w levels children o current k path parent given x h p n q a b c e l g i
     }
 
 file_is : (w : Walker) (levels : Levels) (o : Open) (x : Level) → IsNothing w → levels_are levels ≡ levels_are w.levels ++ level_is x ∷ [] → x.path ≡ [] → x.module ≡ 0 → x.parent ≡ 0 → x.around ≡ [] → x.nets ≡ [] → x.consts ≡ [] →
-    o.level ≡ 0 → o.constructs ≡ 0 → map given_is o.overridden.list.items ≡ [] → ((n : Name) → holds o.taken n ≡ has_name n []) → state_of (record w { levels = levels }) o ≡ m.file_state
+    o.level ≡ 0 → o.constructs.items ≡ [] → map given_is o.overridden.list.items ≡ [] → ((n : Name) → holds o.taken n ≡ has_name n []) → state_of (record w { levels = levels }) o ≡ m.file_state
 unfolding has_name
 file_is w levels o x none h p n q a b c l g i t =
     let taken : holds o.taken ≡ m.nothing_taken = fun_ext t in
@@ -269,7 +269,7 @@ file_is w levels o x none h p n q a b c l g i t =
       levels = all z;
       me = l z;
       taken = taken z;
-      constructs = g z;
+      constructs = length (g z);
       overridden = i z;
       bits = none.bits z;
       turns = none.turns z;

@@ -11,12 +11,12 @@ use Rattle.sv_tree.specs.declared.word.Word.{Word}
 use Rattle.sv_tree.specs.declared.exprs.Expr.{Expr}
 use Rattle.sv_tree.specs.declared.stmts.Step.{Step}
 use Rattle.sv_tree.specs.declared.design.Gen.{Gen}
-use Rattle.sv_meaning.specs.Faults.{Faults, Judged, provided, ◌>>=◌, fault, fault_if, is_clear, twice, unknown_name}
+use Rattle.sv_meaning.specs.Faults.{Faults, Judged, provided, ◌>>=◌, fault, is_clear, unknown_name}
 use Rattle.sv_meaning.specs.Layouts.{Name, Entry, Scope, What, find, number_is, type_is, signal_is, genvar_is}
 use Rattle.sv_meaning.specs.Names.{has_name}
 use Rattle.sv_meaning.specs.Deeds.{index_entry, turn_faults, turns}
 use Rattle.sv_loops.specs.Answers.{Answers, Gives}
-use Rattle.sv_hierarchy.specs.Scopes.{State, Walk, Level, walk_all, declare_at, block_place, block_name, block_walk, enclosed, inner, outer, mine, here, path_of, fronts_at, turn_walk, turn_name, count_turn, turns_walk, body_of, under, next_construct, genvar_faults, seen}
+use Rattle.sv_hierarchy.specs.Scopes.{State, Walk, Level, walk_all, name_faults, declare_at, block_place, block_name, block_walk, enclosed, inner, outer, mine, here, path_of, fronts_at, turn_walk, turn_name, count_turn, turns_walk, body_of, under, next_construct, genvar_faults, seen}
 use Rattle.sv_walk.specs.declared.walker.Walker.{Walker}
 use Rattle.sv_walk.specs.declared.walker.Open.{Open}
 use Rattle.sv_levels.specs.Levels.{block_in, level_is, levels_are}
@@ -44,7 +44,7 @@ pub block_begun : {E : Type 0} (w : Walker) (levels : Levels) (o : Open) (part :
     level_is x ≡ block_in (levels_are w.levels) o.level part nets → n ≡ length (levels_are w.levels) → IfOk r (IsBare n) → IfOk r (λ block. state_of (record w { levels = levels }) block ≡ inner part nets (state_of w o))
 block_begun w levels o part nets x n (Ok block) h e k b =
     same_state (state_of (record w { levels = levels }) block) (inner part nets (state_of w o)) (h ∙ ap (λ (y : Level). levels_are w.levels ++ y ∷ []) e) (b.level_is ∙ k)
-    (λ i. λ name. none_taken (holds block.taken) b.taken name i) b.constructs b.overridden refl refl refl refl refl
+    (λ i. λ name. none_taken (holds block.taken) b.taken name i) (λ i. length (b.constructs i)) b.overridden refl refl refl refl refl
 block_begun w levels o part nets x n (Err e) h f k b = tt
 
 -- ---- blocks are left
@@ -120,7 +120,7 @@ loop_turns p v body [] s q h = h
 loop_turns p v body (x ∷ more) s q h =
     let s' : State = record s { constructs = suc s.constructs } in
     let n : q.constructs ≡ suc s.constructs =
-    declared_constructs (fault_if (s.taken (block_name (under body).label (suc s.constructs))) twice (block_place (under body).label (under body).start)) s'
+    declared_constructs (name_faults (s.taken (block_name (under body).label (suc s.constructs))) (block_place (under body).label (under body).start) (block_name (under body).label (suc s.constructs))) s'
     (record s' { taken = λ other. has_name other (block_name (under body).label (suc s.constructs) ∷ []) || s.taken other }) q refl h in
     ap (λ (j : Judged State). j >>= walk_all (turn_walk p (block_name (under body).label (suc s.constructs)) v (under body).body) (x ∷ more)) h
     ∙ ap (λ (k : ℕ). walk_all (turn_walk p (block_name (under body).label k) v (under body).body) (x ∷ more) q) (sym n)
@@ -177,12 +177,12 @@ loop_counted body values w o q t y (No r) z h k i =
 loop_counted body values w o q t y Memory z h k i = loop_memory body values w o q z i
 
 pub loop_undeclared : (body : Gen) (values : List (List Bit)) (w : Walker) (o x q : Open) (t : State) (label : Option Word) (start place : Place) (name : Name) (y : Result (Unit {0}) TextErr) (e : TextErr) (z : Result Turns TextErr) →
-    label ≡ (under body).label → start ≡ (under body).start → place ≡ block_place label start → name ≡ block_name label x.constructs → next_construct (state_of w o) ≡ Ok (state_of w x) → y ≡ Err e →
+    label ≡ (under body).label → start ≡ (under body).start → place ≡ block_place label start → name ≡ block_name label (length x.constructs.items) → next_construct (state_of w o) ≡ Ok (state_of w x) → y ≡ Err e →
     Ends t (declare_turns place name values (state_of w x)) y → IsErrAnd z (λ d. d ≡ e) → BeginsLoop body values w o q z
 loop_undeclared body values w o x q t label start place name y e z a b c d f h k i =
     let r = err_from_is_err_and z i in
-    let same : record (state_of w o) { constructs = suc o.constructs } ≡ state_of w x = cc in
-    let n : suc o.constructs ≡ x.constructs = ap (λ (s : State). s.constructs) same in
+    let same : record (state_of w o) { constructs = suc (length o.constructs.items) } ≡ state_of w x = cc in
+    let n : suc (length o.constructs.items) ≡ length x.constructs.items = ap (λ (s : State). s.constructs) same in
     let is : before_turns body values (state_of w o) ≡ declare_turns place name values (state_of w x) =
     before_is body values (state_of w o)
     ∙ (λ j. declare_turns (block_place (sym a j) (sym b j)) (block_name (sym a j) (n j)) values (same j))
@@ -194,14 +194,14 @@ loop_undeclared body values w o x q t label start place name y e z a b c d f h k
 turns_constructs : (p : Place) (n : Name) (values : List (List Bit)) (s t : State) → declare_turns p n values s ≡ Ok t → t.constructs ≡ s.constructs
 turns_constructs p n [] s t h = let e : s ≡ t = cc in sym (ap (λ (x : State). x.constructs) e)
 turns_constructs p n (x ∷ more) s t h =
-    declared_constructs (fault_if (s.taken n) twice p) s (record s { taken = λ other. has_name other (n ∷ []) || s.taken other }) t refl h
+    declared_constructs (name_faults (s.taken n) p n) s (record s { taken = λ other. has_name other (n ∷ []) || s.taken other }) t refl h
 
 pub loop_begun : (body : Gen) (values : List (List Bit)) (w : Walker) (o x q : Open) (label : Option Word) (start place : Place) (name part : Name) →
-    label ≡ (under body).label → start ≡ (under body).start → place ≡ block_place label start → name ≡ part → part ≡ block_name label x.constructs → next_construct (state_of w o) ≡ Ok (state_of w x) →
+    label ≡ (under body).label → start ≡ (under body).start → place ≡ block_place label start → name ≡ part → part ≡ block_name label (length x.constructs.items) → next_construct (state_of w o) ≡ Ok (state_of w x) →
     declare_turns place name values (state_of w x) ≡ Ok (state_of w q) → IsLoop body values w o q (record { name = part; values = values })
 loop_begun body values w o x q label start place name part a b c g d f h =
-    let same : record (state_of w o) { constructs = suc o.constructs } ≡ state_of w x = cc in
-    let n : suc o.constructs ≡ x.constructs = ap (λ (s : State). s.constructs) same in
+    let same : record (state_of w o) { constructs = suc (length o.constructs.items) } ≡ state_of w x = cc in
+    let n : suc (length o.constructs.items) ≡ length x.constructs.items = ap (λ (s : State). s.constructs) same in
     record {
       before = before_is body values (state_of w o)
           ∙ (λ j. declare_turns (block_place (sym a j) (sym b j)) (block_name (sym a j) (n j)) values (same j))

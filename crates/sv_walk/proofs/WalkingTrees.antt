@@ -1,5 +1,5 @@
 -- What items and branches are walked as, by their forms.
-use Rattle.std.proofs.Common.{◌≡◌, ℕ, suc, List, [], ◌∷◌, Bool, true, false, Option, Some, None, Result, Ok, Err, refl, sym, ap, ◌∙◌, subst}
+use Rattle.std.proofs.Common.{◌≡◌, ℕ, suc, List, [], ◌∷◌, length, Bool, true, false, Option, Some, None, Result, Ok, Err, refl, sym, ap, ◌∙◌, subst}
 use Rattle.std.specs.Result.{IsErrAnd}
 use Rattle.fourvec.specs.declared.Bit.{Bit}
 use Rattle.sv_outside.specs.declared.refusal.Place.{Place}
@@ -167,7 +167,7 @@ pub for_begun : (p : Place) (header : Bool) (v : Word) (start test : Expr) (next
     loop_judged p header v start test next (state_of w o) ≡ Ok found → BeginsLoop x found w o q r → OpensLoop item p v x w o q r
 for_begun p header v start test next x item w o q found (Ok turns) i h b = (
   for_valued p header v start test next x item (state_of w o) found i h ∙ loop_turns p v.text x found (state_of w o) (state_of w q) b.before
-      ∙ ap (λ (l : List (List Bit)). walk_all (turn_walk p (block_name (under x).label q.constructs) v.text (under x).body) l (state_of w q)) (sym b.values_are),
+      ∙ ap (λ (l : List (List Bit)). walk_all (turn_walk p (block_name (under x).label (length q.constructs.items)) v.text (under x).body) l (state_of w q)) (sym b.values_are),
   b.name,
 )
 for_begun p header v start test next x item w o q found (Err e) i h b =

@@ -1,5 +1,5 @@
 -- The walks through items, as the program takes them.
-use Rattle.std.specs.Prelude.{◌≡◌, ℕ, Bool, List, [], ◌∷◌, Option, Some, None, Result, Ok, Err}
+use Rattle.std.specs.Prelude.{◌≡◌, ℕ, Bool, List, [], ◌∷◌, length, Option, Some, None, Result, Ok, Err}
 use Rattle.fourvec.specs.declared.Bit.{Bit}
 use Rattle.sv_outside.specs.declared.refusal.Place.{Place}
 use Rattle.sv_outside.specs.declared.refusal.TextErr.{TextErr}
@@ -65,7 +65,7 @@ before_turns body all st = m.next_construct st >>= λ s. m.declare_at (m.block_p
 pub record IsLoop (body : Gen) (values : List (List Bit)) (w : Walker) (o q : Open) (turns : Turns) : Type 0 where
   pub before : before_turns body values (state_of w o) ≡ Ok (state_of w q)
   pub values_are : turns.values ≡ values
-  pub name : turns.name ≡ m.block_name (m.under body).label q.constructs
+  pub name : turns.name ≡ m.block_name (m.under body).label (length q.constructs.items)
 
 abbrev pub BeginsLoop : Gen → List (List Bit) → Walker → Open → Open → Result Turns TextErr → Type 0
 BeginsLoop body values w o q (Ok turns) = IsLoop body values w o q turns
@@ -74,5 +74,5 @@ BeginsLoop body values w o q (Err e) = Answers (λ (x : m.State) (y : m.State). 
 -- what a loop is walked as: its turns of such a name, one after the other
 abbrev pub OpensLoop : Item → Place → Word → Gen → Walker → Open → Open → Result Turns TextErr → Type 0
 OpensLoop item p v body w o q (Ok turns) =
-    ((m.act item).item (state_of w o) ≡ m.walk_all (m.turn_walk p (m.block_name (m.under body).label q.constructs) v.text (m.under body).body) turns.values (state_of w q)) × (turns.name ≡ m.block_name (m.under body).label q.constructs)
+    ((m.act item).item (state_of w o) ≡ m.walk_all (m.turn_walk p (m.block_name (m.under body).label (length q.constructs.items)) v.text (m.under body).body) turns.values (state_of w q)) × (turns.name ≡ m.block_name (m.under body).label (length q.constructs.items))
 OpensLoop item p v body w o q (Err e) = Answers (λ (x : m.State) (y : m.State). x ≡ y) ((m.act item).item (state_of w o)) (Err e)

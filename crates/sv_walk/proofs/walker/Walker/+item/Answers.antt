@@ -1,4 +1,4 @@
-use Rattle.std.proofs.Common.{◌≡◌, ◌∙◌, List, true, false, Option, None, Ok, Err, sym, ap, subst, arith}
+use Rattle.std.proofs.Common.{◌≡◌, ◌∙◌, ℕ, List, length, true, false, Option, None, Ok, Err, sym, ap, subst, arith}
 use Rattle.std.specs.Option.{option_copied}
 use Rattle.fourvec.specs.declared.Bit.{Bit}
 use Rattle.sv_tree.specs.declared.design.Gen.{Gen}
@@ -36,7 +36,7 @@ pub item-returns-in_err-next_construct-in-If : goal.item-returns-in_err-next_con
 item-returns-in_err-next_construct-in-If t c =
     let s = state_of c.args.self.now c.args.current.now in
     let t = state_of c.args.self.now c.next_construct.new.self in
-    if_counted c.in-If.field-0 c.in-If.test c.in-If.body c.in-If.other c.args.item.now s t t c.next_construct.result c.in_err-next_construct-in-If.field-0.0 c.from_residual-in_err-next_construct-in-If.result c.in-If.is c.in_err-next_construct-in-If.was (c.next_construct.ensures c.args.self.now)
+    if_counted c.in-If.place c.in-If.test c.in-If.body c.in-If.other c.args.item.now s t t c.next_construct.result c.in_err-next_construct-in-If.field-0.0 c.from_residual-in_err-next_construct-in-If.result c.in-If.is c.in_err-next_construct-in-If.was (c.next_construct.ensures c.args.self.now)
     c.from_residual-in_err-next_construct-in-If.ensures.1
 
 pub item-returns-in_ok-opened-in-For : goal.item-returns-in_ok-opened-in-For
@@ -56,11 +56,12 @@ pub item-returns-in_ok-next_construct-in-If : goal.item-returns-in_ok-next_const
 item-returns-in_ok-next_construct-in-If t c =
     let s = state_of c.args.self.now c.args.current.now in
     let q = state_of c.args.self.now c.next_construct.new.self in
-    let n = c.next_construct.new.self.constructs in
+    let n = length c.next_construct.new.self.constructs.items in
     let u = state_of c.conditional.new.self c.conditional.new.current in
     same_ends u ((act c.args.item.now).item s) (conditional c.in-If.test (under c.in-If.body) (else_of c.in-If.other) n q) c.conditional.result
-    (if_is c.in-If.field-0 c.in-If.test c.in-If.body c.in-If.other c.args.item.now s q c.in-If.is (ended q (next_construct s) (tt {0}) (c.in_ok-next_construct-in-If.ensures c.args.self.now)))
-    (subst (λ (x : Gen). Ends u (conditional c.in-If.test (under x) (else_of c.in-If.other) n q) c.conditional.result) c.get-in-If.ensures c.conditional.ensures)
+    (if_is c.in-If.place c.in-If.test c.in-If.body c.in-If.other c.args.item.now s q c.in-If.is (ended q (next_construct s) (tt {0}) (c.in_ok-next_construct-in-If.ensures c.args.self.now)))
+    (subst (λ (k : ℕ). Ends u (conditional c.in-If.test (under c.in-If.body) (else_of c.in-If.other) k q) c.conditional.result) (c.len-number.ensures ∙ c.next_construct.new.self.constructs.ok.0)
+    (subst (λ (x : Gen). Ends u (conditional c.in-If.test (under x) (else_of c.in-If.other) c.len-number.result q) c.conditional.result) c.get-in-If.ensures c.conditional.ensures))
 
 pub item-returns-in_default : goal.item-returns-in_default
 item-returns-in_default t c = c.plain_item.ensures

@@ -1,7 +1,11 @@
+use Rattle.sv_names.proofs.Sound.{sound_some, sound_most}
 use Rattle.sv_walk.proofs.DeclaringWires.{wire_put}
 use Rattle.sv_walk.proofs.walker.Walker.put_wire.Goals as goal
+
+pub push-requires : goal.push-requires
+push-requires c = (sound_some c.args.layout.now c.requires.sound, sound_most c.args.layout.now c.requires.sound)
 
 pub returns : goal.returns
 returns c =
     wire_put c.args.self.now c.args.current.now c.add_net.new.self c.push.new.self c.args.tally c.args.input c.args.layout.now c.in_ok-layout_of_wire.layout_of_wire c.args.word.now.text c.in_ok-name.name c.in_ok-path.path c.bytes.result.now c.len.result
-    c.requires.sound c.in_ok-name.ensures c.bytes.ensures c.in_ok-layout_of_wire.ensures c.len.ensures c.in_ok-path.ensures c.in_ok-add_net.ensures c.in_ok-push.ensures.ok c.requires.bits c.requires.turns
+    c.requires.sound c.in_ok-name.ensures c.bytes.ensures c.in_ok-layout_of_wire.ensures c.len.ensures c.in_ok-path.ensures c.in_ok-add_net.ensures c.in_ok-push.ensures c.requires.bits c.requires.turns
