@@ -3,7 +3,7 @@ use Rattle.std.proofs.Common.{◌≡◌, ◌≢◌, ℕ, suc, ◌+◌, ◌<◌, 
 use Rattle.std.specs.Prelude.{nat_lt, IfOk, IfErr}
 use Rattle.std.specs.List.{All, AllPairs, Contains}
 use Rattle.std.proofs.lemmas.List.{take_all, length-map, map-append}
-use Rattle.std.proofs.lemmas.List.Elements.{All-map, All-weaker}
+use Rattle.std.proofs.lemmas.List.Elements.{All-map}
 use Rattle.std.proofs.lemmas.Bool.Decides.{nat_tests}
 use Rattle.fourvec.proofs.Order.{both}
 use Rattle.sv_outside.specs.declared.text.Signal.{Signal}
@@ -26,11 +26,13 @@ use Rattle.sv_hierarchy.specs.Scopes.{State, Standing, live_at, design_of, desig
 use Rattle.sv_scope.specs.declared.whole.DesignScopes.{DesignScopes}
 use Rattle.sv_levels.specs.declared.tasks.Work as walker
 use Rattle.sv_levels.specs.Tasks.{work_is}
+use Rattle.sv_levels.specs.Wires.{HasBits}
 use Rattle.sv_scope.specs.Scoped.{IsScoped, design_is, levels_of, wires_of, works_of, turns_of}
-use Rattle.scope_laws.specs.Wires.{IsWire, connected_wires}
+use Rattle.scope_laws.specs.Wires.{HavePaths, IsWire, connected_wires}
 use Rattle.scope_laws.proofs.Seen.{seen_are_wires, ports_are_wires}
 use Rattle.scope_laws.proofs.Closing.{ports_stand_above}
 use Rattle.scope_laws.proofs.Connecting.{wires_are_distinct}
+use Rattle.scope_laws.proofs.Printing.{wires_are_printed}
 use Rattle.sv_stmt.specs.Blocks.{AreWires}
 use Rattle.sv_elab.specs.declared.whole.Making.{Making}
 use Rattle.sv_elab.specs.Elaborated.{IsElaborated, sound_design}
@@ -80,6 +82,7 @@ sound_scopes source top st s e k = record {
   above = λ x i.
       subst (λ levels. TaskStandsAbove (live_at levels x.at) x.task) k.levels (task_above source top st e x (subst (λ works. Contains works x) (sym k.works) i));
   apart = subst (λ works. AllPairs ◌≢◌ (connected_wires works)) k.works (wires_are_distinct source top st e);
+  paths = subst (λ wires. HavePaths wires) k.wires (wires_are_printed source top st e);
 }
 
 -- ---- the flat design
@@ -87,11 +90,11 @@ sound_scopes source top st s e k = record {
 same_sides : (a b : Type 0) → a ≡ b → (a → b) × (b → a)
 same_sides a b e = (λ x. subst (λ t. t) e x, λ x. subst (λ t. t) (sym e) x)
 
-pub elaborated : (design : Design) (flat : Flat) (x : Making) → All f.IsSignal flat.wires → flat.wires ≡ design.wires → flat.arena ≡ x.arena → flat.drivers ≡ x.drivers → flat.joins ≡ x.joins → IsMade design.wires design.works design.turns x → IsElaborated design flat
+pub elaborated : (design : Design) (flat : Flat) (x : Making) → All f.IsSignal design.wires → flat.wires ≡ design.wires → flat.arena ≡ x.arena → flat.drivers ≡ x.drivers → flat.joins ≡ x.joins → IsMade design.wires design.works design.turns x → IsElaborated design flat
 elaborated design flat x signals w a dr jo m = record {
   clear = m.clear;
   sound = record {
-    wires = signals;
+    wires = subst (All f.IsSignal) (sym w) signals;
     drivers =
         subst (λ wires. All (Rattle.driver_resolve.specs.Drivers.IsDriver (widths_of wires) flat.arena) flat.drivers) (sym w)
         (subst (λ shapes. All (Rattle.driver_resolve.specs.Drivers.IsDriver (widths_of design.wires) shapes) flat.drivers) (sym a)
@@ -188,8 +191,11 @@ flat_found design (Err e) h = tt
 abbrev pub work_here : DesignScopes → walker.Work → Work
 work_here s w = h.work_at (levels_of s) (work_is w)
 
-pub fit_signals : (all : List Signal) → All f.IsSignal all → All (λ width. (1 ≤ width) × (width ≤ 128)) (widths_of all)
-fit_signals all g = All-map (λ width. (1 ≤ width) × (width ≤ 128)) (λ (x : Signal). x.width) all (All-weaker f.IsSignal (λ x. (1 ≤ x.width) × (x.width ≤ 128)) (λ x k. (k.some, k.most)) all g)
+pub fit_widths : (all : List Signal) → All HasBits all → All (λ width. (1 ≤ width) × (width ≤ 128)) (widths_of all)
+fit_widths all g = All-map (λ width. (1 ≤ width) × (width ≤ 128)) (λ (x : Signal). x.width) all g
+
+pub are_signals : (all : List Signal) → HavePaths all → All HasBits all → All f.IsSignal all
+are_signals all paths widths k d l = record { some = (widths k d l).0; most = (widths k d l).1; named = (paths k d l).some; printed = (paths k d l).printed }
 
 pub walk_more : (s : DesignScopes) (items : List walker.Work) (i : ℕ) (x : walker.Work) (making : Making) → i < length items → x ≡ get_or items i x → IsMade (wires_of s) (map (work_here s) (take i items) ++ work_here s x ∷ []) (turns_of s) making
     → IsMade (wires_of s) (map (work_here s) (take (i + 1) items)) (turns_of s) making

@@ -1,4 +1,4 @@
-use Rattle.std.proofs.Common.{ℕ, ◌≤◌, List, [], map, take, All, refl, sym, ap, ◌∙◌, subst}
+use Rattle.std.proofs.Common.{ℕ, List, [], map, take, refl, sym, ap, ◌∙◌, subst}
 use Rattle.std.proofs.lemmas.Result.{err_from_is_err_and}
 use Rattle.std.specs.List.{Contains}
 use Rattle.driver_resolve.specs.Drivers.{widths_of}
@@ -7,13 +7,13 @@ use Rattle.sv_scope.specs.Scoped.{design_is, wires_of, turns_of}
 use Rattle.sv_levels.specs.Tasks.{task_is, work_is}
 use Rattle.sv_elab.specs.Working.{AreSizes, IsMade, TaskFits}
 use Rattle.sv_elab.proofs.Lists.{contains_map}
-use Rattle.sv_elab.proofs.Wholes.{work_here, fit_signals, walk_free, walk_more, walk_end, walk_cause, elaborated}
+use Rattle.sv_elab.proofs.Wholes.{work_here, fit_widths, are_signals, walk_free, walk_more, walk_end, walk_cause, elaborated}
 use Rattle.sv_elab.proofs.whole.flattened.Goals as goal
 
 pub add_work-requires-clause-task : goal.add_work-requires-clause-task
 add_work-requires-clause-task c =
     let x = c.work-item.result in
-    subst (λ (z : List ℕ). TaskFits z (task_is x.task)) (sym (c.deref.ensures.value ∙ c.in_ok-widths.ensures ∙ ap widths_of c.wires-2.ensures))
+    subst (λ (z : List ℕ). TaskFits z (task_is x.task)) (sym (c.deref.ensures.value ∙ c.in_ok-widths.ensures ∙ ap widths_of c.wires-2.ensures.wires))
     (c.requires.ports (work_is x) (subst (λ (z : List h.Standing). Contains z (work_is x)) c.works-work-items.ensures (contains_map work_is c.works-work-items.result.now c.works.work-index x c.works-test.true c.work-item.is)))
 
 pub add_work-requires-clause-above : goal.add_work-requires-clause-above
@@ -26,8 +26,7 @@ add_work-requires-clause-free c = walk_free c.args.scopes.now c.works-work-items
 
 pub add_work-requires-clause-sizes : goal.add_work-requires-clause-sizes
 add_work-requires-clause-sizes c =
-    subst AreSizes (sym (c.deref.ensures.value ∙ c.in_ok-widths.ensures ∙ ap widths_of (c.wires-2.ensures ∙ sym c.wires.ensures ∙ sym c.in_ok-wires.ensures.is)))
-    (fit_signals c.in_ok-wires.wires c.in_ok-wires.ensures.sound)
+    subst AreSizes (sym (c.deref.ensures.value ∙ c.in_ok-widths.ensures ∙ ap widths_of c.wires-2.ensures.wires)) (fit_widths (wires_of c.args.scopes.now) c.wires.ensures.widths)
 
 pub returns-in_err-add_work-clause-err : goal.returns-in_err-add_work-clause-err
 returns-in_err-add_work-clause-err c =
@@ -50,5 +49,6 @@ works-preserved c =
 pub returns-clause-ok : goal.returns-clause-ok
 returns-clause-ok c =
     let s = c.args.scopes.now in
-    elaborated (design_is s) (record { arena = c.works.making.arena; wires = c.in_ok-wires.wires; drivers = c.works.making.drivers; joins = c.works.making.joins }) c.works.making c.in_ok-wires.ensures.sound (c.in_ok-wires.ensures.is ∙ c.wires.ensures) refl refl refl
+    elaborated (design_is s) (record { arena = c.works.making.arena; wires = c.in_ok-wires.wires; drivers = c.works.making.drivers; joins = c.works.making.joins }) c.works.making
+    (are_signals (wires_of s) c.requires.paths c.wires.ensures.widths) (c.in_ok-wires.ensures ∙ c.wires.ensures.wires) refl refl refl
     (walk_end s c.works-work-items.result.now c.works.work-index c.works.making c.works-work-items.ensures c.works-test.false c.works.invariant)
