@@ -1,7 +1,7 @@
 pub mod Turns
 pub mod Sets
-pub mod Indexes
 pub mod Libraries
+pub mod Named
 pub mod Instances
 pub mod Given
 pub mod Pinned

@@ -1,6 +1,6 @@
 -- Libraries, and the modules of which they are made.
 use Rattle.std.proofs.Common.{◌≡◌, ℕ, suc, ◌+◌, ◌<◌, List, [], ◌∷◌, ◌++◌, length, map, Option, Some, None, Bool, true, false, cond, refl, sym, ap, ◌∙◌, subst, arith, Ok, Err, Result, option_map, if◌then◌else◌, append_assoc, take, drop, get_or, Bor}
-use Rattle.std.proofs.lemmas.List.{append-nil, length-map, map-append}
+use Rattle.std.proofs.lemmas.List.{append-nil, length-map}
 use Rattle.std.proofs.Math.ListN.{take-append-drop, length-take}
 use Rattle.std.specs.List.{position_from, range_with_len, Contains}
 use Rattle.std.specs.Str.{bytes_eq}
@@ -18,7 +18,6 @@ use Rattle.sv_meaning.specs.Names.{has_name}
 use Rattle.sv_hierarchy.specs.Scopes.{Known, Library, module_named, all_used, unused, the_one, top_named, top_module, instantiated_by, design_start, unclear}
 use Rattle.sv_typing.proofs.Lists.{in_first, in_second, in_fault, no_fault, then_clear, first_clear, second_clear}
 use Rattle.sv_loops.specs.Answers.{Answers, Gives}
-use Rattle.name_index.specs.Indexing.{place_of}
 use Rattle.sv_hierarchy.specs.Libraries.{modules_in, repeated, IsLibraryOf}
 use Rattle.sv_modules.specs.Libraries.{module_name, trees_of, used_in, unused_from, only_one}
 use Rattle.sv_modules.proofs.Turns.{take_next, drop_next, map_next}
@@ -64,8 +63,7 @@ named_from k (m ∷ all) (t ∷ trees) name e h =
     named_if (bytes_eq m.tree.name.text name) (bytes_eq name t.name.text) m (module_named name all) k _
     (nat_list_eq_equiv.symm m.tree.name.text name ∙ ap (λ (x : Module). bytes_eq name x.name.text) a) c (named_from (k + 1) all trees name b d)
 
-pub number_is : (all : Library) (trees : List Module) (name : Name) (o : Option ℕ) → o ≡ place_of (map module_name trees) name → IsLibraryOf trees all → option_map (λ (x : Known). x.number) (module_named name all) ≡ o
-unfolding place_of
+pub number_is : (all : Library) (trees : List Module) (name : Name) (o : Option ℕ) → o ≡ position_from (bytes_eq name) 0 (map module_name trees) → IsLibraryOf trees all → option_map (λ (x : Known). x.number) (module_named name all) ≡ o
 number_is all trees name o e h = named_from 0 all trees name h.trees h.numbers ∙ sym e
 
 -- ---- the top
@@ -142,12 +140,16 @@ named_none all name h = go (module_named name all) h
 
 -- ---- the modules among the parts of a text
 
-part_append : (a : List SourcePart) (x : SourcePart) → modules_in (a ++ x ∷ []) ≡ modules_in a ++ modules_in (x ∷ [])
+part_append : (a b : List SourcePart) → modules_in (a ++ b) ≡ modules_in a ++ modules_in b
 unfolding modules_in
-part_append [] x = refl
-part_append (part.Module m ∷ a) x = ap (λ more. m ∷ more) (part_append a x)
-part_append (part.Typedef d ∷ a) x = part_append a x
-part_append (part.Param p ∷ a) x = part_append a x
+part_append [] b = refl
+part_append (part.Module m ∷ a) b = ap (λ more. m ∷ more) (part_append a b)
+part_append (part.Typedef d ∷ a) b = part_append a b
+part_append (part.Param p ∷ a) b = part_append a b
+
+first_module : (x : SourcePart) (m : Module) (more : List SourcePart) → x ≡ part.Module m → modules_in (x ∷ more) ≡ m ∷ modules_in more
+unfolding modules_in
+first_module x m more e = ap (λ (y : SourcePart). modules_in (y ∷ more)) e
 
 one_module : (x : SourcePart) (m : Module) → x ≡ part.Module m → modules_in (x ∷ []) ≡ m ∷ []
 unfolding modules_in
@@ -161,12 +163,8 @@ one_param : (x : SourcePart) (p : Param) → x ≡ part.Param p → modules_in (
 unfolding modules_in
 one_param x p e = ap (λ (y : SourcePart). modules_in (y ∷ [])) e
 
-pub no_parts : modules_in [] ≡ []
-unfolding modules_in
-no_parts = refl
-
 part_next : (all : List SourcePart) (i : ℕ) (x : SourcePart) → i < length all → x ≡ get_or all i x → modules_in (take (i + 1) all) ≡ modules_in (take i all) ++ modules_in (x ∷ [])
-part_next all i x h e = ap modules_in (take_next all i x h e) ∙ part_append (take i all) x
+part_next all i x h e = ap modules_in (take_next all i x h e) ∙ part_append (take i all) (x ∷ [])
 
 pub module_next : (all : List SourcePart) (i : ℕ) (x : SourcePart) (m : Module) → i < length all → x ≡ get_or all i x → x ≡ part.Module m → modules_in (take (i + 1) all) ≡ modules_in (take i all) ++ m ∷ []
 module_next all i x m h e g = part_next all i x h e ∙ ap (λ more. modules_in (take i all) ++ more) (one_module x m g)
@@ -177,18 +175,16 @@ typedef_next all i x d h e g = part_next all i x h e ∙ ap (λ more. modules_in
 pub param_next : (all : List SourcePart) (i : ℕ) (x : SourcePart) (p : Param) → i < length all → x ≡ get_or all i x → x ≡ part.Param p → modules_in (take (i + 1) all) ≡ modules_in (take i all)
 param_next all i x p h e g = part_next all i x h e ∙ ap (λ more. modules_in (take i all) ++ more) (one_param x p g) ∙ append-nil (modules_in (take i all))
 
+-- a module, with those before it and those behind it
+pub modules_split : (all : List SourcePart) (i : ℕ) (x : SourcePart) (m : Module) → i < length all → x ≡ get_or all i x → x ≡ part.Module m → modules_in all ≡ modules_in (take i all) ++ m ∷ modules_in (drop (i + 1) all)
+modules_split all i x m h e g =
+    ap modules_in (sym (take-append-drop i all) ∙ ap (λ (ps : List SourcePart). take i all ++ ps) (drop_next all i x h e)) ∙ part_append (take i all) (x ∷ drop (i + 1) all)
+    ∙ ap (λ (ms : List Module). modules_in (take i all) ++ ms) (first_module x m (drop (i + 1) all) g)
+
 -- ---- modules one by one
 
 pub trees_next : (all : List (Bor Module)) (i : ℕ) (m : Bor Module) → i < length all → m ≡ get_or all i m → trees_of (take (i + 1) all) ≡ trees_of (take i all) ++ m.now ∷ []
 trees_next all i m h e = map_next (λ (x : Bor Module). x.now) all i m h e
-
-pub trees_split : (all : List (Bor Module)) (i : ℕ) (m : Bor Module) → i < length all → m ≡ get_or all i m → trees_of all ≡ trees_of (take i all) ++ m.now ∷ trees_of (drop (i + 1) all)
-trees_split all i m h e =
-    ap trees_of (sym (take-append-drop i all) ∙ ap (λ (x : List (Bor Module)). take i all ++ x) (drop_next all i m h e)) ∙ map-append (λ (x : Bor Module). x.now) (take i all) (m ∷ drop (i + 1) all)
-
-pub no_repeated : repeated [] [] ≡ []
-unfolding repeated
-no_repeated = refl
 
 unused_append : (n : ℕ) (names : List Name) (a : List Module) (m : Module) → unused_from n names (a ++ m ∷ []) ≡ unused_from n names a ++ (if has_name m.name.text names then [] else (n + length a) ∷ [])
 unfolding unused_from
@@ -211,6 +207,3 @@ pub unused_next : (names : List Name) (all : List (Bor Module)) (i : ℕ) (m : B
 unused_next names all i m h e =
     ap (unused_from 0 names) (trees_next all i m h e) ∙ unused_append 0 names (trees_of (take i all)) m.now
     ∙ (let g : 0 + length (trees_of (take i all)) ≡ i = omega (arith, trees_len all i h) in ap (λ (k : ℕ). unused_from 0 names (trees_of (take i all)) ++ (if has_name m.now.name.text names then [] else k ∷ [])) g)
-
-pub trees_push : (old new : List (Bor Module)) (b : Bor Module) (m : Module) → new ≡ old ++ b ∷ [] → b.now ≡ m → trees_of new ≡ trees_of old ++ m ∷ []
-trees_push old new b m h e = ap trees_of h ∙ map-append (λ (x : Bor Module). x.now) old (b ∷ []) ∙ ap (λ (x : Module). trees_of old ++ x ∷ []) e

@@ -1,5 +1,5 @@
 -- Connections, one by one.
-use Rattle.std.proofs.Common.{◌≡◌, ◌⊎◌, inl, inr, ℕ, ◌+◌, ◌<◌, ◌≤◌, Bool, true, false, ◌||◌, List, [], ◌∷◌, ◌++◌, length, take, drop, get_or, map, Some, refl, sym, ap, ◌∙◌, subst, append_assoc, Ok, Err, Result, arith, not, Vec, Global}
+use Rattle.std.proofs.Common.{◌≡◌, inl, inr, ℕ, ◌+◌, ◌<◌, ◌≤◌, Bool, true, false, ◌||◌, List, [], ◌∷◌, ◌++◌, length, take, drop, get_or, map, Some, refl, sym, ap, ◌∙◌, subst, append_assoc, Ok, Err, Result, arith, not, Vec, Global}
 use Rattle.std.proofs.lemmas.List.{append-nil, map-append}
 use Rattle.std.specs.List.{Contains}
 use Rattle.std.specs.Result.{IsErrAnd}
@@ -21,7 +21,7 @@ use Rattle.sv_loops.proofs.Chains.{then_err, answers_err, answers_ok}
 use Rattle.sv_tree.specs.declared.design.Pin.{Pin}
 use Rattle.sv_modules.specs.declared.connect.Connection.{Connection as Coded}
 use Rattle.sv_modules.specs.Connections.{joined_is, connection_is}
-use Rattle.sv_modules.specs.Naming.{Holds, Adds, holds}
+use Rattle.sv_modules.specs.Naming.{Holds, Adds}
 use Rattle.sv_modules.specs.Putting.{IsPut, PutsPin}
 use Rattle.sv_modules.specs.declared.name_set.NameSet.{NameSet}
 use Rattle.sv_modules.proofs.Turns.{drop_next, drop_none, map_next}

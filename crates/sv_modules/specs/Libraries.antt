@@ -1,11 +1,9 @@
 -- The modules of a text (IEEE 1800-2017, 3.13 and 23.2).
-use Rattle.std.specs.Prelude.{◌≡◌, ℕ, suc, List, [], ◌∷◌, ◌++◌, length, map, Ok, Err, if◌then◌else◌}
+use Rattle.std.specs.Prelude.{ℕ, suc, List, [], ◌∷◌, ◌++◌, length, map, Ok, Err, if◌then◌else◌}
 use Rattle.std.specs.Borrow.{Bor}
-use Rattle.std.specs.List.{range_with_len}
 use Rattle.sv_tree.specs.declared.design.Module.{Module}
 use Rattle.sv_tree.specs.declared.design.SourcePart.{SourcePart}
-use Rattle.sv_tree.specs.declared.design.SourcePart.TheVariants as part
-use Rattle.sv_meaning.specs.Faults.{Faults, fault_if, or_then, Judged, provided, twice}
+use Rattle.sv_meaning.specs.Faults.{Judged, provided}
 use Rattle.sv_meaning.specs.Layouts.{Name}
 use Rattle.sv_meaning.specs.Names.{has_name}
 use Rattle.sv_hierarchy.specs.Libraries.{modules_in, repeated}

@@ -1,15 +1,12 @@
 // The modules of a text, with their numbers.
-ghost use Rattle.std.specs.Prelude.{map};
-ghost use Rattle.sv_modules.specs.Naming.{Indexes};
-ghost use Rattle.sv_modules.specs.Libraries.{module_name, trees_of};
+ghost use Rattle.sv_modules.specs.Named.{AreNamed};
 
-use name_index::NameIndex;
+use indexmap::IndexMap;
 use sv_tree::Module;
 
-/// The modules of a text in its order, no two of one name.
+/// The modules of a text in its order, each under its name, no two of one name.
 #[derive(Drop)]
 pub struct Modules<'a> {
-    pub(crate) list: Vec<&'a Module>,
-    pub(crate) index: NameIndex,
-    ghost indexed: { Indexes index (map module_name (trees_of list.items)) },
+    pub(crate) named: IndexMap<&'a [u8], &'a Module>,
+    ghost keyed: { AreNamed named },
 }
