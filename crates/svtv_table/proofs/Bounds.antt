@@ -21,7 +21,7 @@ use Rattle.table_cells.specs.declared.table.RowKind.TheVariants.{In, Out}
 use Rattle.table_cells.specs.declared.table.Table.{Table}
 use Rattle.svtv_table.proofs.Declared.{all_distinct, collected}
 
-abbrev made : ℕ → List VarDecl → List (ℕ × List Drive) → List Sample → Bound
+abbrev pub made : ℕ → List VarDecl → List (ℕ × List Drive) → List Sample → Bound
 made phases vars drives samples = record { phases = phases; vars = vars; drives = drives; samples = samples }
 
 pub bound_is : (wires ws : List Signal) (table : Table) (rows : List Row) (vars : List VarDecl) (work : Work) → ws ≡ wires → rows ≡ table.rows → vars ≡ variables_of ws rows → Follows ws vars rows work

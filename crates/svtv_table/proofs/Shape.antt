@@ -11,8 +11,6 @@ use Rattle.svtv_table.specs.Drives.{phase_drive}
 use Rattle.svtv_table.specs.Faults.{at_each, fault, fault_if}
 use Rattle.svtv_table.specs.Names.{path_of, signal_at, signal_of, width_of, wire_number, wire_of}
 use Rattle.svtv_table.specs.Reading.{IsWellFormed}
-use Rattle.svtv_table.specs.declared.bound.Drive.{Drive}
-use Rattle.svtv_table.specs.declared.bound.Sample.{Sample}
 use Rattle.svtv_table.specs.declared.bound.VarDecl.{VarDecl}
 use Rattle.table_cells.specs.declared.table.Cell.{Cell}
 use Rattle.table_cells.specs.declared.table.Cell.TheVariants as cell

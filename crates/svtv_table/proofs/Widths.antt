@@ -1,7 +1,7 @@
 -- Drives are as wide as their wires, for a table without faults.
 use Rattle.std.proofs.Common.{◌≡◌, ◌<◌, ◌≤◌, ◌+◌, ℕ, zero, suc, List, [], ◌∷◌, ◌++◌, map, length, get_or, replicate, Bool, true, false, cond, eqb, ◌||◌, Option, Some, None, refl, sym, ◌∙◌, ap, subst, arith}
 use Rattle.std.specs.Prelude.{All, is_none, is_some, not, unwrap_or}
-use Rattle.std.specs.List.{AllByRecursion, flat_map, list_any}
+use Rattle.std.specs.List.{AllByRecursion, flat_map}
 use Rattle.std.specs.Str.{bytes_eq}
 use Rattle.std.specs.Cmp.Lexicographic.{nat_list_eq_equiv}
 use Rattle.std.proofs.lemmas.Bool.Decides.{nat_tests}
@@ -27,8 +27,7 @@ use Rattle.svtv_table.specs.declared.bound.VarDecl.{VarDecl}
 use Rattle.table_cells.specs.declared.table.Cell.{Cell}
 use Rattle.table_cells.specs.declared.table.Cell.TheVariants as cell
 use Rattle.table_cells.specs.declared.table.Row.{Row}
-use Rattle.table_cells.specs.declared.table.RowKind.{RowKind}
-use Rattle.table_cells.specs.declared.table.RowKind.TheVariants.{In, Out}
+use Rattle.table_cells.specs.declared.table.RowKind.TheVariants.{In}
 use Rattle.svtv_table.proofs.Declared.{has, has-others, others}
 use Rattle.svtv_table.proofs.Formed.{both_none, none_at}
 use Rattle.svtv_table.proofs.Places.{is_placed, some_from, within_from}

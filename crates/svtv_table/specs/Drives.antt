@@ -1,5 +1,5 @@
 -- What drives an input in each phase (this project's rules).
-use Rattle.std.specs.Prelude.{ℕ, zero, suc, not, Bool, false, List, [], ◌∷◌, replicate, slice_index_or, Option, Some, None, unwrap_or, if◌then◌else◌}
+use Rattle.std.specs.Prelude.{ℕ, zero, suc, not, false, List, [], ◌∷◌, replicate, slice_index_or, Option, Some, None, unwrap_or, if◌then◌else◌}
 use Rattle.fourvec.specs.declared.Bit.{Bit}
 use Rattle.fourvec.specs.declared.Bit.TheVariants.{Floating}
 use Rattle.fourvec.specs.Bits.{is_known, not_of}

@@ -8,14 +8,15 @@ ghost use Rattle.svtv_table.specs.Binding as spec;
 ghost use Rattle.svtv_table.specs.Drives.{phase_drive};
 ghost use Rattle.svtv_table.specs.Faults.{Stops, at_each};
 ghost use Rattle.svtv_table.specs.Following.{Follows};
+ghost use Rattle.svtv_table.specs.Indexing.{listed};
 ghost use Rattle.svtv_table.specs.Names as names;
 ghost use Rattle.svtv_table.specs.Reading.{IsWellFormed};
 ghost use Rattle.svtv_table.specs.Stimuli.{Means};
 
-use crate::bound::{Bound, Drive};
+use crate::bound::{Bound, Drive, VarDecl};
 use crate::drives::drives_of;
 use crate::faults::refused;
-use crate::names::{Target, Variables, Wires, variables_of, wire_of, wires_of};
+use crate::names::{Target, Variables, Wires, declarations, variables_of, wire_of, wires_of};
 use crate::samples::{Samples, sample_cells};
 use items::Items;
 use name_index::NameIndex;
@@ -68,17 +69,17 @@ fn target_of(wires: &Wires, row: &Row, line: usize) -> Result<Target, TextErr>
 #[tactic(auto, unfolding(crate::specs::Binding::in_faults, crate::specs::Faults::Stops))]
 fn bind_in(
     alloc: Global,
-    variables: &Variables,
+    variables: &Variables<'_>,
     target: &Target,
     row: &Row,
     work: &mut Work,
 ) -> Result<(), TextErr>
     requires { target.now.wire < length work.old.driven.items }
-    ensures drives { OnOk result (work.new.drives ≡ work.old.drives ++ (target.now.wire, at_each (phase_drive target.now.width variables.now.list.items row.now.cells) 0 row.now.cells) ∷ []) }
+    ensures drives { OnOk result (work.new.drives ≡ work.old.drives ++ (target.now.wire, at_each (phase_drive target.now.width (listed variables.now) row.now.cells) 0 row.now.cells) ∷ []) }
     ensures driven { OnOk result (work.new.driven.items ≡ slice_set work.old.driven.items target.now.wire true) }
     ensures samples { OnOk result (work.new.samples ≡ work.old.samples) }
-    ensures fine { OnOk result (spec.in_faults (slice_index_or work.old.driven.items target.now.wire false) target.now.width variables.now.list.items target.now.line row.now.cells ≡ []) }
-    ensures err { IfErr result (Stops (spec.in_faults (slice_index_or work.old.driven.items target.now.wire false) target.now.width variables.now.list.items target.now.line row.now.cells)) }
+    ensures fine { OnOk result (spec.in_faults (slice_index_or work.old.driven.items target.now.wire false) target.now.width (listed variables.now) target.now.line row.now.cells ≡ []) }
+    ensures err { IfErr result (Stops (spec.in_faults (slice_index_or work.old.driven.items target.now.wire false) target.now.width (listed variables.now) target.now.line row.now.cells)) }
 {
     if work.driven[target.wire] {
         return Err(refused(30, target.line, 2));
@@ -94,17 +95,17 @@ fn bind_in(
 fn bind_row(
     alloc: Global,
     wires: &Wires,
-    variables: &Variables,
+    variables: &Variables<'_>,
     before: &[Row],
     row: &Row,
     work: &mut Work,
 ) -> Result<(), TextErr>
     requires widths { All (λ wire. spec.HasWidth wire.width) wires.now.list.now }
     requires room { length before.now + 1 < 2 ^ 64 }
-    requires follows { Follows wires.now.list.now variables.now.list.items before.now work.old }
-    ensures follows { OnOk result (Follows wires.now.list.now variables.now.list.items (before.now ++ row.now ∷ []) work.new) }
-    ensures fine { OnOk result (spec.faults_after wires.now.list.now variables.now.list.items before.now (length before.now + 1) row.now ≡ []) }
-    ensures err { IfErr result (Stops (spec.faults_after wires.now.list.now variables.now.list.items before.now (length before.now + 1) row.now)) }
+    requires follows { Follows wires.now.list.now (listed variables.now) before.now work.old }
+    ensures follows { OnOk result (Follows wires.now.list.now (listed variables.now) (before.now ++ row.now ∷ []) work.new) }
+    ensures fine { OnOk result (spec.faults_after wires.now.list.now (listed variables.now) before.now (length before.now + 1) row.now ≡ []) }
+    ensures err { IfErr result (Stops (spec.faults_after wires.now.list.now (listed variables.now) before.now (length before.now + 1) row.now)) }
 {
     let target = target_of(wires, row, before.len() + 1)?;
     match row.kind {
@@ -117,13 +118,13 @@ fn bind_row(
 fn bind_rows(
     alloc: Global,
     wires: &Wires,
-    variables: &Variables,
+    variables: &Variables<'_>,
     rows: &[Row],
 ) -> Result<Work, TextErr>
     requires { All (λ wire. spec.HasWidth wire.width) wires.now.list.now }
-    ensures follows { IfOk result (Follows wires.now.list.now variables.now.list.items rows.now) }
-    ensures fine { OnOk result (at_each (spec.row_faults wires.now.list.now variables.now.list.items rows.now) 0 rows.now ≡ []) }
-    ensures err { IfErr result (Stops (at_each (spec.row_faults wires.now.list.now variables.now.list.items rows.now) 0 rows.now)) }
+    ensures follows { IfOk result (Follows wires.now.list.now (listed variables.now) rows.now) }
+    ensures fine { OnOk result (at_each (spec.row_faults wires.now.list.now (listed variables.now) rows.now) 0 rows.now ≡ []) }
+    ensures err { IfErr result (Stops (at_each (spec.row_faults wires.now.list.now (listed variables.now) rows.now) 0 rows.now)) }
 {
     let mut work = Work {
         drives: Items::new(alloc),
@@ -139,8 +140,8 @@ fn bind_rows(
     Ok(work)
 }
 
-fn finished(phases: usize, variables: Variables, work: Work) -> Bound
-    ensures { result ≡ record { phases = phases; vars = variables.list.items; drives = work.drives; samples = work.samples.list } }
+fn finished(phases: usize, declared: Items<VarDecl>, work: Work) -> Bound
+    ensures { result ≡ record { phases = phases; vars = declared; drives = work.drives; samples = work.samples.list } }
 {
     let Work {
         drives,
@@ -149,7 +150,7 @@ fn finished(phases: usize, variables: Variables, work: Work) -> Bound
     } = work;
     Bound {
         phases,
-        vars: Items::from_vec(variables.list),
+        vars: declared,
         drives,
         samples: samples.list,
     }
@@ -166,7 +167,8 @@ fn bind_table(alloc: Global, table: &Table, wires: &[Signal]) -> Result<Bound, T
     let wires = wires_of(alloc, wires)?;
     let variables = variables_of(alloc, &wires, rows)?;
     let work = bind_rows(alloc, &wires, &variables, rows)?;
-    Ok(finished(table.phases, variables, work))
+    let vars = declarations(alloc, &variables)?;
+    Ok(finished(table.phases, vars, work))
 }
 
 /// What a table drives and samples in a design. E29 is a path that no wire has, or an `in` row of what is no input; E30 a

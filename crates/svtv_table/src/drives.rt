@@ -6,6 +6,7 @@ ghost use Rattle.fourvec.specs.declared.Bit.TheVariants.{Floating};
 ghost use Rattle.svtv_table.specs.Binding.{HasWidth, cell_differs, drive_faults, phase_faults};
 ghost use Rattle.svtv_table.specs.Drives as spec;
 ghost use Rattle.svtv_table.specs.Faults.{Stops, at_each};
+ghost use Rattle.svtv_table.specs.Indexing.{listed};
 
 use crate::bound::Drive;
 use crate::faults::refused;
@@ -69,8 +70,8 @@ fn flipped_before(before: &Option<Drive>) -> Option<Drive>
 }
 
 // Every name of an `in` row is that of a variable.
-fn chosen(variables: &Variables, name: &Name) -> Drive
-    ensures { result ≡ spec.chosen variables.now.list.items name.now }
+fn chosen(variables: &Variables<'_>, name: &Name) -> Drive
+    ensures { result ≡ spec.chosen (listed variables.now) name.now }
 {
     Drive::Chosen {
         number: number_of(variables, name).unwrap_or(0),
@@ -79,9 +80,14 @@ fn chosen(variables: &Variables, name: &Name) -> Drive
 }
 
 // What a cell makes of the drive of the phase before.
-fn drive_of(variables: &Variables, width: u8, cell: &Cell, before: &Option<Drive>) -> Option<Drive>
+fn drive_of(
+    variables: &Variables<'_>,
+    width: u8,
+    cell: &Cell,
+    before: &Option<Drive>,
+) -> Option<Drive>
     requires { HasWidth width }
-    ensures { result ≡ spec.drive_of width variables.now.list.items cell.now before.now }
+    ensures { result ≡ spec.drive_of width (listed variables.now) cell.now before.now }
 {
     match cell {
         Cell::Literal(literal) => fixed(literal, width),
@@ -102,8 +108,8 @@ fn unless_empty<'a>(cell: &'a Cell, before: &'a Cell) -> &'a Cell
 }
 
 // Whether a cell names a variable of another width.
-fn differs(variables: &Variables, width: u8, cell: &Cell) -> bool
-    ensures { result ≡ cell_differs width variables.now.list.items cell.now }
+fn differs(variables: &Variables<'_>, width: u8, cell: &Cell) -> bool
+    ensures { result ≡ cell_differs width (listed variables.now) cell.now }
 {
     match cell {
         Cell::Named(name) => match width_under(variables, name) {
@@ -117,7 +123,7 @@ fn differs(variables: &Variables, width: u8, cell: &Cell) -> bool
 // The drive of a phase, from the cell that counts there and the drive of the phase before.
 #[tactic(auto, unfolding(crate::specs::Binding::drive_faults, crate::specs::Faults::Stops))]
 fn phase_drive(
-    variables: &Variables,
+    variables: &Variables<'_>,
     target: &Target,
     phase: usize,
     cell: &Cell,
@@ -125,9 +131,9 @@ fn phase_drive(
     before: &Option<Drive>,
 ) -> Result<Drive, TextErr>
     requires { phase + 3 < 2 ^ 64 }
-    ensures drive { IfOk result (λ drive. spec.drive_of target.now.width variables.now.list.items held.now before.now ≡ Some drive) }
-    ensures fine { OnOk result (drive_faults (spec.drive_of target.now.width variables.now.list.items held.now before.now) target.now.width variables.now.list.items target.now.line phase cell.now ≡ []) }
-    ensures err { IfErr result (Stops (drive_faults (spec.drive_of target.now.width variables.now.list.items held.now before.now) target.now.width variables.now.list.items target.now.line phase cell.now)) }
+    ensures drive { IfOk result (λ drive. spec.drive_of target.now.width (listed variables.now) held.now before.now ≡ Some drive) }
+    ensures fine { OnOk result (drive_faults (spec.drive_of target.now.width (listed variables.now) held.now before.now) target.now.width (listed variables.now) target.now.line phase cell.now ≡ []) }
+    ensures err { IfErr result (Stops (drive_faults (spec.drive_of target.now.width (listed variables.now) held.now before.now) target.now.width (listed variables.now) target.now.line phase cell.now)) }
 {
     let Some(drive) = drive_of(variables, target.width, held, before) else {
         return Err(refused(28, target.line, phase + 3));
@@ -148,13 +154,13 @@ fn copied(drive: &Drive) -> Drive
 #[tactic(auto, unfolding(crate::specs::Faults::Stops, crate::specs::Drives::held_before, crate::specs::Drives::drive_before))]
 pub fn drives_of(
     alloc: Global,
-    variables: &Variables,
+    variables: &Variables<'_>,
     target: &Target,
     cells: &[Cell],
 ) -> Result<Items<Drive>, TextErr>
-    ensures drives { IfOk result (λ drives. drives ≡ at_each (spec.phase_drive target.now.width variables.now.list.items cells.now) 0 cells.now) }
-    ensures fine { OnOk result (at_each (phase_faults target.now.width variables.now.list.items cells.now target.now.line) 0 cells.now ≡ []) }
-    ensures err { IfErr result (Stops (at_each (phase_faults target.now.width variables.now.list.items cells.now target.now.line) 0 cells.now)) }
+    ensures drives { IfOk result (λ drives. drives ≡ at_each (spec.phase_drive target.now.width (listed variables.now) cells.now) 0 cells.now) }
+    ensures fine { OnOk result (at_each (phase_faults target.now.width (listed variables.now) cells.now target.now.line) 0 cells.now ≡ []) }
+    ensures err { IfErr result (Stops (at_each (phase_faults target.now.width (listed variables.now) cells.now target.now.line) 0 cells.now)) }
 {
     let free = Cell::Free;
     let mut held = &free;

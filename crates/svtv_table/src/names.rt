@@ -1,13 +1,16 @@
-// The wires of a design and the variables of a table, by name. Both are found by hash indices, in which the first of a name
-// counts, so that binding takes linear time. A variable is numbered where an `in` row names it first and gets the width of that
-// row's wire; whether other rows fit is judged when they are bound.
+// The wires of a design and the variables of a table, by name. Wires are found by a hash index, in which the first of a path
+// counts, and variables are kept in one map from their names to their widths, in the order in which they appear, so that binding
+// takes linear time. A variable stands where an `in` row names it first and gets the width of that row's wire; whether other rows
+// fit is judged when they are bound. The map borrows the names from the rows; they are copied once, when all rows are bound.
 ghost use Rattle.std.specs.Prelude.{◌≡◌, ◌≤◌, ◌<◌, map, length, All, IfOk, IfSome, OnOk};
 ghost use Rattle.svtv_table.specs.Binding.{HasWidth, declared_in, variables_of};
-ghost use Rattle.svtv_table.specs.Indexing.{Indexes, wide, with_var, with_vars};
+ghost use Rattle.svtv_table.specs.Indexing.{Indexes, listed, wide, with_var, with_vars};
 ghost use Rattle.svtv_table.specs.Names as spec;
 ghost use Rattle.svtv_table.specs.Names.{name_in, name_of, names_in, path_of};
 
 use crate::bound::VarDecl;
+use indexmap::IndexMap;
+use items::Items;
 use name_index::NameIndex;
 use std::alloc::{AllocError, Global};
 use sv_outside::{Name, Signal};
@@ -21,13 +24,8 @@ pub struct Wires<'a> {
     ghost indexed: { Indexes index (map path_of list.now) },
 }
 
-/// The variables of a table.
-#[derive(Drop)]
-pub struct Variables {
-    pub list: Vec<VarDecl>,
-    pub index: NameIndex,
-    ghost indexed: { Indexes index (map name_of list.items) },
-}
+/// The variables of a table: the width of each under its name, which the table's rows hold.
+pub type Variables<'a> = IndexMap<&'a [u8], u8>;
 
 /// The signal of a row: the number of its wire, the wire's width, and the row's number from 1.
 #[derive(Clone, Copy)]
@@ -99,104 +97,94 @@ fn width_of(wires: &Wires, path: &Name) -> u8
 }
 
 /// The number of a variable.
-#[tactic(auto, using(name_index::proofs::Indexes::place_within))]
-pub fn number_of(variables: &Variables, name: &Name) -> Option<usize>
-    ensures is { result ≡ spec.number_of variables.now.list.items name.now }
-    ensures within { IfSome result (λ number. number < length variables.now.list.items) }
+pub fn number_of(variables: &Variables<'_>, name: &Name) -> Option<usize>
+    ensures is { result ≡ spec.number_of (listed variables.now) name.now }
+    ensures within { IfSome result (λ number. number < length (listed variables.now)) }
 {
-    variables.index.number(name.bytes())
+    variables.get_index_of(name.bytes())
 }
 
 /// The width of a variable.
-pub fn width_under(variables: &Variables, name: &Name) -> Option<u8>
-    ensures { result ≡ spec.width_under variables.now.list.items name.now }
+pub fn width_under(variables: &Variables<'_>, name: &Name) -> Option<u8>
+    ensures { result ≡ spec.width_under (listed variables.now) name.now }
 {
-    match number_of(variables, name) {
-        Some(number) => Some(variables.list[number].width),
-        None => None,
-    }
+    variables.get(name.bytes()).copied()
 }
 
-fn add(
-    list: &mut Vec<VarDecl>,
-    index: &mut NameIndex,
-    name: &Name,
-    width: u8,
-) -> Result<(), AllocError>
-    requires { Indexes index.old (map name_of list.old.items) }
-    ensures list { OnOk result (list.new.items ≡ with_var list.old.items (record { name = name.now; width = width })) }
-    ensures indexed { OnOk result (Indexes index.new (map name_of list.new.items)) }
+// Puts in a variable behind the others, unless its name is there.
+fn add<'a>(variables: &mut Variables<'a>, name: &'a Name, width: u8) -> Result<(), AllocError>
+    ensures { OnOk result (listed variables.new ≡ with_var (listed variables.old) (record { name = name.now; width = width })) }
 {
-    if index.number(name.bytes()).is_some() {
+    if number_of(variables, name).is_some() {
         return Ok(());
     }
-    index.note(name.bytes(), list.len())?;
-    let name = name.copy()?;
-    list.push(VarDecl { name, width })?;
+    variables.insert(name.bytes(), width)?;
     Ok(())
 }
 
-fn add_cell(
-    list: &mut Vec<VarDecl>,
-    index: &mut NameIndex,
-    cell: &Cell,
-    width: u8,
-) -> Result<(), AllocError>
-    requires { Indexes index.old (map name_of list.old.items) }
-    ensures list { OnOk result (list.new.items ≡ with_vars list.old.items (wide width (name_in cell.now))) }
-    ensures indexed { OnOk result (Indexes index.new (map name_of list.new.items)) }
+fn add_cell<'a>(variables: &mut Variables<'a>, cell: &'a Cell, width: u8) -> Result<(), AllocError>
+    ensures { OnOk result (listed variables.new ≡ with_vars (listed variables.old) (wide width (name_in cell.now))) }
 {
     match cell {
-        Cell::Named(name) => add(list, index, name, width),
+        Cell::Named(name) => add(variables, name, width),
         _ => Ok(()),
     }
 }
 
-fn add_cells(
-    list: &mut Vec<VarDecl>,
-    index: &mut NameIndex,
-    cells: &[Cell],
+fn add_cells<'a>(
+    variables: &mut Variables<'a>,
+    cells: &'a [Cell],
     width: u8,
 ) -> Result<(), AllocError>
-    requires { Indexes index.old (map name_of list.old.items) }
-    ensures list { OnOk result (list.new.items ≡ with_vars list.old.items (wide width (names_in cells.now))) }
-    ensures indexed { OnOk result (Indexes index.new (map name_of list.new.items)) }
+    ensures { OnOk result (listed variables.new ≡ with_vars (listed variables.old) (wide width (names_in cells.now))) }
 {
     for cell in cells {
-        add_cell(list, index, cell, width)?;
+        add_cell(variables, cell, width)?;
     }
     Ok(())
 }
 
-fn add_row(
-    list: &mut Vec<VarDecl>,
-    index: &mut NameIndex,
-    wires: &Wires,
-    row: &Row,
-) -> Result<(), AllocError>
-    requires widths { All (λ wire. HasWidth wire.width) wires.now.list.now }
-    requires indexed { Indexes index.old (map name_of list.old.items) }
-    ensures list { OnOk result (list.new.items ≡ with_vars list.old.items (declared_in wires.now.list.now row.now)) }
-    ensures indexed { OnOk result (Indexes index.new (map name_of list.new.items)) }
+fn add_row<'a>(variables: &mut Variables<'a>, wires: &Wires, row: &'a Row) -> Result<(), AllocError>
+    requires { All (λ wire. HasWidth wire.width) wires.now.list.now }
+    ensures { OnOk result (listed variables.new ≡ with_vars (listed variables.old) (declared_in wires.now.list.now row.now)) }
 {
     match row.kind {
         RowKind::In => {
             let width = width_of(wires, &row.path);
-            add_cells(list, index, row.cells.as_slice(), width)
+            add_cells(variables, row.cells.as_slice(), width)
         }
         RowKind::Out => Ok(()),
     }
 }
 
 /// The variables of a table's rows, in the order in which they appear.
-pub fn variables_of(alloc: Global, wires: &Wires, rows: &[Row]) -> Result<Variables, AllocError>
+pub fn variables_of<'a>(
+    alloc: Global,
+    wires: &Wires,
+    rows: &'a [Row],
+) -> Result<Variables<'a>, AllocError>
     requires { All (λ wire. HasWidth wire.width) wires.now.list.now }
-    ensures { IfOk result (λ variables. variables.list.items ≡ variables_of wires.now.list.now rows.now) }
+    ensures { IfOk result (λ variables. listed variables ≡ variables_of wires.now.list.now rows.now) }
 {
-    let mut list = Vec::new(alloc);
-    let mut index = NameIndex::new(alloc);
+    let mut variables = IndexMap::new(alloc);
     for row in rows {
-        add_row(&mut list, &mut index, wires, row)?;
+        add_row(&mut variables, wires, row)?;
     }
-    Ok(Variables { list, index })
+    Ok(variables)
+}
+
+/// The variables as a list, which holds its names.
+#[tactic(auto, unfolding(crate::specs::Indexing::listed))]
+pub fn declarations(alloc: Global, variables: &Variables<'_>) -> Result<Items<VarDecl>, AllocError>
+    ensures { IfOk result (λ vars. vars ≡ listed variables.now) }
+{
+    let mut vars = Items::new(alloc);
+    for (text, width) in variables {
+        let name = Name::new(alloc, *text)?;
+        vars.push(VarDecl {
+            name,
+            width: *width,
+        })?;
+    }
+    Ok(vars)
 }

@@ -3,7 +3,7 @@ ghost use Rattle.std.specs.Prelude.{◌≡◌, ◌<◌, ◌+◌, ◌^◌, ◌∷
 ghost use Rattle.svtv_table.specs.Binding.{cell_sample, name_faults, sample_faults, sample_name, taken_faults};
 ghost use Rattle.svtv_table.specs.Faults.{Stops, at_each};
 ghost use Rattle.svtv_table.specs.Following.{AreNamed};
-ghost use Rattle.svtv_table.specs.Indexing.{Indexes};
+ghost use Rattle.svtv_table.specs.Indexing.{listed};
 ghost use Rattle.svtv_table.specs.Names.{is_among};
 
 use crate::bound::Sample;
@@ -31,7 +31,7 @@ fn is_taken(samples: &Samples, name: &Name) -> bool
 #[tactic(auto, unfolding(crate::specs::Binding::taken_faults, crate::specs::Faults::Stops))]
 fn put_sample(
     samples: &mut Samples,
-    variables: &Variables,
+    variables: &Variables<'_>,
     target: &Target,
     phase: usize,
     name: &Name,
@@ -40,8 +40,8 @@ fn put_sample(
     requires room { phase + 3 < 2 ^ 64 }
     ensures list { OnOk result (samples.new.list ≡ samples.old.list ++ record { name = name.now; wire = target.now.wire; phase = phase; width = target.now.width } ∷ []) }
     ensures named { OnOk result (AreNamed samples.new) }
-    ensures fine { OnOk result (taken_faults variables.now.list.items (map sample_name samples.old.list) target.now.line phase name.now ≡ []) }
-    ensures err { IfErr result (Stops (taken_faults variables.now.list.items (map sample_name samples.old.list) target.now.line phase name.now)) }
+    ensures fine { OnOk result (taken_faults (listed variables.now) (map sample_name samples.old.list) target.now.line phase name.now ≡ []) }
+    ensures err { IfErr result (Stops (taken_faults (listed variables.now) (map sample_name samples.old.list) target.now.line phase name.now)) }
 {
     if is_taken(samples, name) || number_of(variables, name).is_some() {
         return Err(refused(32, target.line, phase + 3));
@@ -60,7 +60,7 @@ fn put_sample(
 #[tactic(auto, unfolding(crate::specs::Binding::name_faults))]
 fn sample_cell(
     samples: &mut Samples,
-    variables: &Variables,
+    variables: &Variables<'_>,
     target: &Target,
     phase: usize,
     cell: &Cell,
@@ -69,8 +69,8 @@ fn sample_cell(
     requires room { phase + 3 < 2 ^ 64 }
     ensures list { OnOk result (samples.new.list ≡ samples.old.list ++ cell_sample target.now.wire target.now.width phase cell.now) }
     ensures named { OnOk result (AreNamed samples.new) }
-    ensures fine { OnOk result (name_faults variables.now.list.items (map sample_name samples.old.list) target.now.line phase cell.now ≡ []) }
-    ensures err { IfErr result (Stops (name_faults variables.now.list.items (map sample_name samples.old.list) target.now.line phase cell.now)) }
+    ensures fine { OnOk result (name_faults (listed variables.now) (map sample_name samples.old.list) target.now.line phase cell.now ≡ []) }
+    ensures err { IfErr result (Stops (name_faults (listed variables.now) (map sample_name samples.old.list) target.now.line phase cell.now)) }
 {
     match cell {
         Cell::Named(name) => put_sample(samples, variables, target, phase, name),
@@ -81,15 +81,15 @@ fn sample_cell(
 /// Samples as the cells of an `out` row say.
 pub fn sample_cells(
     samples: &mut Samples,
-    variables: &Variables,
+    variables: &Variables<'_>,
     target: &Target,
     cells: &[Cell],
 ) -> Result<(), TextErr>
     requires { AreNamed samples.old }
     ensures list { OnOk result (samples.new.list ≡ samples.old.list ++ at_each (cell_sample target.now.wire target.now.width) 0 cells.now) }
     ensures named { OnOk result (AreNamed samples.new) }
-    ensures fine { OnOk result (at_each (sample_faults variables.now.list.items (map sample_name samples.old.list) cells.now target.now.line) 0 cells.now ≡ []) }
-    ensures err { IfErr result (Stops (at_each (sample_faults variables.now.list.items (map sample_name samples.old.list) cells.now target.now.line) 0 cells.now)) }
+    ensures fine { OnOk result (at_each (sample_faults (listed variables.now) (map sample_name samples.old.list) cells.now target.now.line) 0 cells.now ≡ []) }
+    ensures err { IfErr result (Stops (at_each (sample_faults (listed variables.now) (map sample_name samples.old.list) cells.now target.now.line) 0 cells.now)) }
 {
     for (phase, cell) in cells.iter().enumerate() {
         sample_cell(samples, variables, target, phase, cell)?;

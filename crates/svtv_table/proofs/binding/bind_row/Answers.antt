@@ -2,6 +2,7 @@ use Rattle.std.proofs.lemmas.Result.{IfOk-from_err}
 use Rattle.std.proofs.Common.{◌+◌, length}
 use Rattle.svtv_table.specs.Binding.{faults_after, faults_by, wire_faults}
 use Rattle.svtv_table.specs.Faults.{Stops}
+use Rattle.svtv_table.specs.Indexing.{listed}
 use Rattle.svtv_table.proofs.After.{after_in, on_ok_all}
 use Rattle.svtv_table.proofs.Each.{handed_on, stops_front}
 use Rattle.svtv_table.proofs.binding.bind_row.Goals as goal
@@ -10,7 +11,7 @@ pub returns-in_err-target-clause-err : goal.returns-in_err-target-clause-err
 unfolding faults_after
 returns-in_err-target-clause-err c =
     let wires = c.args.wires.now.list.now in
-    let vars = c.args.variables.now.list.items in
+    let vars = listed c.args.variables.now in
     let before = c.args.before.now in
     let line = length before + 1 in
     handed_on c.from_residual.result c.in_err-target.field-0.0 (Stops (faults_after wires vars before line c.args.row.now)) c.from_residual.ensures.1
@@ -19,7 +20,7 @@ returns-in_err-target-clause-err c =
 pub returns-in-In-clause-follows : goal.returns-in-In-clause-follows
 returns-in-In-clause-follows c =
     on_ok_all c.bind_in.result c.bind_in.ensures.drives c.bind_in.ensures.driven c.bind_in.ensures.samples
-    (after_in c.args.wires.now.list.now c.args.variables.now.list.items c.args.before.now c.args.row.now c.args.work.now c.bind_in.new.work c.in_ok-target.target.wire c.in_ok-target.target.width
+    (after_in c.args.wires.now.list.now (listed c.args.variables.now) c.args.before.now c.args.row.now c.args.work.now c.bind_in.new.work c.in_ok-target.target.wire c.in_ok-target.target.width
     c.in-In.is c.in_ok-target.ensures.wire c.in_ok-target.ensures.within c.in_ok-target.ensures.width c.requires.follows)
 
 pub returns-in_err-target-clause-fine : goal.returns-in_err-target-clause-fine

@@ -4,6 +4,7 @@ use Rattle.std.proofs.lemmas.List.{length-take-le, take_all, take_more}
 use Rattle.svtv_table.specs.Binding.{faults_after, row_faults}
 use Rattle.svtv_table.specs.Faults.{Stops, at_each}
 use Rattle.svtv_table.specs.Following.{Follows}
+use Rattle.svtv_table.specs.Indexing.{listed}
 use Rattle.table_cells.specs.declared.table.Row.{Row}
 use Rattle.svtv_table.proofs.Each.{each_none, go_on, handed_on, stop_at}
 use Rattle.svtv_table.proofs.binding.bind_rows.Goals as goal
@@ -14,7 +15,7 @@ bind_row-requires-clause-follows c = c.loop-at.invariant.follows
 pub loop-at-preserved : goal.loop-at-preserved
 loop-at-preserved c =
     let wires = c.args.wires.now.list.now in
-    let vars = c.args.variables.now.list.items in
+    let vars = listed c.args.variables.now in
     let rows = c.args.rows.now in
     let at = c.loop-at.at in
     let row : Row = c.index-rows-at.result in
@@ -27,16 +28,16 @@ loop-at-preserved c =
 
 pub returns-clause-follows : goal.returns-clause-follows
 returns-clause-follows c =
-    subst (λ (rs : List Row). Follows c.args.wires.now.list.now c.args.variables.now.list.items rs c.loop-at.work) (take_all c.loop-at.at c.args.rows.now c.loop-at-test.false) c.loop-at.invariant.follows
+    subst (λ (rs : List Row). Follows c.args.wires.now.list.now (listed c.args.variables.now) rs c.loop-at.work) (take_all c.loop-at.at c.args.rows.now c.loop-at-test.false) c.loop-at.invariant.follows
 
 pub returns-clause-fine : goal.returns-clause-fine
 returns-clause-fine c =
-    sym c.loop-at.invariant.fine ∙ each_none (row_faults c.args.wires.now.list.now c.args.variables.now.list.items c.args.rows.now) c.args.rows.now c.loop-at.at c.loop-at-test.false
+    sym c.loop-at.invariant.fine ∙ each_none (row_faults c.args.wires.now.list.now (listed c.args.variables.now) c.args.rows.now) c.args.rows.now c.loop-at.at c.loop-at-test.false
 
 pub returns-in_err-bind_row-clause-err : goal.returns-in_err-bind_row-clause-err
 returns-in_err-bind_row-clause-err c =
     let wires = c.args.wires.now.list.now in
-    let vars = c.args.variables.now.list.items in
+    let vars = listed c.args.variables.now in
     let rows = c.args.rows.now in
     let at = c.loop-at.at in
     let row : Row = c.index-rows-at.result in

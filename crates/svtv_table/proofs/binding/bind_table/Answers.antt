@@ -1,8 +1,10 @@
 use Rattle.std.proofs.lemmas.Result.{IfOk-from_err}
-use Rattle.std.proofs.Common.{◌∙◌, sym, subst}
+use Rattle.std.proofs.Common.{List, ◌∙◌, ap, sym, subst}
 use Rattle.svtv_table.specs.Binding.{bind_faults}
 use Rattle.svtv_table.specs.Faults.{Stops}
-use Rattle.svtv_table.proofs.Bounds.{bound_is, faults_are}
+use Rattle.svtv_table.specs.Indexing.{listed}
+use Rattle.svtv_table.specs.declared.bound.VarDecl.{VarDecl}
+use Rattle.svtv_table.proofs.Bounds.{bound_is, faults_are, made}
 use Rattle.svtv_table.proofs.Each.{handed_on}
 use Rattle.svtv_table.proofs.binding.bind_table.Goals as goal
 
@@ -12,17 +14,18 @@ returns-in_err-work-clause-err c =
     let e = c.in_err-work.field-0.0 in
     handed_on c.from_residual-in_err-work.result e (Stops (bind_faults wires c.args.table.now)) c.from_residual-in_err-work.ensures.1
     (subst (λ fs. Stops fs e)
-    (faults_are wires c.in_ok-wires.wires.list.now c.args.table.now c.as_slice-rows.result.now c.in_ok-variables.variables.list.items c.in_ok-wires.ensures c.as_slice-rows.ensures c.in_ok-variables.ensures)
+    (faults_are wires c.in_ok-wires.wires.list.now c.args.table.now c.as_slice-rows.result.now (listed c.in_ok-variables.variables) c.in_ok-wires.ensures c.as_slice-rows.ensures c.in_ok-variables.ensures)
     c.in_err-work.ensures.err)
 
 pub returns-clause-bound : goal.returns-clause-bound
 returns-clause-bound c =
-    c.finished.ensures ∙ bound_is c.args.wires.now c.in_ok-wires.wires.list.now c.args.table.now c.as_slice-rows.result.now c.in_ok-variables.variables.list.items c.in_ok-work.work
+    c.finished.ensures ∙ ap (λ (vars : List VarDecl). made c.args.table.now.phases vars c.in_ok-work.work.drives c.in_ok-work.work.samples.list) c.in_ok-vars.ensures
+    ∙ bound_is c.args.wires.now c.in_ok-wires.wires.list.now c.args.table.now c.as_slice-rows.result.now (listed c.in_ok-variables.variables) c.in_ok-work.work
     c.in_ok-wires.ensures c.as_slice-rows.ensures c.in_ok-variables.ensures c.in_ok-work.ensures.follows
 
 pub returns-clause-fine : goal.returns-clause-fine
 returns-clause-fine c =
-    sym (faults_are c.args.wires.now c.in_ok-wires.wires.list.now c.args.table.now c.as_slice-rows.result.now c.in_ok-variables.variables.list.items c.in_ok-wires.ensures c.as_slice-rows.ensures c.in_ok-variables.ensures)
+    sym (faults_are c.args.wires.now c.in_ok-wires.wires.list.now c.args.table.now c.as_slice-rows.result.now (listed c.in_ok-variables.variables) c.in_ok-wires.ensures c.as_slice-rows.ensures c.in_ok-variables.ensures)
     ∙ c.in_ok-work.ensures.fine
 
 pub returns-in_err-variables-clause-bound : goal.returns-in_err-variables-clause-bound
@@ -30,6 +33,12 @@ returns-in_err-variables-clause-bound c = IfOk-from_err _ _ c.from_residual-in_e
 
 pub returns-in_err-variables-clause-fine : goal.returns-in_err-variables-clause-fine
 returns-in_err-variables-clause-fine c = IfOk-from_err _ _ c.from_residual-in_err-variables.ensures.0
+
+pub returns-in_err-vars-clause-bound : goal.returns-in_err-vars-clause-bound
+returns-in_err-vars-clause-bound c = IfOk-from_err _ _ c.from_residual-in_err-vars.ensures.0
+
+pub returns-in_err-vars-clause-fine : goal.returns-in_err-vars-clause-fine
+returns-in_err-vars-clause-fine c = IfOk-from_err _ _ c.from_residual-in_err-vars.ensures.0
 
 pub returns-in_err-wires-clause-bound : goal.returns-in_err-wires-clause-bound
 returns-in_err-wires-clause-bound c = IfOk-from_err _ _ c.from_residual.ensures.0

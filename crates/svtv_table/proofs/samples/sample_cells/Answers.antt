@@ -2,12 +2,13 @@ use Rattle.std.proofs.lemmas.Result.{IfOk-from_err}
 use Rattle.std.proofs.Common.{arith, map, subst}
 use Rattle.svtv_table.specs.Binding.{name_faults, sample_faults, sample_name}
 use Rattle.svtv_table.specs.Faults.{Stops, at_each}
+use Rattle.svtv_table.specs.Indexing.{listed}
 use Rattle.svtv_table.proofs.Each.{handed_on, stop_at}
 use Rattle.svtv_table.proofs.samples.sample_cells.Goals as goal
 
 pub returns-in_err-sample_cell-clause-err : goal.returns-in_err-sample_cell-clause-err
 returns-in_err-sample_cell-clause-err c =
-    let vars = c.args.variables.now.list.items in
+    let vars = listed c.args.variables.now in
     let taken = map sample_name c.args.samples.now.list in
     let cells = c.args.cells.now in
     let faults = sample_faults vars taken cells c.args.target.now.line in
