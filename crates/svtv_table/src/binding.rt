@@ -156,6 +156,38 @@ fn finished(phases: usize, declared: Items<VarDecl>, work: Work) -> Bound
     }
 }
 
+// Binds a table whose variables are known.
+#[tactic(auto, unfolding(crate::specs::Faults::Stops))]
+fn bind_under(
+    alloc: Global,
+    table: &Table,
+    wires: &Wires,
+    variables: &Variables<'_>,
+) -> Result<Bound, TextErr>
+    requires widths { All (λ wire. spec.HasWidth wire.width) wires.now.list.now }
+    requires declared { listed variables.now ≡ spec.variables_of wires.now.list.now table.now.rows }
+    ensures bound { IfOk result (λ bound. bound ≡ spec.bound_of wires.now.list.now table.now) }
+    ensures fine { OnOk result (spec.bind_faults wires.now.list.now table.now ≡ []) }
+    ensures err { IfErr result (Stops (spec.bind_faults wires.now.list.now table.now)) }
+{
+    let rows = table.rows.as_slice();
+    let vars = declarations(alloc, variables)?;
+    let work = bind_rows(alloc, wires, variables, rows)?;
+    Ok(finished(table.phases, vars, work))
+}
+
+// Binds a table to wires that are found by name.
+#[tactic(auto, unfolding(crate::specs::Faults::Stops))]
+fn bind_wires(alloc: Global, table: &Table, wires: &Wires) -> Result<Bound, TextErr>
+    requires { All (λ wire. spec.HasWidth wire.width) wires.now.list.now }
+    ensures bound { IfOk result (λ bound. bound ≡ spec.bound_of wires.now.list.now table.now) }
+    ensures fine { OnOk result (spec.bind_faults wires.now.list.now table.now ≡ []) }
+    ensures err { IfErr result (Stops (spec.bind_faults wires.now.list.now table.now)) }
+{
+    let variables = variables_of(alloc, wires, table.rows.as_slice())?;
+    bind_under(alloc, table, wires, &variables)
+}
+
 #[tactic(auto, unfolding(crate::specs::Faults::Stops))]
 fn bind_table(alloc: Global, table: &Table, wires: &[Signal]) -> Result<Bound, TextErr>
     requires { All (λ wire. spec.HasWidth wire.width) wires.now }
@@ -163,12 +195,8 @@ fn bind_table(alloc: Global, table: &Table, wires: &[Signal]) -> Result<Bound, T
     ensures fine { OnOk result (spec.bind_faults wires.now table.now ≡ []) }
     ensures err { IfErr result (Stops (spec.bind_faults wires.now table.now)) }
 {
-    let rows = table.rows.as_slice();
     let wires = wires_of(alloc, wires)?;
-    let variables = variables_of(alloc, &wires, rows)?;
-    let work = bind_rows(alloc, &wires, &variables, rows)?;
-    let vars = declarations(alloc, &variables)?;
-    Ok(finished(table.phases, vars, work))
+    bind_wires(alloc, table, &wires)
 }
 
 /// What a table drives and samples in a design. E29 is a path that no wire has, or an `in` row of what is no input; E30 a

@@ -1,53 +1,22 @@
 use Rattle.std.proofs.lemmas.Result.{IfOk-from_err}
-use Rattle.std.proofs.Common.{List, ◌∙◌, ap, sym, subst}
-use Rattle.svtv_table.specs.Binding.{bind_faults}
+use Rattle.std.proofs.Common.{◌≡◌, [], List, subst}
+use Rattle.std.specs.Prelude.{IfOk, OnOk, IfErr}
+use Rattle.sv_outside.specs.declared.text.Signal.{Signal}
+use Rattle.svtv_table.specs.Binding.{bind_faults, bound_of}
 use Rattle.svtv_table.specs.Faults.{Stops}
-use Rattle.svtv_table.specs.Indexing.{listed}
-use Rattle.svtv_table.specs.declared.bound.VarDecl.{VarDecl}
-use Rattle.svtv_table.proofs.Bounds.{bound_is, faults_are, made}
-use Rattle.svtv_table.proofs.Each.{handed_on}
 use Rattle.svtv_table.proofs.binding.bind_table.Goals as goal
 
-pub returns-in_err-work-clause-err : goal.returns-in_err-work-clause-err
-returns-in_err-work-clause-err c =
-    let wires = c.args.wires.now in
-    let e = c.in_err-work.field-0.0 in
-    handed_on c.from_residual-in_err-work.result e (Stops (bind_faults wires c.args.table.now)) c.from_residual-in_err-work.ensures.1
-    (subst (λ fs. Stops fs e)
-    (faults_are wires c.in_ok-wires.wires.list.now c.args.table.now c.as_slice-rows.result.now (listed c.in_ok-variables.variables) c.in_ok-wires.ensures c.as_slice-rows.ensures c.in_ok-variables.ensures)
-    c.in_err-work.ensures.err)
-
 pub returns-clause-bound : goal.returns-clause-bound
-returns-clause-bound c =
-    c.finished.ensures ∙ ap (λ (vars : List VarDecl). made c.args.table.now.phases vars c.in_ok-work.work.drives c.in_ok-work.work.samples.list) c.in_ok-vars.ensures
-    ∙ bound_is c.args.wires.now c.in_ok-wires.wires.list.now c.args.table.now c.as_slice-rows.result.now (listed c.in_ok-variables.variables) c.in_ok-work.work
-    c.in_ok-wires.ensures c.as_slice-rows.ensures c.in_ok-variables.ensures c.in_ok-work.ensures.follows
+returns-clause-bound c = subst (λ (ws : List Signal). IfOk c.bind_wires.result (λ bound. bound ≡ bound_of ws c.args.table.now)) c.in_ok-wires.ensures c.bind_wires.ensures.bound
 
 pub returns-clause-fine : goal.returns-clause-fine
-returns-clause-fine c =
-    sym (faults_are c.args.wires.now c.in_ok-wires.wires.list.now c.args.table.now c.as_slice-rows.result.now (listed c.in_ok-variables.variables) c.in_ok-wires.ensures c.as_slice-rows.ensures c.in_ok-variables.ensures)
-    ∙ c.in_ok-work.ensures.fine
+returns-clause-fine c = subst (λ (ws : List Signal). OnOk c.bind_wires.result (bind_faults ws c.args.table.now ≡ [])) c.in_ok-wires.ensures c.bind_wires.ensures.fine
 
-pub returns-in_err-variables-clause-bound : goal.returns-in_err-variables-clause-bound
-returns-in_err-variables-clause-bound c = IfOk-from_err _ _ c.from_residual-in_err-variables.ensures.0
-
-pub returns-in_err-variables-clause-fine : goal.returns-in_err-variables-clause-fine
-returns-in_err-variables-clause-fine c = IfOk-from_err _ _ c.from_residual-in_err-variables.ensures.0
-
-pub returns-in_err-vars-clause-bound : goal.returns-in_err-vars-clause-bound
-returns-in_err-vars-clause-bound c = IfOk-from_err _ _ c.from_residual-in_err-vars.ensures.0
-
-pub returns-in_err-vars-clause-fine : goal.returns-in_err-vars-clause-fine
-returns-in_err-vars-clause-fine c = IfOk-from_err _ _ c.from_residual-in_err-vars.ensures.0
+pub returns-clause-err : goal.returns-clause-err
+returns-clause-err c = subst (λ (ws : List Signal). IfErr c.bind_wires.result (Stops (bind_faults ws c.args.table.now))) c.in_ok-wires.ensures c.bind_wires.ensures.err
 
 pub returns-in_err-wires-clause-bound : goal.returns-in_err-wires-clause-bound
 returns-in_err-wires-clause-bound c = IfOk-from_err _ _ c.from_residual.ensures.0
 
 pub returns-in_err-wires-clause-fine : goal.returns-in_err-wires-clause-fine
 returns-in_err-wires-clause-fine c = IfOk-from_err _ _ c.from_residual.ensures.0
-
-pub returns-in_err-work-clause-bound : goal.returns-in_err-work-clause-bound
-returns-in_err-work-clause-bound c = IfOk-from_err _ _ c.from_residual-in_err-work.ensures.0
-
-pub returns-in_err-work-clause-fine : goal.returns-in_err-work-clause-fine
-returns-in_err-work-clause-fine c = IfOk-from_err _ _ c.from_residual-in_err-work.ensures.0
