@@ -18,7 +18,7 @@ use Rattle.sv_meaning.specs.Values.{mean}
 use Rattle.sv_names.specs.declared.layout.Known.{Known}
 use Rattle.sv_types.specs.Values.{JudgesValue}
 use Rattle.name_index.specs.declared.index.NameIndex.{NameIndex}
-use Rattle.sv_modules.specs.Naming.{Indexes, number_under}
+use Rattle.name_index.specs.Indexing.{Indexes, number_under}
 use Rattle.sv_levels.proofs.PortsIndexed.{first_at, first_missing}
 use Rattle.sv_hierarchy.specs.Scopes as m
 use Rattle.sv_levels.specs.declared.tasks.Given.{Given}

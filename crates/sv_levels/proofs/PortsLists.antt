@@ -16,7 +16,8 @@ use Rattle.sv_meaning.specs.Layouts.{Name}
 use Rattle.sv_modules.specs.declared.connect.Connection.{Connection}
 use Rattle.sv_modules.specs.Connections.{connection_is, joined_is}
 use Rattle.name_index.specs.declared.index.NameIndex.{NameIndex}
-use Rattle.sv_modules.specs.Naming.{Indexes, number_under, texts_of}
+use Rattle.name_index.specs.Indexing.{Indexes, number_under}
+use Rattle.sv_modules.specs.Naming.{texts_of}
 use Rattle.sv_levels.proofs.PortsIndexed.{first_at, first_missing}
 use Rattle.sv_modules.proofs.Turns.{take_next, drop_next, drop_none}
 use Rattle.sv_hierarchy.specs.Scopes as m

@@ -1,10 +1,10 @@
 // What an instance gives to parameters.
 ghost use Rattle.std.specs.Prelude.{map};
-ghost use Rattle.sv_modules.specs.Naming.{Indexes};
+ghost use Rattle.name_index.specs.Indexing.{Indexes};
 ghost use Rattle.sv_levels.specs.Overriding.{given_name};
 
 use crate::tasks::Given;
-use sv_modules::NameIndex;
+use name_index::NameIndex;
 
 /// What an instance gives to parameters, of which the first for a name counts.
 #[derive(Drop)]

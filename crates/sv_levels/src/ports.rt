@@ -5,7 +5,8 @@ ghost use Rattle.std.specs.Prelude.{◌≡◌, ◌&&◌, [], ◌∷◌, ◌++◌
 ghost use Rattle.std.specs.Option.{option_copied};
 ghost use Rattle.sv_names.specs.Kinds.{IsSound};
 ghost use Rattle.sv_modules.specs.Connections.{connection_is, joined_is};
-ghost use Rattle.sv_modules.specs.Naming.{Indexes, texts_of};
+ghost use Rattle.name_index.specs.Indexing.{Indexes};
+ghost use Rattle.sv_modules.specs.Naming.{texts_of};
 ghost use Rattle.sv_hierarchy.specs.Scopes as m;
 ghost use Rattle.sv_hierarchy.specs.Scopes.{is_bare, is_input};
 ghost use Rattle.sv_levels.specs.Levels.{front_is};
@@ -14,8 +15,9 @@ ghost use Rattle.sv_levels.specs.Tasks.{actual_is, given_is, work_is};
 
 use crate::levels::Front;
 use crate::tasks::{Actual, Given, Task, Work};
+use name_index::NameIndex;
 use std::alloc::{AllocError, Global};
-use sv_modules::{Connection, Joined, NameIndex};
+use sv_modules::{Connection, Joined};
 use sv_names::Layout;
 use sv_tree::{Module, Port, Way, Word};
 use sv_types::copy;

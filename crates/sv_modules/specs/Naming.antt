@@ -1,4 +1,4 @@
--- Sets of names, and names with numbers.
+-- Sets of names.
 use Rattle.std.specs.Prelude.{◌≡◌, Bool, ◌||◌, List, map}
 use Rattle.std.specs.Borrow.{Bor}
 use Rattle.std.specs.HashSet as set
@@ -7,7 +7,6 @@ use Rattle.sv_tree.specs.declared.word.Word.{Word}
 use Rattle.sv_meaning.specs.Layouts.{Name}
 use Rattle.sv_meaning.specs.Names.{has_name}
 use Rattle.sv_modules.specs.declared.name_set.NameSet.{NameSet}
-pub use Rattle.name_index.specs.Indexing.{place_of, number_under, Indexes}
 
 -- ---- sets
 

@@ -13,7 +13,6 @@ mod roots;
 mod used;
 
 pub use connect::{Connection, Joined, connections};
-pub use name_index::NameIndex;
 pub use name_set::NameSet;
 pub use numbered::Modules;
 pub use parameters::open_params;

@@ -1,5 +1,5 @@
 use Rattle.std.proofs.Common.{map, take}
-use Rattle.sv_modules.specs.Naming.{Indexes}
+use Rattle.name_index.specs.Indexing.{Indexes}
 use Rattle.sv_levels.specs.Overriding.{given_name}
 use Rattle.sv_levels.proofs.params.index_of.Given as goal
 

@@ -1,5 +1,5 @@
 use Rattle.std.proofs.Common.{map, take}
-use Rattle.sv_modules.specs.Naming.{Indexes}
+use Rattle.name_index.specs.Indexing.{Indexes}
 use Rattle.sv_levels.specs.Ports.{port_name}
 use Rattle.sv_levels.proofs.ports.index_of.Given as goal
 

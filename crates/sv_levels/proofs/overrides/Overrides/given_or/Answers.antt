@@ -1,6 +1,6 @@
 use Rattle.std.proofs.Common.{◌∙◌, List, ap, sym}
 use Rattle.std.specs.List.{slice_get}
-use Rattle.sv_modules.specs.Naming.{number_under}
+use Rattle.name_index.specs.Indexing.{number_under}
 use Rattle.sv_levels.specs.declared.tasks.Given.{Given}
 use Rattle.sv_levels.proofs.Giving.{given_at, not_given}
 use Rattle.sv_levels.proofs.PortsLists.{got}
