@@ -17,7 +17,7 @@ pub use walk::{ClauseState, state_of};
 
 /// A literal of clauses: a variable, or its negation. Clauses, logs and their judge have it in this form, with variables up to
 /// 2^64. The solver packs it into 8 bytes where it holds many (`PackedDim` of sat_state), and contracts see a `Dim` there too.
-#[derive(Clone, Copy, Debug, PartialEq, Eq, PartialOrd, Ord, Hash)]
+#[derive(Clone, Copy, PartialEq, Eq)]
 pub struct Dim {
     pub var: usize,
     pub negated: bool,
@@ -51,7 +51,7 @@ impl From<Lit> for Dim {
 
 /// Clauses over the variables below `vars`, each a list of literals of which one is to be true. Contracts see lists in
 /// place of vectors.
-#[derive(Debug, Drop)]
+#[derive(Drop)]
 pub struct Cnf {
     pub vars: usize,
     pub clauses: Vec<Vec<Dim>>,

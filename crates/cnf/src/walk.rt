@@ -7,7 +7,7 @@ ghost use Rattle.cnf.specs.State.{IsState};
 use crate::Dim;
 
 /// What a clause is where some of the variables have values.
-#[derive(Clone, Copy, Debug, PartialEq, Eq)]
+#[derive(Clone, Copy, PartialEq, Eq)]
 pub enum ClauseState {
     /// Each literal is false.
     Conflict,

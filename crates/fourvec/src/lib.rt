@@ -20,7 +20,7 @@ pub use laws::{operators_are_monotone, order_of_contributions_is_free};
 pub use selects::Reach;
 
 /// One bit: 0, 1, X or Z.
-#[derive(Clone, Copy, PartialEq, Eq)]
+#[derive(Clone, Copy)]
 pub enum Bit {
     Zero,
     One,
@@ -33,7 +33,7 @@ pub enum Bit {
 /// It is kept as a width and two planes, a word each: at its place a 1 has (1,1) in the upper and the lower plane,
 /// a 0 has (0,0), an X has (1,0) and a Z has (0,1).
 #[tactic(auto, using(crate::proofs::Basic::views))]
-#[derive(Clone, Copy, PartialEq, Eq, Debug)]
+#[derive(Clone, Copy, PartialEq, Eq)]
 pub struct Four {
     width: u8,
     up: u128,

@@ -4,7 +4,6 @@ use std::alloc::{AllocError, Global};
 use std::marker::Model;
 
 /// A `Box` that contracts see as the value in it.
-#[derive(Debug)]
 pub struct Boxed<T> {
     inner: Box<T>,
 }

@@ -8,7 +8,6 @@ use std::alloc::{AllocError, Global};
 use std::marker::Model;
 
 /// A `Vec` that contracts see as the list of its elements.
-#[derive(Debug)]
 pub struct Items<T> {
     items: Vec<T>,
 }

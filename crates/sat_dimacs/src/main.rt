@@ -41,7 +41,7 @@ fn all_in_range(vars: usize, clauses: &[Vec<Dim>]) -> bool
 }
 
 /// Why no clauses were read.
-#[derive(Debug, Drop)]
+#[derive(Drop)]
 enum ReadError {
     /// The text is not in DIMACS form.
     Form,

@@ -2,7 +2,7 @@
 use std::alloc::AllocError;
 
 /// Why tokens are not read. Places are told by the number of tokens from there to the end.
-#[derive(Clone, Copy, Debug, PartialEq, Eq)]
+#[derive(Clone, Copy)]
 pub enum ParseErr {
     /// Want of memory, which says nothing of the tokens.
     Memory,

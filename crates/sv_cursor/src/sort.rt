@@ -4,7 +4,7 @@
 use sv_tree::SystemName;
 
 /// A keyword of the grammar (IEEE 1800-2017, annex B).
-#[derive(Clone, Copy, Debug, PartialEq, Eq)]
+#[derive(Clone, Copy, PartialEq, Eq)]
 pub enum Keyword {
     Module,
     Endmodule,
@@ -50,7 +50,7 @@ pub enum Keyword {
 }
 
 /// A mark of the grammar (IEEE 1800-2017, 5.5).
-#[derive(Clone, Copy, Debug, PartialEq, Eq)]
+#[derive(Clone, Copy, PartialEq, Eq)]
 pub enum Mark {
     /// `(`
     LeftParen,
@@ -155,7 +155,7 @@ pub enum Mark {
 }
 
 /// What a token is to the grammar.
-#[derive(Clone, Copy, Debug, PartialEq, Eq)]
+#[derive(Clone, Copy)]
 pub enum Sort {
     /// The end of the tokens, or a token that no rule reads.
     Other,

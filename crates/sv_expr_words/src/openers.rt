@@ -2,7 +2,7 @@
 use sv_tree::{BinaryOp, Sign, SystemName, UnaryOp};
 
 /// What begins an expression that has no operator between two of its parts.
-#[derive(Clone, Copy, Debug, PartialEq, Eq)]
+#[derive(Clone, Copy)]
 pub enum Opener {
     Literal,
     Name,
@@ -14,14 +14,14 @@ pub enum Opener {
 }
 
 /// What begins a select.
-#[derive(Clone, Copy, Debug, PartialEq, Eq)]
+#[derive(Clone, Copy)]
 pub enum SelectOpener {
     Dot,
     Bracket,
 }
 
 /// What stands behind the first part of an expression with an operator between its parts.
-#[derive(Clone, Copy, Debug, PartialEq, Eq)]
+#[derive(Clone, Copy)]
 pub enum Joiner {
     Binary(BinaryOp),
     /// `?`

@@ -1,7 +1,7 @@
 // What a token begins.
 
 /// What a token begins of connections.
-#[derive(Clone, Copy, Debug, PartialEq, Eq)]
+#[derive(Clone, Copy)]
 pub enum PinsOpener {
     Named,
     Ordered,

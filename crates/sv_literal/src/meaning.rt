@@ -3,7 +3,7 @@ use fourvec::Four;
 use thiserror::Error;
 
 /// What a literal stands for.
-#[derive(Clone, Copy, Debug)]
+#[derive(Clone, Copy)]
 pub struct Literal {
     /// The bits: as many as the size says, 32 without a size, and one of a fill.
     pub value: Four,

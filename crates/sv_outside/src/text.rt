@@ -5,7 +5,7 @@ use crate::{Name, Place};
 use std::marker::Model;
 
 /// What a token is (IEEE 1800-2017, clause 5).
-#[derive(Clone, Copy, Debug, PartialEq, Eq)]
+#[derive(Clone, Copy)]
 pub enum Kind {
     /// An identifier or a keyword (5.6).
     Word,
@@ -24,7 +24,6 @@ pub enum Kind {
 }
 
 /// A token: its kind, its bytes as written, and the place of its first byte.
-#[derive(Debug)]
 pub struct Token {
     pub kind: Kind,
     pub text: Name,

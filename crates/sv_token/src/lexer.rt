@@ -83,7 +83,7 @@ pub fn end_of(file: usize, text: &[u8]) -> Place
 }
 
 /// A token and the number of its line, from 1, where a line end inside a comment does not count.
-#[derive(Debug, Drop)]
+#[derive(Drop)]
 pub struct Lined {
     pub token: Token,
     pub line: usize,

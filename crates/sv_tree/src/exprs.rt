@@ -6,14 +6,14 @@ use items::{Boxed, Items};
 use sv_outside::Place;
 
 /// A sign word (A.2.2.1, signing).
-#[derive(Clone, Copy, Debug, PartialEq, Eq)]
+#[derive(Clone, Copy, PartialEq, Eq)]
 pub enum Sign {
     Signed,
     Unsigned,
 }
 
 /// A system function of the grammar (20.5, 20.8.1).
-#[derive(Clone, Copy, Debug, PartialEq, Eq)]
+#[derive(Clone, Copy)]
 pub enum SystemName {
     /// `$signed`
     Signed,
@@ -24,7 +24,7 @@ pub enum SystemName {
 }
 
 /// An operator on one operand (A.8.6, unary_operator).
-#[derive(Clone, Copy, Debug, PartialEq, Eq)]
+#[derive(Clone, Copy)]
 pub enum UnaryOp {
     /// `+`
     Plus,
@@ -51,7 +51,7 @@ pub enum UnaryOp {
 }
 
 /// An operator between two operands (A.8.6, binary_operator).
-#[derive(Clone, Copy, Debug, PartialEq, Eq)]
+#[derive(Clone, Copy)]
 pub enum BinaryOp {
     /// `**`
     Power,

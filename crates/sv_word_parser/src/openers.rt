@@ -1,7 +1,7 @@
 // What a token begins.
 
 /// What a token begins of a type.
-#[derive(Clone, Copy, Debug, PartialEq, Eq)]
+#[derive(Clone, Copy)]
 pub enum TypeOpener {
     /// The word of a vector of bits.
     Word,
@@ -16,7 +16,7 @@ pub enum TypeOpener {
 }
 
 /// What a token begins of the type of a parameter.
-#[derive(Clone, Copy, Debug, PartialEq, Eq)]
+#[derive(Clone, Copy)]
 pub enum ParamOpener {
     /// The word of a whole number.
     Whole,
@@ -29,14 +29,14 @@ pub enum ParamOpener {
 }
 
 /// What a token begins of a target.
-#[derive(Clone, Copy, Debug, PartialEq, Eq)]
+#[derive(Clone, Copy)]
 pub enum TargetOpener {
     Name,
     Brace,
 }
 
 /// What a token begins of the step of a loop.
-#[derive(Clone, Copy, Debug, PartialEq, Eq)]
+#[derive(Clone, Copy)]
 pub enum StepOpener {
     /// `++` or `--`
     Mark,
@@ -44,7 +44,7 @@ pub enum StepOpener {
 }
 
 /// What a token begins of a statement.
-#[derive(Clone, Copy, Debug, PartialEq, Eq)]
+#[derive(Clone, Copy)]
 pub enum StmtOpener {
     Empty,
     Block,
@@ -55,7 +55,7 @@ pub enum StmtOpener {
 }
 
 /// What a token begins of an item.
-#[derive(Clone, Copy, Debug, PartialEq, Eq)]
+#[derive(Clone, Copy)]
 pub enum ItemOpener {
     Net,
     Type,
@@ -71,7 +71,7 @@ pub enum ItemOpener {
 }
 
 /// What a token begins behind the name that begins an item.
-#[derive(Clone, Copy, Debug, PartialEq, Eq)]
+#[derive(Clone, Copy)]
 pub enum TailOpener {
     /// `#`
     Hash,
@@ -81,7 +81,7 @@ pub enum TailOpener {
 }
 
 /// The word of a block.
-#[derive(Clone, Copy, Debug, PartialEq, Eq)]
+#[derive(Clone, Copy)]
 pub enum AlwaysWord {
     Comb,
     Ff,
@@ -89,7 +89,7 @@ pub enum AlwaysWord {
 }
 
 /// What a token begins of a text.
-#[derive(Clone, Copy, Debug, PartialEq, Eq)]
+#[derive(Clone, Copy)]
 pub enum PartOpener {
     Module,
     Typedef,

@@ -24,7 +24,7 @@ pub enum VarName {
 }
 
 /// An operator on one vector, as the call of `Four` of this name. The first three keep the width, the others give one bit.
-#[derive(Clone, Copy, PartialEq, Eq)]
+#[derive(Clone, Copy)]
 pub enum Un {
     Unfloat,
     Not,
@@ -39,7 +39,7 @@ pub enum Un {
 ///
 /// The operands have one width, but those of `Shl`, `Shr`, `Sar` and `Concat`. `Eq`, `Lt` and `Slt` give one bit, `Concat` the sum
 /// of the widths, at most 128, and the others the width of the first operand.
-#[derive(Clone, Copy, PartialEq, Eq)]
+#[derive(Clone, Copy)]
 pub enum Bin {
     And,
     Or,
