@@ -12,4 +12,5 @@ pub mod Ahead
 pub mod Counts
 pub mod Refusals
 pub mod Items
+pub mod Steps
 pub mod Commands

@@ -67,6 +67,11 @@ Steps C room p (stepped.Behind inside rest) frames s written = Passes C room (sp
 Steps C room p (stepped.Include directive path rest) frames s written =
     (spec.item p.live p.rest ≡ spec.included directive.now (between_quotes path.now.text) rest.now) × (point p.live frames s written p.rest ≡ p)
 
+-- The item is read, and no include is told: this holds of whether the branch counts from here on, and of what is left.
+abbrev pub GoesOn : (Bool → List Lined → Type 0) → Step → Type 0
+GoesOn P (stepped.Behind inside rest) = P inside rest.now
+GoesOn P (stepped.Include directive path rest) = ⊥
+
 -- the line, or the one behind it
 abbrev pub line_of : ℕ → Bool → ℕ
 line_of line next = if next then line + 1 else line
@@ -121,6 +126,10 @@ Names (Refused number) place file (No refusal at) = (refusal ≡ refused number 
 Names (Refused number) place file (Read other at) = ⊥
 Names OutOfMemory place file (No refusal at) = ⊥
 Names OutOfMemory place file (Read other at) = ⊥
+
+-- the refusal, at a place of a file, of what is refused by such a number
+abbrev pub IsRefusedAt : (ℕ → Type 0) → Place → List ℕ → PreErr → Type 0
+IsRefusedAt Why place file e = (error : ItemErr) × IfRefused Why error × Names error place file e
 
 -- why the bytes of the file of that name, which begins at `start`, are not answered for the directive at a place of another file
 abbrev pub IsNotRead : FileErr → Place → List ℕ → Place → List ℕ → PreErr → Type 0

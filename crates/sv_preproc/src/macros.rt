@@ -11,7 +11,7 @@ ghost use Rattle.sv_preproc.specs.Reached.{Overruns};
 ghost use Rattle.sv_preproc.specs.Seen.{texts, Writes, Uses, IfRefused, CanNotUse};
 
 use crate::error::ItemErr;
-use crate::line::copy_at;
+use crate::line::put_at;
 use crate::role::{Role, role_of};
 use std::alloc::{AllocError, Global};
 use std::collections::HashMap;
@@ -113,7 +113,7 @@ fn expand(
         }
         match role_of(first) {
             Role::Kept => {
-                out.push(copy_at(first, place)?)?;
+                put_at(first, place, out)?;
                 total += 1;
                 rest = after;
             }

@@ -1,3 +1,4 @@
+use Rattle.std.proofs.lemmas.Option.{MatchOption-at_some}
 use Rattle.std.proofs.lemmas.Result.{IfOk-from_err, on_ok_weaker, IfErr-weaker}
 use Rattle.std.proofs.Common.{◌≡◌, ◌<◌, ◌≤◌, ◌∷◌, ◌-◌, [], suc, arith, refl, sym, ◌∙◌, ap, subst, length, reverse}
 use Rattle.std.proofs.lemmas.Grind.{common_steps}
@@ -25,13 +26,13 @@ items-init g t c =
 
 pub items-smaller-in-Behind : goal.items-smaller-in-Behind
 items-smaller-in-Behind g t c =
-    let whole : c.items.rest.now ≡ c.in-Some.first.now ∷ c.in-Some.after.now = grind (arith, common_steps) in
+    let whole : c.items.rest.now ≡ c.in-Some.first.now ∷ c.in-Some.after.now = (MatchOption-at_some _ _ _ c.in-Some.is c.split_first.ensures.cases).0 in
     let h : length c.in-Behind.behind.now ≤ length c.in-Some.after.now = subst (λ i. length (left i) ≤ length c.in-Some.after.now) c.in-Behind.is c.in_ok-inside.ensures.short in
     omega (arith, h, ap length whole)
 
 pub items-preserved-in-Behind : goal.items-preserved-in-Behind
 items-preserved-in-Behind g t c =
-    let whole : c.items.rest.now ≡ c.in-Some.first.now ∷ c.in-Some.after.now = grind (arith, common_steps) in
+    let whole : c.items.rest.now ≡ c.in-Some.first.now ∷ c.in-Some.after.now = (MatchOption-at_some _ _ _ c.in-Some.is c.split_first.ensures.cases).0 in
     let step = subst (λ i. Steps (Possible (g.F.Files.contents c.args.files.now)) c.args.room (point c.items.live (reverse c.items.frames.items) (seen c.items.known) c.items.out.items (c.in-Some.first.now ∷ c.in-Some.after.now)) i (reverse c.read_item.new.frames.items) (seen c.read_item.new.known) c.read_item.new.out.items) c.in-Behind.is
     (c.in_ok-inside.ensures.steps (g.F.Files.contents c.args.files.now) c.args.room) in
     record {
@@ -44,13 +45,13 @@ items-preserved-in-Behind g t c =
 
 pub items-smaller : goal.items-smaller
 items-smaller g t c =
-    let whole : c.items.rest.now ≡ c.in-Some.first.now ∷ c.in-Some.after.now = grind (arith, common_steps) in
+    let whole : c.items.rest.now ≡ c.in-Some.first.now ∷ c.in-Some.after.now = (MatchOption-at_some _ _ _ c.in-Some.is c.split_first.ensures.cases).0 in
     let h : length c.in-Include.behind.now ≤ length c.in-Some.after.now = subst (λ i. length (left i) ≤ length c.in-Some.after.now) c.in-Include.is c.in_ok-inside.ensures.short in
     omega (arith, h, ap length whole)
 
 pub items-preserved : goal.items-preserved
 items-preserved g t c =
-    let whole : c.items.rest.now ≡ c.in-Some.first.now ∷ c.in-Some.after.now = grind (arith, common_steps) in
+    let whole : c.items.rest.now ≡ c.in-Some.first.now ∷ c.in-Some.after.now = (MatchOption-at_some _ _ _ c.in-Some.is c.split_first.ensures.cases).0 in
     let step = subst (λ i. Steps (Possible (g.F.Files.contents c.args.files.now)) c.args.room (point c.items.live (reverse c.items.frames.items) (seen c.items.known) c.items.out.items (c.in-Some.first.now ∷ c.in-Some.after.now)) i (reverse c.read_item.new.frames.items) (seen c.read_item.new.known) c.read_item.new.out.items) c.in-Include.is
     (c.in_ok-inside.ensures.steps (g.F.Files.contents c.args.files.now) c.args.room) in
     let stood = stood_still (Possible (g.F.Files.contents c.args.files.now)) c.args.room _ c.items.live (reverse c.items.frames.items) (reverse c.read_item.new.frames.items) (seen c.items.known) (seen c.read_item.new.known) c.items.out.items
@@ -85,7 +86,7 @@ returns-in_err-inside-clause-unchanged g t c =
 
 pub returns-in_err-inside-clause-caused : goal.returns-in_err-inside-clause-caused
 returns-in_err-inside-clause-caused g t c =
-    let whole : c.items.rest.now ≡ c.in-Some.first.now ∷ c.in-Some.after.now = grind (arith, common_steps) in
+    let whole : c.items.rest.now ≡ c.in-Some.first.now ∷ c.in-Some.after.now = (MatchOption-at_some _ _ _ c.in-Some.is c.split_first.ensures.cases).0 in
     let here = subst (λ i. Reaches (Possible (g.F.Files.contents c.args.files.now)) c.args.room (begun (seen c.args.known.now) c.args.out.now.items c.args.lines.now) (point c.items.live (reverse c.items.frames.items) (seen c.items.known) c.items.out.items i))
     whole c.items.invariant.reached in
     handed_on c.from_residual.result c.in_err-inside.field-0.0 _ c.from_residual.ensures.1 (faulty_stops (Possible (g.F.Files.contents c.args.files.now)) c.args.room (seen c.args.known.now) c.args.out.now.items c.args.lines.now c.args.end c.args.file.now (point c.items.live (reverse c.items.frames.items) (seen c.items.known) c.items.out.items (c.in-Some.first.now ∷ c.in-Some.after.now)) here c.in_err-inside.field-0.0 c.in_err-inside.ensures.faulty)
@@ -112,7 +113,7 @@ returns-in_err-inner-in-Include-clause-unchanged g t c =
 
 pub returns-in_err-inner-in-Include-clause-caused : goal.returns-in_err-inner-in-Include-clause-caused
 returns-in_err-inner-in-Include-clause-caused g t c =
-    let whole : c.items.rest.now ≡ c.in-Some.first.now ∷ c.in-Some.after.now = grind (arith, common_steps) in
+    let whole : c.items.rest.now ≡ c.in-Some.first.now ∷ c.in-Some.after.now = (MatchOption-at_some _ _ _ c.in-Some.is c.split_first.ensures.cases).0 in
     let step = subst (λ i. Steps (Possible (g.F.Files.contents c.args.files.now)) c.args.room (point c.items.live (reverse c.items.frames.items) (seen c.items.known) c.items.out.items (c.in-Some.first.now ∷ c.in-Some.after.now)) i (reverse c.read_item.new.frames.items) (seen c.read_item.new.known) c.read_item.new.out.items) c.in-Include.is
     (c.in_ok-inside.ensures.steps (g.F.Files.contents c.args.files.now) c.args.room) in
     let stood = stood_still (Possible (g.F.Files.contents c.args.files.now)) c.args.room _ c.items.live (reverse c.items.frames.items) (reverse c.read_item.new.frames.items) (seen c.items.known) (seen c.read_item.new.known) c.items.out.items
@@ -145,7 +146,7 @@ returns-in_err-read_all-in-Include-clause-unchanged g t c =
 
 pub returns-in_err-read_all-in-Include-clause-caused : goal.returns-in_err-read_all-in-Include-clause-caused
 returns-in_err-read_all-in-Include-clause-caused g t c =
-    let whole : c.items.rest.now ≡ c.in-Some.first.now ∷ c.in-Some.after.now = grind (arith, common_steps) in
+    let whole : c.items.rest.now ≡ c.in-Some.first.now ∷ c.in-Some.after.now = (MatchOption-at_some _ _ _ c.in-Some.is c.split_first.ensures.cases).0 in
     let step = subst (λ i. Steps (Possible (g.F.Files.contents c.args.files.now)) c.args.room (point c.items.live (reverse c.items.frames.items) (seen c.items.known) c.items.out.items (c.in-Some.first.now ∷ c.in-Some.after.now)) i (reverse c.read_item.new.frames.items) (seen c.read_item.new.known) c.read_item.new.out.items) c.in-Include.is
     (c.in_ok-inside.ensures.steps (g.F.Files.contents c.args.files.now) c.args.room) in
     let stood = stood_still (Possible (g.F.Files.contents c.args.files.now)) c.args.room _ c.items.live (reverse c.items.frames.items) (reverse c.read_item.new.frames.items) (seen c.items.known) (seen c.read_item.new.known) c.items.out.items
