@@ -41,6 +41,16 @@ is_quoted = behind_mark 34 is_body
 abbrev pub singles : List ℕ
 singles = codes "()[]{}.,;:?@#'=+-*/%&|^~!<>"
 
+-- the same in groups
+abbrev pub brackets : List ℕ
+brackets = codes "()[]{}"
+
+abbrev pub separators : List ℕ
+separators = codes ".,;:?@#'="
+
+abbrev pub operators : List ℕ
+operators = codes "+-*/%&|^~!<>"
+
 -- marks of two bytes, in groups (11.3, 11.5)
 abbrev pub counting : List (List ℕ)
 counting = codes "++" ∷ codes "--" ∷ codes "+=" ∷ codes "-=" ∷ codes "**" ∷ []

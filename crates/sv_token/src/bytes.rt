@@ -1,7 +1,7 @@
 // Which bytes stand where in a token, and which marks of one, two and three bytes there are. Each test that the scanner asks
 // has a definition in the forms of tokens, so that its proofs speak of these and never of a byte's number. Marks of two bytes
 // are told in four short groups, by what they are used for.
-ghost use Rattle.std.specs.Prelude.{◌≡◌, ◌∷◌, [], ℕ, Bool};
+ghost use Rattle.std.specs.Prelude.{◌≡◌, ◌==◌, ◌∷◌, [], ℕ, Bool};
 ghost use Rattle.std.specs.List.{list_any};
 ghost use Rattle.std.specs.Str.{bytes_eq};
 ghost use Rattle.sv_outside.specs.Words as word;
@@ -122,16 +122,16 @@ pub fn may_stand(b: u8) -> bool
     b == b'\t' || b == b'\n' || b == b'\r' || (32 <= b && b <= 126)
 }
 
-pub fn is_mark_1(a: u8) -> bool
-    ensures { result ≡ form.is_mark (a ∷ []) }
+fn is_bracket(a: u8) -> bool
+    ensures { result ≡ list_any (λ k. a == k) form.brackets }
 {
-    a == b'('
-        || a == b')'
-        || a == b'['
-        || a == b']'
-        || a == b'{'
-        || a == b'}'
-        || a == b'.'
+    a == b'(' || a == b')' || a == b'[' || a == b']' || a == b'{' || a == b'}'
+}
+
+fn is_separator(a: u8) -> bool
+    ensures { result ≡ list_any (λ k. a == k) form.separators }
+{
+    a == b'.'
         || a == b','
         || a == b';'
         || a == b':'
@@ -140,7 +140,12 @@ pub fn is_mark_1(a: u8) -> bool
         || a == b'#'
         || a == b'\''
         || a == b'='
-        || a == b'+'
+}
+
+fn is_operator(a: u8) -> bool
+    ensures { result ≡ list_any (λ k. a == k) form.operators }
+{
+    a == b'+'
         || a == b'-'
         || a == b'*'
         || a == b'/'
@@ -152,6 +157,12 @@ pub fn is_mark_1(a: u8) -> bool
         || a == b'!'
         || a == b'<'
         || a == b'>'
+}
+
+pub fn is_mark_1(a: u8) -> bool
+    ensures { result ≡ form.is_mark (a ∷ []) }
+{
+    is_bracket(a) || is_separator(a) || is_operator(a)
 }
 
 fn is_pair(a: u8, b: u8, x: u8, y: u8) -> bool

@@ -1,7 +1,7 @@
 // Cuts a text into tokens, and counts places and lines. It stands at a token or a gap and takes the longest form that begins
 // there, so what is cut is decided from the left without going back. Each token is made with its line, for the directives,
 // which end with their line; `lex` drops the lines afterwards, so that the loop and its proof stand once.
-ghost use Rattle.std.specs.Prelude.{◌≡◌, ◌≤◌, ◌<◌, ◌+◌, ◌^◌, length, take, drop, map, ℕ, List, if◌then◌else◌, IfOk, IfErr, IsErr};
+ghost use Rattle.std.specs.Prelude.{◌≡◌, ◌≤◌, ◌<◌, ◌+◌, ◌++◌, ◌∷◌, ◌^◌, [], length, take, drop, map, ℕ, List, if◌then◌else◌, IfOk, OnOk, IfErr, IsErr};
 ghost use Rattle.sv_outside.specs.declared.refusal.Refusal.{Refusal};
 ghost use Rattle.sv_outside.specs.declared.text.Token.{Token};
 ghost use Rattle.sv_token.specs.Cut as cut;
@@ -13,7 +13,7 @@ use crate::Front;
 use crate::bytes::may_stand;
 use crate::front::front_of;
 use std::alloc::{AllocError, Global};
-use sv_outside::{Name, Place, Refusal, TextErr, Token};
+use sv_outside::{Kind, Name, Place, Refusal, TextErr, Token};
 
 const MOST_BYTES: usize = 1 << 24;
 
@@ -103,6 +103,23 @@ fn line_behind(line: usize, first: u8) -> usize
     if ends_line(first) { line + 1 } else { line }
 }
 
+// Writes a token and the number of its line behind those that are there.
+fn put_piece(
+    alloc: Global,
+    kind: Kind,
+    piece: &[u8],
+    place: Place,
+    line: usize,
+    tokens: &mut Vec<Lined>,
+) -> Result<(), AllocError>
+    ensures { OnOk result (tokens.new.items ≡ tokens.old.items ++ (record { token = record { kind = kind; text = piece.now; place = place }; line = line }) ∷ []) }
+{
+    let text = Name::new(alloc, piece)?;
+    let token = Token { kind, text, place };
+    tokens.push(Lined { token, line })?;
+    Ok(())
+}
+
 /// The tokens of a text as `lex` gives them, each with its line: for directives, which end with the line.
 #[tactic(auto, using(crate::proofs::Cutting::is_long, crate::proofs::Fits::gap_within, crate::proofs::Fits::piece_within))]
 pub fn lex_lines(alloc: Global, file: usize, text: &[u8]) -> Result<Vec<Lined>, TextErr>
@@ -140,9 +157,7 @@ pub fn lex_lines(alloc: Global, file: usize, text: &[u8]) -> Result<Vec<Lined>, 
                 if tokens.len() == MOST_TOKENS {
                     return Err(no(4, place));
                 }
-                let text = Name::new(alloc, &rest[..len])?;
-                let token = Token { kind, text, place };
-                tokens.push(Lined { token, line })?;
+                put_piece(alloc, kind, &rest[..len], place, line, &mut tokens)?;
                 let (place_behind, after) = beyond(place, rest, len);
                 place = place_behind;
                 rest = after;

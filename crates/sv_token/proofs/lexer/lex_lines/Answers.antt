@@ -1,8 +1,11 @@
+use Rattle.std.proofs.lemmas.Option.{MatchOption-at_some}
+use Rattle.std.proofs.lemmas.Result.{IfOk-from_err}
 use Rattle.std.proofs.Common.{◌≡◌, ◌∷◌, ◌++◌, ◌<◌, ◌+◌, arith, sym, ◌∙◌, length, take, length-drop, [], if◌then◌else◌}
 use Rattle.std.proofs.lemmas.Grind.{common_steps}
 use Rattle.sv_token.specs.declared.front.Front.TheVariants.{Gap, Piece}
 use Rattle.sv_token.specs.Cut.{here, front, lined, Spot, ends_line}
 use Rattle.sv_token.proofs.Cutting.{is_stuck_at, none_stuck_at, is_many, none_many, one_gap, one_token, place_line_kept, column_kept, line_kept, shorter, one_way, whole, none_refused}
+use Rattle.sv_token.proofs.Wants.{unrefused, given_none, is_err}
 use Rattle.sv_token.proofs.Fits.{gap_within, piece_within}
 use Rattle.sv_token.proofs.lexer.lex_lines.Goals as goal
 
@@ -18,12 +21,12 @@ cut-init c = record {
 
 pub returns-in-Nothing-clause-refused : goal.returns-in-Nothing-clause-refused
 returns-in-Nothing-clause-refused c =
-    let text : c.cut.rest.now ≡ c.in-Some.first.now ∷ c.in-Some._after.now = grind (arith, common_steps) in
+    let text : c.cut.rest.now ≡ c.in-Some.first.now ∷ c.in-Some._after.now = (MatchOption-at_some _ _ _ c.in-Some.is c.split_first.ensures.cases).0 in
     rw c.no-in-Nothing.ensures (is_stuck_at c.cut.invariant.so_far text (sym c.front_of.ensures ∙ c.in-Nothing.is) c.reason.ensures)
 
 pub returns-in-Nothing-clause-only : goal.returns-in-Nothing-clause-only
 returns-in-Nothing-clause-only c tokens l w =
-    let text : c.cut.rest.now ≡ c.in-Some.first.now ∷ c.in-Some._after.now = grind (arith, common_steps) in
+    let text : c.cut.rest.now ≡ c.in-Some.first.now ∷ c.in-Some._after.now = (MatchOption-at_some _ _ _ c.in-Some.is c.split_first.ensures.cases).0 in
     absurd (none_stuck_at c.cut.invariant.so_far text (sym c.front_of.ensures ∙ c.in-Nothing.is) l)
 
 pub cut-smaller-in-Gap : goal.cut-smaller-in-Gap
@@ -36,7 +39,7 @@ pub cut-preserved-in-Gap : goal.cut-preserved-in-Gap
 cut-preserved-in-Gap c =
     let at : front c.cut.rest.now ≡ Gap c.in-Gap.len = sym c.front_of.ensures ∙ c.in-Gap.is in
     let w = gap_within c.in-Gap.len c.cut.rest.now at in
-    let text : c.cut.rest.now ≡ c.in-Some.first.now ∷ c.in-Some._after.now = grind (arith, common_steps) in
+    let text : c.cut.rest.now ≡ c.in-Some.first.now ∷ c.in-Some._after.now = (MatchOption-at_some _ _ _ c.in-Some.is c.split_first.ensures.cases).0 in
     let same : c.line_behind-line.result ≡ (if ends_line c.cut.rest.now then c.cut.line + 1 else c.cut.line) = rw text c.line_behind-line.ensures in
     record {
       so_far = rw (c.beyond.ensures.place, c.beyond.ensures.rest, same) (one_gap c.in-Gap.len c.cut.invariant.so_far at);
@@ -55,8 +58,8 @@ pub returns-then-len-eq-MOST_TOKENS-clause-only : goal.returns-then-len-eq-MOST_
 returns-then-len-eq-MOST_TOKENS-clause-only c tokens l w =
     absurd (none_many c.cut.invariant.so_far (sym c.front_of.ensures ∙ c.in-Piece.is) (grind (arith, common_steps)) l w)
 
-pub slice_bounds-new-end : goal.slice_bounds-new-end
-slice_bounds-new-end c =
+pub slice_bounds-put_piece-end : goal.slice_bounds-put_piece-end
+slice_bounds-put_piece-end c =
     let w = piece_within c.in-Piece.kind c.in-Piece.len c.cut.rest.now (sym c.front_of.ensures ∙ c.in-Piece.is) in
     grind (arith, common_steps, w.1)
 
@@ -70,14 +73,13 @@ pub cut-preserved : goal.cut-preserved
 cut-preserved c =
     let at : front c.cut.rest.now ≡ Piece c.in-Piece.kind c.in-Piece.len = sym c.front_of.ensures ∙ c.in-Piece.is in
     let w = piece_within c.in-Piece.kind c.in-Piece.len c.cut.rest.now at in
-    let name : c.in_ok-text-in-Piece.text ≡ take c.in-Piece.len c.cut.rest.now = grind (arith, common_steps) in
     let spot : Spot = record { place = c.cut.place; line = c.cut.line } in
-    let items : c.push.new.self.items ≡ c.cut.tokens.items ++ lined c.in-Piece.kind c.in-Piece.len c.cut.rest.now spot ∷ [] = rw (← name) (grind (arith, common_steps)) in
+    let items : c.put_piece.new.tokens.items ≡ c.cut.tokens.items ++ lined c.in-Piece.kind c.in-Piece.len c.cut.rest.now spot ∷ [] = c.in_ok-put_piece-in-Piece.ensures in
     let more = one_token c.in-Piece.kind c.in-Piece.len c.cut.invariant.so_far at in
     record {
       so_far = rw (c.beyond-in-Piece.ensures.place, c.beyond-in-Piece.ensures.rest, items) more;
       short = c.cut.invariant.short;
-      few = grind (arith, common_steps, c.cut.invariant.few);
+      few = grind (arith, common_steps, items, c.cut.invariant.few);
       numbered = rw c.beyond-in-Piece.ensures.rest (shorter c.cut.line c.cut.rest.now c.in-Piece.len 16777217 c.cut.invariant.numbered);
       line = rw (c.beyond-in-Piece.ensures.place, c.beyond-in-Piece.ensures.rest) (place_line_kept c.cut.place c.cut.rest.now c.in-Piece.len 16777217 w.1 c.cut.invariant.line);
       column = rw (c.beyond-in-Piece.ensures.place, c.beyond-in-Piece.ensures.rest) (column_kept c.cut.place c.cut.rest.now c.in-Piece.len 16777217 w.1 c.cut.invariant.column);
@@ -97,3 +99,18 @@ pub returns-clause-faulty : goal.returns-clause-faulty
 returns-clause-faulty c refusal r =
     let none : c.cut.rest.now ≡ [] = grind (arith, common_steps) in
     absurd (none_refused (whole (rw none at c.cut.invariant.so_far)) (c.cut.invariant.short, c.cut.invariant.few) r)
+
+pub returns-in_err-put_piece-in-Piece-clause-cut : goal.returns-in_err-put_piece-in-Piece-clause-cut
+returns-in_err-put_piece-in-Piece-clause-cut c = IfOk-from_err _ _ c.from_residual.ensures.0
+
+pub returns-in_err-put_piece-in-Piece-clause-within : goal.returns-in_err-put_piece-in-Piece-clause-within
+returns-in_err-put_piece-in-Piece-clause-within c = IfOk-from_err _ _ c.from_residual.ensures.0
+
+pub returns-in_err-put_piece-in-Piece-clause-refused : goal.returns-in_err-put_piece-in-Piece-clause-refused
+returns-in_err-put_piece-in-Piece-clause-refused c = unrefused c.from_residual.result _ c.from_residual.ensures.1
+
+pub returns-in_err-put_piece-in-Piece-clause-faulty : goal.returns-in_err-put_piece-in-Piece-clause-faulty
+returns-in_err-put_piece-in-Piece-clause-faulty c refusal r = is_err c.from_residual.result _ c.from_residual.ensures.1
+
+pub returns-in_err-put_piece-in-Piece-clause-only : goal.returns-in_err-put_piece-in-Piece-clause-only
+returns-in_err-put_piece-in-Piece-clause-only c lines l w = given_none (λ v. v.items) c.from_residual.result lines c.from_residual.ensures.1
