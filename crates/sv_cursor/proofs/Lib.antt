@@ -2,3 +2,4 @@ pub mod Readers
 pub mod Sorted
 pub mod Tested
 pub mod Turns
+pub mod Wanted

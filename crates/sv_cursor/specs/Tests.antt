@@ -78,3 +78,19 @@ mark name = token (mark_test name)
 
 abbrev pub keyword : Keyword → Parser Place
 keyword word = token (keyword_test word)
+
+-- ---- the first token, where it is wanted
+
+abbrev pub is_id_sort : Sort → Bool
+is_id_sort s.Id = true
+is_id_sort _ = false
+
+abbrev pub is_literal_sort : Sort → Bool
+is_literal_sort s.Literal = true
+is_literal_sort _ = false
+
+abbrev pub place_if : Bool → Parser Place
+place_if wanted = token (λ a. if_so wanted a.place)
+
+abbrev pub word_if : Bool → Parser Word
+word_if wanted = token (λ a. if_so wanted (record { text = a.text; place = a.place }))

@@ -77,6 +77,18 @@ fn is_keyword(word: Keyword, sort: Sort) -> bool
     }
 }
 
+fn is_id(sort: Sort) -> bool
+    ensures { result ≡ test.is_id_sort sort }
+{
+    matches!(sort, Sort::Id)
+}
+
+fn is_literal(sort: Sort) -> bool
+    ensures { result ≡ test.is_literal_sort sort }
+{
+    matches!(sort, Sort::Literal)
+}
+
 impl<'a> Cursor<'a> {
     /// The cursor before the first of these tokens.
     pub fn new(rest: &'a [Token]) -> Cursor<'a>
@@ -172,13 +184,13 @@ impl<'a> Cursor<'a> {
         }
     }
 
-    /// The place of the mark, which has to come next (`Syntax` where it does not).
-    #[tactic(auto, unfolding(crate::specs::Parsers::token, crate::specs::Tests::mark_test))]
-    pub fn mark(&mut self, name: Mark) -> Result<Place, ParseErr>
-        ensures { Reads (test.mark name self.old) result self.new }
+    // The place of the first token, where it is wanted (`Syntax` where it is not).
+    #[tactic(auto, unfolding(crate::specs::Parsers::token))]
+    fn place_if(&mut self, wanted: bool) -> Result<Place, ParseErr>
+        ensures { Reads (test.place_if wanted self.old) result self.new }
     {
         match self.rest {
-            [first, ..] if is_mark(name, self.sort) => {
+            [first, ..] if wanted => {
                 let place = first.place;
                 self.skip();
                 Ok(place)
@@ -187,55 +199,58 @@ impl<'a> Cursor<'a> {
         }
     }
 
+    /// The place of the mark, which has to come next (`Syntax` where it does not).
+    #[tactic(auto, using(crate::proofs::Wanted::mark_reads))]
+    pub fn mark(&mut self, name: Mark) -> Result<Place, ParseErr>
+        ensures { Reads (test.mark name self.old) result self.new }
+    {
+        let wanted = is_mark(name, self.sort());
+        self.place_if(wanted)
+    }
+
     /// The place of the keyword, which has to come next (`Syntax` where it does not).
-    #[tactic(auto, unfolding(crate::specs::Parsers::token, crate::specs::Tests::keyword_test))]
+    #[tactic(auto, using(crate::proofs::Wanted::keyword_reads))]
     pub fn keyword(&mut self, word: Keyword) -> Result<Place, ParseErr>
         ensures { Reads (test.keyword word self.old) result self.new }
     {
+        let wanted = is_keyword(word, self.sort());
+        self.place_if(wanted)
+    }
+
+    // The first token as a word, where it is wanted: `Syntax` where it is not, `Memory` where there is no room for it.
+    #[tactic(auto, unfolding(crate::specs::Parsers::token))]
+    fn word_if(&mut self, alloc: Global, wanted: bool) -> Result<Word, ParseErr>
+        ensures { Reads (test.word_if wanted self.old) result self.new }
+    {
         match self.rest {
-            [first, ..] if is_keyword(word, self.sort) => {
-                let place = first.place;
+            [first, ..] if wanted => {
+                let word = Word {
+                    text: Name::new(alloc, first.text.bytes())?,
+                    place: first.place,
+                };
                 self.skip();
-                Ok(place)
+                Ok(word)
             }
             _ => Err(self.refuse()),
         }
     }
 
     /// The identifier (A.9.3) that has to come next: `Syntax` where none does, `Memory` where there is no room for it.
-    #[tactic(auto, unfolding(crate::specs::Parsers::token, crate::specs::Tests::id_test))]
+    #[tactic(auto, using(crate::proofs::Wanted::id_reads))]
     pub fn id(&mut self, alloc: Global) -> Result<Word, ParseErr>
         ensures { Reads (spec.token test.id_test self.old) result self.new }
     {
-        match self.rest {
-            [first, ..] if matches!(self.sort, Sort::Id) => {
-                let word = Word {
-                    text: Name::new(alloc, first.text.bytes())?,
-                    place: first.place,
-                };
-                self.skip();
-                Ok(word)
-            }
-            _ => Err(self.refuse()),
-        }
+        let wanted = is_id(self.sort());
+        self.word_if(alloc, wanted)
     }
 
     /// The literal that has to come next: `Syntax` where none does, `Memory` where there is no room for it.
-    #[tactic(auto, unfolding(crate::specs::Parsers::token, crate::specs::Tests::literal_test))]
+    #[tactic(auto, using(crate::proofs::Wanted::literal_reads))]
     pub fn literal(&mut self, alloc: Global) -> Result<Word, ParseErr>
         ensures { Reads (spec.token test.literal_test self.old) result self.new }
     {
-        match self.rest {
-            [first, ..] if matches!(self.sort, Sort::Literal) => {
-                let word = Word {
-                    text: Name::new(alloc, first.text.bytes())?,
-                    place: first.place,
-                };
-                self.skip();
-                Ok(word)
-            }
-            _ => Err(self.refuse()),
-        }
+        let wanted = is_literal(self.sort());
+        self.word_if(alloc, wanted)
     }
 
     /// The system function whose name has to come next (`Syntax` where none does), and its place.
