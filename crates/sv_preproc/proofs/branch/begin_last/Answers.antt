@@ -1,3 +1,4 @@
+use Rattle.std.proofs.lemmas.Result.{IfOk-from_err}
 use Rattle.std.proofs.Common.{◌≡◌, ◌++◌, ◌∷◌, [], arith, inl, true}
 use Rattle.std.proofs.lemmas.Grind.{common_steps}
 use Rattle.sv_preproc.specs.declared.known.Frame.{Frame}
@@ -21,3 +22,6 @@ returns-clause-ends c macros =
     let pushed : c.push.new.self.items ≡ c.pop.new.self.items ++ frame ∷ [] = grind (arith, common_steps) in
     begun_last macros c.args.frames.now.items c.pop.new.self.items c.push.new.self.items c.in-Some.frame c.both-inside.result c.args.first.now c.args.after.now popped c.requires
     c.if-frame.false c.both-inside.ensures pushed
+
+pub returns-in_err-push-clause-ends : goal.returns-in_err-push-clause-ends
+returns-in_err-push-clause-ends c = IfOk-from_err _ _ c.from_residual.ensures.0

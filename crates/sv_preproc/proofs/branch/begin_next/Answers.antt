@@ -1,3 +1,4 @@
+use Rattle.std.proofs.lemmas.Result.{IfOk-from_err}
 use Rattle.std.proofs.Common.{◌≡◌, ◌++◌, ◌∷◌, [], arith, inr, false, rules}
 use Rattle.std.specs.Prelude.{◌&&◌, not}
 use Rattle.std.proofs.lemmas.Grind.{common_steps}
@@ -38,3 +39,6 @@ returns-clause-ends c =
     let live : c.both-inside.result ≡ (c.in-Some.frame.live && not c.in-Some.frame.taken && c.has-holds.result) = rw (← c.both-untaken.ensures) c.both-inside.ensures in
     begun_next (texts c.args.macros.now) c.args.frames.now.items c.pop.new.self.items c.push.new.self.items c.in-Some.frame c.both-inside.result c.either-taken.result c.has-holds.result
     c.args.first.now c.args.after.now name c.in-Some-split_first.behind.now popped c.requires c.if-frame.false some (search rules) holds live c.either-taken.ensures pushed
+
+pub returns-in_err-push-clause-ends : goal.returns-in_err-push-clause-ends
+returns-in_err-push-clause-ends c = IfOk-from_err _ _ c.from_residual.ensures.0

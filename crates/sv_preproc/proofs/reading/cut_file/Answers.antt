@@ -1,3 +1,4 @@
+use Rattle.std.proofs.lemmas.Result.{IfOk-from_err}
 use Rattle.std.proofs.Common.{◌≡◌, ◌+◌, ◌-◌, ◌<◌, length, arith, subst, sym}
 use Rattle.std.proofs.lemmas.Grind.{common_steps}
 use Rattle.sv_token.specs.Cut.{IsRefused, refused, LexesLines}
@@ -22,3 +23,9 @@ returns-then-len-left-clause-caused c =
     named_as (NotCut (seen c.args.known.now) c.args.name.now c.args.text.now) 4 c.index.result.now.token.place c.args.name.now c.refusal.result c.refusal.ensures
     (subst (λ i. NotCut (seen c.args.known.now) c.args.name.now c.args.text.now (no (refused 4 i.token.place)) c.args.name.now) (sym c.index.ensures)
     (too_many (seen c.args.known.now) c.args.name.now c.args.text.now c.in-Ok.lines.items left c.index.result.now (subst (λ n. LexesLines n c.args.text.now c.in-Ok.lines.items) number c.in-Ok.ensures.cut) whole over))
+
+pub returns-in_err-file-in-Err-No-clause-cut : goal.returns-in_err-file-in-Err-No-clause-cut
+returns-in_err-file-in-Err-No-clause-cut c = IfOk-from_err _ _ c.from_residual.ensures.0
+
+pub returns-in_err-file-in-Err-No-clause-within : goal.returns-in_err-file-in-Err-No-clause-within
+returns-in_err-file-in-Err-No-clause-within c = IfOk-from_err _ _ c.from_residual.ensures.0
