@@ -236,19 +236,26 @@ pub enum Item {
     Generate(Items<Item>),
 }
 
+// What an item holds beside items is dropped by one call, outside of the cycle, whose every step is dear to prove.
+fn drop_declared(_form: Option<TypeTree>, _names: Items<Word>) {}
+
+fn drop_head(_name: Word, _start: Expr, _condition: Expr, _step: Step) {}
+
 impl Drop for Item {
     #[cycle(item_drop)]
     fn drop(self) {
         match self {
-            Item::Net(_, _, _) => {}
-            Item::Variable(_, _) => {}
+            Item::Net(_, form, names) => drop_declared(form, names),
+            Item::Variable(form, names) => drop_declared(Some(form), names),
             Item::Typedef(_) => {}
             Item::Param(_) => {}
             Item::Genvar(_) => {}
             Item::Assign(_) => {}
             Item::Always(_) => {}
             Item::Inst(_) => {}
-            Item::For(_, _, _, _, _, _, _) => {}
+            Item::For(_, _, name, start, condition, step, _) => drop_head(
+                name, start, condition, step,
+            ),
             Item::If(_, _, _, _) => {}
             Item::Generate(_) => {}
         }
