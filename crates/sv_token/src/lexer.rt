@@ -121,7 +121,6 @@ fn put_piece(
 }
 
 /// The tokens of a text as `lex` gives them, each with its line: for directives, which end with the line.
-#[tactic(auto, using(crate::proofs::Cutting::is_long, crate::proofs::Fits::gap_within, crate::proofs::Fits::piece_within))]
 pub fn lex_lines(alloc: Global, file: usize, text: &[u8]) -> Result<Vec<Lined>, TextErr>
     ensures cut { IfOk result (λ lines. cut.LexesLines file text.now lines.items) }
     ensures within { IfOk result (λ lines. cut.IsWithin text.now lines.items) }

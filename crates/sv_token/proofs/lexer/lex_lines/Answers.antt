@@ -1,10 +1,10 @@
 use Rattle.std.proofs.lemmas.Option.{MatchOption-at_some}
 use Rattle.std.proofs.lemmas.Result.{IfOk-from_err}
-use Rattle.std.proofs.Common.{◌≡◌, ◌∷◌, ◌++◌, ◌<◌, ◌+◌, arith, sym, ◌∙◌, length, take, length-drop, [], if◌then◌else◌}
+use Rattle.std.proofs.Common.{◌≡◌, ◌∷◌, ◌++◌, ◌<◌, ◌+◌, arith, refl, sym, ◌∙◌, length, take, length-drop, [], if◌then◌else◌}
 use Rattle.std.proofs.lemmas.Grind.{common_steps}
 use Rattle.sv_token.specs.declared.front.Front.TheVariants.{Gap, Piece}
 use Rattle.sv_token.specs.Cut.{here, front, lined, Spot, ends_line}
-use Rattle.sv_token.proofs.Cutting.{is_stuck_at, none_stuck_at, is_many, none_many, one_gap, one_token, place_line_kept, column_kept, line_kept, shorter, one_way, whole, none_refused}
+use Rattle.sv_token.proofs.Cutting.{is_long, is_stuck_at, none_stuck_at, is_many, none_many, one_gap, one_token, place_line_kept, column_kept, line_kept, shorter, one_way, whole, none_refused}
 use Rattle.sv_token.proofs.Wants.{unrefused, given_none, is_err}
 use Rattle.sv_token.proofs.Fits.{gap_within, piece_within}
 use Rattle.sv_token.proofs.lexer.lex_lines.Goals as goal
@@ -114,3 +114,36 @@ returns-in_err-put_piece-in-Piece-clause-faulty c refusal r = is_err c.from_resi
 
 pub returns-in_err-put_piece-in-Piece-clause-only : goal.returns-in_err-put_piece-in-Piece-clause-only
 returns-in_err-put_piece-in-Piece-clause-only c lines l w = given_none (λ v. v.items) c.from_residual.result lines c.from_residual.ensures.1
+
+pub returns-then-text-gt-MOST_BYTES-clause-refused : goal.returns-then-text-gt-MOST_BYTES-clause-refused
+returns-then-text-gt-MOST_BYTES-clause-refused c = rw c.no.ensures (is_long c.args.file c.args.text.now (omega (arith, c.if-text-gt-MOST_BYTES.true)))
+
+pub returns-then-text-gt-MOST_BYTES-clause-faulty : goal.returns-then-text-gt-MOST_BYTES-clause-faulty
+returns-then-text-gt-MOST_BYTES-clause-faulty c refusal r = refl
+
+pub returns-then-text-gt-MOST_BYTES-clause-only : goal.returns-then-text-gt-MOST_BYTES-clause-only
+returns-then-text-gt-MOST_BYTES-clause-only c lines l w = absurd (omega (arith, w.0, c.if-text-gt-MOST_BYTES.true))
+
+pub returns-in-Nothing-clause-faulty : goal.returns-in-Nothing-clause-faulty
+returns-in-Nothing-clause-faulty c refusal r = refl
+
+pub returns-then-len-eq-MOST_TOKENS-clause-faulty : goal.returns-then-len-eq-MOST_TOKENS-clause-faulty
+returns-then-len-eq-MOST_TOKENS-clause-faulty c refusal r = refl
+
+pub beyond-requires-clause-within : goal.beyond-requires-clause-within
+beyond-requires-clause-within c = (gap_within c.in-Gap.len c.cut.rest.now (sym c.front_of.ensures ∙ c.in-Gap.is)).1
+
+pub beyond-requires-clause-line : goal.beyond-requires-clause-line
+beyond-requires-clause-line c = omega (arith, c.cut.invariant.line)
+
+pub beyond-requires-clause-column : goal.beyond-requires-clause-column
+beyond-requires-clause-column c = omega (arith, c.cut.invariant.column)
+
+pub beyond-requires-in-Piece-clause-within : goal.beyond-requires-in-Piece-clause-within
+beyond-requires-in-Piece-clause-within c = (piece_within c.in-Piece.kind c.in-Piece.len c.cut.rest.now (sym c.front_of.ensures ∙ c.in-Piece.is)).1
+
+pub beyond-requires-in-Piece-clause-line : goal.beyond-requires-in-Piece-clause-line
+beyond-requires-in-Piece-clause-line c = omega (arith, c.cut.invariant.line)
+
+pub beyond-requires-in-Piece-clause-column : goal.beyond-requires-in-Piece-clause-column
+beyond-requires-in-Piece-clause-column c = omega (arith, c.cut.invariant.column)
