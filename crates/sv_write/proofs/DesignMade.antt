@@ -85,5 +85,3 @@ made_block p (Some w) all e l = ap (λ (f : Write). (key (codes "begin") ⨾ lab
 pub made_single : (p : Place) (x : Item) (l : List Lexeme) → write_gen (ge.Single p x) l ≡ (write_item x) l
 unfolding write_item write_gen write_else write_items shape-the_row-Item-0 hidden-the_row-Item-0 shape-the_row-Item-1 hidden-the_row-Item-1 shape-the_row-Gen-2 hidden-the_row-Gen-2 denote.Hole.Carrier.hidden
 made_single p x l = refl
-
-pub ruleset made_design = (made_net, made_variable, made_typedef, made_param, made_genvar, made_assign, made_always, made_inst, made_for, made_if, made_generate, made_block, made_single)

@@ -100,5 +100,3 @@ made_index p x l = refl
 pub made_range : (p : Place) (x : Expr) (m : RangeMark) (y : Expr) (l : List Lexeme) → write_select (s.Range p x m y) l ≡ (mark (codes "[") ⨾ write_expr x ⨾ mark (range_text m) ⨾ write_expr y ⨾ mark (codes "]")) l
 unfolding write_expr write_exprs write_more_exprs write_select write_select_row shape-the_row-Select-0 hidden-the_row-Select-0 shape-the_row-Expr-1 hidden-the_row-Expr-1 shape-the_row-Expr-2 hidden-the_row-Expr-2 denote.Hole.Carrier.hidden
 made_range p x m y l = refl
-
-pub ruleset made_exprs = (made_paren, made_cast_literal, made_cast_name, made_cast_paren, made_cast_sign, made_system, made_unary, made_binary, made_choose, made_literal, made_name, made_concat, made_repeat, made_member, made_index, made_range)

@@ -51,5 +51,3 @@ made_of t names l = refl
 pub made_integer : (l : List Lexeme) → write_type ty.Integer l ≡ (key (codes "integer")) l
 unfolding write_type write_members write_more_members write_member shape-the_row-TypeTree-0 hidden-the_row-TypeTree-0 shape-the_row-Member-1 hidden-the_row-Member-1 denote.Hole.Carrier.hidden
 made_integer l = refl
-
-pub ruleset made_forms = (made_vector, made_struct, made_enum, made_named, made_of, made_integer)

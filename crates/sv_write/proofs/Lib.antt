@@ -1,3 +1,4 @@
+pub mod Adding
 pub mod Chosen
 pub mod DesignLaws
 pub mod DesignMade
@@ -6,6 +7,7 @@ pub mod ExprsMade
 pub mod FormsLaws
 pub mod FormsMade
 pub mod Lawful
+pub mod Lists
 pub mod Loops
 pub mod StmtsLaws
 pub mod StmtsMade

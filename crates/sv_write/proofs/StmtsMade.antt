@@ -100,5 +100,3 @@ made_labels xs x l = refl
 pub made_default : (b : Bool) (x : Stmt) (l : List Lexeme) → write_arm (ar.Default b x) l ≡ (key (codes "default") ⨾ write_colon_if b ⨾ write_stmt x) l
 unfolding write_lvalue write_lvalues write_more_lvalues write_stmt write_else write_stmts write_arms write_more_arms write_arm shape-the_row-Stmt-0 hidden-the_row-Stmt-0 shape-the_row-Stmt-1 hidden-the_row-Stmt-1 shape-the_row-Arm-2 hidden-the_row-Arm-2 denote.Hole.Carrier.hidden
 made_default b x l = refl
-
-pub ruleset made_stmts = (made_target, made_targets, made_empty, made_block, made_if, made_case, made_for, made_assign, made_labels, made_default)

@@ -1,3 +1,4 @@
+pub mod Adds
 pub mod Design
 pub mod Exprs
 pub mod Forms

@@ -1,31 +1,31 @@
 // Expressions and selects are written (A.8). A tree has its parentheses as nodes of their own, so that none is added here: the
 // tokens are just those that spell the tree. The texts of marks stand in tables beside the cycle of expressions, which then has
 // one case for each production.
-ghost use Rattle.std.specs.Prelude.{◌≡◌, IfOk};
+ghost use Rattle.std.specs.Prelude.{◌≡◌};
 ghost use Rattle.sv_tree.specs.GrammarExprs as texts;
+ghost use Rattle.sv_write.specs.Adds.{Adds};
 ghost use Rattle.sv_write.specs.Exprs as spec;
 ghost use Rattle.sv_write.specs.Writing as writing;
 
-use crate::lexeme::{Lexemes, key, literal, mark, name, system};
-use std::alloc::{AllocError, Global};
+use crate::lexeme::Writer;
 use sv_tree::{BinaryOp, Expr, RangeMark, Select, Sign, SystemName, UnaryOp};
 
-pub fn sign_word(alloc: Global, out: &mut Lexemes, sign: Sign) -> Result<(), AllocError>
-    ensures { IfOk result (λ _. out.new ≡ writing.key (texts.sign_word sign) out.old) }
+pub fn sign_word(out: &mut Writer, sign: Sign)
+    ensures { Adds (writing.key (texts.sign_word sign)) out.old out.new }
 {
     match sign {
-        Sign::Signed => key(alloc, out, b"signed"),
-        Sign::Unsigned => key(alloc, out, b"unsigned"),
+        Sign::Signed => out.key(b"signed"),
+        Sign::Unsigned => out.key(b"unsigned"),
     }
 }
 
-fn system_word(alloc: Global, out: &mut Lexemes, called: SystemName) -> Result<(), AllocError>
-    ensures { IfOk result (λ _. out.new ≡ writing.system (texts.system_word called) out.old) }
+fn system_word(out: &mut Writer, called: SystemName)
+    ensures { Adds (writing.system (texts.system_word called)) out.old out.new }
 {
     match called {
-        SystemName::Signed => system(alloc, out, b"$signed"),
-        SystemName::Unsigned => system(alloc, out, b"$unsigned"),
-        SystemName::Clog2 => system(alloc, out, b"$clog2"),
+        SystemName::Signed => out.system(b"$signed"),
+        SystemName::Unsigned => out.system(b"$unsigned"),
+        SystemName::Clog2 => out.system(b"$clog2"),
     }
 }
 
@@ -91,139 +91,135 @@ fn range_text(range: RangeMark) -> &'static [u8]
 
 // An expression, and the mark behind it.
 #[cycle(expr)]
-pub fn before(alloc: Global, out: &mut Lexemes, x: &Expr, text: &[u8]) -> Result<(), AllocError>
-    ensures { IfOk result (λ _. out.new ≡ spec.before x.now text.now out.old) }
+pub fn expr_and_mark(out: &mut Writer, x: &Expr, text: &[u8])
+    ensures { Adds (spec.before x.now text.now) out.old out.new }
 {
-    expr(alloc, out, x)?;
-    mark(alloc, out, text)
+    expr(out, x);
+    out.mark(text)
 }
 
 #[cycle(expr)]
-pub fn in_parens(alloc: Global, out: &mut Lexemes, x: &Expr) -> Result<(), AllocError>
-    ensures { IfOk result (λ _. out.new ≡ spec.in_parens x.now out.old) }
+pub fn in_parens(out: &mut Writer, x: &Expr)
+    ensures { Adds (spec.in_parens x.now) out.old out.new }
 {
-    mark(alloc, out, b"(")?;
-    before(alloc, out, x, b")")
+    out.mark(b"(");
+    expr_and_mark(out, x, b")")
 }
 
 #[cycle(expr)]
-fn cast_to(alloc: Global, out: &mut Lexemes, x: &Expr) -> Result<(), AllocError>
-    ensures { IfOk result (λ _. out.new ≡ spec.cast_to x.now out.old) }
+fn cast_to(out: &mut Writer, x: &Expr)
+    ensures { Adds (spec.cast_to x.now) out.old out.new }
 {
-    mark(alloc, out, b"'")?;
-    in_parens(alloc, out, x)
+    out.mark(b"'");
+    in_parens(out, x)
 }
 
 #[cycle(expr)]
-pub fn exprs(alloc: Global, out: &mut Lexemes, all: &[Expr]) -> Result<(), AllocError>
-    ensures { IfOk result (λ _. out.new ≡ writing.commas spec.write_expr all.now out.old) }
+pub fn exprs(out: &mut Writer, all: &[Expr])
+    ensures { Adds (writing.commas spec.write_expr all.now) out.old out.new }
 {
     match all {
-        [] => Ok(()),
+        [] => {}
         [first, more @ ..] => {
-            expr(alloc, out, first)?;
+            expr(out, first);
             'parts: for part in more {
-                mark(alloc, out, b",")?;
-                expr(alloc, out, part)?;
+                out.mark(b",");
+                expr(out, part);
             }
-            Ok(())
         }
     }
 }
 
 #[cycle(expr)]
-fn in_braces(alloc: Global, out: &mut Lexemes, all: &[Expr]) -> Result<(), AllocError>
-    ensures { IfOk result (λ _. out.new ≡ spec.in_braces all.now out.old) }
+fn in_braces(out: &mut Writer, all: &[Expr])
+    ensures { Adds (spec.in_braces all.now) out.old out.new }
 {
-    mark(alloc, out, b"{")?;
-    exprs(alloc, out, all)?;
-    mark(alloc, out, b"}")
+    out.mark(b"{");
+    exprs(out, all);
+    out.mark(b"}")
 }
 
 #[cycle(expr)]
-pub fn selects(alloc: Global, out: &mut Lexemes, all: &[Select]) -> Result<(), AllocError>
-    ensures { IfOk result (λ _. out.new ≡ writing.each spec.write_select all.now out.old) }
+pub fn selects(out: &mut Writer, all: &[Select])
+    ensures { Adds (writing.each spec.write_select all.now) out.old out.new }
 {
     'parts: for part in all {
-        select(alloc, out, part)?;
+        select(out, part);
     }
-    Ok(())
 }
 
-#[tactic(auto, using(crate::proofs::ExprsMade::made_exprs))]
 #[cycle(expr)]
-fn select(alloc: Global, out: &mut Lexemes, x: &Select) -> Result<(), AllocError>
-    ensures { IfOk result (λ _. out.new ≡ spec.write_select x.now out.old) }
+fn select(out: &mut Writer, x: &Select)
+    ensures { Adds (spec.write_select x.now) out.old out.new }
 {
     match x {
         Select::Member(_, word) => {
-            mark(alloc, out, b".")?;
-            name(alloc, out, word)
+            out.mark(b".");
+            out.name(word)
         }
         Select::Index(_, index) => {
-            mark(alloc, out, b"[")?;
-            before(alloc, out, index.get(), b"]")
+            out.mark(b"[");
+            expr_and_mark(out, index.get(), b"]")
         }
         Select::Range(_, left, range, right) => {
-            mark(alloc, out, b"[")?;
-            before(alloc, out, left.get(), range_text(*range))?;
-            before(alloc, out, right.get(), b"]")
+            out.mark(b"[");
+            expr_and_mark(out, left.get(), range_text(*range));
+            expr_and_mark(out, right.get(), b"]")
         }
     }
 }
 
 /// Writes an expression.
-#[tactic(auto, using(crate::proofs::ExprsMade::made_exprs))]
 #[cycle(expr)]
-pub fn expr(alloc: Global, out: &mut Lexemes, x: &Expr) -> Result<(), AllocError>
-    ensures { IfOk result (λ _. out.new ≡ spec.write_expr x.now out.old) }
+pub fn expr(out: &mut Writer, x: &Expr)
+    ensures { Adds (spec.write_expr x.now) out.old out.new }
 {
     match x {
-        Expr::Literal(word) => literal(alloc, out, word),
+        Expr::Literal(word) => out.literal(word),
         Expr::Name(word, all) => {
-            name(alloc, out, word)?;
-            selects(alloc, out, all.as_slice())
+            out.name(word);
+            selects(out, all.as_slice())
         }
-        Expr::Paren(_, inner) => in_parens(alloc, out, inner.get()),
-        Expr::Concat(_, parts) => in_braces(alloc, out, parts.as_slice()),
+        Expr::Paren(_, inner) => in_parens(out, inner.get()),
+        Expr::Concat(_, parts) => in_braces(out, parts.as_slice()),
         Expr::Repeat(_, count, parts) => {
-            mark(alloc, out, b"{")?;
-            expr(alloc, out, count.get())?;
-            in_braces(alloc, out, parts.as_slice())?;
-            mark(alloc, out, b"}")
+            out.mark(b"{");
+            expr(out, count.get());
+            in_braces(out, parts.as_slice());
+            out.mark(b"}")
         }
         Expr::CastLiteral(word, inner) => {
-            literal(alloc, out, word)?;
-            cast_to(alloc, out, inner.get())
+            out.literal(word);
+            cast_to(out, inner.get())
         }
         Expr::CastName(word, inner) => {
-            name(alloc, out, word)?;
-            cast_to(alloc, out, inner.get())
+            out.name(word);
+            cast_to(out, inner.get())
         }
         Expr::CastParen(_, size, inner) => {
-            in_parens(alloc, out, size.get())?;
-            cast_to(alloc, out, inner.get())
+            in_parens(out, size.get());
+            cast_to(out, inner.get())
         }
         Expr::CastSign(sign, _, inner) => {
-            sign_word(alloc, out, *sign)?;
-            cast_to(alloc, out, inner.get())
+            sign_word(out, *sign);
+            cast_to(out, inner.get())
         }
         Expr::System(called, _, inner) => {
-            system_word(alloc, out, *called)?;
-            in_parens(alloc, out, inner.get())
+            system_word(out, *called);
+            in_parens(out, inner.get())
         }
         Expr::Unary(op, _, inner) => {
-            mark(alloc, out, unary_mark(*op))?;
-            expr(alloc, out, inner.get())
+            out.mark(unary_mark(*op));
+            expr(out, inner.get())
         }
         Expr::Binary(left, op, _, right) => {
-            before(alloc, out, left.get(), binary_mark(*op))?;
-            expr(alloc, out, right.get())
+            expr_and_mark(out, left.get(), binary_mark(*op));
+            expr(out, right.get())
         }
         Expr::Choose(test, first, second) => {
-            before(alloc, out, test.get(), b"?")?;
-            before(alloc, out, first.get(), b":")?;
-            expr(alloc, out, second.get())
+            expr_and_mark(out, test.get(), b"?");
+            expr_and_mark(out, first.get(), b":");
+            expr(out, second.get())
         }
     }
 }

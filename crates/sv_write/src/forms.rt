@@ -1,15 +1,13 @@
 // Types, parameters and ports are written (A.2, A.1.3). A part that may be missing or repeated is a `Part`, so that options and
 // lists are written by the same few calls. Types hold types through the members of structures: those four functions are a
 // cycle, and the words, ranges and enumerators stand outside of it.
-ghost use Rattle.std.specs.Prelude.{◌≡◌, IfOk};
-ghost use Rattle.sv_write.specs.Exprs as exprs_spec;
+ghost use Rattle.sv_write.specs.Adds.{Adds};
 ghost use Rattle.sv_write.specs.Forms as spec;
 ghost use Rattle.sv_write.specs.Writing as writing;
 
-use crate::exprs::{before, expr, sign_word};
-use crate::lexeme::{Lexemes, key, mark, name, name_and_mark};
-use crate::part::{Part, commas, each, maybe};
-use std::alloc::{AllocError, Global};
+use crate::exprs::{expr, expr_and_mark, sign_word};
+use crate::lexeme::Writer;
+use crate::part::{Part, each, maybe, with_commas};
 use sv_tree::{
     BitsWord, EnumLabel, Expr, Member, NetWord, ParPort, Param, ParamBits, ParamItem, ParamType,
     ParamWord, Port, Range, Sign, TypeTree, Typedef, Way, WholeWord, Word,
@@ -19,10 +17,10 @@ impl Part for BitsWord {
     ghost text = { spec.write_bits_key };
 
     #[tactic(auto, unfolding(crate::specs::Forms::write_bits_key))]
-    fn put(&self, alloc: Global, out: &mut Lexemes) -> Result<(), AllocError> {
+    fn put(&self, out: &mut Writer) {
         match self {
-            BitsWord::Logic => key(alloc, out, b"logic"),
-            BitsWord::Reg => key(alloc, out, b"reg"),
+            BitsWord::Logic => out.key(b"logic"),
+            BitsWord::Reg => out.key(b"reg"),
         }
     }
 }
@@ -31,166 +29,145 @@ impl Part for Sign {
     ghost text = { spec.write_sign_key };
 
     #[tactic(auto, unfolding(crate::specs::Forms::write_sign_key))]
-    fn put(&self, alloc: Global, out: &mut Lexemes) -> Result<(), AllocError> {
-        sign_word(alloc, out, *self)
+    fn put(&self, out: &mut Writer) {
+        sign_word(out, *self)
     }
 }
 
 impl Part for Range {
     ghost text = { spec.write_range };
 
-    #[tactic(auto, unfolding(crate::specs::Forms::write_range))]
-    fn put(&self, alloc: Global, out: &mut Lexemes) -> Result<(), AllocError> {
-        mark(alloc, out, b"[")?;
-        before(alloc, out, &self.left, b":")?;
-        before(alloc, out, &self.right, b"]")
+    fn put(&self, out: &mut Writer) {
+        out.mark(b"[");
+        expr_and_mark(out, &self.left, b":");
+        expr_and_mark(out, &self.right, b"]")
     }
 }
 
-#[tactic(auto, unfolding(crate::specs::Forms::write_given))]
-pub fn given(alloc: Global, out: &mut Lexemes, x: &Expr) -> Result<(), AllocError>
-    ensures { IfOk result (λ _. out.new ≡ spec.write_given x.now out.old) }
+pub fn given(out: &mut Writer, x: &Expr)
+    ensures { Adds (spec.write_given x.now) out.old out.new }
 {
-    mark(alloc, out, b"=")?;
-    expr(alloc, out, x)
+    out.mark(b"=");
+    expr(out, x)
 }
 
-fn maybe_given(alloc: Global, out: &mut Lexemes, option: &Option<Expr>) -> Result<(), AllocError>
-    ensures { IfOk result (λ _. out.new ≡ writing.maybe spec.write_given option.now out.old) }
+fn maybe_given(out: &mut Writer, option: &Option<Expr>)
+    ensures { Adds (writing.maybe spec.write_given option.now) out.old out.new }
 {
     match option {
-        Some(part) => given(alloc, out, part),
-        None => Ok(()),
+        Some(part) => given(out, part),
+        None => {}
     }
 }
 
 impl Part for EnumLabel {
     ghost text = { spec.write_enum_label };
 
-    #[tactic(auto, unfolding(crate::specs::Forms::write_enum_label))]
-    fn put(&self, alloc: Global, out: &mut Lexemes) -> Result<(), AllocError> {
-        name(alloc, out, &self.name)?;
-        maybe_given(alloc, out, &self.value)
+    fn put(&self, out: &mut Writer) {
+        out.name(&self.name);
+        maybe_given(out, &self.value)
     }
 }
 
 // ---- types
 
-fn vector(
-    alloc: Global,
-    out: &mut Lexemes,
-    word: &Option<BitsWord>,
-    sign: &Option<Sign>,
-    all: &[Range],
-) -> Result<(), AllocError>
-    ensures { IfOk result (λ _. out.new ≡ spec.vector word.now sign.now all.now out.old) }
+fn vector(out: &mut Writer, word: &Option<BitsWord>, sign: &Option<Sign>, all: &[Range])
+    ensures { Adds (spec.vector word.now sign.now all.now) out.old out.new }
 {
-    maybe(alloc, out, word)?;
-    maybe(alloc, out, sign)?;
-    each(alloc, out, all)
+    maybe(out, word);
+    maybe(out, sign);
+    each(out, all)
 }
 
 // The labels of an enumeration.
-fn labels(alloc: Global, out: &mut Lexemes, all: &[EnumLabel]) -> Result<(), AllocError>
-    ensures { IfOk result (λ _. out.new ≡ spec.labels all.now out.old) }
+fn labels(out: &mut Writer, all: &[EnumLabel])
+    ensures { Adds (spec.labels all.now) out.old out.new }
 {
-    mark(alloc, out, b"{")?;
-    commas(alloc, out, all)?;
-    mark(alloc, out, b"}")
+    out.mark(b"{");
+    with_commas(out, all);
+    out.mark(b"}")
 }
 
 fn enumeration(
-    alloc: Global,
-    out: &mut Lexemes,
+    out: &mut Writer,
     word: &BitsWord,
     sign: &Option<Sign>,
     of: &Option<Range>,
     all: &[EnumLabel],
-) -> Result<(), AllocError>
-    ensures { IfOk result (λ _. out.new ≡ spec.enumeration word.now sign.now of.now all.now out.old) }
+)
+    ensures { Adds (spec.enumeration word.now sign.now of.now all.now) out.old out.new }
 {
-    key(alloc, out, b"enum")?;
-    word.put(alloc, out)?;
-    maybe(alloc, out, sign)?;
-    maybe(alloc, out, of)?;
-    labels(alloc, out, all)
+    out.key(b"enum");
+    word.put(out);
+    maybe(out, sign);
+    maybe(out, of);
+    labels(out, all)
 }
 
 // What stands before the members of a structure.
-fn packed(alloc: Global, out: &mut Lexemes, sign: &Option<Sign>) -> Result<(), AllocError>
-    ensures { IfOk result (λ _. out.new ≡ spec.packed sign.now out.old) }
+fn packed(out: &mut Writer, sign: &Option<Sign>)
+    ensures { Adds (spec.packed sign.now) out.old out.new }
 {
-    key(alloc, out, b"struct")?;
-    key(alloc, out, b"packed")?;
-    maybe(alloc, out, sign)?;
-    mark(alloc, out, b"{")
+    out.key(b"struct");
+    out.key(b"packed");
+    maybe(out, sign);
+    out.mark(b"{")
 }
 
 #[cycle(form)]
-fn structure(
-    alloc: Global,
-    out: &mut Lexemes,
-    sign: &Option<Sign>,
-    members: &[Member],
-    all: &[Range],
-) -> Result<(), AllocError>
-    ensures { IfOk result (λ _. out.new ≡ spec.structure sign.now members.now all.now out.old) }
+fn structure(out: &mut Writer, sign: &Option<Sign>, members: &[Member], all: &[Range])
+    ensures { Adds (spec.structure sign.now members.now all.now) out.old out.new }
 {
-    packed(alloc, out, sign)?;
-    all_members(alloc, out, members)?;
-    mark(alloc, out, b"}")?;
-    each(alloc, out, all)
+    packed(out, sign);
+    all_members(out, members);
+    out.mark(b"}");
+    each(out, all)
 }
 
 #[cycle(form)]
-fn all_members(alloc: Global, out: &mut Lexemes, all: &[Member]) -> Result<(), AllocError>
-    ensures { IfOk result (λ _. out.new ≡ writing.each spec.write_member all.now out.old) }
+fn all_members(out: &mut Writer, all: &[Member])
+    ensures { Adds (writing.each spec.write_member all.now) out.old out.new }
 {
     'parts: for part in all {
-        member(alloc, out, part)?;
+        member(out, part);
     }
-    Ok(())
 }
 
 /// Writes names, and the mark behind them.
-pub fn names_end(alloc: Global, out: &mut Lexemes, all: &[Word]) -> Result<(), AllocError>
-    ensures { IfOk result (λ _. out.new ≡ spec.names_end all.now out.old) }
+pub fn names_end(out: &mut Writer, all: &[Word])
+    ensures { Adds (spec.names_end all.now) out.old out.new }
 {
-    commas(alloc, out, all)?;
-    mark(alloc, out, b";")
+    with_commas(out, all);
+    out.mark(b";")
 }
 
-#[tactic(auto, using(crate::proofs::FormsMade::made_forms))]
 #[cycle(form)]
-fn member(alloc: Global, out: &mut Lexemes, x: &Member) -> Result<(), AllocError>
-    ensures { IfOk result (λ _. out.new ≡ spec.write_member x.now out.old) }
+fn member(out: &mut Writer, x: &Member)
+    ensures { Adds (spec.write_member x.now) out.old out.new }
 {
     match x {
         Member::Of(of, all) => {
-            form(alloc, out, of.get())?;
-            names_end(alloc, out, all.as_slice())
+            form(out, of.get());
+            names_end(out, all.as_slice())
         }
     }
 }
 
 /// Writes a type.
-#[tactic(auto, using(crate::proofs::FormsMade::made_forms))]
 #[cycle(form)]
-pub fn form(alloc: Global, out: &mut Lexemes, x: &TypeTree) -> Result<(), AllocError>
-    ensures { IfOk result (λ _. out.new ≡ spec.write_type x.now out.old) }
+pub fn form(out: &mut Writer, x: &TypeTree)
+    ensures { Adds (spec.write_type x.now) out.old out.new }
 {
     match x {
-        TypeTree::Vector(word, sign, all) => vector(alloc, out, word, sign, all.as_slice()),
-        TypeTree::Integer => key(alloc, out, b"integer"),
+        TypeTree::Vector(word, sign, all) => vector(out, word, sign, all.as_slice()),
+        TypeTree::Integer => out.key(b"integer"),
         TypeTree::Struct(sign, members, all) => {
-            structure(alloc, out, sign, members.as_slice(), all.as_slice())
+            structure(out, sign, members.as_slice(), all.as_slice())
         }
-        TypeTree::Enum(word, sign, of, all) => {
-            enumeration(alloc, out, word, sign, of, all.as_slice())
-        }
+        TypeTree::Enum(word, sign, of, all) => { enumeration(out, word, sign, of, all.as_slice()) }
         TypeTree::Named(word, all) => {
-            name(alloc, out, word)?;
-            each(alloc, out, all.as_slice())
+            out.name(word);
+            each(out, all.as_slice())
         }
     }
 }
@@ -198,30 +175,30 @@ pub fn form(alloc: Global, out: &mut Lexemes, x: &TypeTree) -> Result<(), AllocE
 impl Part for TypeTree {
     ghost text = { spec.write_type };
 
-    fn put(&self, alloc: Global, out: &mut Lexemes) -> Result<(), AllocError> {
-        form(alloc, out, self)
+    fn put(&self, out: &mut Writer) {
+        form(out, self)
     }
 }
 
 /// Writes a definition of a type.
-#[tactic(auto, unfolding(crate::specs::Forms::write_typedef))]
-pub fn typedef(alloc: Global, out: &mut Lexemes, x: &Typedef) -> Result<(), AllocError>
-    ensures { IfOk result (λ _. out.new ≡ spec.write_typedef x.now out.old) }
+pub fn definition(out: &mut Writer, x: &Typedef)
+    ensures { Adds (spec.write_typedef x.now) out.old out.new }
 {
-    key(alloc, out, b"typedef")?;
-    form(alloc, out, &x.form)?;
-    name_and_mark(alloc, out, &x.name, b";")
+    out.key(b"typedef");
+    form(out, &x.form);
+    out.name(&x.name);
+    out.mark(b";")
 }
 
 // ---- parameters
 
 #[tactic(auto, unfolding(crate::specs::Forms::write_whole_key))]
-pub fn whole_word(alloc: Global, out: &mut Lexemes, word: WholeWord) -> Result<(), AllocError>
-    ensures { IfOk result (λ _. out.new ≡ spec.write_whole_key word out.old) }
+pub fn whole_word(out: &mut Writer, word: WholeWord)
+    ensures { Adds (spec.write_whole_key word) out.old out.new }
 {
     match word {
-        WholeWord::Int => key(alloc, out, b"int"),
-        WholeWord::Integer => key(alloc, out, b"integer"),
+        WholeWord::Int => out.key(b"int"),
+        WholeWord::Integer => out.key(b"integer"),
     }
 }
 
@@ -229,11 +206,11 @@ impl Part for ParamBits {
     ghost text = { spec.write_param_bits_key };
 
     #[tactic(auto, unfolding(crate::specs::Forms::write_param_bits_key))]
-    fn put(&self, alloc: Global, out: &mut Lexemes) -> Result<(), AllocError> {
+    fn put(&self, out: &mut Writer) {
         match self {
-            ParamBits::Bit => key(alloc, out, b"bit"),
-            ParamBits::Logic => key(alloc, out, b"logic"),
-            ParamBits::Reg => key(alloc, out, b"reg"),
+            ParamBits::Bit => out.key(b"bit"),
+            ParamBits::Logic => out.key(b"logic"),
+            ParamBits::Reg => out.key(b"reg"),
         }
     }
 }
@@ -242,10 +219,10 @@ impl Part for ParamWord {
     ghost text = { spec.write_param_key };
 
     #[tactic(auto, unfolding(crate::specs::Forms::write_param_key))]
-    fn put(&self, alloc: Global, out: &mut Lexemes) -> Result<(), AllocError> {
+    fn put(&self, out: &mut Writer) {
         match self {
-            ParamWord::Parameter => key(alloc, out, b"parameter"),
-            ParamWord::Localparam => key(alloc, out, b"localparam"),
+            ParamWord::Parameter => out.key(b"parameter"),
+            ParamWord::Localparam => out.key(b"localparam"),
         }
     }
 }
@@ -253,17 +230,16 @@ impl Part for ParamWord {
 impl Part for ParamType {
     ghost text = { spec.write_param_type };
 
-    #[tactic(auto, unfolding(crate::specs::Forms::write_param_type))]
-    fn put(&self, alloc: Global, out: &mut Lexemes) -> Result<(), AllocError> {
+    fn put(&self, out: &mut Writer) {
         match self {
             ParamType::Whole(word, sign) => {
-                whole_word(alloc, out, *word)?;
-                maybe(alloc, out, sign)
+                whole_word(out, *word);
+                maybe(out, sign)
             }
             ParamType::Bits(word, sign, of) => {
-                maybe(alloc, out, word)?;
-                maybe(alloc, out, sign)?;
-                maybe(alloc, out, of)
+                maybe(out, word);
+                maybe(out, sign);
+                maybe(out, of)
             }
         }
     }
@@ -272,34 +248,31 @@ impl Part for ParamType {
 impl Part for ParPort {
     ghost text = { spec.write_par_port };
 
-    #[tactic(auto, unfolding(crate::specs::Forms::write_par_port))]
-    fn put(&self, alloc: Global, out: &mut Lexemes) -> Result<(), AllocError> {
-        maybe(alloc, out, &self.word)?;
-        maybe(alloc, out, &self.form)?;
-        name(alloc, out, &self.name)?;
-        given(alloc, out, &self.value)
+    fn put(&self, out: &mut Writer) {
+        maybe(out, &self.word);
+        maybe(out, &self.form);
+        out.name(&self.name);
+        given(out, &self.value)
     }
 }
 
 impl Part for ParamItem {
     ghost text = { spec.write_param_item };
 
-    #[tactic(auto, unfolding(crate::specs::Forms::write_param_item))]
-    fn put(&self, alloc: Global, out: &mut Lexemes) -> Result<(), AllocError> {
-        name(alloc, out, &self.name)?;
-        given(alloc, out, &self.value)
+    fn put(&self, out: &mut Writer) {
+        out.name(&self.name);
+        given(out, &self.value)
     }
 }
 
 /// Writes a declaration of parameters.
-#[tactic(auto, unfolding(crate::specs::Forms::write_param))]
-pub fn param(alloc: Global, out: &mut Lexemes, x: &Param) -> Result<(), AllocError>
-    ensures { IfOk result (λ _. out.new ≡ spec.write_param x.now out.old) }
+pub fn parameters(out: &mut Writer, x: &Param)
+    ensures { Adds (spec.write_param x.now) out.old out.new }
 {
-    x.word.put(alloc, out)?;
-    maybe(alloc, out, &x.form)?;
-    commas(alloc, out, x.list.as_slice())?;
-    mark(alloc, out, b";")
+    x.word.put(out);
+    maybe(out, &x.form);
+    with_commas(out, x.list.as_slice());
+    out.mark(b";")
 }
 
 // ---- ports
@@ -308,11 +281,11 @@ impl Part for Way {
     ghost text = { spec.write_way_key };
 
     #[tactic(auto, unfolding(crate::specs::Forms::write_way_key))]
-    fn put(&self, alloc: Global, out: &mut Lexemes) -> Result<(), AllocError> {
+    fn put(&self, out: &mut Writer) {
         match self {
-            Way::Input => key(alloc, out, b"input"),
-            Way::Output => key(alloc, out, b"output"),
-            Way::Inout => key(alloc, out, b"inout"),
+            Way::Input => out.key(b"input"),
+            Way::Output => out.key(b"output"),
+            Way::Inout => out.key(b"inout"),
         }
     }
 }
@@ -321,10 +294,10 @@ impl Part for NetWord {
     ghost text = { spec.write_net_key };
 
     #[tactic(auto, unfolding(crate::specs::Forms::write_net_key))]
-    fn put(&self, alloc: Global, out: &mut Lexemes) -> Result<(), AllocError> {
+    fn put(&self, out: &mut Writer) {
         match self {
-            NetWord::Wire => key(alloc, out, b"wire"),
-            NetWord::Tri => key(alloc, out, b"tri"),
+            NetWord::Wire => out.key(b"wire"),
+            NetWord::Tri => out.key(b"tri"),
         }
     }
 }
@@ -332,11 +305,10 @@ impl Part for NetWord {
 impl Part for Port {
     ghost text = { spec.write_port };
 
-    #[tactic(auto, unfolding(crate::specs::Forms::write_port))]
-    fn put(&self, alloc: Global, out: &mut Lexemes) -> Result<(), AllocError> {
-        maybe(alloc, out, &self.way)?;
-        maybe(alloc, out, &self.kind)?;
-        maybe(alloc, out, &self.form)?;
-        name(alloc, out, &self.name)
+    fn put(&self, out: &mut Writer) {
+        maybe(out, &self.way);
+        maybe(out, &self.kind);
+        maybe(out, &self.form);
+        out.name(&self.name)
     }
 }

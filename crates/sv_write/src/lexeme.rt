@@ -1,9 +1,11 @@
 // Kinds and texts of tokens, one behind the other.
-ghost use Rattle.std.specs.Prelude.{◌≡◌, IfOk};
+ghost use Rattle.std.specs.Prelude.{◌≡◌, IfOk, Ok};
+ghost use Rattle.sv_write.specs.Adds.{Adds};
 ghost use Rattle.sv_write.specs.Writing as spec;
 
 use items::Items;
 use std::alloc::{AllocError, Global};
+use std::mem;
 use sv_outside::{Kind, Name};
 use sv_tree::Word;
 
@@ -17,6 +19,22 @@ pub struct Lexeme {
 /// What is written, in order.
 pub type Lexemes = Items<Lexeme>;
 
+/// What is written, in order, until memory is out: then no more is written, and the want is kept for the end. So what writes a
+/// part has no exits of its own, and its meaning stays small.
+pub struct Writer {
+    pub(crate) alloc: Global,
+    pub(crate) written: Result<Lexemes, AllocError>,
+}
+
+impl Drop for Writer {
+    fn drop(self) {
+        let Writer {
+            alloc: _,
+            written: _,
+        } = self;
+    }
+}
+
 #[tactic(auto, unfolding(crate::specs::Writing::put))]
 fn put(alloc: Global, out: &mut Lexemes, kind: Kind, text: &[u8]) -> Result<(), AllocError>
     ensures { IfOk result (λ _. out.new ≡ spec.put kind text.now out.old) }
@@ -25,6 +43,78 @@ fn put(alloc: Global, out: &mut Lexemes, kind: Kind, text: &[u8]) -> Result<(), 
     out.push(Lexeme { kind, text })?;
     Ok(())
 }
+
+impl Writer {
+    /// A writer behind what is written, which it has until `give`. Takes no memory.
+    pub fn behind(alloc: Global, out: &mut Lexemes) -> Writer
+        ensures { result.written ≡ Ok out.old }
+    {
+        let before = mem::replace(out, Items::new(alloc));
+        Writer {
+            alloc,
+            written: Ok(before),
+        }
+    }
+
+    /// Gives back all that is written. Where memory was out, nothing is.
+    pub fn give(self, out: &mut Lexemes) -> Result<(), AllocError>
+        ensures { IfOk result (λ _. self.written ≡ Ok out.new) }
+    {
+        let Writer { alloc: _, written } = self;
+        match written {
+            Ok(all) => {
+                *out = all;
+                Ok(())
+            }
+            Err(want) => Err(want),
+        }
+    }
+
+    fn put(&mut self, kind: Kind, text: &[u8])
+        ensures { Adds (spec.put kind text.now) self.old self.new }
+    {
+        if let Ok(all) = &mut self.written {
+            if let Err(want) = put(self.alloc, all, kind, text) {
+                self.written = Err(want);
+            }
+        }
+    }
+
+    /// Writes a mark.
+    pub fn mark(&mut self, text: &[u8])
+        ensures { Adds (spec.mark text.now) self.old self.new }
+    {
+        self.put(Kind::Mark, text)
+    }
+
+    /// Writes a keyword.
+    pub fn key(&mut self, text: &[u8])
+        ensures { Adds (spec.key text.now) self.old self.new }
+    {
+        self.put(Kind::Word, text)
+    }
+
+    pub fn system(&mut self, text: &[u8])
+        ensures { Adds (spec.system text.now) self.old self.new }
+    {
+        self.put(Kind::System, text)
+    }
+
+    pub fn literal(&mut self, word: &Word)
+        ensures { Adds (spec.literal word.now) self.old self.new }
+    {
+        self.put(Kind::Literal, word.text.bytes())
+    }
+
+    /// Writes a name.
+    pub fn name(&mut self, word: &Word)
+        ensures { Adds (spec.name word.now) self.old self.new }
+    {
+        self.put(Kind::Word, word.text.bytes())
+    }
+}
+
+// ---- onto a list
 
 /// Writes a mark.
 pub fn mark(alloc: Global, out: &mut Lexemes, text: &[u8]) -> Result<(), AllocError>
@@ -51,18 +141,6 @@ pub fn key(alloc: Global, out: &mut Lexemes, text: &[u8]) -> Result<(), AllocErr
     ensures { IfOk result (λ _. out.new ≡ spec.key text.now out.old) }
 {
     put(alloc, out, Kind::Word, text)
-}
-
-pub fn system(alloc: Global, out: &mut Lexemes, text: &[u8]) -> Result<(), AllocError>
-    ensures { IfOk result (λ _. out.new ≡ spec.system text.now out.old) }
-{
-    put(alloc, out, Kind::System, text)
-}
-
-pub fn literal(alloc: Global, out: &mut Lexemes, word: &Word) -> Result<(), AllocError>
-    ensures { IfOk result (λ _. out.new ≡ spec.literal word.now out.old) }
-{
-    put(alloc, out, Kind::Literal, word.text.bytes())
 }
 
 /// Writes a name.

@@ -1,9 +1,8 @@
 // Parts that are written alike, whatever they are: one that may be absent, several, and several with commas between them.
-ghost use Rattle.std.specs.Prelude.{◌≡◌, IfOk};
+ghost use Rattle.sv_write.specs.Adds.{Adds};
 ghost use Rattle.sv_write.specs.Writing as writing;
 
-use crate::lexeme::{Lexemes, mark, name};
-use std::alloc::{AllocError, Global};
+use crate::lexeme::Writer;
 use sv_tree::Word;
 
 /// What is written behind what is there.
@@ -11,61 +10,55 @@ pub trait Part {
     ghost text: { Self → writing.Write };
 
     /// Writes it.
-    fn put(&self, alloc: Global, out: &mut Lexemes) -> Result<(), AllocError>
-        ensures { IfOk result (λ _. out.new ≡ text self.now out.old) };
+    fn put(&self, out: &mut Writer)
+        ensures { Adds (text self.now) out.old out.new };
 }
 
 impl Part for Word {
     ghost text = { writing.name };
 
-    fn put(&self, alloc: Global, out: &mut Lexemes) -> Result<(), AllocError> {
-        name(alloc, out, self)
+    fn put(&self, out: &mut Writer) {
+        out.name(self)
     }
 }
 
 /// Writes the part that there may be.
-pub fn maybe<T: Part>(
-    alloc: Global,
-    out: &mut Lexemes,
-    option: &Option<T>,
-) -> Result<(), AllocError>
-    ensures { IfOk result (λ _. out.new ≡ writing.maybe T.text option.now out.old) }
+pub fn maybe<T: Part>(out: &mut Writer, option: &Option<T>)
+    ensures { Adds (writing.maybe T.text option.now) out.old out.new }
 {
     match option {
-        Some(part) => part.put(alloc, out),
-        None => Ok(()),
+        Some(part) => part.put(out),
+        None => {}
     }
 }
 
 /// Writes one part behind the other.
-pub fn each<T: Part>(alloc: Global, out: &mut Lexemes, all: &[T]) -> Result<(), AllocError>
-    ensures { IfOk result (λ _. out.new ≡ writing.each T.text all.now out.old) }
+pub fn each<T: Part>(out: &mut Writer, all: &[T])
+    ensures { Adds (writing.each T.text all.now) out.old out.new }
 {
     'parts: for part in all {
-        part.put(alloc, out)?;
+        part.put(out);
     }
-    Ok(())
 }
 
-fn behind_comma<T: Part>(alloc: Global, out: &mut Lexemes, part: &T) -> Result<(), AllocError>
-    ensures { IfOk result (λ _. out.new ≡ writing.behind_comma T.text part.now out.old) }
+fn behind_comma<T: Part>(out: &mut Writer, part: &T)
+    ensures { Adds (writing.behind_comma T.text part.now) out.old out.new }
 {
-    mark(alloc, out, b",")?;
-    part.put(alloc, out)
+    out.mark(b",");
+    part.put(out)
 }
 
 /// Writes the parts with commas between them.
-pub fn commas<T: Part>(alloc: Global, out: &mut Lexemes, all: &[T]) -> Result<(), AllocError>
-    ensures { IfOk result (λ _. out.new ≡ writing.commas T.text all.now out.old) }
+pub fn with_commas<T: Part>(out: &mut Writer, all: &[T])
+    ensures { Adds (writing.commas T.text all.now) out.old out.new }
 {
     match all {
-        [] => Ok(()),
+        [] => {}
         [first, more @ ..] => {
-            first.put(alloc, out)?;
+            first.put(out);
             'parts: for part in more {
-                behind_comma(alloc, out, part)?;
+                behind_comma(out, part);
             }
-            Ok(())
         }
     }
 }

@@ -2,15 +2,16 @@
 // of an `if`, of a case statement or of a loop, and labels) is written by functions of their own, so that the cycle of
 // statements only puts heads and bodies one behind the other.
 ghost use Rattle.std.specs.Prelude.{◌≡◌, IfOk};
+ghost use Rattle.sv_write.specs.Adds.{Adds};
 ghost use Rattle.sv_write.specs.Exprs as exprs_spec;
 ghost use Rattle.sv_write.specs.Forms as forms_spec;
 ghost use Rattle.sv_write.specs.Stmts as spec;
 ghost use Rattle.sv_write.specs.Writing as writing;
 ghost use Rattle.sv_tree.specs.GrammarStmts as texts;
 
-use crate::exprs::{before, expr, exprs, in_parens, selects};
+use crate::exprs::{expr, expr_and_mark, exprs, in_parens, selects};
 use crate::forms::whole_word;
-use crate::lexeme::{Lexemes, key, mark, name, name_and_mark, two_marks};
+use crate::lexeme::{Lexemes, Writer, key, name_and_mark, two_marks};
 use crate::part::{Part, maybe};
 use items::Boxed;
 use std::alloc::{AllocError, Global};
@@ -22,37 +23,35 @@ use sv_tree::{
 // ---- targets
 
 #[cycle(target)]
-fn lvalues(alloc: Global, out: &mut Lexemes, all: &[Lvalue]) -> Result<(), AllocError>
-    ensures { IfOk result (λ _. out.new ≡ writing.commas spec.write_lvalue all.now out.old) }
+fn lvalues(out: &mut Writer, all: &[Lvalue])
+    ensures { Adds (writing.commas spec.write_lvalue all.now) out.old out.new }
 {
     match all {
-        [] => Ok(()),
+        [] => {}
         [first, more @ ..] => {
-            lvalue(alloc, out, first)?;
+            lvalue(out, first);
             'parts: for part in more {
-                mark(alloc, out, b",")?;
-                lvalue(alloc, out, part)?;
+                out.mark(b",");
+                lvalue(out, part);
             }
-            Ok(())
         }
     }
 }
 
 /// Writes a target.
-#[tactic(auto, using(crate::proofs::StmtsMade::made_stmts))]
 #[cycle(target)]
-pub fn lvalue(alloc: Global, out: &mut Lexemes, x: &Lvalue) -> Result<(), AllocError>
-    ensures { IfOk result (λ _. out.new ≡ spec.write_lvalue x.now out.old) }
+pub fn lvalue(out: &mut Writer, x: &Lvalue)
+    ensures { Adds (spec.write_lvalue x.now) out.old out.new }
 {
     match x {
         Lvalue::Name(word, all) => {
-            name(alloc, out, word)?;
-            selects(alloc, out, all.as_slice())
+            out.name(word);
+            selects(out, all.as_slice())
         }
         Lvalue::Concat(_, all) => {
-            mark(alloc, out, b"{")?;
-            lvalues(alloc, out, all.as_slice())?;
-            mark(alloc, out, b"}")
+            out.mark(b"{");
+            lvalues(out, all.as_slice());
+            out.mark(b"}")
         }
     }
 }
@@ -78,19 +77,22 @@ fn sign_text(by: StepSign) -> &'static [u8]
     }
 }
 
-#[tactic(auto, unfolding(crate::specs::Stmts::write_step))]
-pub fn step(alloc: Global, out: &mut Lexemes, variable: &Word, x: &Step) -> Result<(), AllocError>
-    ensures { IfOk result (λ _. out.new ≡ spec.write_step variable.now x.now out.old) }
+pub fn step(out: &mut Writer, variable: &Word, x: &Step)
+    ensures { Adds (spec.write_step variable.now x.now) out.old out.new }
 {
     match x {
-        Step::After(word, by) => name_and_mark(alloc, out, word, step_text(*by)),
+        Step::After(word, by) => {
+            out.name(word);
+            out.mark(step_text(*by))
+        }
         Step::Before(by, word) => {
-            mark(alloc, out, step_text(*by))?;
-            name(alloc, out, word)
+            out.mark(step_text(*by));
+            out.name(word)
         }
         Step::Assign(word, by, value) => {
-            name_and_mark(alloc, out, word, sign_text(*by))?;
-            expr(alloc, out, value)
+            out.name(word);
+            out.mark(sign_text(*by));
+            expr(out, value)
         }
     }
 }
@@ -99,22 +101,22 @@ impl Part for Uniq {
     ghost text = { spec.write_uniq_key };
 
     #[tactic(auto, unfolding(crate::specs::Stmts::write_uniq_key))]
-    fn put(&self, alloc: Global, out: &mut Lexemes) -> Result<(), AllocError> {
+    fn put(&self, out: &mut Writer) {
         match self {
-            Uniq::Unique => key(alloc, out, b"unique"),
-            Uniq::Unique0 => key(alloc, out, b"unique0"),
-            Uniq::Priority => key(alloc, out, b"priority"),
+            Uniq::Unique => out.key(b"unique"),
+            Uniq::Unique0 => out.key(b"unique0"),
+            Uniq::Priority => out.key(b"priority"),
         }
     }
 }
 
 #[tactic(auto, unfolding(crate::specs::Stmts::write_case_key))]
-fn case_word(alloc: Global, out: &mut Lexemes, word: CaseWord) -> Result<(), AllocError>
-    ensures { IfOk result (λ _. out.new ≡ spec.write_case_key word out.old) }
+fn case_word(out: &mut Writer, word: CaseWord)
+    ensures { Adds (spec.write_case_key word) out.old out.new }
 {
     match word {
-        CaseWord::Case => key(alloc, out, b"case"),
-        CaseWord::Casez => key(alloc, out, b"casez"),
+        CaseWord::Case => out.key(b"case"),
+        CaseWord::Casez => out.key(b"casez"),
     }
 }
 
@@ -128,212 +130,192 @@ fn assign_text(by: AssignMark) -> &'static [u8]
 }
 
 // The beginning of a block.
-pub fn begin(alloc: Global, out: &mut Lexemes, given: &Option<Word>) -> Result<(), AllocError>
-    ensures { IfOk result (λ _. out.new ≡ spec.begin given.now out.old) }
+pub fn begin(out: &mut Writer, given: &Option<Word>)
+    ensures { Adds (spec.begin given.now) out.old out.new }
 {
-    key(alloc, out, b"begin")?;
-    label(alloc, out, given)
+    out.key(b"begin");
+    label(out, given)
 }
 
-fn label(alloc: Global, out: &mut Lexemes, given: &Option<Word>) -> Result<(), AllocError>
-    ensures { IfOk result (λ _. out.new ≡ writing.label given.now out.old) }
+fn label(out: &mut Writer, given: &Option<Word>)
+    ensures { Adds (writing.label given.now) out.old out.new }
 {
     match given {
         Some(word) => {
-            mark(alloc, out, b":")?;
-            name(alloc, out, word)
+            out.mark(b":");
+            out.name(word)
         }
-        None => Ok(()),
+        None => {}
     }
 }
 
 /// Writes the keyword of an end, and the label behind it.
-pub fn end(
-    alloc: Global,
-    out: &mut Lexemes,
-    text: &[u8],
-    given: &Option<Word>,
-) -> Result<(), AllocError>
-    ensures { IfOk result (λ _. out.new ≡ spec.end text.now given.now out.old) }
+pub fn closing(out: &mut Writer, text: &[u8], given: &Option<Word>)
+    ensures { Adds (spec.end text.now given.now) out.old out.new }
 {
-    key(alloc, out, text)?;
-    label(alloc, out, given)
+    out.key(text);
+    label(out, given)
 }
 
 // ---- what stands before the parts of statements
 
 // The labels of an arm.
-fn labels(alloc: Global, out: &mut Lexemes, all: &[Expr]) -> Result<(), AllocError>
-    ensures { IfOk result (λ _. out.new ≡ spec.labels all.now out.old) }
+fn labels(out: &mut Writer, all: &[Expr])
+    ensures { Adds (spec.labels all.now) out.old out.new }
 {
-    exprs(alloc, out, all)?;
-    mark(alloc, out, b":")
+    exprs(out, all);
+    out.mark(b":")
 }
 
-#[tactic(auto, unfolding(crate::specs::Stmts::write_colon_if))]
-fn default_label(alloc: Global, out: &mut Lexemes, colon: bool) -> Result<(), AllocError>
-    ensures { IfOk result (λ _. out.new ≡ spec.default_label colon out.old) }
+fn default_label(out: &mut Writer, colon: bool)
+    ensures { Adds (spec.default_label colon) out.old out.new }
 {
-    key(alloc, out, b"default")?;
+    out.key(b"default");
     if colon {
-        mark(alloc, out, b":")
-    } else {
-        Ok(())
+        out.mark(b":")
     }
 }
 
-fn if_head(
-    alloc: Global,
-    out: &mut Lexemes,
-    word: &Option<Uniq>,
-    test: &Expr,
-) -> Result<(), AllocError>
-    ensures { IfOk result (λ _. out.new ≡ spec.if_head word.now test.now out.old) }
+fn if_head(out: &mut Writer, word: &Option<Uniq>, test: &Expr)
+    ensures { Adds (spec.if_head word.now test.now) out.old out.new }
 {
-    maybe(alloc, out, word)?;
-    key(alloc, out, b"if")?;
-    in_parens(alloc, out, test)
+    maybe(out, word);
+    out.key(b"if");
+    in_parens(out, test)
 }
 
-fn case_head(
-    alloc: Global,
-    out: &mut Lexemes,
-    uniq: &Option<Uniq>,
-    word: CaseWord,
-    value: &Expr,
-) -> Result<(), AllocError>
-    ensures { IfOk result (λ _. out.new ≡ spec.case_head uniq.now word value.now out.old) }
+fn case_head(out: &mut Writer, uniq: &Option<Uniq>, word: CaseWord, value: &Expr)
+    ensures { Adds (spec.case_head uniq.now word value.now) out.old out.new }
 {
-    maybe(alloc, out, uniq)?;
-    case_word(alloc, out, word)?;
-    in_parens(alloc, out, value)
+    maybe(out, uniq);
+    case_word(out, word);
+    in_parens(out, value)
 }
 
 /// Writes the start of a loop, its test, its step and the `)`.
-pub fn turns(
-    alloc: Global,
-    out: &mut Lexemes,
-    variable: &Word,
-    start: &Expr,
-    test: &Expr,
-    next: &Step,
-) -> Result<(), AllocError>
-    ensures { IfOk result (λ _. out.new ≡ spec.turns variable.now start.now test.now next.now out.old) }
+pub fn turns(out: &mut Writer, variable: &Word, start: &Expr, test: &Expr, next: &Step)
+    ensures { Adds (spec.turns variable.now start.now test.now next.now) out.old out.new }
 {
-    name_and_mark(alloc, out, variable, b"=")?;
-    before(alloc, out, start, b";")?;
-    before(alloc, out, test, b";")?;
-    step(alloc, out, variable, next)?;
-    mark(alloc, out, b")")
+    out.name(variable);
+    out.mark(b"=");
+    expr_and_mark(out, start, b";");
+    expr_and_mark(out, test, b";");
+    step(out, variable, next);
+    out.mark(b")")
 }
 
-fn for_word(alloc: Global, out: &mut Lexemes, word: WholeWord) -> Result<(), AllocError>
-    ensures { IfOk result (λ _. out.new ≡ spec.for_word word out.old) }
+fn for_word(out: &mut Writer, word: WholeWord)
+    ensures { Adds (spec.for_word word) out.old out.new }
 {
-    key(alloc, out, b"for")?;
-    mark(alloc, out, b"(")?;
-    whole_word(alloc, out, word)
+    out.key(b"for");
+    out.mark(b"(");
+    whole_word(out, word)
 }
 
-fn assignment(
-    alloc: Global,
-    out: &mut Lexemes,
-    target: &Lvalue,
-    by: AssignMark,
-    value: &Expr,
-) -> Result<(), AllocError>
-    ensures { IfOk result (λ _. out.new ≡ spec.assignment target.now by value.now out.old) }
+fn assignment(out: &mut Writer, target: &Lvalue, by: AssignMark, value: &Expr)
+    ensures { Adds (spec.assignment target.now by value.now) out.old out.new }
 {
-    lvalue(alloc, out, target)?;
-    mark(alloc, out, assign_text(by))?;
-    before(alloc, out, value, b";")
+    lvalue(out, target);
+    out.mark(assign_text(by));
+    expr_and_mark(out, value, b";")
 }
 
 // ---- statements
 
 #[cycle(stmt)]
-fn stmts(alloc: Global, out: &mut Lexemes, all: &[Stmt]) -> Result<(), AllocError>
-    ensures { IfOk result (λ _. out.new ≡ writing.each spec.write_stmt all.now out.old) }
+fn stmts(out: &mut Writer, all: &[Stmt])
+    ensures { Adds (writing.each spec.write_stmt all.now) out.old out.new }
 {
     'parts: for part in all {
-        stmt(alloc, out, part)?;
+        statement(out, part);
     }
-    Ok(())
 }
 
 #[cycle(stmt)]
-fn arms(alloc: Global, out: &mut Lexemes, all: &[Arm]) -> Result<(), AllocError>
-    ensures { IfOk result (λ _. out.new ≡ writing.each spec.write_arm all.now out.old) }
+fn arms(out: &mut Writer, all: &[Arm])
+    ensures { Adds (writing.each spec.write_arm all.now) out.old out.new }
 {
     'parts: for part in all {
-        arm(alloc, out, part)?;
+        arm(out, part);
     }
-    Ok(())
 }
 
-#[tactic(auto, using(crate::proofs::StmtsMade::made_stmts))]
 #[cycle(stmt)]
-fn arm(alloc: Global, out: &mut Lexemes, x: &Arm) -> Result<(), AllocError>
-    ensures { IfOk result (λ _. out.new ≡ spec.write_arm x.now out.old) }
+fn arm(out: &mut Writer, x: &Arm)
+    ensures { Adds (spec.write_arm x.now) out.old out.new }
 {
     match x {
         Arm::Labels(all, body) => {
-            labels(alloc, out, all.as_slice())?;
-            stmt(alloc, out, body.get())
+            labels(out, all.as_slice());
+            statement(out, body.get())
         }
         Arm::Default(colon, body) => {
-            default_label(alloc, out, *colon)?;
-            stmt(alloc, out, body.get())
+            default_label(out, *colon);
+            statement(out, body.get())
         }
     }
 }
 
 #[cycle(stmt)]
-fn maybe_else(
-    alloc: Global,
-    out: &mut Lexemes,
-    given: &Option<Boxed<Stmt>>,
-) -> Result<(), AllocError>
-    ensures { IfOk result (λ _. out.new ≡ writing.maybe spec.write_else_part given.now out.old) }
+fn maybe_else(out: &mut Writer, given: &Option<Boxed<Stmt>>)
+    ensures { Adds (writing.maybe spec.write_else_part given.now) out.old out.new }
 {
     match given {
         Some(part) => {
-            key(alloc, out, b"else")?;
-            stmt(alloc, out, part.get())
+            out.key(b"else");
+            statement(out, part.get())
         }
-        None => Ok(()),
+        None => {}
     }
 }
 
 /// Writes a statement.
-#[tactic(auto, using(crate::proofs::StmtsMade::made_stmts))]
 #[cycle(stmt)]
-pub fn stmt(alloc: Global, out: &mut Lexemes, x: &Stmt) -> Result<(), AllocError>
-    ensures { IfOk result (λ _. out.new ≡ spec.write_stmt x.now out.old) }
+pub fn statement(out: &mut Writer, x: &Stmt)
+    ensures { Adds (spec.write_stmt x.now) out.old out.new }
 {
     match x {
-        Stmt::Empty => mark(alloc, out, b";"),
+        Stmt::Empty => out.mark(b";"),
         Stmt::Block(_, first, all, last) => {
-            begin(alloc, out, first)?;
-            stmts(alloc, out, all.as_slice())?;
-            end(alloc, out, b"end", last)
+            begin(out, first);
+            stmts(out, all.as_slice());
+            closing(out, b"end", last)
         }
         Stmt::If(word, test, body, other) => {
-            if_head(alloc, out, word, test)?;
-            stmt(alloc, out, body.get())?;
-            maybe_else(alloc, out, other)
+            if_head(out, word, test);
+            statement(out, body.get());
+            maybe_else(out, other)
         }
         Stmt::Case(uniq, word, value, all) => {
-            case_head(alloc, out, uniq, *word, value)?;
-            arms(alloc, out, all.as_slice())?;
-            key(alloc, out, b"endcase")
+            case_head(out, uniq, *word, value);
+            arms(out, all.as_slice());
+            out.key(b"endcase")
         }
         Stmt::For(_, word, variable, start, test, next, body) => {
-            for_word(alloc, out, *word)?;
-            turns(alloc, out, variable, start, test, next)?;
-            stmt(alloc, out, body.get())
+            for_word(out, *word);
+            turns(out, variable, start, test, next);
+            statement(out, body.get())
         }
-        Stmt::Assign(target, by, _, value) => assignment(alloc, out, target, *by, value),
+        Stmt::Assign(target, by, _, value) => assignment(out, target, *by, value),
+    }
+}
+
+fn stmt(alloc: Global, out: &mut Lexemes, x: &Stmt) -> Result<(), AllocError>
+    ensures { IfOk result (λ _. out.new ≡ spec.write_stmt x.now out.old) }
+{
+    let mut writer = Writer::behind(alloc, out);
+    statement(&mut writer, x);
+    writer.give(out)
+}
+
+/// Writes a block.
+pub fn whole_block(out: &mut Writer, x: &Block)
+    ensures { Adds (spec.write_block x.now) out.old out.new }
+{
+    if let Ok(all) = &mut out.written {
+        if let Err(want) = block(out.alloc, all, x) {
+            out.written = Err(want);
+        }
     }
 }
 

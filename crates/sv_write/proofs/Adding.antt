@@ -1,0 +1,39 @@
+-- Parts that are written one behind the other.
+use Rattle.std.proofs.Common.{◌≡◌, List, Result, Ok, Err, IfOk, refl, sym, ap, ◌∙◌}
+use Rattle.std.proofs.lemmas.Result.{IfOk-weaker}
+use Rattle.sv_write.specs.declared.lexeme.Lexeme.{Lexeme}
+use Rattle.sv_write.specs.declared.lexeme.Writer.{Writer}
+use Rattle.sv_write.specs.Writing.{Write, ◌⨾◌, nothing}
+use Rattle.sv_write.specs.Adds.{Adds}
+
+infixr 30 ◌▷◌
+pub ◌▷◌ : {f g : Write} {a b c : Writer} → Adds f a b → Adds g b c → Adds (f ⨾ g) a c
+◌▷◌ {g = g} p q = record { says = λ all e. let s = q.says all e in let r = p.says s.0 s.1 in (r.0, r.1, s.2 ∙ ap g r.2) }
+
+pub turned : {f g : Write} {a b : Writer} → ((l : List Lexeme) → g l ≡ f l) → Adds f a b → Adds g a b
+turned same p = record { says = λ all e. let s = p.says all e in (s.0, s.1, s.2 ∙ sym (same s.0)) }
+
+pub nothing_added : {a : Writer} → Adds nothing a a
+nothing_added = record { says = λ all e. (all, e, refl) }
+
+-- ---- what is written of a part, where the part is known under another name
+
+pub under : {A : Type 0} (f : A → Write) {x y : A} {a b : Writer} → x ≡ y → Adds (f x) a b → Adds (f y) a b
+under f {x} {y} same p = turned (λ l. ap (λ (x : _). f x l) (sym same)) p
+
+pub both_under : {A B : Type 0} (f : A → B → Write) {x y : A} {s t : B} {a b : Writer} → x ≡ y → s ≡ t → Adds (f x s) a b → Adds (f y t) a b
+both_under f {y = y} {s = s} same also p = under (f y) also (under (λ (x : _). f x s) same p)
+
+-- a tree that is made of parts, which are written
+pub made : {A : Type 0} (f : A → Write) {x y : A} {g : Write} {a b : Writer} → x ≡ y → ((l : List Lexeme) → f y l ≡ g l) → Adds g a b → Adds (f x) a b
+made f same is p = turned (λ l. ap (λ (x : _). f x l) same ∙ is l) p
+
+-- ---- behind a list
+
+all_of : {E : Type 0} → List Lexeme → Result (List Lexeme) E → List Lexeme
+all_of other (Ok all) = all
+all_of other (Err e) = other
+
+pub ended : {E R : Type 0} {f : Write} {a b : Writer} {old : List Lexeme} (new : List Lexeme) (r : Result R E) → a.written ≡ Ok old → Adds f a b → IfOk r (λ _. b.written ≡ Ok new) → IfOk r (λ _. new ≡ f old)
+unfolding all_of
+ended {f = f} {old = old} new r first p last = IfOk-weaker r _ _ (λ _ e. let s = p.says new e in s.2 ∙ ap f (ap (all_of old) (sym s.1 ∙ first))) last
