@@ -7,6 +7,7 @@ ghost use Rattle.sv_meaning.specs.Layouts.{width, is_signed, width_all, member_i
 ghost use Rattle.sv_meaning.specs.Meanings.{is_bound};
 
 use crate::{Field, Form, Layout};
+use sv_ranges::goes_down;
 
 /// A layout: that of a bit of a constant, or one that is declared.
 #[derive(Clone, Copy)]
@@ -45,7 +46,7 @@ impl<'a> Row<'a> {
     pub fn goes_down(&self) -> bool
         ensures { result ≡ goes_down self.now.left self.now.right }
     {
-        self.right <= self.left
+        goes_down(self.left, self.right)
     }
 }
 
