@@ -50,9 +50,6 @@ becomes_node shapes s n t i l q w v m =
       mentions = λ p h. sym (variables_follow p shapes n i l) ∙ m p h;
     })
 
-pub has_shape : (shapes : List Shape) (k : ℕ) (s : Shape) → s ≡ shape_at shapes k → HasShape shapes k s
-has_shape shapes k s e = record { is = sym e }
-
 -- ---- constants
 
 pub over_const : (shapes : List Shape) (v : Vector) → IsArena shapes → IsOver shapes (Const v)

@@ -10,28 +10,12 @@ use Rattle.svex_shape.specs.declared.shape.Bin.{Bin}
 use Rattle.svex_shape.specs.declared.shape.Bin.TheVariants.{Res, Shl, Shr, Sar, Concat}
 use Rattle.svex_shape.specs.declared.shape.Shape.{Shape}
 use Rattle.svex_shape.specs.declared.shape.Shape.TheVariants.{Const}
-use Rattle.svex_shape.specs.Shapes.{ChildrenBelow, FitsWidths, shape_at, width_of, width_at}
+use Rattle.svex_shape.specs.Shapes.{shape_at, width_of, width_at}
 use Rattle.svex_shape.specs.Values.{Vector, Reading, HasWidths, value_of, value_at, each_variable_of, each_variable}
 use Rattle.svex_arena.specs.Arenas.{IsArena}
 use Rattle.svex_arena.specs.Marks.{IsMarked, IsClosed}
-
--- a shape over an arena's nodes, of widths that fit
-pub record IsOver (shapes : List Shape) (s : Shape) : Type 0 where
-  pub arena : IsArena shapes
-  pub children : ChildrenBelow (length shapes) s
-  pub fits : FitsWidths (width_at shapes) s
-
--- A shape over an arena's nodes has the width of another and, whatever the variables have, its value, and mentions no other
--- variable, nor one at another width.
-pub record KeepsMeaning (shapes : List Shape) (s t : Shape) : Type 0 where
-  pub over : IsOver shapes t
-  pub width : width_of (width_at shapes) t ≡ width_of (width_at shapes) s
-  pub value : (r : Reading) → HasWidths r → value_of r (value_at r shapes) t ≡ value_of r (value_at r shapes) s
-  pub mentions : (p : VarName → ℕ → Bool) → IsTrue (each_variable_of p (each_variable p shapes) s) → IsTrue (each_variable_of p (each_variable p shapes) t)
-
--- a shape may stand for another
-unfoldable pub Becomes : List Shape → Shape → Shape → Type 0
-Becomes shapes s t = KeepsMeaning shapes s t
+pub use Rattle.svex_parts.specs.Becoming.{IsOver, KeepsMeaning, HasShape}
+unfoldable pub use Rattle.svex_parts.specs.Becoming.{Becomes}
 
 -- a node of a later arena has the meaning of a shape
 pub record Makes (old : List Shape) (s : Shape) (new : List Shape) (node : ℕ) : Type 0 where
@@ -47,10 +31,6 @@ pub record StandsFor (old : List Shape) (k : ℕ) (new : List Shape) (node : ℕ
   pub width : width_at new node ≡ width_at old k
   pub value : (r : Reading) → HasWidths r → value_at r new node ≡ value_at r old k
   pub mentions : (p : VarName → ℕ → Bool) → IsTrue (each_variable p old k) → IsTrue (each_variable p new node)
-
--- a node has a shape
-pub record HasShape (shapes : List Shape) (k : ℕ) (s : Shape) : Type 0 where
-  pub is : shape_at shapes k ≡ s
 
 -- the vector of a shape that is constant
 abbrev pub constant_of : Shape → Option Vector

@@ -8,6 +8,7 @@ ghost use Rattle.svex_rewrite.specs.Meaning.{HasShape, IsAllAt, constant_of};
 
 use fourvec::{Bit, Four};
 use svex_arena::{Arena, Node, Shape};
+use svex_parts::shape_of;
 
 // One bit.
 #[tactic(auto, using(crate::proofs::Fills::one_bit))]
@@ -38,16 +39,6 @@ pub fn same_vector(a: &Four, b: &Four) -> bool
     ensures { IsTrue result ↔ (a.now ≡ b.now) }
 {
     *a == *b
-}
-
-/// The shape of a node.
-#[tactic(auto, using(crate::proofs::Becoming::has_shape))]
-pub fn shape_of(arena: &Arena, node: Node) -> Shape
-    requires { node < length arena.now }
-    ensures is { HasShape arena.now node result }
-    ensures children { ChildrenBelow node result }
-{
-    arena.shape(node)
 }
 
 /// The value of a node that is constant.

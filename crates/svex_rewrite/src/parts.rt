@@ -7,82 +7,10 @@ ghost use Rattle.svex_shape.specs.declared.shape.Shape.{Shape};
 ghost use Rattle.svex_shape.specs.declared.shape.Bin.{Bin};
 ghost use Rattle.svex_rewrite.specs.Meaning.{Becomes, HasShape, IsOver};
 
-use crate::nodes::{filled, shape_of};
+use crate::nodes::filled;
 use fourvec::Bit;
 use svex_arena::{Arena, Bin, Node, Shape};
-
-// Where bits stand: from a place on in a node.
-#[derive(Clone, Copy)]
-struct Place {
-    of: Node,
-    lo: u8,
-}
-
-// Where a part of a concatenation stands in one of its halves.
-#[tactic(auto, using(crate::proofs::Moving::half_laws))]
-fn half(arena: &Arena, of: Node, high: Node, low: Node, lo: u8, width: u8) -> Option<Place>
-    requires over { IsOver arena.now (Shape.Slice of lo width) }
-    requires concat { HasShape arena.now of (Shape.Binary Bin.Concat high low) }
-    requires high { high < of }
-    requires low { low < of }
-    ensures lower { IfSome result (λ p. p.of < of) }
-    ensures is { IfSome result (λ p. Becomes arena.now (Shape.Slice of lo width) (Shape.Slice p.of p.lo width)) }
-{
-    let below = arena.width(low);
-    if lo + width <= below {
-        Some(Place { of: low, lo })
-    } else if below <= lo {
-        Some(Place {
-            of: high,
-            lo: lo - below,
-        })
-    } else {
-        None
-    }
-}
-
-// Where a part of a node stands in one of its children.
-#[tactic(auto, using(crate::proofs::Moving::narrowing_laws))]
-fn narrowed(arena: &Arena, of: Node, lo: u8, width: u8) -> Option<Place>
-    requires { IsOver arena.now (Shape.Slice of lo width) }
-    ensures lower { IfSome result (λ p. p.of < of) }
-    ensures is { IfSome result (λ p. Becomes arena.now (Shape.Slice of lo width) (Shape.Slice p.of p.lo width)) }
-{
-    let _ = arena.len();
-    let shape = shape_of(arena, of);
-    match &shape {
-        Shape::Slice {
-            of: inner,
-            lo: low,
-            ..
-        } => Some(Place {
-            of: *inner,
-            lo: *low + lo,
-        }),
-        Shape::Binary(op, high, low) => {
-            if *op == Bin::Concat {
-                half(arena, of, *high, *low, lo, width)
-            } else {
-                None
-            }
-        }
-        Shape::Zext(a, _) => {
-            if lo + width <= arena.width(*a) {
-                Some(Place { of: *a, lo })
-            } else {
-                None
-            }
-        }
-        Shape::Sext(a, _) => {
-            if lo + width <= arena.width(*a) {
-                Some(Place { of: *a, lo })
-            } else {
-                None
-            }
-        }
-        _ => None,
-    }
-}
+use svex_parts::{Place, narrowed, shape_of};
 
 // A part of all bits, of a constant, or of the zeros above a node.
 #[tactic(auto, using(crate::proofs::Becoming::becomes_self, crate::proofs::Moving::slice_laws))]
