@@ -1,5 +1,6 @@
 -- What stays as graphs grow.
-use Rattle.std.proofs.Common.{◌≡◌, ℕ, ◌+◌, ◌*◌, ◌<◌, ◌≤◌, false, List, [], ◌∷◌, ◌++◌, ◌-◌, length, get_or, take, drop, map, replicate, ap, arith}
+use Rattle.std.proofs.Common.{◌≡◌, ℕ, ◌+◌, ◌*◌, ◌<◌, ◌≤◌, false, List, [], ◌∷◌, ◌++◌, ◌-◌, length, get_or, take, drop, map, replicate, Result, IfOk, sym, subst, arith}
+use Rattle.std.proofs.lemmas.Result.{IfOk-weaker}
 use Rattle.std.proofs.lemmas.List.{length_push, length-replicate}
 use Rattle.std.proofs.lemmas.List.Elements.{All-weaker, All-push, All-nil, All-map, All-replicate, All-append, All-take, All-drop, All-cons}
 use Rattle.std.specs.List.{All}
@@ -22,8 +23,18 @@ Grew-then m n most a b c le h k = record { grows = Grows-trans a b c h.grows k.g
 pub Grew-wider : (m most : ℕ) (a b : List Gate) → m ≤ most → Grew m a b → Grew most a b
 Grew-wider m most a b le h = record { grows = h.grows; nodes = omega (arith, h.nodes); flat = h.flat }
 
+-- the same, with the sums as they stand
+pub Grew-both : (m n : ℕ) (a b c : List Gate) → Grew m a b → Grew n b c → Grew (m + n) a c
+Grew-both m n a b c h k = Grew-then m n (m + n) a b c (omega arith) h k
+
+pub Grew-more : (m n : ℕ) (a b : List Gate) → Grew m a b → Grew (m + n) a b
+Grew-more m n a b h = Grew-wider m (m + n) a b (omega arith) h
+
 pub IsIn-later : (old new : List Gate) (l : Lit) → Grows old new → IsIn old l → IsIn new l
 IsIn-later old new l g h = omega (arith, g.longer)
+
+pub negation_in : (gates : List Gate) (l m : Lit) → m ≡ negation l → IsIn gates l → IsIn gates m
+negation_in gates l m e h = subst (λ (k : Lit). k.node < length gates) (sym e) h
 
 pub All-later : (old new : List Gate) (word : List Lit) → Grows old new → All (IsIn old) word → All (IsIn new) word
 All-later old new word g h = All-weaker (IsIn old) (IsIn new) (λ l i. IsIn-later old new l g i) word h
@@ -71,11 +82,15 @@ IsWord-cons old new i word l g h k = record {
 }
 
 -- the stages of a shift, the test of the other bits and the last choice
-pub Grew-stages : (l j : ℕ) (rest away : List Lit) (a b c d : List Gate) → 0 < l → j ≤ l → length rest ≤ l → length away ≡ l → Grew (3 * l * j) a b → Grew (length rest) b c → Grew (3 * length away) c d → Grew (7 * l * l) a d
-Grew-stages l j rest away a b c d some le few long g h k =
+pub Grew-stages : (l j : ℕ) (rest : List Lit) (a b c d : List Gate) → 0 < l → j ≤ l → length rest ≤ l → Grew (3 * l * j) a b → Grew (length rest) b c → Grew (3 * l) c d → Grew (7 * l * l) a d
+Grew-stages l j rest a b c d some le few g h k =
     let most : 3 * l * j + (length rest + 3 * l) ≤ 7 * l * l = stages_fit l j (length rest) some le few in
-    Grew-then (3 * l * j) (length rest + 3 * length away) (7 * l * l) a b d (omega (arith, ap (λ n. 3 * n) long)) g (Grew-then (length rest) (3 * length away) (length rest + 3 * length away) b c d (omega arith) h k)
+    Grew-then (3 * l * j) (length rest + 3 * l) (7 * l * l) a b d most g (Grew-then (length rest) (3 * l) (length rest + 3 * l) b c d (omega arith) h k)
 
 -- one turn of a division: a sum of n columns, the test of the other bits, one node, and a choice
 pub turn_fits : (n d l : ℕ) → 0 < l → n + d ≤ l → 7 * n + (d + (1 + 3 * n)) ≤ 11 * l
 turn_fits n d l some le = omega arith
+
+-- what a last call promises of its result, for another promise
+pub if_ok : {T E : Type 0} (r : Result T E) (P Q : T → Type 0) → IfOk r P → ((x : T) → P x → Q x) → IfOk r Q
+if_ok r P Q h f = IfOk-weaker r P Q f h

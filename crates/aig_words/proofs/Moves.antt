@@ -135,16 +135,13 @@ stage : (v : ℕ → Bool) (way : Way) (w n m p next : ℕ) (x : Bool) → next 
 stage v way w n m p next true e = (let k : m + p ≡ m + p * 1 = omega arith in e ∙ shifted_twice v way w n m p ∙ ap (λ t. shifted v way w n t) k)
 stage v way w n m p next false e = (let k : m ≡ m + p * 0 = omega arith in e ∙ ap (λ t. shifted v way w n t) k)
 
-pub shift_more : (v : ℕ → Bool) (way : Way) (b word : List Lit) (w n j k next : ℕ) → v 0 ≡ false → j < length b → length word ≡ w → k ≤ length word → k ≡ 2 ^ j →
-    number v word ≡ shifted v way w n (number v (take j b)) →
-    next ≡ cond (holds v (get_or b j (constant_lit false))) (number v (moved way k word)) (number v word) → next ≡ shifted v way w n (number v (take (j + 1) b))
-shift_more v way b word w n j k next h0 lt long le ek before here =
+pub shift_more : (v : ℕ → Bool) (way : Way) (b : List Lit) (w n j k before next : ℕ) → j < length b → k ≡ 2 ^ j → before ≡ shifted v way w n (number v (take j b)) →
+    next ≡ cond (holds v (get_or b j (constant_lit false))) (shifted v way w before k) before → next ≡ shifted v way w n (number v (take (j + 1) b))
+shift_more v way b w n j k before next lt ek so_far here =
     let x : Bool = holds v (get_or b j (constant_lit false)) in
     let m : ℕ = number v (take j b) in
-    let one : number v (moved way k word) ≡ shifted v way w (shifted v way w n m) (2 ^ j) =
-    number-moved v way k word h0 le ∙ ap (λ t. shifted v way t (number v word) k) long ∙ ap (λ t. shifted v way w t k) before ∙ ap (λ t. shifted v way w (shifted v way w n m) t) ek in
     rw (number-more v b j (constant_lit false) lt)
-    (stage v way w n m (2 ^ j) next x (here ∙ ap (λ t. cond x t (number v word)) one ∙ ap (λ t. cond x (shifted v way w (shifted v way w n m) (2 ^ j)) t) before))
+    (stage v way w n m (2 ^ j) next x (here ∙ ap (λ t. cond x (shifted v way w before t) before) ek ∙ ap (λ t. cond x (shifted v way w t (2 ^ j)) t) so_far))
 
 big : (w m p d : ℕ) → w ≤ p → w ≤ m + p * suc d
 big w m p d le = omega arith

@@ -137,21 +137,22 @@ any_more v a i last next lt before here =
     let here_is : next ≡ (last || x) = here ∙ ap (λ (t : ℕ). last || holds v (get_or a t (constant_lit false))) at in
     here_is ∙ ap (λ (t : Bool). t || x) last_is ∙ sym (any_step (number v (drop (j + 1) a)) x) ∙ sym (ap (λ n. ltb 0 n) (number-drop v a j (omega arith)))
 
--- one turn of a division
-pub turn_value : (v : ℕ → Bool) (bit one taken : Lit) (rest b word left : List Lit) (carry far : Bool) → v 0 ≡ false → one ≡ constant_lit true → length rest < length b → number v rest < number v b →
-    number v word + 2 ^ length (bit ∷ rest) * weight carry ≡ number v (bit ∷ rest) + number v (map negation (take (length rest + 1) b)) + weight (holds v one) →
-    length word ≡ length (bit ∷ rest) → far ≡ ltb 0 (number v (drop (length rest + 1) b)) → holds v taken ≡ (carry && not far) →
-    number v left ≡ cond (holds v taken) (number v word) (number v (bit ∷ rest)) →
-    (weight (holds v bit) + 2 * number v rest ≡ weight (holds v taken) * number v b + number v left) × (number v left < number v b)
-turn_value v bit one taken rest b word left carry far h0 h1 short lt e long ef et el =
-    let n : ℕ = length rest + 1 in
-    let wide : length (bit ∷ rest) ≡ n = omega arith in
-    let low : List Lit = take n b in
-    let neg : number v (map negation low) + number v low + 1 ≡ 2 ^ n = number-negated v low ∙ ap (λ t. 2 ^ t) (length-take-le n b (omega arith)) in
-    let sum : number v word + 2 ^ n * weight carry ≡ number v (bit ∷ rest) + number v (map negation low) + 1 =
-    sym (ap (λ t. number v word + 2 ^ t * weight carry) wide) ∙ e ∙ ap (λ t. number v (bit ∷ rest) + number v (map negation low) + t) (ap (λ (t : Bool). weight t) (holds-one v one h1 h0)) in
-    turn_by carry far (holds v taken) (weight (holds v bit)) (number v rest) (number v b) (number v low) (number v (drop n b)) (number v (map negation low)) (number v word) (number v (bit ∷ rest)) (2 ^ n) (number v left)
-    lt (weight_le (holds v bit)) (number-cons v bit rest) (number-below-at v (bit ∷ rest) n wide) (number-below-at v word n (long ∙ wide)) (number-split v b n (omega arith)) neg sum ef et el
+-- one turn of a division, over the rest with its new bit
+pub turn_value : (v : ℕ → Bool) (shifted b word left : List Lit) (carry taken : Bool) → length shifted ≤ length b → length word ≡ length shifted → number v shifted < 2 * number v b →
+    number v word + 2 ^ length shifted * weight carry + number v (take (length shifted) b) ≡ number v shifted + 2 ^ length shifted →
+    taken ≡ (carry && not (ltb 0 (number v (drop (length shifted) b)))) → number v left ≡ cond taken (number v word) (number v shifted) →
+    (number v shifted ≡ weight taken * number v b + number v left) × (number v left < number v b)
+turn_value v shifted b word left carry taken short long lt e et el =
+    let n : ℕ = length shifted in
+    turn_by carry taken (number v b) (number v (take n b)) (number v (drop n b)) (number v word) (number v shifted) (2 ^ n) (number v left)
+    lt (number-below v shifted) (number-below-at v word n long) (number-split v b n short) e et el
+
+-- the same, told of the new bit and the rest
+pub turn_with : (v : ℕ → Bool) (bit : Lit) (rest : List Lit) (nb taken left : ℕ) → number v rest < nb →
+    (number v (bit ∷ rest) < 2 * nb → (number v (bit ∷ rest) ≡ taken + left) × (left < nb)) → (weight (holds v bit) + 2 * number v rest ≡ taken + left) × (left < nb)
+turn_with v bit rest nb taken left lt turn =
+    let both = turn (omega (arith, number-cons v bit rest, weight_le (holds v bit))) in
+    (sym (number-cons v bit rest) ∙ both.0, both.1)
 
 pub divide_more : (v : ℕ → Bool) (a q rest rest' : List Lit) (nb i : ℕ) (bit : Lit) → i < length a →
     number v (drop (length a - i) a) ≡ number v q * nb + number v rest →

@@ -43,8 +43,8 @@ pick_step false p w m n x y s e f = cc
 pub sum_mod : (s c m t : ℕ) → s < m → s + m * c ≡ t → s ≡ t % m
 sum_mod s c m t lt e = sym (ap (λ n. n % m) (sym e) ∙ add-mul-mod_self_left s m c ∙ mod-eq_of_lt lt)
 
-pub sub_mod : (s c m na nn nb : ℕ) → s < m → nn + nb + 1 ≡ m → s + m * c ≡ na + nn + 1 → s ≡ (na + (m - nb)) % m
-sub_mod s c m na nn nb lt e f = sum_mod s c m (na + (m - nb)) lt (let h : na + nn + 1 ≡ na + (m - nb) = omega arith in f ∙ h)
+pub sub_mod : (s c m na nb : ℕ) → s < m → nb < m → s + m * c + nb ≡ na + m → s ≡ (na + (m - nb)) % m
+sub_mod s c m na nb lt lb e = sum_mod s c m (na + (m - nb)) lt (omega arith)
 
 pub mul_step : (m total total' row a n p : ℕ) (x : Bool) → total' ≡ (total + row) % m → total ≡ (a * n) % m → row ≡ cond x ((a * p) % m) 0 → total' ≡ (a * (n + p * weight x)) % m
 mul_step m total total' row a n p true e f g =
@@ -57,19 +57,19 @@ mul_step m total total' row a n p false e f g =
     h ∙ mod-add-mod (a * n) m 0 ∙ ap (λ t. t % m) k
 
 -- Whether the divisor goes in. The number t is compared with the low part bl of the divisor, whose high part is bh.
-pub turn_by : (c far fits : Bool) (bit r nb bl bh nn d t m left : ℕ) → r < nb → bit ≤ 1 → t ≡ bit + 2 * r → t < m → d < m → nb ≡ bl + m * bh → nn + bl + 1 ≡ m → d + m * weight c ≡ t + nn + 1 →
-    far ≡ ltb 0 bh → fits ≡ (c && not far) → left ≡ cond fits d t → (bit + 2 * r ≡ weight fits * nb + left) × (left < nb)
-turn_by true far fits bit r nb bl zero nn d t m left h1 h2 h3 h4 h5 h6 h7 h8 e f g =
-    let is : fits ≡ true = f ∙ ap (λ (b : Bool). true && not b) (e ∙ le-ltb 0 0 (omega arith)) in
+pub turn_by : (c fits : Bool) (nb bl bh d t m left : ℕ) → t < 2 * nb → t < m → d < m → nb ≡ bl + m * bh → d + m * weight c + bl ≡ t + m →
+    fits ≡ (c && not (ltb 0 bh)) → left ≡ cond fits d t → (t ≡ weight fits * nb + left) × (left < nb)
+turn_by true fits nb bl zero d t m left h1 h2 h3 h4 h5 f g =
+    let is : fits ≡ true = f ∙ ap (λ (b : Bool). true && not b) (le-ltb 0 0 (omega arith)) in
     let w : weight fits * nb ≡ 1 * nb = ap (λ (b : Bool). weight b * nb) is in
     let l : left ≡ d = g ∙ ap (λ (b : Bool). cond b d t) is in
     (omega arith, omega arith)
-turn_by true far fits bit r nb bl (suc bh) nn d t m left h1 h2 h3 h4 h5 h6 h7 h8 e f g =
-    let is : fits ≡ false = f ∙ ap (λ (b : Bool). true && not b) (e ∙ lt-ltb 0 (suc bh) (omega arith)) in
+turn_by true fits nb bl (suc bh) d t m left h1 h2 h3 h4 h5 f g =
+    let is : fits ≡ false = f ∙ ap (λ (b : Bool). true && not b) (lt-ltb 0 (suc bh) (omega arith)) in
     let w : weight fits * nb ≡ 0 * nb = ap (λ (b : Bool). weight b * nb) is in
     let l : left ≡ t = g ∙ ap (λ (b : Bool). cond b d t) is in
     (omega arith, omega arith)
-turn_by false far fits bit r nb bl bh nn d t m left h1 h2 h3 h4 h5 h6 h7 h8 e f g =
+turn_by false fits nb bl bh d t m left h1 h2 h3 h4 h5 f g =
     let w : weight fits * nb ≡ 0 * nb = ap (λ (b : Bool). weight b * nb) f in
     let l : left ≡ t = g ∙ ap (λ (b : Bool). cond b d t) f in
     (omega arith, omega arith)

@@ -18,6 +18,15 @@ pick_table true true y = refl
 pick_table true false y = refl
 pick_table false x y = refl
 
+or_table : (x y : Bool) → not (not x && not y) ≡ (x || y)
+or_table true true = refl
+or_table true false = refl
+or_table false true = refl
+or_table false false = refl
+
+pub or_by : (x y nx ny neither r : Bool) → nx ≡ not x → ny ≡ not y → neither ≡ (nx && ny) → r ≡ not neither → r ≡ (x || y)
+or_by x y nx ny neither r e1 e2 e3 e4 = let h : r ≡ not (not x && not y) = cc in h ∙ or_table x y
+
 pub pick_by : (c x y nc first second d : Bool) → nc ≡ not c → first ≡ (c && x) → second ≡ (nc && y) → d ≡ (first || second) → d ≡ cond c x y
 pick_by c x y nc first second d e1 e2 e3 e4 = let h : d ≡ ((c && x) || (not c && y)) = cc in h ∙ pick_table c x y
 

@@ -2,15 +2,15 @@
 //! low bits of the divisor as the rest has, and looks at the others for a bit that is set, so that the first turns are small.
 //! By zero the result is any bits, so no gate is spent on that case.
 
-ghost use Rattle.std.specs.Prelude.{◌≡◌, ℕ, Bool, ◌+◌, ◌-◌, ◌*◌, ◌/◌, ◌^◌, ◌%◌, ◌<◌, ◌≤◌, IfOk, length};
+ghost use Rattle.std.specs.Prelude.{◌≡◌, ℕ, Bool, not, ◌&&◌, ◌+◌, ◌-◌, ◌*◌, ◌/◌, ◌^◌, ◌%◌, ◌<◌, ◌≤◌, nat_lt, IfOk, length};
 ghost use Rattle.std.specs.List.{All};
 ghost use Rattle.aig.specs.Graph.{holds, Always, IsIn};
-ghost use Rattle.aig_words.specs.Words.{number, Grew, IsWord, IsTurn, IsDivided};
+ghost use Rattle.aig_words.specs.Words.{number, weight, Grew, IsWord, IsTurn, IsDivided};
 
-use crate::lists::{above, negated};
+use crate::lists::above;
 use crate::picks::mux;
 use crate::shifts::any;
-use crate::sums::{Sum, sum_of};
+use crate::sums::{Sum, difference};
 use aig::{Aig, Lit};
 use std::alloc::{AllocError, Global};
 
@@ -28,8 +28,40 @@ struct Turn {
     rest: Vec<Lit>,
 }
 
-// One turn. The rest with its new bit is compared with as many low bits of the divisor; it is too small where a bit above
-// those is set.
+// Whether the divisor goes in: the difference to its low bits has a carry, and no bit above those is set.
+fn goes_in(aig: &mut Aig, carry: Lit, above: &[Lit]) -> Result<Lit, AllocError>
+    requires some { 0 < length aig.old }
+    requires carry_in { IsIn aig.old carry }
+    requires above_in { All (IsIn aig.old) above.now }
+    ensures grew { Grew (length above.now + 1) aig.old aig.new }
+    ensures within { IfOk result (λ r. IsIn aig.new r) }
+    ensures value { IfOk result (λ r. Always aig.new (λ v. holds v r ≡ (holds v carry && not (nat_lt 0 (number v above.now))))) }
+{
+    let larger = any(aig, above)?;
+    aig.and(carry, !larger)
+}
+
+// One turn over the rest with its new bit, which is compared with as many low bits of the divisor; it is too small where a bit
+// above those is set.
+fn turn_over(alloc: Global, aig: &mut Aig, shifted: &[Lit], b: &[Lit]) -> Result<Turn, AllocError>
+    requires some { 0 < length shifted.now }
+    requires short { length shifted.now ≤ length b.now }
+    requires shifted_in { All (IsIn aig.old) shifted.now }
+    requires b_in { All (IsIn aig.old) b.now }
+    ensures grew { Grew (11 * length b.now) aig.old aig.new }
+    ensures bit_out { IfOk result (λ t. IsIn aig.new t.bit) }
+    ensures word { IfOk result (λ t. IsWord aig.new (length shifted.now) t.rest.items) }
+    ensures value { IfOk result (λ t. Always aig.new (λ v. number v shifted.now < 2 * number v b.now
+        → (number v shifted.now ≡ weight (holds v t.bit) * number v b.now + number v t.rest.items) × (number v t.rest.items < number v b.now))) }
+{
+    let n = shifted.len();
+    let Sum { word, carry } = difference(alloc, aig, shifted, &b[..n])?;
+    let bit = goes_in(aig, carry, &b[n..])?;
+    let rest = mux(alloc, aig, bit, &word, shifted)?;
+    Ok(Turn { bit, rest })
+}
+
+// One turn, with the next bit of the dividend.
 fn take_turn(
     alloc: Global,
     aig: &mut Aig,
@@ -46,17 +78,8 @@ fn take_turn(
     ensures word { IfOk result (λ t. IsWord aig.new (length rest.now + 1) t.rest.items) }
     ensures value { IfOk result (λ t. Always aig.new (IsTurn bit rest.now b.now t.bit t.rest.items)) }
 {
-    let n = rest.len() + 1;
     let shifted = above(alloc, bit, rest)?;
-    let complement = negated(alloc, &b[..n])?;
-    let Sum { word, carry } = sum_of(alloc, aig, &shifted, &complement, Lit::constant(true))?;
-    let larger = any(aig, &b[n..])?;
-    let fits = aig.and(carry, !larger)?;
-    let left = mux(alloc, aig, fits, &word, &shifted)?;
-    Ok(Turn {
-        bit: fits,
-        rest: left,
-    })
+    turn_over(alloc, aig, &shifted, b)
 }
 
 // The quotient and the remainder. By zero they are any bits.

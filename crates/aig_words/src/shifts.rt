@@ -1,6 +1,6 @@
 //! Shifts, in stages by the bits of the amount.
 
-ghost use Rattle.std.specs.Prelude.{◌≡◌, ℕ, Bool, ◌+◌, ◌-◌, ◌*◌, ◌/◌, ◌^◌, ◌%◌, ◌<◌, ◌≤◌, IfOk, length, nat_lt};
+ghost use Rattle.std.specs.Prelude.{◌≡◌, ℕ, Bool, ◌+◌, ◌-◌, ◌*◌, ◌/◌, ◌^◌, ◌%◌, ◌<◌, ◌≤◌, IfOk, length, nat_lt, if◌then◌else◌};
 ghost use Rattle.std.specs.List.{All};
 ghost use Rattle.aig.specs.Graph.{holds, Always, IsIn};
 ghost use Rattle.aig_words.specs.Words.{number, Grew, IsWord, Obeyed, FillsFrom, shifted, sar_of};
@@ -26,6 +26,31 @@ pub fn any(aig: &mut Aig, a: &[Lit]) -> Result<Lit, AllocError>
     Ok(last)
 }
 
+/// A word moved by k places where the condition is true, else another word.
+pub fn moved_if(
+    alloc: Global,
+    aig: &mut Aig,
+    condition: Lit,
+    way: Way,
+    a: &[Lit],
+    k: usize,
+    kept: &[Lit],
+) -> Result<Vec<Lit>, AllocError>
+    requires some { 0 < length a.now }
+    requires within { k ≤ length a.now }
+    requires same { length a.now ≡ length kept.now }
+    requires condition_in { IsIn aig.old condition }
+    requires way_in { FillsFrom aig.old way }
+    requires a_in { All (IsIn aig.old) a.now }
+    requires kept_in { All (IsIn aig.old) kept.now }
+    ensures grew { Grew (3 * length a.now) aig.old aig.new }
+    ensures word { IfOk result (λ r. IsWord aig.new (length a.now) r.items) }
+    ensures value { IfOk result (λ r. Always aig.new (λ v. number v r.items ≡ (if holds v condition then shifted v way (length a.now) (number v a.now) k else number v kept.now))) }
+{
+    let moved = move_by(alloc, way, a, k)?;
+    mux(alloc, aig, condition, &moved, kept)
+}
+
 // The first word moved by the number of the second: by each bit's weight in turn, and away where a bit above is set.
 fn shift(
     alloc: Global,
@@ -47,15 +72,12 @@ fn shift(
     let mut k: usize = 1;
     let mut j = 0;
     while j < b.len() && k < a.len() {
-        let moved = move_by(alloc, way, &word, k)?;
-        word = mux(alloc, aig, b[j], &moved, &word)?;
+        word = moved_if(alloc, aig, b[j], way, &word, k, &word)?;
         k = k.saturating_mul(2);
         j += 1;
     }
     let far = any(aig, &b[j..])?;
-    let away = move_by(alloc, way, a, a.len())?;
-    let moved = mux(alloc, aig, far, &away, &word)?;
-    Ok(moved)
+    moved_if(alloc, aig, far, way, a, a.len(), &word)
 }
 
 /// The bits moved up by the unsigned number of the second word, and zeros come in.
@@ -81,8 +103,7 @@ pub fn shr(alloc: Global, aig: &mut Aig, a: &[Lit], b: &[Lit]) -> Result<Vec<Lit
     ensures word { IfOk result (λ r. IsWord aig.new (length a.now) r.items) }
     ensures value { IfOk result (λ r. Always aig.new (λ v. number v r.items ≡ number v a.now / 2 ^ number v b.now)) }
 {
-    let moved = shift(alloc, aig, Way::Down(Lit::constant(false)), a, b)?;
-    Ok(moved)
+    shift(alloc, aig, Way::Down(Lit::constant(false)), a, b)
 }
 
 /// The bits moved down by the unsigned number of the second word, and copies of the top bit come in.
@@ -95,6 +116,5 @@ pub fn sar(alloc: Global, aig: &mut Aig, a: &[Lit], b: &[Lit]) -> Result<Vec<Lit
     ensures word { IfOk result (λ r. IsWord aig.new (length a.now) r.items) }
     ensures value { IfOk result (λ r. Always aig.new (λ v. number v r.items ≡ sar_of (length a.now) (number v a.now) (number v b.now))) }
 {
-    let moved = shift(alloc, aig, Way::Down(a[a.len() - 1]), a, b)?;
-    Ok(moved)
+    shift(alloc, aig, Way::Down(a[a.len() - 1]), a, b)
 }
