@@ -1,6 +1,6 @@
 -- The list of one literal is replaced.
-use Rattle.std.proofs.Common.{◌≡◌, ℕ, ◌<◌, ◌+◌, ◌*◌, Bool, true, false, cond, List, [], length, get_or, set, sym, refl, ap, ◌∙◌, arith, Vec, Global}
-use Rattle.std.proofs.lemmas.List.{get_or-map, map-set, set-get_or}
+use Rattle.std.proofs.Common.{◌≡◌, ℕ, ◌<◌, ◌+◌, ◌*◌, Bool, true, false, cond, List, [], ◌∷◌, ◌++◌, length, get_or, set, sym, refl, ap, ◌∙◌, arith, Vec, Global}
+use Rattle.std.proofs.lemmas.List.{get_or-map, map-append, map-set, set-get_or}
 use Rattle.cnf.specs.declared.Dim.{Dim}
 use Rattle.sat_state.specs.declared.watch.Watch.{Watch}
 use Rattle.sat_state.specs.Watch.{code, rows}
@@ -10,6 +10,10 @@ rows_set lists i j v row e is = map-set (λ v. v.items) lists i v ∙ ap (λ n. 
 
 pub row_is : (lists : List (Vec Watch Global)) (i j : ℕ) (v : Vec Watch Global) → i < length lists → i ≡ j → v ≡ get_or lists i v → v.items ≡ get_or (rows lists) j []
 row_is lists i j v lt e is = ap (λ v. v.items) is ∙ sym (get_or-map (λ v. v.items) lists i v [] lt) ∙ ap (λ n. get_or (rows lists) n []) e
+
+-- one more list, which is empty
+pub rows_push : (lists : List (Vec Watch Global)) (v : Vec Watch Global) → v.items ≡ [] → rows (lists ++ v ∷ []) ≡ rows lists ++ [] ∷ []
+rows_push lists v is = map-append (λ v. v.items) lists (v ∷ []) ∙ ap (λ (row : List Watch). rows lists ++ row ∷ []) is
 
 -- a list with the same watches
 pub rows_kept : (lists : List (Vec Watch Global)) (i : ℕ) (v w : Vec Watch Global) → i < length lists → w ≡ get_or lists i w → v.items ≡ w.items → rows (set lists i v) ≡ rows lists

@@ -1,3 +1,4 @@
+use Rattle.std.proofs.lemmas.Result.{IfOk-from_err}
 use Rattle.std.proofs.Common.{◌≡◌, ap, ◌∙◌, ◌++◌, ◌∷◌, [], sym, subst, ◌<◌, length, ℕ, Vec, Global}
 use Rattle.cnf.specs.declared.Dim.{Dim}
 use Rattle.sat_state.specs.declared.watch.Watch.{Watch}
@@ -12,3 +13,6 @@ returns c =
     rows_set c.args.lists.now _ _ c.push.new.self _ number
     (c.in_ok-push.ensures.items ∙ ap (λ (v : Vec Watch Global). v.items ++ c.args.watch ∷ []) (sym c.index-lists-number_of.is)
     ∙ ap (λ r. r ++ c.args.watch ∷ []) (row_is c.args.lists.now _ _ c.index-lists-number_of.result lt number c.index-lists-number_of.is))
+
+pub returns-in_err-push : goal.returns-in_err-push
+returns-in_err-push c = IfOk-from_err _ _ c.from_residual.ensures.0

@@ -1,3 +1,4 @@
+use Rattle.std.proofs.lemmas.Result.{IfOk-from_err}
 use Rattle.std.proofs.Common.{◌+◌, ◌∙◌, sym, ap, subst}
 use Rattle.idx_list.specs.Order.{Order}
 use Rattle.sat_state.specs.Queue.{IsListed}
@@ -13,3 +14,6 @@ loop-var-preserved c = record {
   listed = subst (λ (o : Order). IsListed (c.loop-var.var + 1) o.items c.args.stamps.now) (sym c.push_back.ensures)
       (pushed c.args.vars c.loop-var.var c.loop-var.list.items c.args.stamps.now c.loop-var.invariant.listed c.loop-var-test.true c.requires);
 }
+
+pub returns-in_err-list : goal.returns-in_err-list
+returns-in_err-list c = IfOk-from_err _ _ c.from_residual.ensures.0

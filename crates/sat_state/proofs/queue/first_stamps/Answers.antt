@@ -1,7 +1,7 @@
-use Rattle.std.proofs.Common.{◌≡◌, ◌+◌, ◌∙◌, length, ap, arith}
+use Rattle.std.proofs.Common.{◌+◌, ◌∙◌, length, ap, arith, ◌≡◌, List, ℕ}
 use Rattle.std.proofs.lemmas.Result.{IfOk-from_err}
 use Rattle.std.proofs.lemmas.List.{length_push}
-use Rattle.sat_state.proofs.Queues.{stamped_more, stamped_all}
+use Rattle.sat_state.proofs.Queues.{stamped_more}
 use Rattle.sat_state.proofs.queue.first_stamps.Goals as goal
 
 pub returns-in_err-stamps : goal.returns-in_err-stamps
@@ -27,3 +27,12 @@ loop-var-preserved c =
       count = ap length pushed ∙ length_push _ _ ∙ ap (λ n. n + 1) c.loop-var.invariant.count;
       stamps = rw pushed (stamped_more _ c.args.vars c.loop-var.var _ c.loop-var.invariant.count (omega arith) c.loop-var.invariant.stamps);
     }
+
+pub loop-var-init : goal.loop-var-init
+loop-var-init c = record { count = ap (λ (l : List ℕ). length l) c.in_ok-stamps.ensures.items; stamps = λ v h. absurd (omega arith) }
+
+pub overflow_sub-vars : goal.overflow_sub-vars
+overflow_sub-vars c = c.loop-var.auto.var-end
+
+pub returns-clause-count : goal.returns-clause-count
+returns-clause-count c = let end : c.loop-var.var ≡ c.args.vars = omega arith in c.loop-var.invariant.count ∙ end
