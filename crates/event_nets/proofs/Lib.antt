@@ -10,3 +10,4 @@ pub mod Gathering
 pub mod Walking
 pub mod Needed
 mod Rows
+mod Backs

@@ -1,6 +1,6 @@
 use Rattle.std.proofs.lemmas.Result.{IfOk-from_err}
 use Rattle.std.proofs.Common.{◌++◌, get_or, map, take, sym, ap, ◌∙◌, arith}
-use Rattle.std.proofs.lemmas.List.{map-append}
+use Rattle.std.proofs.lemmas.List.{map-append, take_all}
 use Rattle.lhs_alias.specs.Segs.{seg_bits, lhs_bits}
 use Rattle.lhs_alias.specs.Joined.{all_bits, bits_from}
 use Rattle.lhs_alias.proofs.Row.{all_bits-take_more}
@@ -30,3 +30,16 @@ returns-in_err-put_homes c = IfOk-from_err _ _ c.from_residual-in_err-put_homes.
 
 pub returns-in_err-whole : goal.returns-in_err-whole
 returns-in_err-whole c = IfOk-from_err _ _ c.from_residual.ensures.0
+
+pub bounds-widths-wire : goal.bounds-widths-wire
+bounds-widths-wire c = c.loop-wire-test.true
+
+pub returns : goal.returns
+returns c = λ links s.
+    c.loop-wire.invariant links s ∙ ap (λ ws. map (home_of links c.args.widths.now) (all_bits ws)) (take_all c.loop-wire.wire c.args.widths.now c.loop-wire-test.false)
+
+pub put_homes-requires-clause-fits : goal.put_homes-requires-clause-fits
+put_homes-requires-clause-fits c = rw c.requires.joins c.requires.fits
+
+pub put_homes-requires-clause-starts : goal.put_homes-requires-clause-starts
+put_homes-requires-clause-starts c = rw c.requires.joins c.requires.starts

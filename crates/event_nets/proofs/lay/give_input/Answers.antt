@@ -1,5 +1,5 @@
 use Rattle.std.proofs.Common.{◌++◌, [], cond, length, sym, ap, ◌∙◌, arith}
-use Rattle.std.proofs.lemmas.Result.{on_ok_weaker}
+use Rattle.std.proofs.lemmas.Result.{on_ok_weaker, IfOk-from_err}
 use Rattle.lhs_alias.specs.Segs.{lhs_bits}
 use Rattle.lhs_alias.specs.Joined.{widths_of}
 use Rattle.driver_resolve.specs.Drivers.{wire_bits}
@@ -25,3 +25,6 @@ returns-in_ok-whole c =
     ∙ ap (λ l. old ++ gifts_to home (Stimulus c.args.wire) 0 l) (whole-bits c.args.wire width)
     ∙ ap (λ t. old ++ cond t (gifts_to home (Stimulus c.args.wire) 0 (wire_bits c.args.wire width)) []) (sym c.if-counts.true))
     c.give.ensures
+
+pub returns-in_err-whole : goal.returns-in_err-whole
+returns-in_err-whole c = IfOk-from_err _ _ c.from_residual.ensures.0

@@ -1,3 +1,4 @@
+use Rattle.std.proofs.lemmas.Result.{IfOk-from_err}
 use Rattle.std.proofs.Common.{◌++◌, [], take, cond, sym, ap, ◌∙◌, arith, append_assoc}
 use Rattle.lhs_alias.specs.Joined.{widths_of}
 use Rattle.driver_resolve.specs.Drivers.{wire_bits}
@@ -5,6 +6,7 @@ use Rattle.event_nets.specs.declared.gift.Source.TheVariants.{Stimulus}
 use Rattle.event_nets.specs.Gifts.{gifts_to, stimulus_gifts}
 use Rattle.event_nets.specs.Tables.{home_of}
 use Rattle.event_nets.proofs.Laying.{append-none, stimuli-more}
+use Rattle.std.proofs.lemmas.List.{take_all}
 use Rattle.event_nets.proofs.lay.give_inputs.Goals as goal
 
 pub loop-wire-init : goal.loop-wire-init
@@ -23,3 +25,20 @@ loop-wire-preserved c = λ links s.
     ∙ ap (λ l. l ++ here) (c.loop-wire.invariant links s)
     ∙ append_assoc old (stimulus_gifts home 0 (take i wires)) here
     ∙ ap (λ l. old ++ l) (sym (stimuli-more home wires i w (omega arith) (sym c.index-wires-wire.is)))
+
+pub returns-in_err-give_input : goal.returns-in_err-give_input
+returns-in_err-give_input c = IfOk-from_err _ _ c.from_residual.ensures.0
+
+pub bounds-wires-wire : goal.bounds-wires-wire
+bounds-wires-wire c = c.loop-wire-test.true
+
+pub returns : goal.returns
+returns c = λ links s.
+    c.loop-wire.invariant links s
+    ∙ ap (λ ws. c.args.gifts.now.items ++ stimulus_gifts (home_of links (widths_of c.args.joins.now)) 0 ws) (take_all c.loop-wire.wire c.args.wires.now c.loop-wire-test.false)
+
+pub give_input-requires-clause-fits : goal.give_input-requires-clause-fits
+give_input-requires-clause-fits c = c.requires.fits
+
+pub give_input-requires-clause-starts : goal.give_input-requires-clause-starts
+give_input-requires-clause-starts c = c.requires.starts

@@ -9,6 +9,7 @@ use Rattle.flat_net.specs.declared.flat.Join.{Join}
 use Rattle.flat_net.specs.Flats.{links_of}
 use Rattle.event_nets.proofs.Laying.{links-more}
 use Rattle.event_nets.proofs.Joining.{is-joined}
+use Rattle.std.proofs.lemmas.List.{take_all}
 use Rattle.event_nets.proofs.lay.join_all.Goals as goal
 
 pub loop-join-init : goal.loop-join-init
@@ -46,3 +47,9 @@ returns-in_err-made-clause-stands c = IfOk-from_err _ _ c.from_residual.ensures.
 
 pub returns-in_err-made-clause-widths : goal.returns-in_err-made-clause-widths
 returns-in_err-made-clause-widths c = IfOk-from_err _ _ c.from_residual.ensures.0
+
+pub returns-clause-stands : goal.returns-clause-stands
+returns-clause-stands c = subst (λ js. Stands c.loop-join.made (links_of js)) (take_all c.loop-join.join-index c.args.joins.now (omega arith)) c.loop-join.invariant.stands
+
+pub returns-clause-widths : goal.returns-clause-widths
+returns-clause-widths c = c.loop-join.invariant.widths

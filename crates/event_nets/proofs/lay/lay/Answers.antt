@@ -4,6 +4,7 @@ use Rattle.lhs_alias.specs.Segs.{seg_bits}
 use Rattle.lhs_alias.specs.Joined.{starts_of, starts_from, all_bits, bits_from}
 use Rattle.lhs_alias.proofs.Row.{all_bits-take_more, starts_of-take_more}
 use Rattle.lhs_alias.proofs.SegBits.{length-seg_bits}
+use Rattle.std.proofs.lemmas.List.{take_all}
 use Rattle.event_nets.proofs.lay.lay.Goals as goal
 
 pub loop-width-init : goal.loop-width-init
@@ -36,3 +37,12 @@ returns-in_err-add_wire-clause-starts c = IfOk-from_err _ _ c.from_residual.ensu
 
 pub returns-in_err-add_wire-clause-told : goal.returns-in_err-add_wire-clause-told
 returns-in_err-add_wire-clause-told c = IfOk-from_err _ _ c.from_residual.ensures.0
+
+pub bounds-widths-width-index : goal.bounds-widths-width-index
+bounds-widths-width-index c = c.loop-width-test.true
+
+pub returns-clause-starts : goal.returns-clause-starts
+returns-clause-starts c = c.loop-width.invariant.starts ∙ ap (λ ws. starts_of ws) (take_all c.loop-width.width-index c.args.widths.now (omega arith))
+
+pub returns-clause-told : goal.returns-clause-told
+returns-clause-told c = c.loop-width.invariant.told ∙ ap (λ ws. length (all_bits ws)) (take_all c.loop-width.width-index c.args.widths.now (omega arith))

@@ -1,3 +1,4 @@
+use Rattle.std.proofs.lemmas.Result.{IfOk-from_err}
 use Rattle.std.proofs.Common.{◌<◌, ◌++◌, ◌∷◌, [], length, get_or, take, sym, ap, ◌∙◌, arith, append_assoc}
 use Rattle.event_nets.specs.declared.gift.Gift.{Gift}
 use Rattle.event_nets.specs.Gifts.{gifts_at}
@@ -20,3 +21,6 @@ loop-at-preserved c =
     ∙ ap (λ s. s ++ g ∷ []) c.loop-at.invariant
     ∙ append_assoc old (gifts_at from 0 (take at places)) (g ∷ [])
     ∙ ap (λ s. old ++ s) (sym (gifts_at-more from places at within))
+
+pub returns-in_err-push : goal.returns-in_err-push
+returns-in_err-push c = IfOk-from_err _ _ c.from_residual.ensures.0

@@ -1,3 +1,4 @@
+use Rattle.std.proofs.lemmas.Result.{IfOk-from_err}
 use Rattle.std.proofs.Common.{◌≡◌, ◌^◌, ◌++◌, List, map, sym, ap, ◌∙◌, subst, append_assoc}
 use Rattle.std.specs.Prelude.{All}
 use Rattle.std.proofs.lemmas.List.{map-append}
@@ -36,3 +37,6 @@ segs-preserved c =
       segs = All-front IsSeg rest higher low is c.segs.invariant.segs;
       there = All-right (HasPlace c.args.starts.now (2 ^ 64)) (seg_bits low) (lhs_bits higher) (subst P parts c.segs.invariant.there);
     }
+
+pub returns-in_err-put_seg : goal.returns-in_err-put_seg
+returns-in_err-put_seg c = IfOk-from_err _ _ c.from_residual.ensures.0

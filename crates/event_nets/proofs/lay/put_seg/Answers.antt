@@ -1,3 +1,4 @@
+use Rattle.std.proofs.lemmas.Result.{IfOk-from_err}
 use Rattle.std.proofs.Common.{◌≡◌, ℕ, ◌+◌, ◌^◌, ◌++◌, ◌∷◌, [], map, refl, sym, ap, ◌∙◌, arith, append_assoc}
 use Rattle.std.specs.List.{range_with_len}
 use Rattle.std.proofs.lemmas.List.FromFn.{map-range_with_len_more}
@@ -35,3 +36,6 @@ returns c =
     c.loop-at.invariant
     ∙ ap (λ n. old ++ map f (range_with_len seg.lo n)) end
     ∙ ap (λ l. old ++ l) (sym (map-map (place_in c.args.starts.now) (bit seg.wire) (range_with_len seg.lo seg.width)))
+
+pub returns-in_err-push : goal.returns-in_err-push
+returns-in_err-push c = IfOk-from_err _ _ c.from_residual.ensures.0

@@ -1,3 +1,4 @@
+use Rattle.std.proofs.lemmas.Result.{IfOk-from_err}
 use Rattle.std.proofs.Common.{◌≡◌, ℕ, ◌<◌, List, length, sym, ap, ◌∙◌, subst, sum, arith}
 use Rattle.std.specs.Prelude.{All, Option, IfOk}
 use Rattle.std.proofs.lemmas.List.{length-map}
@@ -48,3 +49,6 @@ returns c =
     ∙ ap (λ ws. lows_in (net_test c.args.homes.now c.in_ok-driven.driven.items) ws) c.requires.widths
     ∙ lows-are flat c.requires.flat c.args.homes.now c.in_ok-driven.driven.items c.args.gifts.now told in
     subst (λ (l : List (Option ℕ)). IfOk c.all_lows.result (λ lows. lows.items ≡ l)) same c.all_lows.ensures
+
+pub returns-in_err-driven : goal.returns-in_err-driven
+returns-in_err-driven c = IfOk-from_err _ _ c.from_residual.ensures.0

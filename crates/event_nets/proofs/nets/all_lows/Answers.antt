@@ -1,7 +1,8 @@
+use Rattle.std.proofs.lemmas.Result.{IfOk-from_err}
 use Rattle.std.proofs.Common.{◌≡◌, ℕ, ◌++◌, length, get_or, map, take, ap, ◌∙◌, arith}
 use Rattle.std.specs.Prelude.{Option}
 use Rattle.std.specs.List.{range_with_len}
-use Rattle.std.proofs.lemmas.List.{length-map}
+use Rattle.std.proofs.lemmas.List.{length-map, take_all}
 use Rattle.lhs_alias.specs.declared.segs.WireBit.{WireBit}
 use Rattle.lhs_alias.specs.Segs.{bit}
 use Rattle.lhs_alias.specs.Joined.{place_of, all_bits, bits_from}
@@ -43,3 +44,13 @@ put_lows-requires-clause-driven c =
     let low : WireBit → Option ℕ = λ b. low_in (net_test c.args.homes.now c.args.driven.now) (place_of widths (bit b.wire 0)) b.at in
     let long : length c.loop-wire.lows.items ≡ length (all_bits (take i widths)) = ap (λ l. length l) c.loop-wire.invariant ∙ length-map (all_bits (take i widths)) low in
     omega (arith, long, length-all_bits (take i widths), sum-part widths i (omega arith), c.requires.driven)
+
+pub returns-in_err-put_lows : goal.returns-in_err-put_lows
+returns-in_err-put_lows c = IfOk-from_err _ _ c.from_residual.ensures.0
+
+pub bounds-widths-wire : goal.bounds-widths-wire
+bounds-widths-wire c = c.loop-wire-test.true
+
+pub returns : goal.returns
+returns c = c.loop-wire.invariant
+    ∙ ap (λ ws. map (λ (b : WireBit). low_in (net_test c.args.homes.now c.args.driven.now) (place_of c.args.widths.now (bit b.wire 0)) b.at) (all_bits ws)) (take_all c.loop-wire.wire c.args.widths.now c.loop-wire-test.false)

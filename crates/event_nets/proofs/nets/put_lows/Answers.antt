@@ -1,3 +1,4 @@
+use Rattle.std.proofs.lemmas.Result.{IfOk-from_err}
 use Rattle.std.proofs.Common.{◌≡◌, ◌+◌, ◌++◌, ◌∷◌, [], map, sym, ap, ◌∙◌, append_assoc, zero-add, add-one}
 use Rattle.std.specs.List.{range_with_len}
 use Rattle.std.proofs.lemmas.List.FromFn.{map-range_with_len_more}
@@ -29,3 +30,6 @@ loop-at-preserved c =
           ∙ ap (λ s. old ++ s) (sym (map-range_with_len_more f 0 at at (zero-add at)));
       below = low ∙ ap (λ k. low_below net start k) (sym (add-one at));
     }
+
+pub returns-in_err-push : goal.returns-in_err-push
+returns-in_err-push c = IfOk-from_err _ _ c.from_residual.ensures.0
