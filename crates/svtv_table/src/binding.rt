@@ -1,7 +1,7 @@
 // Binds a table to the wires of a design. Variables are gathered from all rows first, since a sample may not bear the name of a
 // variable of a later row either; then rows are bound in their order, so that the first fault is told. Which wires have an `in`
 // row is kept as a truth for each wire, so that a second row is seen in one step.
-ghost use Rattle.std.specs.Prelude.{◌≡◌, ◌<◌, ◌+◌, ◌^◌, ◌∷◌, [], ◌++◌, All, Some, map, length, slice_set, slice_index_or, true, false, IfOk, OnOk, IfErr};
+ghost use Rattle.std.specs.Prelude.{◌≡◌, ◌<◌, ◌+◌, ◌^◌, ◌∷◌, [], ◌++◌, List, All, Some, map, length, slice_set, slice_index_or, true, false, IfOk, OnOk, IfErr};
 ghost use Rattle.std.specs.List.{IsDistinct};
 ghost use Rattle.std.specs.Str.{bytes_eq};
 ghost use Rattle.svtv_table.specs.Binding as spec;
@@ -12,24 +12,53 @@ ghost use Rattle.svtv_table.specs.Indexing.{listed};
 ghost use Rattle.svtv_table.specs.Names as names;
 ghost use Rattle.svtv_table.specs.Reading.{IsWellFormed};
 ghost use Rattle.svtv_table.specs.Stimuli.{Means};
+ghost use Rattle.svtv_table.specs.declared.bound.VarDecl.{VarDecl};
 
 use crate::bound::{Bound, Drive, VarDecl};
 use crate::drives::drives_of;
 use crate::faults::refused;
-use crate::names::{Target, Variables, Wires, declarations, variables_of, wire_of, wires_of};
+use crate::names::{Target, Variables, Wires, add_rows, declarations, wire_of, wires_of};
 use crate::samples::{Samples, sample_cells};
+use indexmap::IndexMap;
 use items::Items;
 use name_index::NameIndex;
-use std::alloc::Global;
+use std::alloc::{AllocError, Global};
 use sv_outside::{Signal, TextErr};
 use table_cells::{Row, RowKind, Table};
 
 /// What rows drive and sample, and which wires have an `in` row.
-#[derive(Drop)]
 pub struct Work {
     pub drives: Items<(usize, Items<Drive>)>,
     pub driven: Vec<bool>,
     pub samples: Samples,
+}
+
+impl Drop for Work {
+    fn drop(self) {
+        let Work {
+            drives: _,
+            driven: _,
+            samples: _,
+        } = self;
+    }
+}
+
+impl Work {
+    fn finished(self, phases: usize, declared: Items<VarDecl>) -> Bound
+        ensures { result ≡ record { phases = phases; vars = declared; drives = self.drives; samples = self.samples.list } }
+    {
+        let Work {
+            drives,
+            driven: _,
+            samples,
+        } = self;
+        Bound {
+            phases,
+            vars: declared,
+            drives,
+            samples: samples.list,
+        }
+    }
 }
 
 // The number of a row's wire: an `in` row names an input.
@@ -114,6 +143,21 @@ fn bind_row(
     }
 }
 
+// The work before any row.
+fn no_work(alloc: Global, wires: &Wires) -> Result<Work, AllocError>
+    ensures { IfOk result (λ work. (vars : List VarDecl) → Follows wires.now.list.now vars [] work) }
+{
+    let driven = vec![in alloc; false; wires.list.len()]?;
+    Ok(Work {
+        drives: Items::new(alloc),
+        driven,
+        samples: Samples {
+            list: Items::new(alloc),
+            taken: NameIndex::new(alloc),
+        },
+    })
+}
+
 #[tactic(auto, unfolding(crate::specs::Faults::Stops))]
 fn bind_rows(
     alloc: Global,
@@ -126,34 +170,11 @@ fn bind_rows(
     ensures fine { OnOk result (at_each (spec.row_faults wires.now.list.now (listed variables.now) rows.now) 0 rows.now ≡ []) }
     ensures err { IfErr result (Stops (at_each (spec.row_faults wires.now.list.now (listed variables.now) rows.now) 0 rows.now)) }
 {
-    let mut work = Work {
-        drives: Items::new(alloc),
-        driven: vec![in alloc; false; wires.list.len()]?,
-        samples: Samples {
-            list: Items::new(alloc),
-            taken: NameIndex::new(alloc),
-        },
-    };
+    let mut work = no_work(alloc, wires)?;
     for (at, row) in rows.iter().enumerate() {
         bind_row(alloc, wires, variables, &rows[..at], row, &mut work)?;
     }
     Ok(work)
-}
-
-fn finished(phases: usize, declared: Items<VarDecl>, work: Work) -> Bound
-    ensures { result ≡ record { phases = phases; vars = declared; drives = work.drives; samples = work.samples.list } }
-{
-    let Work {
-        drives,
-        samples,
-        ..
-    } = work;
-    Bound {
-        phases,
-        vars: declared,
-        drives,
-        samples: samples.list,
-    }
 }
 
 // Binds a table whose variables are known.
@@ -173,7 +194,25 @@ fn bind_under(
     let rows = table.rows.as_slice();
     let vars = declarations(alloc, variables)?;
     let work = bind_rows(alloc, wires, variables, rows)?;
-    Ok(finished(table.phases, vars, work))
+    Ok(work.finished(table.phases, vars))
+}
+
+// Binds a table whose variables are to be put into a map that has none yet.
+#[tactic(auto, unfolding(crate::specs::Faults::Stops))]
+fn bind_with<'a>(
+    alloc: Global,
+    table: &'a Table,
+    wires: &Wires,
+    variables: &mut Variables<'a>,
+) -> Result<Bound, TextErr>
+    requires none { listed variables.old ≡ [] }
+    requires widths { All (λ wire. spec.HasWidth wire.width) wires.now.list.now }
+    ensures bound { IfOk result (λ bound. bound ≡ spec.bound_of wires.now.list.now table.now) }
+    ensures fine { OnOk result (spec.bind_faults wires.now.list.now table.now ≡ []) }
+    ensures err { IfErr result (Stops (spec.bind_faults wires.now.list.now table.now)) }
+{
+    add_rows(variables, wires, table.rows.as_slice())?;
+    bind_under(alloc, table, wires, variables)
 }
 
 // Binds a table to wires that are found by name.
@@ -184,8 +223,8 @@ fn bind_wires(alloc: Global, table: &Table, wires: &Wires) -> Result<Bound, Text
     ensures fine { OnOk result (spec.bind_faults wires.now.list.now table.now ≡ []) }
     ensures err { IfErr result (Stops (spec.bind_faults wires.now.list.now table.now)) }
 {
-    let variables = variables_of(alloc, wires, table.rows.as_slice())?;
-    bind_under(alloc, table, wires, &variables)
+    let mut variables = IndexMap::new(alloc);
+    bind_with(alloc, table, wires, &mut variables)
 }
 
 #[tactic(auto, unfolding(crate::specs::Faults::Stops))]

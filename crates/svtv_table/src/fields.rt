@@ -1,5 +1,5 @@
 // The records of a text of comma-separated fields.
-ghost use Rattle.std.specs.Prelude.{◌≡◌, ◌∷◌, [], map, length, IfOk};
+ghost use Rattle.std.specs.Prelude.{◌≡◌, ◌∷◌, [], ◌++◌, map, length, Ok, IfOk, OnOk};
 ghost use Rattle.csv.specs.Reading.{AreRecords, default_config, strip_bom};
 ghost use Rattle.csv.specs.Records.{fields_of};
 ghost use Rattle.csv.specs.declared.parser.State.TheVariants as st;
@@ -8,21 +8,38 @@ ghost use Rattle.svtv_table.specs.Fields as spec;
 use csv::{ByteRecord, Error, ReaderBuilder};
 use std::alloc::Global;
 
-/// Every record of a text that has no header row, as `csv` reads it with its defaults, but of any lengths. The text lies in
-/// memory, so that only want of memory is an error.
-pub fn all_records(alloc: Global, text: &[u8]) -> Result<Vec<ByteRecord>, Error>
-    ensures { IfOk result (λ v. AreRecords default_config st.StartRecord (strip_bom text.now) (map fields_of v.items)) }
+// Puts a record that was read behind the others.
+fn keep(rows: &mut Vec<ByteRecord>, row: Result<ByteRecord, Error>) -> Result<(), Error>
+    ensures { OnOk result ((read : ByteRecord) × (row ≡ Ok read) × (rows.new.items ≡ rows.old.items ++ read ∷ [])) }
+{
+    if rows.push(row?).is_err() {
+        return Err(Error::out_of_memory());
+    }
+    Ok(())
+}
+
+// Reads every record of a text into a vector, which owns them wherever the reader stops.
+fn read_all(alloc: Global, text: &[u8], rows: &mut Vec<ByteRecord>) -> Result<(), Error>
+    requires { rows.old.items ≡ [] }
+    ensures { OnOk result (AreRecords default_config st.StartRecord (strip_bom text.now) (map fields_of rows.new.items)) }
 {
     let rdr = ReaderBuilder::new()
         .has_headers(false)
         .flexible(true)
         .from_reader(alloc, text);
-    let mut rows = Vec::new(alloc);
     for row in rdr.into_byte_records() {
-        if rows.push(row?).is_err() {
-            return Err(Error::out_of_memory());
-        }
+        keep(rows, row)?;
     }
+    Ok(())
+}
+
+/// Every record of a text that has no header row, as `csv` reads it with its defaults, but of any lengths. The text lies in
+/// memory, so that only want of memory is an error.
+pub fn all_records(alloc: Global, text: &[u8]) -> Result<Vec<ByteRecord>, Error>
+    ensures { IfOk result (λ v. AreRecords default_config st.StartRecord (strip_bom text.now) (map fields_of v.items)) }
+{
+    let mut rows = Vec::new(alloc);
+    read_all(alloc, text, &mut rows)?;
     Ok(rows)
 }
 

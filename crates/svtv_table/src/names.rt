@@ -2,7 +2,7 @@
 // counts, and variables are kept in one map from their names to their widths, in the order in which they appear, so that binding
 // takes linear time. A variable stands where an `in` row names it first and gets the width of that row's wire; whether other rows
 // fit is judged when they are bound. The map borrows the names from the rows; they are copied once, into the list of the bound table.
-ghost use Rattle.std.specs.Prelude.{◌≡◌, ◌≤◌, ◌<◌, map, length, All, IfOk, IfSome, OnOk};
+ghost use Rattle.std.specs.Prelude.{◌≡◌, ◌≤◌, ◌<◌, [], map, length, All, IfOk, IfSome, OnOk};
 ghost use Rattle.svtv_table.specs.Binding.{HasWidth, declared_in, variables_of};
 ghost use Rattle.svtv_table.specs.Indexing.{Indexes, listed, wide, with_var, with_vars};
 ghost use Rattle.svtv_table.specs.Names as spec;
@@ -157,20 +157,20 @@ fn add_row<'a>(variables: &mut Variables<'a>, wires: &Wires, row: &'a Row) -> Re
     }
 }
 
-/// The variables of a table's rows, in the order in which they appear.
-pub fn variables_of<'a>(
-    alloc: Global,
+/// Puts in the variables of a table's rows, in the order in which they appear. There was none before.
+pub fn add_rows<'a>(
+    variables: &mut Variables<'a>,
     wires: &Wires,
     rows: &'a [Row],
-) -> Result<Variables<'a>, AllocError>
-    requires { All (λ wire. HasWidth wire.width) wires.now.list.now }
-    ensures { IfOk result (λ variables. listed variables ≡ variables_of wires.now.list.now rows.now) }
+) -> Result<(), AllocError>
+    requires none { listed variables.old ≡ [] }
+    requires widths { All (λ wire. HasWidth wire.width) wires.now.list.now }
+    ensures { OnOk result (listed variables.new ≡ variables_of wires.now.list.now rows.now) }
 {
-    let mut variables = IndexMap::new(alloc);
     for row in rows {
-        add_row(&mut variables, wires, row)?;
+        add_row(variables, wires, row)?;
     }
-    Ok(variables)
+    Ok(())
 }
 
 /// The variables as a list, which holds its names.

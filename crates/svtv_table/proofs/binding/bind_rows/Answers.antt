@@ -1,5 +1,5 @@
 use Rattle.std.proofs.lemmas.Result.{IfOk-from_err}
-use Rattle.std.proofs.Common.{◌≡◌, ◌+◌, ◌++◌, ◌∷◌, [], ℕ, List, length, take, sym, ◌∙◌, ap, subst, arith}
+use Rattle.std.proofs.Common.{◌≡◌, ◌+◌, ◌++◌, ◌∷◌, [], ℕ, List, length, take, sym, ◌∙◌, ap, subst, arith, refl}
 use Rattle.std.proofs.lemmas.List.{length-take-le, take_all, take_more}
 use Rattle.svtv_table.specs.Binding.{faults_after, row_faults}
 use Rattle.svtv_table.specs.Faults.{Stops, at_each}
@@ -55,8 +55,17 @@ returns-in_err-bind_row-clause-fine c = IfOk-from_err _ _ c.from_residual-in_err
 pub returns-in_err-bind_row-clause-follows : goal.returns-in_err-bind_row-clause-follows
 returns-in_err-bind_row-clause-follows c = IfOk-from_err _ _ c.from_residual-in_err-bind_row.ensures.0
 
-pub returns-in_err-vec-clause-fine : goal.returns-in_err-vec-clause-fine
-returns-in_err-vec-clause-fine c = IfOk-from_err _ _ c.from_residual.ensures.0
+pub returns-in_err-work-clause-fine : goal.returns-in_err-work-clause-fine
+returns-in_err-work-clause-fine c = IfOk-from_err _ _ c.from_residual.ensures.0
 
-pub returns-in_err-vec-clause-follows : goal.returns-in_err-vec-clause-follows
-returns-in_err-vec-clause-follows c = IfOk-from_err _ _ c.from_residual.ensures.0
+pub returns-in_err-work-clause-follows : goal.returns-in_err-work-clause-follows
+returns-in_err-work-clause-follows c = IfOk-from_err _ _ c.from_residual.ensures.0
+
+pub loop-at-init : goal.loop-at-init
+loop-at-init c = record { follows = c.in_ok-work.ensures (listed c.args.variables.now); fine = refl }
+
+pub bind_row-requires-clause-widths : goal.bind_row-requires-clause-widths
+bind_row-requires-clause-widths c = c.requires
+
+pub returns-clause-err : goal.returns-clause-err
+returns-clause-err c = tt

@@ -1,8 +1,5 @@
-use Rattle.std.proofs.lemmas.Result.{IfOk-from_err}
+use Rattle.svtv_table.proofs.Listed.{listed_none}
 use Rattle.svtv_table.proofs.binding.bind_wires.Goals as goal
 
-pub returns-in_err-variables-clause-bound : goal.returns-in_err-variables-clause-bound
-returns-in_err-variables-clause-bound c = IfOk-from_err _ _ c.from_residual.ensures.0
-
-pub returns-in_err-variables-clause-fine : goal.returns-in_err-variables-clause-fine
-returns-in_err-variables-clause-fine c = IfOk-from_err _ _ c.from_residual.ensures.0
+pub bind_with-requires-clause-none : goal.bind_with-requires-clause-none
+bind_with-requires-clause-none c = listed_none c.new-variables.result c.new-variables.ensures.empty

@@ -6,11 +6,10 @@ use Rattle.svtv_table.specs.Binding.{declared_in, variables_of}
 use Rattle.svtv_table.specs.Indexing.{listed, with_vars}
 use Rattle.svtv_table.specs.declared.bound.VarDecl.{VarDecl}
 use Rattle.svtv_table.proofs.Declared.{collected}
-use Rattle.svtv_table.proofs.Listed.{listed_none}
-use Rattle.svtv_table.proofs.names.variables_of.Goals as goal
+use Rattle.svtv_table.proofs.names.add_rows.Goals as goal
 
 pub loop-row-init : goal.loop-row-init
-loop-row-init c = ap (λ (vars : List VarDecl). with_vars vars (flat_map (declared_in c.args.wires.now.list.now) c.args.rows.now)) (listed_none c.new-variables.result c.new-variables.ensures.empty)
+loop-row-init c = ap (λ (vars : List VarDecl). with_vars vars (flat_map (declared_in c.args.wires.now.list.now) c.args.rows.now)) c.requires.none
 
 pub returns : goal.returns
 unfolding variables_of
