@@ -190,7 +190,7 @@ fn pick(alloc: Global, roots: &[Node], done: &[Node]) -> Result<Vec<Node>, Alloc
 {
     let mut picked = Vec::with_capacity(alloc, roots.len())?;
     for root in roots {
-        picked.push(done[root.index()])?;
+        picked.push(answer(done, *root))?;
     }
     Ok(picked)
 }

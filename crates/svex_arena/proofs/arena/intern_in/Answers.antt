@@ -1,4 +1,4 @@
-use Rattle.std.proofs.Common.{◌≡◌, refl, inl, inr, ◌<◌, ◌+◌, ◌∷◌, [], ◌++◌, ℕ, List, length, sym, ap, ◌∙◌, subst, arith, rules}
+use Rattle.std.proofs.Common.{◌≡◌, refl, inl, inr, ◌<◌, ◌+◌, ◌∷◌, [], ◌++◌, ℕ, List, length, sym, ap, ◌∙◌, subst, arith}
 use Rattle.std.specs.Prelude.{slice_index}
 use Rattle.std.proofs.lemmas.Result.{IfOk-from_err}
 use Rattle.std.proofs.lemmas.List.{length_push}
@@ -67,7 +67,7 @@ link_last-requires-clause-chained c =
     let older = c.make_room.new.older.items in
     let newest = c.make_room.new.newest.items in
     let more = c.in_ok-push_node.ensures in
-    let at : c.len-node.result ≡ length shapes = search rules in
+    let at : c.len-node.result ≡ length shapes = c.len-node.ensures ∙ c.args.shapes.now.ok.0 in
     let again : IsKept shapes c.args.widths.now.items older newest =
     kept_again _ _ _ _ _ _ c.deref.result.now c.requires.kept c.deref.ensures.value c.make_room.ensures.linked c.make_room.ensures.chained in
     subst (λ (xs : List Shape). IsChained c.len-node.result xs c.push_node.new.older.items newest) (sym (c.deref-7.ensures.value ∙ more.shapes))
@@ -87,7 +87,7 @@ returns-clause-kept c =
     let linked : length older ≡ length shapes + 1 = c.link_last.ensures.len ∙ ap length more.older ∙ length_push _ _ ∙ ap (λ (n : ℕ). n + 1) (c.make_room.ensures.linked ∙ k.linked) in
     let is : w ≡ width_of (width_at shapes) s = subst (λ xs. w ≡ width_of (width_at xs) s) c.deref-5.ensures.value c.width_over-width.ensures.is in
     let none : HasNone shapes s (length shapes) = subst (λ xs. HasNone xs s (length xs)) c.deref-2.ensures.value c.in_default.ensures.none in
-    let at : c.len-node.result ≡ length shapes = search rules in
+    let at : c.len-node.result ≡ length shapes = c.len-node.ensures ∙ c.args.shapes.now.ok.0 in
     let chained : IsChained (length shapes + 1) (shapes ++ s ∷ []) older newest =
     subst (λ xs. IsChained (length shapes + 1) xs older newest) (c.deref-7.ensures.value ∙ more.shapes) (subst (λ n. IsChained (n + 1) c.deref-7.result.now older newest) at c.link_last.ensures.chained) in
     subst (λ xs. IsKept xs c.push_node.new.widths.items older newest) (sym more.shapes)
@@ -97,7 +97,7 @@ returns-clause-kept c =
 pub link_last-requires-clause-room : goal.link_last-requires-clause-room
 link_last-requires-clause-room c =
     let older = c.make_room.new.older.items in
-    let at : c.len-node.result ≡ length c.args.shapes.now.items = search rules in
+    let at : c.len-node.result ≡ length c.args.shapes.now.items = c.len-node.ensures ∙ c.args.shapes.now.ok.0 in
     omega (arith, at, ap length c.in_ok-push_node.ensures.older, length_push older 0, c.make_room.ensures.linked, c.requires.kept.linked)
 
 pub link_last-requires-clause-some : goal.link_last-requires-clause-some
@@ -106,7 +106,7 @@ link_last-requires-clause-some c = c.in_ok-make_room.ensures.some
 pub link_last-requires-clause-within : goal.link_last-requires-clause-within
 link_last-requires-clause-within c =
     let shapes = c.args.shapes.now.items in
-    let at : c.len-node.result ≡ length shapes = search rules in
+    let at : c.len-node.result ≡ length shapes = c.len-node.ensures ∙ c.args.shapes.now.ok.0 in
     omega (arith, at, ap length (c.deref-7.ensures.value ∙ c.in_ok-push_node.ensures.shapes), length_push shapes c.args.shape.now)
 
 pub returns-clause-is : goal.returns-clause-is
@@ -114,7 +114,7 @@ returns-clause-is c =
     let shapes = c.args.shapes.now.items in
     let s = c.args.shape.now in
     let more = c.in_ok-push_node.ensures.shapes in
-    let at : c.len-node.result ≡ length shapes = search rules in (
+    let at : c.len-node.result ≡ length shapes = c.len-node.ensures ∙ c.args.shapes.now.ok.0 in (
       omega (arith, at, ap length more, length_push shapes s),
       ap (λ (xs : List Shape). shape_at xs c.len-node.result) more ∙ ap (λ (n : ℕ). shape_at (shapes ++ s ∷ []) n) at ∙ pushed_at shapes s,
       inr (more, at),

@@ -1,4 +1,4 @@
-use Rattle.std.proofs.Common.{◌≡◌, ◌+◌, ◌<◌, ◌++◌, ◌∷◌, [], ℕ, List, length, get_or, sym, ap, ◌∙◌, subst, arith}
+use Rattle.std.proofs.Common.{◌≡◌, ◌+◌, ◌<◌, ◌++◌, ◌∷◌, [], ℕ, List, length, sym, ap, ◌∙◌, subst, arith}
 use Rattle.std.specs.Prelude.{slice_index}
 use Rattle.std.proofs.lemmas.List.{get_or_default}
 use Rattle.svex_arena.specs.Substs.{IsPicked}
@@ -23,11 +23,8 @@ loop-root-preserved c =
     let roots = c.args.roots.now in
     let i = c.loop-root.root-index in
     let old = c.loop-root.picked.items in
-    let found = c.index-done-index.result in
-    let lt : i < length roots = omega arith in
-    let root : c.index.result ≡ slice_index roots i = c.index.ensures ∙ c.root-item.is ∙ get_or_default roots i c.root-item.result 0 lt in
-    let is : found ≡ slice_index done (slice_index roots i) =
-    c.index-done-index.is ∙ ap (λ (k : ℕ). get_or done k found) root ∙ get_or_default done (slice_index roots i) found 0 (c.requires i lt) in
+    let root : c.root-item.result ≡ slice_index roots i = c.root-item.is ∙ get_or_default roots i c.root-item.result 0 c.loop-root-test.true in
+    let is : c.answer.result ≡ slice_index done (slice_index roots i) = c.answer.ensures ∙ ap (λ (k : ℕ). slice_index done k) root in
     record {
       picked = subst (λ (l : List ℕ). IsPicked done roots l (i + 1)) (sym (c.in_ok-push.ensures.items ∙ ap (λ (x : ℕ). old ++ x ∷ []) is)) (picked_more done roots old i c.loop-root.invariant.picked);
     }
@@ -37,10 +34,12 @@ returns c =
     let end : c.loop-root.root-index ≡ length c.args.roots.now = omega arith in
     subst (λ (n : ℕ). IsPicked c.args.done.now c.args.roots.now c.loop-root.picked.items n) end c.loop-root.invariant.picked
 
-pub bounds-done-index : goal.bounds-done-index
-bounds-done-index c =
+pub answer-requires : goal.answer-requires
+answer-requires c =
     let roots = c.args.roots.now in
     let i = c.loop-root.root-index in
-    let lt : i < length roots = omega arith in
-    let root : c.index.result ≡ slice_index roots i = c.index.ensures ∙ c.root-item.is ∙ get_or_default roots i c.root-item.result 0 lt in
-    omega (arith, root, c.requires i lt)
+    let root : c.root-item.result ≡ slice_index roots i = c.root-item.is ∙ get_or_default roots i c.root-item.result 0 c.loop-root-test.true in
+    subst (λ (k : ℕ). k < length c.args.done.now) (sym root) (c.requires i c.loop-root-test.true)
+
+pub bounds-roots-root-index : goal.bounds-roots-root-index
+bounds-roots-root-index c = c.loop-root-test.true
