@@ -18,7 +18,7 @@ pub loop-init : goal.loop-init
 loop-init c = rw c.new-given.ensures.items (record { len = refl; none = λ k d h. absurd (omega arith) })
 
 pub loop-preserved : goal.loop-preserved
-loop-preserved c = 
+loop-preserved c =
     let old = c.loop.given.items in
     let is : gift_rows c.push.new.self.items ≡ gift_rows old ++ [] ∷ [] = ap (λ (l : List (Vec Gift Global)). gift_rows l) c.in_ok-push.ensures.items ∙ gift_rows-push old c.new.result c.new.ensures.items in
     record {

@@ -20,7 +20,7 @@ pub loop-init : goal.loop-init
 loop-init c = rw c.new-lists.ensures.items (record { count = refl; empty = λ k d h. absurd (omega arith) })
 
 pub loop-preserved : goal.loop-preserved
-loop-preserved c = 
+loop-preserved c =
     let old = c.loop.lists.items in
     let is : rows c.push.new.self.items ≡ rows old ++ [] ∷ [] = ap (λ (ls : List (Vec Watch Global)). rows ls) c.in_ok-push.ensures.items ∙ rows_push old c.new.result c.new.ensures.items in
     record {

@@ -24,7 +24,7 @@ pub loop-d-init : goal.loop-d-init
 loop-d-init c = sym (append-nil c.args.lits.now.items)
 
 pub loop-d-preserved : goal.loop-d-preserved
-loop-d-preserved c = 
+loop-d-preserved c =
     let old = c.args.lits.now.items in
     let clause = c.args.clause.now in
     let i = c.loop-d.d-index in

@@ -18,7 +18,7 @@ returns-in-None c =
     free_rest a clause c.args.other start c.first_free-in-None.result c.within-start.ensures later c.first_free-in-None.ensures
 
 pub returns-in-Some : goal.returns-in-Some
-returns-in-Some c = 
+returns-in-Some c =
     let a = valuation c.args.values.now in
     let clause : List Dim = c.args.clause.now in
     let start = c.within-start.result in
@@ -26,7 +26,7 @@ returns-in-Some c =
     free_later a clause c.args.other start c.in-Some.i c.within-start.ensures (subst (λ (l : List Dim). IsFreeAt a l c.args.other (Some c.in-Some.i)) whole c.in-Some.ensures)
 
 pub first_free-requires : goal.first_free-requires
-first_free-requires c = 
+first_free-requires c =
     let start = c.within-start.result in
     All-take (λ (d : Dim). d.var < length c.args.values.now) (length c.args.clause.now - start) (drop start c.args.clause.now)
     (All-drop (λ (d : Dim). d.var < length c.args.values.now) start c.args.clause.now c.requires)

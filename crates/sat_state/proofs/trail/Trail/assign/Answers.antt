@@ -34,7 +34,7 @@ pub returns-clause-entries : goal.returns-clause-entries
 returns-clause-entries c = c.in_ok-push.ensures.items ∙ ap (λ (t : TrailLists). t.entries ++ c.args.e ∷ []) c.self.view_is
 
 pub returns-clause-tracks : goal.returns-clause-tracks
-returns-clause-tracks c = 
+returns-clause-tracks c =
     let back = sym c.self.view_is in
     let e = c.args.e in
     rw c.in_ok-push.ensures.items (tracks_push c.self.inside.values.items c.self.inside.entries.items e
