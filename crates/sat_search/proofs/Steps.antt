@@ -1,6 +1,7 @@
 -- Steps of the solver, over lists.
 use Rattle.std.proofs.Common.{◌≡◌, ℕ, ◌<◌, ◌+◌, ◌-◌, Bool, true, false, not, cond, List, [], ◌∷◌, ◌++◌, length, get_or, set, reverse, take, drop, Option, Some, None, MatchOption, sym, refl, ap, ◌∙◌, arith, subst, length-append, append_assoc, get_or-set_other}
 use Rattle.std.specs.List.{All, filter}
+use Rattle.std.specs.Prelude.{Result, Ok, Err, OnOk}
 use Rattle.std.proofs.lemmas.List.{reverse-append, reverse-reverse, take_more, take-append-drop}
 use Rattle.std.proofs.lemmas.List.Elements.{All-nil, All-cons, All-head, All-tail, All-push}
 use Rattle.std.proofs.lemmas.Option.{MatchOption-at_some}
@@ -127,3 +128,10 @@ open_popped values values2 old trail x is t t2 v o =
 
 pub front_popped : (start old trail : List Assigned) (x : Assigned) → old ≡ trail ++ x ∷ [] → (rest : List Assigned) × (start ≡ old ++ rest) → (rest : List Assigned) × (start ≡ trail ++ rest)
 front_popped start old trail x is h = (x ∷ h.0, h.1 ∙ ap (λ t. t ++ h.0) is ∙ append_assoc trail (x ∷ []) h.0)
+
+-- ---- results
+
+-- what holds already holds where a call succeeds
+pub on_ok : {T E : Type 0} (r : Result T E) (P : Type 0) → P → OnOk r P
+on_ok (Ok x) P h = h
+on_ok (Err y) P h = tt

@@ -4,7 +4,7 @@ use Rattle.cnf.specs.declared.Dim.{Dim}
 use Rattle.refute_check.specs.Accepted.{clause_at}
 use Rattle.sat_state.specs.declared.trail.Assigned.{Assigned}
 use Rattle.sat_search.specs.Learn.{seen_at, no_assigned, Suffices, IsTraced}
-use Rattle.sat_search.proofs.Steps.{explained_front, place_is, front_is, reason_known}
+use Rattle.sat_search.proofs.Steps.{explained_front, place_is, front_is, reason_known, on_ok}
 use Rattle.sat_search.proofs.Rows.{dim_near}
 use Rattle.sat_search.proofs.Shorter.{dropped}
 use Rattle.std.proofs.lemmas.Result.{IfOk-from_err}
@@ -75,3 +75,23 @@ returns-then-not-seen-e-clause-enough c = c.requires.enough
 
 pub returns-then-not-seen-e-clause-traced : goal.returns-then-not-seen-e-clause-traced
 returns-then-not-seen-e-clause-traced c = c.requires.traced
+
+pub bounds-entries-i : goal.bounds-entries-i
+bounds-entries-i c = omega (arith, c.requires.place, c.requires.range, ap (λ (t : List Assigned). length t) c.entries.ensures)
+
+pub bounds-seen-e-in-Some : goal.bounds-seen-e-in-Some
+bounds-seen-e-in-Some c = 
+    subst (λ (n : ℕ). (get_or c.entries.result.now c.args.i no_assigned).dim.var < n) (sym c.requires.seen)
+    (dim_near (length c.args.trail.now.values) c.args.i c.args.trail.now.entries c.entries.result.now no_assigned c.entries.ensures c.requires.sound.tracks.apart (omega (arith, c.requires.place, c.requires.range)))
+
+pub returns-in-None-clause-enough : goal.returns-in-None-clause-enough
+returns-in-None-clause-enough c = on_ok _ _ c.requires.enough
+
+pub returns-in-None-clause-traced : goal.returns-in-None-clause-traced
+returns-in-None-clause-traced c = on_ok _ _ c.requires.traced
+
+pub returns-then-not-is_implied-clause-enough : goal.returns-then-not-is_implied-clause-enough
+returns-then-not-is_implied-clause-enough c = on_ok _ _ c.requires.enough
+
+pub returns-then-not-is_implied-clause-traced : goal.returns-then-not-is_implied-clause-traced
+returns-then-not-is_implied-clause-traced c = on_ok _ _ c.requires.traced
