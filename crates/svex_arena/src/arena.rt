@@ -194,6 +194,19 @@ fn cut_from(
     older.truncate(len);
 }
 
+// Copies of the lists that chain nodes.
+fn chains_copied(
+    alloc: Global,
+    older: &[usize],
+    newest: &[usize],
+) -> Result<(Vec<usize>, Vec<usize>), AllocError>
+    ensures { IfOk result (λ p. (p.0.items ≡ older.now) × (p.1.items ≡ newest.now)) }
+{
+    let older = older.to_vec(alloc)?;
+    let newest = newest.to_vec(alloc)?;
+    Ok((older, newest))
+}
+
 impl Arena {
     /// An arena with no node.
     #[tactic(auto, using(crate::proofs::Keeping::kept_none))]
@@ -277,11 +290,14 @@ impl Arena {
     pub fn copy(&self, alloc: Global) -> Result<Arena, AllocError>
         ensures { IfOk result (λ a. a ≡ self.now) }
     {
+        let shapes = self.shapes.as_slice().to_vec(alloc)?;
+        let widths = self.widths.as_slice().to_vec(alloc)?;
+        let (older, newest) = chains_copied(alloc, self.older.as_slice(), self.newest.as_slice())?;
         Ok(Arena {
-            shapes: self.shapes.as_slice().to_vec(alloc)?,
-            widths: self.widths.as_slice().to_vec(alloc)?,
-            older: self.older.as_slice().to_vec(alloc)?,
-            newest: self.newest.as_slice().to_vec(alloc)?,
+            shapes,
+            widths,
+            older,
+            newest,
         })
     }
 
