@@ -1,6 +1,7 @@
 // Modules, their parameters, ports, instances and items, and whole texts (IEEE 1800-2017, A.1, A.2.1, A.4 and A.6.1). Each
 // production is a type and each alternative a variant, so that a tree holds what was written, also where two writings mean the
 // same. What repeats or nests is held by `Items` and `Boxed`, which contracts see as their contents.
+use crate::parts::{drop_head, drop_labels};
 use crate::{Block, Expr, Lvalue, Range, Sign, Step, TypeTree, Typedef, WholeWord, Word};
 use items::{Boxed, Items};
 use sv_outside::Place;
@@ -236,10 +237,8 @@ pub enum Item {
     Generate(Items<Item>),
 }
 
-// What an item holds beside items is dropped by one call, outside of the cycle, whose every step is dear to prove.
+// Outside of the cycle, as what stands in `parts`.
 fn drop_declared(_form: Option<TypeTree>, _names: Items<Word>) {}
-
-fn drop_head(_name: Word, _start: Expr, _condition: Expr, _step: Step) {}
 
 impl Drop for Item {
     #[cycle(item_drop)]
@@ -275,7 +274,7 @@ impl Drop for Gen {
     #[cycle(item_drop)]
     fn drop(self) {
         match self {
-            Gen::Block(_, _, _, _) => {}
+            Gen::Block(_, name, _, label) => drop_labels(name, label),
             Gen::Single(_, _) => {}
         }
     }

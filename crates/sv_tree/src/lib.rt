@@ -8,6 +8,7 @@
 mod design;
 mod exprs;
 mod forms;
+mod parts;
 mod stmts;
 mod word;
 

@@ -1,6 +1,7 @@
 // Targets, statements, and the blocks that hold them (IEEE 1800-2017, A.6 and A.8.5). A statement keeps all that was written,
 // labels and the marks of steps too, since the tree is tied to its tokens. An arm of a case statement has one or more labels or
 // is the default, so the kinds of arms are one list in the order of the text.
+use crate::parts::{drop_head, drop_labels};
 use crate::{Expr, Select, WholeWord, Word};
 use items::{Boxed, Items};
 use sv_outside::Place;
@@ -109,10 +110,12 @@ impl Drop for Stmt {
     fn drop(self) {
         match self {
             Stmt::Empty => {}
-            Stmt::Block(_, _, _, _) => {}
+            Stmt::Block(_, name, _, label) => drop_labels(name, label),
             Stmt::If(_, _, _, _) => {}
             Stmt::Case(_, _, _, _) => {}
-            Stmt::For(_, _, _, _, _, _, _) => {}
+            Stmt::For(_, _, name, start, condition, step, _) => drop_head(
+                name, start, condition, step,
+            ),
             Stmt::Assign(_, _, _, _) => {}
         }
     }
