@@ -3,3 +3,4 @@ pub mod Sorted
 pub mod Tested
 pub mod Turns
 pub mod Wanted
+pub mod Entries
