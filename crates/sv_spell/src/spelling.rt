@@ -6,7 +6,7 @@ use crate::modules::source;
 use items::Items;
 use std::alloc::{AllocError, Global};
 use sv_tree::Source;
-use sv_write::Lexeme;
+use sv_write::{Lexeme, Writer};
 
 /// The kinds and texts of the tokens that the tree is spelled by, in order. Whatever tokens spell it, these are theirs,
 /// so two texts with one tree differ in the places of their tokens alone. Of a tree that no tokens spell, as one with a
@@ -14,7 +14,7 @@ use sv_write::Lexeme;
 pub fn spell(alloc: Global, text: &Source) -> Result<Items<Lexeme>, AllocError>
     ensures { IfOk result (λ all. AreLexemesOf text.now all) }
 {
-    let mut all = Items::new(alloc);
-    source(alloc, &mut all, text)?;
-    Ok(all)
+    let mut writer = Writer::new(alloc);
+    source(&mut writer, text);
+    writer.end()
 }

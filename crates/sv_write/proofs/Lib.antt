@@ -7,7 +7,6 @@ pub mod ExprsMade
 pub mod FormsLaws
 pub mod FormsMade
 pub mod Lawful
-pub mod Lists
 pub mod Loops
 pub mod StmtsLaws
 pub mod StmtsMade

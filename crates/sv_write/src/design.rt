@@ -9,10 +9,10 @@ ghost use Rattle.sv_write.specs.Stmts as stmts_spec;
 ghost use Rattle.sv_write.specs.Writing as writing;
 
 use crate::exprs::{exprs, in_parens};
-use crate::forms::{definition, form, given, names_end, parameters};
+use crate::forms::{form, given, names_end, param, typedef};
 use crate::lexeme::Writer;
-use crate::part::{Part, maybe, with_commas};
-use crate::stmts::{begin, closing, lvalue, turns, whole_block};
+use crate::part::{Part, commas, maybe};
+use crate::stmts::{begin, end, lvalue, turns, whole_block};
 use items::Boxed;
 use sv_tree::{
     AssignPair, Expr, Gen, Inst, Item, NamedPin, NetWord, One, Pin, Pins, Step, TypeTree, Word,
@@ -57,7 +57,7 @@ impl Part for Pins {
 
     fn put(&self, out: &mut Writer) {
         match self {
-            Pins::Named(all) => with_commas(out, all.as_slice()),
+            Pins::Named(all) => commas(out, all.as_slice()),
             Pins::Ordered(all) => exprs(out, all.as_slice()),
         }
     }
@@ -93,7 +93,7 @@ fn inst(out: &mut Writer, x: &Inst)
 {
     out.name(&x.of_module);
     overridden(out, &x.params);
-    with_commas(out, x.list.as_slice());
+    commas(out, x.list.as_slice());
     out.mark(b";")
 }
 
@@ -125,7 +125,7 @@ fn assigns(out: &mut Writer, all: &[AssignPair])
     ensures { Adds (spec.assigns all.now) out.old out.new }
 {
     out.key(b"assign");
-    with_commas(out, all);
+    commas(out, all);
     out.mark(b";")
 }
 
@@ -148,7 +148,7 @@ fn if_head(out: &mut Writer, test: &Expr)
 
 /// Writes items, one behind the other.
 #[cycle(item)]
-pub fn all_items(out: &mut Writer, all: &[Item])
+pub fn items(out: &mut Writer, all: &[Item])
     ensures { Adds (writing.each spec.write_item all.now) out.old out.new }
 {
     'parts: for part in all {
@@ -176,8 +176,8 @@ fn body(out: &mut Writer, x: &Gen)
     match x {
         Gen::Block(_, first, all, last) => {
             begin(out, first);
-            all_items(out, all.as_slice());
-            closing(out, b"end", last)
+            items(out, all.as_slice());
+            end(out, b"end", last)
         }
         Gen::Single(_, inner) => item(out, inner.get()),
     }
@@ -190,8 +190,8 @@ fn item(out: &mut Writer, x: &Item)
     match x {
         Item::Net(word, of, all) => net(out, word, of, all.as_slice()),
         Item::Variable(of, all) => variable(out, of, all.as_slice()),
-        Item::Typedef(inner) => definition(out, inner),
-        Item::Param(inner) => parameters(out, inner),
+        Item::Typedef(inner) => typedef(out, inner),
+        Item::Param(inner) => param(out, inner),
         Item::Genvar(all) => genvars(out, all.as_slice()),
         Item::Assign(all) => assigns(out, all.as_slice()),
         Item::Always(inner) => whole_block(out, inner),
@@ -208,7 +208,7 @@ fn item(out: &mut Writer, x: &Item)
         }
         Item::Generate(all) => {
             out.key(b"generate");
-            all_items(out, all.as_slice());
+            items(out, all.as_slice());
             out.key(b"endgenerate")
         }
     }

@@ -7,7 +7,7 @@ ghost use Rattle.sv_write.specs.Writing as writing;
 
 use crate::exprs::{expr, expr_and_mark, sign_word};
 use crate::lexeme::Writer;
-use crate::part::{Part, each, maybe, with_commas};
+use crate::part::{Part, commas, each, maybe};
 use sv_tree::{
     BitsWord, EnumLabel, Expr, Member, NetWord, ParPort, Param, ParamBits, ParamItem, ParamType,
     ParamWord, Port, Range, Sign, TypeTree, Typedef, Way, WholeWord, Word,
@@ -84,7 +84,7 @@ fn labels(out: &mut Writer, all: &[EnumLabel])
     ensures { Adds (spec.labels all.now) out.old out.new }
 {
     out.mark(b"{");
-    with_commas(out, all);
+    commas(out, all);
     out.mark(b"}")
 }
 
@@ -137,7 +137,7 @@ fn all_members(out: &mut Writer, all: &[Member])
 pub fn names_end(out: &mut Writer, all: &[Word])
     ensures { Adds (spec.names_end all.now) out.old out.new }
 {
-    with_commas(out, all);
+    commas(out, all);
     out.mark(b";")
 }
 
@@ -181,7 +181,7 @@ impl Part for TypeTree {
 }
 
 /// Writes a definition of a type.
-pub fn definition(out: &mut Writer, x: &Typedef)
+pub fn typedef(out: &mut Writer, x: &Typedef)
     ensures { Adds (spec.write_typedef x.now) out.old out.new }
 {
     out.key(b"typedef");
@@ -266,12 +266,12 @@ impl Part for ParamItem {
 }
 
 /// Writes a declaration of parameters.
-pub fn parameters(out: &mut Writer, x: &Param)
+pub fn param(out: &mut Writer, x: &Param)
     ensures { Adds (spec.write_param x.now) out.old out.new }
 {
     x.word.put(out);
     maybe(out, &x.form);
-    with_commas(out, x.list.as_slice());
+    commas(out, x.list.as_slice());
     out.mark(b";")
 }
 

@@ -1,5 +1,5 @@
 // Kinds and texts of tokens, one behind the other.
-ghost use Rattle.std.specs.Prelude.{◌≡◌, IfOk, Ok};
+ghost use Rattle.std.specs.Prelude.{◌≡◌, [], IfOk, Ok};
 ghost use Rattle.sv_write.specs.Adds.{Adds};
 ghost use Rattle.sv_write.specs.Writing as spec;
 
@@ -45,6 +45,24 @@ fn put(alloc: Global, out: &mut Lexemes, kind: Kind, text: &[u8]) -> Result<(), 
 }
 
 impl Writer {
+    /// A writer that has written nothing. Takes no memory.
+    pub fn new(alloc: Global) -> Writer
+        ensures { result.written ≡ Ok [] }
+    {
+        Writer {
+            alloc,
+            written: Ok(Items::new(alloc)),
+        }
+    }
+
+    /// All that is written, or the want of memory.
+    pub fn end(self) -> Result<Lexemes, AllocError>
+        ensures { result ≡ self.written }
+    {
+        let Writer { alloc: _, written } = self;
+        written
+    }
+
     /// A writer behind what is written, which it has until `give`. Takes no memory.
     pub fn behind(alloc: Global, out: &mut Lexemes) -> Writer
         ensures { result.written ≡ Ok out.old }
@@ -117,7 +135,7 @@ impl Writer {
 // ---- onto a list
 
 /// Writes a mark.
-pub fn mark(alloc: Global, out: &mut Lexemes, text: &[u8]) -> Result<(), AllocError>
+fn mark(alloc: Global, out: &mut Lexemes, text: &[u8]) -> Result<(), AllocError>
     ensures { IfOk result (λ _. out.new ≡ spec.mark text.now out.old) }
 {
     put(alloc, out, Kind::Mark, text)
@@ -143,13 +161,6 @@ pub fn key(alloc: Global, out: &mut Lexemes, text: &[u8]) -> Result<(), AllocErr
     put(alloc, out, Kind::Word, text)
 }
 
-/// Writes a name.
-pub fn name(alloc: Global, out: &mut Lexemes, word: &Word) -> Result<(), AllocError>
-    ensures { IfOk result (λ _. out.new ≡ spec.name word.now out.old) }
-{
-    put(alloc, out, Kind::Word, word.text.bytes())
-}
-
 /// Writes a name, and the mark behind it.
 pub fn name_and_mark(
     alloc: Global,
@@ -159,6 +170,6 @@ pub fn name_and_mark(
 ) -> Result<(), AllocError>
     ensures { IfOk result (λ _. out.new ≡ spec.name_and_mark word.now text.now out.old) }
 {
-    name(alloc, out, word)?;
+    put(alloc, out, Kind::Word, word.text.bytes())?;
     mark(alloc, out, text)
 }

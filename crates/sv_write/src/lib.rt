@@ -6,10 +6,11 @@ mod design;
 mod exprs;
 mod forms;
 mod lexeme;
-mod outer;
 mod part;
 mod stmts;
 
-pub use lexeme::{Lexeme, Lexemes, Writer, key, mark, name, two_marks};
-pub use outer::{commas, end, items, param, typedef};
-pub use part::{Part, each};
+pub use design::items;
+pub use forms::{param, typedef};
+pub use lexeme::{Lexeme, Lexemes, Writer};
+pub use part::{Part, commas, each};
+pub use stmts::end;

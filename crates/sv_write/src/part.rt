@@ -49,7 +49,7 @@ fn behind_comma<T: Part>(out: &mut Writer, part: &T)
 }
 
 /// Writes the parts with commas between them.
-pub fn with_commas<T: Part>(out: &mut Writer, all: &[T])
+pub fn commas<T: Part>(out: &mut Writer, all: &[T])
     ensures { Adds (writing.commas T.text all.now) out.old out.new }
 {
     match all {

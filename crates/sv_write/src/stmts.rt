@@ -150,7 +150,7 @@ fn label(out: &mut Writer, given: &Option<Word>)
 }
 
 /// Writes the keyword of an end, and the label behind it.
-pub fn closing(out: &mut Writer, text: &[u8], given: &Option<Word>)
+pub fn end(out: &mut Writer, text: &[u8], given: &Option<Word>)
     ensures { Adds (spec.end text.now given.now) out.old out.new }
 {
     out.key(text);
@@ -279,7 +279,7 @@ pub fn statement(out: &mut Writer, x: &Stmt)
         Stmt::Block(_, first, all, last) => {
             begin(out, first);
             stmts(out, all.as_slice());
-            closing(out, b"end", last)
+            end(out, b"end", last)
         }
         Stmt::If(word, test, body, other) => {
             if_head(out, word, test);

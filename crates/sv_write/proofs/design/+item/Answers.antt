@@ -3,14 +3,14 @@ use Rattle.sv_write.specs.Design.{assigns, genvars, net, variable, write_else_pa
 use Rattle.sv_write.specs.Writing.{each, maybe}
 use Rattle.sv_write.proofs.Adding.{◌▷◌, made, nothing_added, under}
 use Rattle.sv_write.proofs.DesignMade.{made_always, made_assign, made_block, made_for, made_generate, made_genvar, made_if, made_inst, made_net, made_param, made_single, made_typedef, made_variable}
-use Rattle.sv_write.proofs.Lists.{left_next, left_last}
+use Rattle.sv_write.proofs.Loops.{left_next, left_last}
 use Rattle.sv_write.proofs.design.+item.Goals as goal
 
-pub all_items-parts-preserved : goal.all_items-parts-preserved
-all_items-parts-preserved t c = left_next c.parts-test.true c.part-item.is c.parts.invariant c.item.ensures
+pub items-parts-preserved : goal.items-parts-preserved
+items-parts-preserved t c = left_next c.parts-test.true c.part-item.is c.parts.invariant c.item.ensures
 
-pub all_items-returns : goal.all_items-returns
-all_items-returns t c = left_last c.parts-test.false c.parts.invariant
+pub items-returns : goal.items-returns
+items-returns t c = left_last c.parts-test.false c.parts.invariant
 
 pub maybe_else-returns-in-Some : goal.maybe_else-returns-in-Some
 maybe_else-returns-in-Some t c = made (maybe write_else_part) c.in-Some.is (λ l. refl) (c.key.ensures ▷ under write_gen c.get.ensures c.body.ensures)
@@ -19,7 +19,7 @@ pub maybe_else-returns-in-None : goal.maybe_else-returns-in-None
 maybe_else-returns-in-None t c = made (maybe write_else_part) c.in-None.is (λ l. refl) nothing_added
 
 pub body-returns-in-Block : goal.body-returns-in-Block
-body-returns-in-Block t c = made write_gen c.in-Block.is (made_block _ _ _ _) (c.begin.ensures ▷ under (each write_item) c.as_slice.ensures c.all_items.ensures ▷ c.closing.ensures)
+body-returns-in-Block t c = made write_gen c.in-Block.is (made_block _ _ _ _) (c.begin.ensures ▷ under (each write_item) c.as_slice.ensures c.items.ensures ▷ c.end.ensures)
 
 pub body-returns-in-Single : goal.body-returns-in-Single
 body-returns-in-Single t c = made write_gen c.in-Single.is (made_single _ _) (under write_item c.get.ensures c.item.ensures)
@@ -31,10 +31,10 @@ pub item-returns-in-Variable : goal.item-returns-in-Variable
 item-returns-in-Variable t c = made write_item c.in-Variable.is (made_variable _ _) (under (variable c.in-Variable.of) c.as_slice-in-Variable.ensures c.variable.ensures)
 
 pub item-returns-in-Typedef : goal.item-returns-in-Typedef
-item-returns-in-Typedef t c = made write_item c.in-Typedef.is (made_typedef _) (c.definition.ensures)
+item-returns-in-Typedef t c = made write_item c.in-Typedef.is (made_typedef _) (c.typedef.ensures)
 
 pub item-returns-in-Param : goal.item-returns-in-Param
-item-returns-in-Param t c = made write_item c.in-Param.is (made_param _) (c.parameters.ensures)
+item-returns-in-Param t c = made write_item c.in-Param.is (made_param _) (c.param.ensures)
 
 pub item-returns-in-Genvar : goal.item-returns-in-Genvar
 item-returns-in-Genvar t c = made write_item c.in-Genvar.is (made_genvar _) (under genvars c.as_slice-in-Genvar.ensures c.genvars.ensures)
@@ -55,4 +55,4 @@ pub item-returns-in-If : goal.item-returns-in-If
 item-returns-in-If t c = made write_item c.in-If.is (made_if _ _ _ _) (c.if_head.ensures ▷ under write_gen c.get-in-If.ensures c.body-in-If.ensures ▷ c.maybe_else.ensures)
 
 pub item-returns-in-Generate : goal.item-returns-in-Generate
-item-returns-in-Generate t c = made write_item c.in-Generate.is (made_generate _) (c.key.ensures ▷ under (each write_item) c.as_slice-in-Generate.ensures c.all_items.ensures ▷ c.key-in-Generate.ensures)
+item-returns-in-Generate t c = made write_item c.in-Generate.is (made_generate _) (c.key.ensures ▷ under (each write_item) c.as_slice-in-Generate.ensures c.items.ensures ▷ c.key-in-Generate.ensures)

@@ -2,4 +2,4 @@ use Rattle.sv_write.proofs.Adding.{◌▷◌}
 use Rattle.sv_write.proofs.design.assigns.Goals as goal
 
 pub returns : goal.returns
-returns c = c.key.ensures ▷ c.with_commas.ensures ▷ c.mark.ensures
+returns c = c.key.ensures ▷ c.commas.ensures ▷ c.mark.ensures

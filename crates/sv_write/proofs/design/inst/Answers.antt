@@ -5,4 +5,4 @@ use Rattle.sv_write.proofs.design.inst.Goals as goal
 
 pub returns : goal.returns
 unfolding write_inst
-returns c = c.name.ensures ▷ c.overridden.ensures ▷ under (commas write_one) c.as_slice.ensures c.with_commas.ensures ▷ c.mark.ensures
+returns c = c.name.ensures ▷ c.overridden.ensures ▷ under (commas write_one) c.as_slice.ensures c.commas.ensures ▷ c.mark.ensures

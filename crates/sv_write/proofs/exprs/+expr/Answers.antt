@@ -3,7 +3,7 @@ use Rattle.sv_write.specs.Exprs.{before, cast_to, in_braces, in_parens, write_ex
 use Rattle.sv_write.specs.Writing.{each, mark}
 use Rattle.sv_write.proofs.Adding.{◌▷◌, both_under, made, under}
 use Rattle.sv_write.proofs.ExprsMade.{made_binary, made_cast_literal, made_cast_name, made_cast_paren, made_cast_sign, made_choose, made_concat, made_index, made_literal, made_member, made_name, made_paren, made_range, made_repeat, made_system, made_unary}
-use Rattle.sv_write.proofs.Lists.{left_next, left_last, commas_first}
+use Rattle.sv_write.proofs.Loops.{left_next, left_last, commas_first}
 use Rattle.sv_write.proofs.exprs.+expr.Goals as goal
 
 pub exprs-parts-init : goal.exprs-parts-init

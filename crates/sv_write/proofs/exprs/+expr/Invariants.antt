@@ -1,6 +1,6 @@
 use Rattle.sv_write.specs.Exprs.{write_expr, write_select}
 use Rattle.sv_write.specs.Writing.{behind_comma, commas, each}
-use Rattle.sv_write.proofs.Lists.{Left}
+use Rattle.sv_write.proofs.Loops.{Left}
 use Rattle.sv_write.proofs.exprs.+expr.Given as goal
 
 abbrev pub invariant-exprs-parts : goal.invariant-exprs-parts

@@ -3,7 +3,7 @@ use Rattle.sv_write.specs.Writing.{each}
 use Rattle.sv_write.proofs.Adding.{◌▷◌, both_under, made, under}
 use Rattle.sv_write.proofs.Chosen.{member_is}
 use Rattle.sv_write.proofs.FormsMade.{made_enum, made_integer, made_named, made_of, made_struct, made_vector}
-use Rattle.sv_write.proofs.Lists.{left_next, left_last}
+use Rattle.sv_write.proofs.Loops.{left_next, left_last}
 use Rattle.sv_write.proofs.forms.+form.Goals as goal
 
 pub all_members-parts-preserved : goal.all_members-parts-preserved

@@ -1,6 +1,6 @@
 use Rattle.sv_write.specs.Forms.{write_member}
 use Rattle.sv_write.specs.Writing.{each}
-use Rattle.sv_write.proofs.Lists.{Left}
+use Rattle.sv_write.proofs.Loops.{Left}
 use Rattle.sv_write.proofs.forms.+form.Given as goal
 
 abbrev pub invariant-all_members-parts : goal.invariant-all_members-parts

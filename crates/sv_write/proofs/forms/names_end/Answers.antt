@@ -2,4 +2,4 @@ use Rattle.sv_write.proofs.Adding.{◌▷◌}
 use Rattle.sv_write.proofs.forms.names_end.Goals as goal
 
 pub returns : goal.returns
-returns c = c.with_commas.ensures ▷ c.mark.ensures
+returns c = c.commas.ensures ▷ c.mark.ensures

@@ -1,4 +1,4 @@
-use Rattle.sv_write.proofs.Lists.{left_next, left_last}
+use Rattle.sv_write.proofs.Loops.{left_next, left_last}
 use Rattle.sv_write.proofs.part.each.Goals as goal
 
 pub parts-preserved : goal.parts-preserved

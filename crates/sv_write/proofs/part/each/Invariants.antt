@@ -1,5 +1,5 @@
 use Rattle.sv_write.specs.Writing.{each}
-use Rattle.sv_write.proofs.Lists.{Left}
+use Rattle.sv_write.proofs.Loops.{Left}
 use Rattle.sv_write.proofs.part.each.Given as goal
 
 abbrev pub invariant-parts : goal.invariant-parts

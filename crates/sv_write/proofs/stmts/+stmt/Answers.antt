@@ -3,7 +3,7 @@ use Rattle.sv_write.specs.Stmts.{labels, write_arm, write_else_part, write_stmt}
 use Rattle.sv_write.specs.Writing.{each, maybe}
 use Rattle.sv_write.proofs.Adding.{◌▷◌, made, nothing_added, under}
 use Rattle.sv_write.proofs.StmtsMade.{made_assign, made_block, made_case, made_default, made_empty, made_for, made_if, made_labels}
-use Rattle.sv_write.proofs.Lists.{left_next, left_last}
+use Rattle.sv_write.proofs.Loops.{left_next, left_last}
 use Rattle.sv_write.proofs.stmts.+stmt.Goals as goal
 
 pub stmts-parts-preserved : goal.stmts-parts-preserved
@@ -34,7 +34,7 @@ pub statement-returns-in-Empty : goal.statement-returns-in-Empty
 statement-returns-in-Empty t c = made write_stmt c.in-Empty.is made_empty (c.mark.ensures)
 
 pub statement-returns-in-Block : goal.statement-returns-in-Block
-statement-returns-in-Block t c = made write_stmt c.in-Block.is (made_block _ _ _ _) (c.begin.ensures ▷ under (each write_stmt) c.as_slice.ensures c.stmts.ensures ▷ c.closing.ensures)
+statement-returns-in-Block t c = made write_stmt c.in-Block.is (made_block _ _ _ _) (c.begin.ensures ▷ under (each write_stmt) c.as_slice.ensures c.stmts.ensures ▷ c.end.ensures)
 
 pub statement-returns-in-If : goal.statement-returns-in-If
 statement-returns-in-If t c = made write_stmt c.in-If.is (made_if _ _ _ _) (c.if_head.ensures ▷ under write_stmt c.get.ensures c.statement.ensures ▷ c.maybe_else.ensures)

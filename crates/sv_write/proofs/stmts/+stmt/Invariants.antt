@@ -1,6 +1,6 @@
 use Rattle.sv_write.specs.Stmts.{write_arm, write_stmt}
 use Rattle.sv_write.specs.Writing.{each}
-use Rattle.sv_write.proofs.Lists.{Left}
+use Rattle.sv_write.proofs.Loops.{Left}
 use Rattle.sv_write.proofs.stmts.+stmt.Given as goal
 
 abbrev pub invariant-stmts-parts : goal.invariant-stmts-parts

@@ -3,7 +3,7 @@ use Rattle.sv_write.specs.Stmts.{write_lvalue}
 use Rattle.sv_write.specs.Writing.{commas, each}
 use Rattle.sv_write.proofs.Adding.{◌▷◌, made, under}
 use Rattle.sv_write.proofs.StmtsMade.{made_target, made_targets}
-use Rattle.sv_write.proofs.Lists.{left_next, left_last, commas_first}
+use Rattle.sv_write.proofs.Loops.{left_next, left_last, commas_first}
 use Rattle.sv_write.proofs.stmts.+target.Goals as goal
 
 pub lvalues-parts-init : goal.lvalues-parts-init

@@ -1,6 +1,6 @@
 use Rattle.sv_write.specs.Stmts.{write_lvalue}
 use Rattle.sv_write.specs.Writing.{behind_comma, commas}
-use Rattle.sv_write.proofs.Lists.{Left}
+use Rattle.sv_write.proofs.Loops.{Left}
 use Rattle.sv_write.proofs.stmts.+target.Given as goal
 
 abbrev pub invariant-lvalues-parts : goal.invariant-lvalues-parts

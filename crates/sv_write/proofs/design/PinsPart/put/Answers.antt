@@ -7,7 +7,7 @@ use Rattle.sv_write.proofs.design.PinsPart.put.Goals as goal
 
 pub returns-in-Named : goal.returns-in-Named
 unfolding write_pins
-returns-in-Named c = made write_pins c.in-Named.is (λ l. refl) (under (commas write_named) c.as_slice.ensures c.with_commas.ensures)
+returns-in-Named c = made write_pins c.in-Named.is (λ l. refl) (under (commas write_named) c.as_slice.ensures c.commas.ensures)
 
 pub returns-in-Ordered : goal.returns-in-Ordered
 unfolding write_pins

@@ -1,5 +1,5 @@
-use Rattle.sv_write.proofs.Lists.{left_next, left_last, commas_first}
-use Rattle.sv_write.proofs.part.with_commas.Goals as goal
+use Rattle.sv_write.proofs.Loops.{left_next, left_last, commas_first}
+use Rattle.sv_write.proofs.part.commas.Goals as goal
 
 pub parts-init : goal.parts-init
 parts-init g c = commas_first g.T.Part.text c.args.all.now c.first-item.result c.in-len1-up.len_at_least c.first-item.is c.put.ensures

@@ -1,6 +1,6 @@
 use Rattle.sv_write.specs.Forms.{write_typedef}
 use Rattle.sv_write.proofs.Adding.{◌▷◌}
-use Rattle.sv_write.proofs.forms.definition.Goals as goal
+use Rattle.sv_write.proofs.forms.typedef.Goals as goal
 
 pub returns : goal.returns
 unfolding write_typedef
