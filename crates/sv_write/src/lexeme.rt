@@ -132,7 +132,7 @@ impl Writer {
     }
 }
 
-// ---- onto a list
+// ---- onto a list, as blocks are written
 
 /// Writes a mark.
 fn mark(alloc: Global, out: &mut Lexemes, text: &[u8]) -> Result<(), AllocError>

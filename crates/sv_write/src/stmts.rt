@@ -300,6 +300,8 @@ pub fn statement(out: &mut Writer, x: &Stmt)
     }
 }
 
+// Blocks are written onto a list, and answer the want of memory at once: a writer takes the list over for their statement, and
+// one lends it for a block.
 fn stmt(alloc: Global, out: &mut Lexemes, x: &Stmt) -> Result<(), AllocError>
     ensures { IfOk result (λ _. out.new ≡ spec.write_stmt x.now out.old) }
 {
