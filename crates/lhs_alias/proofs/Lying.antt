@@ -2,7 +2,7 @@
 use Rattle.std.proofs.Common.{◌≡◌, ℕ, ◌+◌, ◌-◌, ◌*◌, ◌<◌, ◌≤◌, List, [], ◌∷◌, ◌++◌, length, take, drop, length-append, sym, subst, arith}
 use Rattle.std.specs.Prelude.{All, slice_index}
 use Rattle.std.proofs.lemmas.List.{get_or_append_left, get_or-append-add}
-use Rattle.std.proofs.lemmas.List.Elements.{All-append, All-head, All-tail, All-cons, All-nil, All-take, All-drop}
+use Rattle.std.proofs.lemmas.List.Elements.{All-append, All-head, All-tail, All-cons, All-nil, All-take, All-drop, All-weaker}
 use Rattle.lhs_alias.specs.declared.segs.Seg.{Seg}
 use Rattle.lhs_alias.specs.declared.segs.WireBit.{WireBit}
 use Rattle.lhs_alias.specs.Segs.{bit, seg_bits, lhs_bits, IsSeg, AreSegs}
@@ -64,6 +64,12 @@ lie-part widths old new lo width are part lie =
 -- segments of both
 pub lie-append : (widths : List ℕ) (high low : List Seg) → LieIn widths high → LieIn widths low → LieIn widths (high ++ low)
 lie-append widths high low = All-append (LiesIn widths) high low
+
+-- segments that lie within wires are segments
+pub whole-segs : (widths : List ℕ) (given segs : List Seg) → segs ≡ given → LieIn widths given → AreSegs segs
+whole-segs widths given segs is lie =
+    let P : List Seg → Type 0 = AreSegs in
+    subst P (sym is) (All-weaker (LiesIn widths) IsSeg (λ s l. l.whole) given lie)
 
 -- no segment has more than 128 bits
 pub lhs_bits-short : (segs : List Seg) → AreSegs segs → length (lhs_bits segs) ≤ 128 * length segs

@@ -2,7 +2,7 @@
 use Rattle.std.proofs.Common.{◌≡◌, ℕ, zero, suc, ◌+◌, ◌-◌, ◌<◌, List, [], ◌∷◌, ◌++◌, length, get_or, take, sum, refl, sym, ◌∙◌, ap, subst, arith, append_assoc, length-append, add-zero, zero-add}
 use Rattle.std.specs.Prelude.{All}
 use Rattle.std.proofs.lemmas.List.{take_more, get_or_append_left, get_or-append_right, append-nil, length-take}
-use Rattle.std.proofs.lemmas.List.Elements.{All-rest, All-weaker, All-append, All-nil}
+use Rattle.std.proofs.lemmas.List.Elements.{All-head, All-rest, All-weaker, All-append, All-nil}
 use Rattle.std.proofs.lemmas.List.Sums.{sum_by-cons}
 use Rattle.lhs_alias.specs.declared.segs.Seg.{Seg}
 use Rattle.lhs_alias.specs.declared.segs.WireBit.{WireBit}
@@ -16,6 +16,12 @@ pub places-rest : (starts : List ℕ) (n m : ℕ) (b : WireBit) (rest bits : Lis
 places-rest starts n m b rest bits is same all =
     let P : ℕ → Type 0 = λ k. All (HasPlace starts k) rest in
     subst P same (All-rest (HasPlace starts n) b rest bits is all)
+
+-- the place of the next of them
+pub place-next : (starts : List ℕ) (n : ℕ) (b : WireBit) (rest bits : List WireBit) → bits ≡ b ∷ rest → All (HasPlace starts n) bits → HasPlace starts n b
+place-next starts n b rest bits is all =
+    let P : List WireBit → Type 0 = All (HasPlace starts n) in
+    All-head (HasPlace starts n) b rest (subst P is all)
 
 -- ---- the bits of wires from a number on
 

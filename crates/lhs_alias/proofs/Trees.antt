@@ -354,3 +354,9 @@ linkable_low links sizes firsts low high f low_within high_within low_root high_
   first_within = f.within low low_within low_root;
   first_root = inl (f.first low low_within low_root);
 }
+
+-- ---- the same forest
+
+pub forest-same : (links links' sizes sizes' firsts firsts' : List ℕ) → links' ≡ links → sizes' ≡ sizes → firsts' ≡ firsts → IsForest links sizes firsts → IsForest links' sizes' firsts'
+forest-same links links' sizes sizes' firsts firsts' l s f is =
+    subst (λ xs. IsForest xs sizes' firsts') (sym l) (subst (λ xs. IsForest links xs firsts') (sym s) (subst (λ xs. IsForest links sizes xs) (sym f) is))

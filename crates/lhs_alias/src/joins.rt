@@ -50,11 +50,12 @@ impl Joins {
         ensures widths { IfOk result (λ joins. widths_of joins ≡ widths.now) }
         ensures none { IfOk result (λ joins. Stands joins []) }
     {
+        let copied = widths.to_vec(alloc)?;
         let (starts, bits) = row_of(alloc, widths)?;
         let (forest, joined) = unjoined(alloc, bits.len())?;
         Ok(Joins {
             alloc,
-            widths: widths.to_vec(alloc)?,
+            widths: copied,
             starts,
             bits,
             forest,

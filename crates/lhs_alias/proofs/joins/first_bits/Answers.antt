@@ -1,11 +1,11 @@
 use Rattle.std.proofs.lemmas.Result.{IfOk-from_err}
-use Rattle.std.proofs.Common.{◌≡◌, [], append_assoc, List, subst, arith, get_or, map, ◌++◌, ◌∷◌, refl, sym, ap, ◌∙◌}
+use Rattle.std.proofs.Common.{◌≡◌, ◌<◌, [], length, append_assoc, List, subst, arith, get_or, map, ◌++◌, ◌∷◌, refl, sym, ap, ◌∙◌}
 use Rattle.std.specs.Prelude.{All, Contains}
 use Rattle.std.proofs.lemmas.List.Elements.{All-push, Contains-get_or}
 use Rattle.lhs_alias.specs.declared.segs.WireBit.{WireBit}
 use Rattle.lhs_alias.specs.Segs.{bit}
 use Rattle.lhs_alias.specs.Joined.{first_bit}
-use Rattle.lhs_alias.proofs.Row.{places-rest}
+use Rattle.lhs_alias.proofs.Row.{places-rest, place-next}
 use Rattle.lhs_alias.proofs.joins.first_bits.Goals as goal
 
 pub loop-bit-preserved : goal.loop-bit-preserved
@@ -36,3 +36,18 @@ returns-in_err-push-clause-firsts c = IfOk-from_err _ _ c.from_residual.ensures.
 
 pub returns-in_err-push-clause-known : goal.returns-in_err-push-clause-known
 returns-in_err-push-clause-known c = IfOk-from_err _ _ c.from_residual.ensures.0
+
+pub place-requires-clause-wire : goal.place-requires-clause-wire
+place-requires-clause-wire c =
+    let next = place-next c.args.starts.now _ c.in-Some.bit c.next_bit.new.self c.loop-bit.rest c.in-Some.ensures c.loop-bit.invariant.places in
+    next.wire
+
+pub place-requires-clause-fits : goal.place-requires-clause-fits
+place-requires-clause-fits c =
+    let next = place-next c.args.starts.now _ c.in-Some.bit c.next_bit.new.self c.loop-bit.rest c.in-Some.ensures c.loop-bit.invariant.places in
+    omega (arith, next.below, c.requires.fits)
+
+pub first_of-requires : goal.first_of-requires
+first_of-requires c =
+    let next = place-next c.args.starts.now _ c.in-Some.bit c.next_bit.new.self c.loop-bit.rest c.in-Some.ensures c.loop-bit.invariant.places in
+    omega (arith, next.below, c.place.ensures)

@@ -2,7 +2,7 @@ use Rattle.std.proofs.Common.{◌≡◌, ◌∷◌, length, sym, ap, ◌∙◌, 
 use Rattle.std.specs.List.{zip}
 use Rattle.lhs_alias.specs.Roots.{merged}
 use Rattle.lhs_alias.specs.Joined.{place_in, all_merged}
-use Rattle.lhs_alias.proofs.Row.{places-rest}
+use Rattle.lhs_alias.proofs.Row.{places-rest, place-next}
 use Rattle.lhs_alias.proofs.Trees.{length-merged}
 use Rattle.lhs_alias.proofs.joins.unite_all.Goals as goal
 
@@ -25,3 +25,33 @@ loop-child-preserved c =
       child_places = places-rest starts _ _ c.in-Some.child children c.loop-child.children c.in-Some.ensures long c.loop-child.invariant.child_places;
       parent_places = places-rest starts _ _ c.in-Some-next_bit.parent parents c.loop-child.parents c.in-Some-next_bit.ensures long c.loop-child.invariant.parent_places;
     }
+
+pub place-requires-clause-wire : goal.place-requires-clause-wire
+place-requires-clause-wire c =
+    let next = place-next c.args.starts.now _ c.in-Some.child c.next_bit.new.self c.loop-child.children c.in-Some.ensures c.loop-child.invariant.child_places in
+    next.wire
+
+pub place-requires-clause-fits : goal.place-requires-clause-fits
+place-requires-clause-fits c =
+    let next = place-next c.args.starts.now _ c.in-Some.child c.next_bit.new.self c.loop-child.children c.in-Some.ensures c.loop-child.invariant.child_places in
+    omega (arith, next.below, c.loop-child.invariant.fits)
+
+pub place-requires-in-loop-child-clause-wire : goal.place-requires-in-loop-child-clause-wire
+place-requires-in-loop-child-clause-wire c =
+    let next = place-next c.args.starts.now _ c.in-Some-next_bit.parent c.next_bit-in-loop-child.new.self c.loop-child.parents c.in-Some-next_bit.ensures c.loop-child.invariant.parent_places in
+    next.wire
+
+pub place-requires-in-loop-child-clause-fits : goal.place-requires-in-loop-child-clause-fits
+place-requires-in-loop-child-clause-fits c =
+    let next = place-next c.args.starts.now _ c.in-Some-next_bit.parent c.next_bit-in-loop-child.new.self c.loop-child.parents c.in-Some-next_bit.ensures c.loop-child.invariant.parent_places in
+    omega (arith, next.below, c.loop-child.invariant.fits)
+
+pub unite-requires-clause-from : goal.unite-requires-clause-from
+unite-requires-clause-from c =
+    let next = place-next c.args.starts.now _ c.in-Some.child c.next_bit.new.self c.loop-child.children c.in-Some.ensures c.loop-child.invariant.child_places in
+    omega (arith, next.below, c.place.ensures)
+
+pub unite-requires-clause-to : goal.unite-requires-clause-to
+unite-requires-clause-to c =
+    let next = place-next c.args.starts.now _ c.in-Some-next_bit.parent c.next_bit-in-loop-child.new.self c.loop-child.parents c.in-Some-next_bit.ensures c.loop-child.invariant.parent_places in
+    omega (arith, next.below, c.place-in-loop-child.ensures)

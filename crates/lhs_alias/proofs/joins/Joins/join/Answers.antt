@@ -7,6 +7,7 @@ use Rattle.lhs_alias.specs.declared.segs.Seg.{Seg}
 use Rattle.lhs_alias.specs.Segs.{lhs_bits}
 use Rattle.lhs_alias.specs.Lies.{LieIn}
 use Rattle.lhs_alias.specs.Joined.{Kept, widths_of, Stands, is_marked, marked, are_free, all_merged, IsLaid}
+use Rattle.lhs_alias.proofs.Lying.{whole-segs}
 use Rattle.lhs_alias.proofs.Marks.{length-marked}
 use Rattle.lhs_alias.proofs.Joining.{places-at, laid-after, joined-stands, joined-free, joined-distinct, joined-taken}
 use Rattle.lhs_alias.proofs.joins.Joins.join.Goals as goal
@@ -144,3 +145,59 @@ returns-clause-distinct c =
     let Child : Kept → Type 0 = λ q. LieIn (widths_of q) c.args.child.now in
     let child = subst Child (sym kept_is) c.requires.child in
     joined-distinct kept inside.starts.items inside.bits.items c.self.invariant c.args.child.now child parts.1
+
+-- ---- where nothing is joined
+
+pub invariant_of-self : goal.invariant_of-self
+invariant_of-self c =
+    let inside = c.self.inside in
+    let same : c.mark_free.new.joined ≡ inside.joined.items = c.if-not-mark_free.ensures.unchanged ∙ c.deref_mut.ensures.value in
+    let written : (with_items inside.joined c.mark_free.new.joined).items ≡ inside.joined.items =
+    with_items_is inside.joined c.mark_free.new.joined (c.mark_free.auto.joined ∙ c.deref_mut.ensures.len) ∙ same in
+    let Laid : List Bool → Type 0 = λ joined. IsLaid inside.widths.items inside.starts.items inside.bits.items inside.forest joined in
+    subst Laid (sym written) c.self.invariant
+
+pub returns-then-not-mark_free-clause-unchanged : goal.returns-then-not-mark_free-clause-unchanged
+returns-then-not-mark_free-clause-unchanged c =
+    let inside = c.self.inside in
+    let same : c.mark_free.new.joined ≡ inside.joined.items = c.if-not-mark_free.ensures.unchanged ∙ c.deref_mut.ensures.value in
+    let written : (with_items inside.joined c.mark_free.new.joined).items ≡ inside.joined.items =
+    with_items_is inside.joined c.mark_free.new.joined (c.mark_free.auto.joined ∙ c.deref_mut.ensures.len) ∙ same in
+    let Shown : List Bool → Kept = λ joined. record { widths = inside.widths.items; firsts = inside.forest; joined = joined } in
+    ap Shown written ∙ c.self.view_is
+
+pub returns-then-not-mark_free-clause-widths : goal.returns-then-not-mark_free-clause-widths
+returns-then-not-mark_free-clause-widths c =
+    let inside = c.self.inside in
+    let kept : Kept = record { widths = inside.widths.items; firsts = inside.forest; joined = inside.joined.items } in
+    let kept_is : kept ≡ c.args.self.now = c.self.view_is in
+    ap widths_of kept_is
+
+pub returns-clause-widths : goal.returns-clause-widths
+returns-clause-widths c =
+    let inside = c.self.inside in
+    let kept : Kept = record { widths = inside.widths.items; firsts = inside.forest; joined = inside.joined.items } in
+    let kept_is : kept ≡ c.args.self.now = c.self.view_is in
+    ap widths_of kept_is
+
+-- ---- which answer it is
+
+pub returns-then-not-mark_free-clause-no_memory : goal.returns-then-not-mark_free-clause-no_memory
+returns-then-not-mark_free-clause-no_memory c = λ e. cc
+
+pub returns-clause-no_memory : goal.returns-clause-no_memory
+returns-clause-no_memory c = λ e. cc
+
+pub returns-clause-taken : goal.returns-clause-taken
+returns-clause-taken c = λ e. cc
+
+-- ---- the segments are whole
+
+pub mark_free-requires-clause-segs : goal.mark_free-requires-clause-segs
+mark_free-requires-clause-segs c = whole-segs (widths_of c.args.self.now) c.args.child.now c.segs.result.now c.segs.ensures c.requires.child
+
+pub unite_all-requires-clause-child : goal.unite_all-requires-clause-child
+unite_all-requires-clause-child c = whole-segs (widths_of c.args.self.now) c.args.child.now c.segs-2.result.now c.segs-2.ensures c.requires.child
+
+pub unite_all-requires-clause-parent : goal.unite_all-requires-clause-parent
+unite_all-requires-clause-parent c = whole-segs (widths_of c.args.self.now) c.args.parent.now c.segs-3.result.now c.segs-3.ensures c.requires.parent

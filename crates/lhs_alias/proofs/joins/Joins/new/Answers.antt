@@ -9,7 +9,7 @@ use Rattle.lhs_alias.proofs.joins.Joins.new.Goals as goal
 
 pub invariant_of-result : goal.invariant_of-result
 invariant_of-result c =
-    let widths = c.in_ok-to_vec.field-0.items in
+    let widths = c.in_ok-copied.copied.items in
     let same : widths ≡ c.args.widths.now = grind (arith, common_steps) in
     let count : c.len.result ≡ length c.in_ok-starts.bits.items = grind (arith, common_steps) in
     laid-new widths c.in_ok-starts.starts.items c.in_ok-starts.bits.items c.in_ok-forest.forest c.in_ok-forest.joined.items
@@ -21,7 +21,7 @@ invariant_of-result c =
 
 pub returns-clause-none : goal.returns-clause-none
 returns-clause-none c =
-    let widths = c.in_ok-to_vec.field-0.items in
+    let widths = c.in_ok-copied.copied.items in
     let same : widths ≡ c.args.widths.now = grind (arith, common_steps) in
     let count : c.len.result ≡ length c.in_ok-starts.bits.items = grind (arith, common_steps) in
     stands-new widths c.in_ok-starts.bits.items c.in_ok-forest.forest c.in_ok-forest.joined.items
@@ -30,10 +30,10 @@ returns-clause-none c =
     (c.in_ok-forest.ensures.joined ∙ ap (λ (n : ℕ). replicate n false) count)
 
 pub returns-in_err-starts-clause-widths : goal.returns-in_err-starts-clause-widths
-returns-in_err-starts-clause-widths c = IfOk-from_err _ _ c.from_residual.ensures.0
+returns-in_err-starts-clause-widths c = IfOk-from_err _ _ c.from_residual-in_err-starts.ensures.0
 
 pub returns-in_err-starts-clause-none : goal.returns-in_err-starts-clause-none
-returns-in_err-starts-clause-none c = IfOk-from_err _ _ c.from_residual.ensures.0
+returns-in_err-starts-clause-none c = IfOk-from_err _ _ c.from_residual-in_err-starts.ensures.0
 
 pub returns-in_err-forest-clause-widths : goal.returns-in_err-forest-clause-widths
 returns-in_err-forest-clause-widths c = IfOk-from_err _ _ c.from_residual-in_err-forest.ensures.0
@@ -41,8 +41,8 @@ returns-in_err-forest-clause-widths c = IfOk-from_err _ _ c.from_residual-in_err
 pub returns-in_err-forest-clause-none : goal.returns-in_err-forest-clause-none
 returns-in_err-forest-clause-none c = IfOk-from_err _ _ c.from_residual-in_err-forest.ensures.0
 
-pub returns-in_err-to_vec-clause-widths : goal.returns-in_err-to_vec-clause-widths
-returns-in_err-to_vec-clause-widths c = IfOk-from_err _ _ c.from_residual-in_err-to_vec.ensures.0
+pub returns-in_err-copied-clause-widths : goal.returns-in_err-copied-clause-widths
+returns-in_err-copied-clause-widths c = IfOk-from_err _ _ c.from_residual.ensures.0
 
-pub returns-in_err-to_vec-clause-none : goal.returns-in_err-to_vec-clause-none
-returns-in_err-to_vec-clause-none c = IfOk-from_err _ _ c.from_residual-in_err-to_vec.ensures.0
+pub returns-in_err-copied-clause-none : goal.returns-in_err-copied-clause-none
+returns-in_err-copied-clause-none c = IfOk-from_err _ _ c.from_residual.ensures.0
