@@ -7,11 +7,11 @@ use Rattle.std.proofs.lemmas.List.{take-take, take-replicate, drop-replicate, dr
 use Rattle.std.proofs.Math.Seq.{take-append-add, drop-append-add}
 use Rattle.fourvec.specs.declared.Bit.{Bit}
 use Rattle.fourvec.specs.declared.Bit.TheVariants.{Zero, One, Unknown, Floating}
-use Rattle.fourvec.specs.Bits.{planes, up_plane, low_plane, vector, is_zero, all_zero, up_bit, low_bit}
+use Rattle.fourvec.specs.Bits.{slice_of, planes, up_plane, low_plane, vector, is_zero, all_zero, up_bit, low_bit}
 use Rattle.fourvec.proofs.Basic.{vector_on_planes, length-vector}
 use Rattle.fourvec.proofs.Planes.{planes-mod, low_bits, low_bits_below, mask_is}
-use Rattle.sv_outside.specs.Literals.{is_unknown}
-use Rattle.sv_literal.specs.Value.{digits_in, fill_bit, digit_bits, bits_of, given_bits, fitted}
+use Rattle.sv_outside.specs.Literals.{is_unknown, is_decimal_base}
+use Rattle.sv_literal.specs.Value.{digits_in, fill_bit, digit_bits, bits_of, given_bits, fitted, digit_width, base_of, leftmost, decimal, vector_of}
 use Rattle.sv_literal.proofs.Decimals.{digits_more}
 
 -- ---- a number cut by the mask of a width
@@ -173,3 +173,29 @@ passing_digit each d bits h =
     turned false false = refl
 
 pub ruleset passing = (length-digit_bits, length-fitted, fitted_none, given_more, fitted_push, passing_none, passing_digit)
+
+-- ---- the vector of a value by its parts
+
+pub vector_of-digits : (width base first each : ℕ) (text digits : List ℕ) (fill : Bit) (last v : List Bit) → base ≡ base_of text → first ≡ leftmost text → digits ≡ drop 1 text
+    → is_decimal_base base ≡ false → each ≡ digit_width base → fill ≡ fill_bit first → last ≡ fitted 128 fill (given_bits each digits) → width ≤ 128 → v ≡ slice_of last 0 width → v ≡ vector_of width text
+unfolding vector_of
+vector_of-digits width base first each text digits fill last v b f d other e g l h is =
+    let parts : fitted width fill (given_bits each digits) ≡ fitted width (fill_bit (leftmost text)) (given_bits (digit_width (base_of text)) (drop 1 text)) =
+    ap (λ x. fitted width x (given_bits each digits)) (g ∙ ap (λ n. fill_bit n) f)
+    ∙ ap (λ n. fitted width (fill_bit (leftmost text)) (given_bits n digits)) (e ∙ ap (λ n. digit_width n) b)
+    ∙ ap (λ ds. fitted width (fill_bit (leftmost text)) (given_bits (digit_width (base_of text)) ds)) d in
+    let choice : is_decimal_base (base_of text) ≡ false = ap (λ n. is_decimal_base n) (sym b) ∙ other in
+    is ∙ ap (λ x. take width (drop 0 x)) l ∙ fitted_part width 128 fill (given_bits each digits) h ∙ parts
+    ∙ sym (ap (λ k. cond k (cond (is_unknown (leftmost text)) (replicate width (fill_bit (leftmost text))) (vector width (decimal (drop 1 text)))) (fitted width (fill_bit (leftmost text)) (given_bits (digit_width (base_of text)) (drop 1 text)))) choice)
+
+pub vector_of-unknown : (width base first : ℕ) (text : List ℕ) (fill : Bit) (v : List Bit) → base ≡ base_of text → first ≡ leftmost text
+    → is_decimal_base base ≡ true → is_unknown first ≡ true → fill ≡ fill_bit first → v ≡ replicate width fill → v ≡ vector_of width text
+unfolding vector_of
+vector_of-unknown width base first text fill v b f one unknown g is =
+    let choice : is_decimal_base (base_of text) ≡ true = ap (λ n. is_decimal_base n) (sym b) ∙ one in
+    let alone : is_unknown (leftmost text) ≡ true = ap (λ n. is_unknown n) (sym f) ∙ unknown in
+    let numbers = vector width (decimal (drop 1 text)) in
+    let filled = replicate width (fill_bit (leftmost text)) in
+    is ∙ ap (λ x. replicate width x) (g ∙ ap (λ n. fill_bit n) f)
+    ∙ sym (ap (λ k. cond k (cond (is_unknown (leftmost text)) filled numbers) (fitted width (fill_bit (leftmost text)) (given_bits (digit_width (base_of text)) (drop 1 text)))) choice
+    ∙ ap (λ k. cond k filled numbers) alone)
