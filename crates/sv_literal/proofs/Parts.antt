@@ -7,8 +7,8 @@ use Rattle.std.proofs.lemmas.List.Sums.{take_while-cons}
 use Rattle.std.proofs.lemmas.Bool.{false≢true}
 use Rattle.sv_outside.specs.Words.{is_digit}
 use Rattle.fourvec.specs.declared.Bit.{Bit}
-use Rattle.sv_outside.specs.Literals.{goes_decimal, is_sign, drop_run, without_size, is_number, is_unsized, is_based}
-use Rattle.sv_literal.specs.Meaning.{size_of, is_sized, is_nonempty, behind_quote, value_of, is_width, is_wide, is_large_value, based_of}
+use Rattle.sv_outside.specs.Literals.{goes_decimal, is_sign, drop_run, without_size, is_number, is_unsized, is_based, is_fill, is_literal}
+use Rattle.sv_literal.specs.Meaning.{size_of, is_sized, is_nonempty, behind_quote, value_of, is_width, is_wide, is_large_number, is_large_value, is_out_of_range, number_of, based_of, fill_of, meaning_of}
 use Rattle.sv_literal.specs.declared.meaning.Literal.{Literal}
 use Rattle.sv_literal.specs.Value.{decimal, vector_of, exceeds_word}
 
@@ -91,3 +91,37 @@ number_is_not_based (b ∷ bs) e = either (is_digit b) e (all_behind goes_decima
     either : (passes : Bool) → (passes && list_all goes_decimal bs) ≡ true → (list_all goes_decimal bs ≡ true → drop_run goes_decimal bs ≡ []) → is_unsized (cond passes (drop_run goes_decimal bs) (b ∷ bs)) ≡ false
     either true e rest = ap is_unsized (rest e)
     either false e rest = absurd (false≢true e)
+
+-- ---- a whole literal
+
+pub not_both : {P : Type 0} (b : Bool) → b ≡ false → b ≡ true → P
+not_both b off on = absurd (false≢true (sym off ∙ on))
+
+pub no_literal : (t : List ℕ) → is_number t ≡ false → is_based t ≡ false → is_fill t ≡ false → is_literal t ≡ false
+no_literal t a b c = rw (a, b, c) refl
+
+pub fill_literal : (t : List ℕ) → is_number t ≡ false → is_based t ≡ false → is_fill t ≡ true → is_literal t ≡ true
+fill_literal t a b c = rw (a, b, c) refl
+
+pub based_literal : (t : List ℕ) → is_number t ≡ false → is_based t ≡ true → is_literal t ≡ true
+based_literal t a b = rw (a, b) refl
+
+pub none_out : (t : List ℕ) → is_number t ≡ false → is_based t ≡ false → is_out_of_range t ≡ false
+unfolding is_large_number is_large_value
+none_out t a b = rw (a, b) refl
+
+pub based_out : (t : List ℕ) → is_number t ≡ false → is_out_of_range t ≡ is_large_value t
+unfolding is_large_number
+based_out t a = rw a refl
+
+pub meaning_number : (t : List ℕ) → is_number t ≡ true → meaning_of t ≡ number_of t
+unfolding meaning_of
+meaning_number t a = rw a refl
+
+pub meaning_based : (t : List ℕ) → is_number t ≡ false → is_based t ≡ true → meaning_of t ≡ based_of t
+unfolding meaning_of
+meaning_based t a b = rw (a, b) refl
+
+pub meaning_fill : (t : List ℕ) → is_number t ≡ false → is_based t ≡ false → meaning_of t ≡ fill_of t
+unfolding meaning_of
+meaning_fill t a b = rw (a, b) refl
