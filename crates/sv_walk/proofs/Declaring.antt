@@ -20,6 +20,8 @@ use Rattle.sv_modules.proofs.Turns.{drop_next, drop_none}
 use Rattle.sv_hierarchy.specs.Scopes as m
 use Rattle.sv_walk.specs.declared.walker.Walker.{Walker}
 use Rattle.sv_walk.specs.declared.walker.Open.{Open}
+use Rattle.sv_levels.specs.declared.levels.Levels.{Levels}
+use Rattle.sv_levels.specs.Levels.{levels_are}
 use Rattle.sv_walk.specs.Walks.{state_of}
 
 -- ---- answers
@@ -144,7 +146,9 @@ pub const_refused : (w v : Walker) (o p q : Open) (place : Place) (name bytes : 
 const_refused w v o p q place name bytes what e i h =
     refused (m.declare_at place name (state_of w o)) (λ s. Ok (m.see_const (entry_is (name, what)) s)) w v p q e (subst (λ (b : Name). Leads (m.declare_at place b (state_of w o)) w p (Err e)) i h)
 
--- a constant of an equal name
-pub const_named : (d : Word) (name : Name) (x : layouts.What) (st : m.State) (w : Walker) (o : Open) (q : Result (Unit {0}) TextErr) → name ≡ d.text → Leads (m.add_constant (record { text = name; place = d.place }, x) st) w o q →
-    Leads (m.add_constant (d, x) st) w o q
-const_named d name x st w o q e h = subst (λ (n : Name). Leads (m.add_constant (record { text = n; place = d.place }, x) st) w o q) e h
+pub const_done : (w : Walker) (levels : Levels) (o p : Open) (place : Place) (name bytes text : Name) (what : What) (u : Unit {0}) → bytes ≡ name → text ≡ name → Leads (m.declare_at place bytes (state_of w o)) w p (Ok u) →
+    levels_are levels ≡ m.with_level p.level (m.with_const (entry_is (text, what))) (levels_are w.levels) → Leads (m.add_constant (record { text = name; place = place }, what_is what) (state_of w o)) (record w { levels = levels }) p (Ok u)
+const_done w levels o p place name bytes text what u b t d l =
+    let same : levels_are levels ≡ m.with_level p.level (m.with_const (entry_is (name, what))) (levels_are w.levels) = l ∙ ap (λ (n : Name). m.with_level p.level (m.with_const (entry_is (n, what))) (levels_are w.levels)) t in
+    after (λ (st : m.State) (v : Unit {0}). st ≡ state_of (record w { levels = levels }) p) (m.declare_at place name (state_of w o)) w p u (λ s. Ok (m.see_const (entry_is (name, what)) s)) (Ok u)
+    (subst (λ (n : Name). Leads (m.declare_at place n (state_of w o)) w p (Ok u)) b d) (λ i. record (state_of w p) { levels = sym same i })

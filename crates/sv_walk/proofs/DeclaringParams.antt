@@ -27,11 +27,9 @@ use Rattle.sv_walk.proofs.Declaring.{Leads, led, leads, refused, refused_then, r
 
 -- ---- a parameter
 
-pub param_added : (j : Judged layouts.What) (x y : layouts.What) (d : Word) (name : Name) (st : m.State) (w : Walker) (o : Open) (q : Result (Unit {0}) TextErr) → j ≡ Ok x → x ≡ y → name ≡ d.text →
-    Leads (m.add_constant (record { text = name; place = d.place }, y) st) w o q → Leads (j >>= λ v. m.add_constant (d, v) st) w o q
-param_added j x y d name st w o q h i e g =
-    subst (λ (k : Judged layouts.What). Leads (k >>= λ v. m.add_constant (d, v) st) w o q) (sym (h ∙ ap Ok i))
-    (subst (λ (n : Name). Leads (m.add_constant (record { text = n; place = d.place }, y) st) w o q) e g)
+pub param_added : (j : Judged layouts.What) (x y : layouts.What) (d : Word) (st : m.State) (w : Walker) (o : Open) (q : Result (Unit {0}) TextErr) → j ≡ Ok x → x ≡ y → Leads (m.add_constant (d, y) st) w o q →
+    Leads (j >>= λ v. m.add_constant (d, v) st) w o q
+param_added j x y d st w o q h i g = subst (λ (k : Judged layouts.What). Leads (k >>= λ v. m.add_constant (d, v) st) w o q) (sym (h ∙ ap Ok i)) g
 
 pub param_refused : (j : Judged layouts.What) (d : Word) (st : m.State) (w : Walker) (o : Open) (q : Result (Unit {0}) TextErr) (e : TextErr) → IsErrAnd q (λ y. y ≡ e) → Refused j e → Leads (j >>= λ v. m.add_constant (d, v) st) w o q
 param_refused j d st w o (Ok u) e i h = absurd i

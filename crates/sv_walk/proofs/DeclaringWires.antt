@@ -1,6 +1,6 @@
 -- Types, and nets and variables of a layout.
 use Rattle.std.proofs.Common.{◌≡◌, ℕ, ◌+◌, Bool, List, [], ◌∷◌, ◌++◌, length, Result, Ok, Err, refl, sym, ap, ◌∙◌, subst}
-use Rattle.std.specs.Result.{IsErrAnd}
+use Rattle.std.specs.Result.{IfOk, IfErr, IsErrAnd}
 use Rattle.sv_outside.specs.declared.refusal.Place.{Place}
 use Rattle.sv_outside.specs.declared.refusal.TextErr.{TextErr}
 use Rattle.sv_outside.specs.declared.refusal.TextErr.TheVariants.{No, Memory}
@@ -32,7 +32,7 @@ use Rattle.sv_walk.proofs.Declaring.{Leads, after, refused, refused_then, refuse
 abbrev pub Forms : Judged (layouts.Layout × m.State) → Walker → Open → Result Layout TextErr → Type 0
 Forms j w o result = Answers (λ (found : layouts.Layout × m.State) (x : Layout). (found.0 ≡ layout_is x) × (found.1 ≡ state_of w o)) j result
 
-pub formed_is : (t : TypeTree) (w v : Walker) (o p : Open) (x : Layout) (all : List Declared) (u : Unit {0}) → form (m.seen (state_of w o)) t ≡ Ok (layout_is x, all) → Leads (m.add_constants all (state_of w o)) v p (Ok u) →
+formed_is : (t : TypeTree) (w v : Walker) (o p : Open) (x : Layout) (all : List Declared) (u : Unit {0}) → form (m.seen (state_of w o)) t ≡ Ok (layout_is x, all) → Leads (m.add_constants all (state_of w o)) v p (Ok u) →
     Forms (m.formed t (state_of w o)) v p (Ok x)
 formed_is t w v o p x all u h g =
     subst (λ (j : Judged (layouts.Layout × List Declared)). Forms (j >>= λ y. (m.add_constants y.1 (state_of w o) >>= λ s. Ok (y.0, s))) v p (Ok x)) (sym h)
@@ -45,13 +45,24 @@ unformed t w v o p (Err y) e i h =
     (refused_then (λ (x : layouts.Layout × List Declared) (y : Unit {0}). Unit {0}) (λ (found : layouts.Layout × m.State) (y : Layout). (found.0 ≡ layout_is y) × (found.1 ≡ state_of v p)) (form (m.seen (state_of w o)) t)
     (λ y. (m.add_constants y.1 (state_of w o) >>= λ s. Ok (y.0, s))) e (refused_by (λ (x : layouts.Layout × List Declared) (y : Unit {0}). Unit {0}) (form (m.seen (state_of w o)) t) e h))
 
-pub unlisted : (t : TypeTree) (w v : Walker) (o p : Open) (x : Layout) (all : List Declared) (q : Result Layout TextErr) (e : TextErr) → IsErrAnd q (λ y. y ≡ e) → form (m.seen (state_of w o)) t ≡ Ok (layout_is x, all) →
+unlisted : (t : TypeTree) (w v : Walker) (o p : Open) (x : Layout) (all : List Declared) (q : Result Layout TextErr) (e : TextErr) → IsErrAnd q (λ y. y ≡ e) → form (m.seen (state_of w o)) t ≡ Ok (layout_is x, all) →
     Leads (m.add_constants all (state_of w o)) v p (Err e) → Forms (m.formed t (state_of w o)) v p q
 unlisted t w v o p x all (Ok y) e i h g = absurd i
 unlisted t w v o p x all (Err y) e i h g =
     subst (λ z. Forms (m.formed t (state_of w o)) v p (Err z)) (sym i)
     (subst (λ (j : Judged (layouts.Layout × List Declared)). Forms (j >>= λ y. (m.add_constants y.1 (state_of w o) >>= λ s. Ok (y.0, s))) v p (Err e)) (sym h)
     (refused_then (λ (st : m.State) (u : Unit {0}). st ≡ state_of v p) (λ (found : layouts.Layout × m.State) (y : Layout). (found.0 ≡ layout_is y) × (found.1 ≡ state_of v p)) (m.add_constants all (state_of w o)) (λ s. Ok (layout_is x, s)) e g))
+
+-- a layout whose constants are added, if they are
+pub formed_after : (t : TypeTree) (w v : Walker) (o p : Open) (x : Layout) (all : List Declared) (added : Result (Unit {0}) TextErr) (q : Result Layout TextErr) → form (m.seen (state_of w o)) t ≡ Ok (layout_is x, all) → Leads (m.add_constants all (state_of w o)) v p added →
+    IfOk q (λ y. (y ≡ x) × (added ≡ Ok (tt {0}))) → IfErr q (λ e. added ≡ Err e) → Forms (m.formed t (state_of w o)) v p q
+formed_after t w v o p x all added (Ok y) h g a e =
+    subst (λ (z : Layout). Forms (m.formed t (state_of w o)) v p (Ok z)) (sym a.0) (formed_is t w v o p x all (tt {0}) h (subst (λ r. Leads (m.add_constants all (state_of w o)) v p r) a.1 g))
+formed_after t w v o p x all added (Err y) h g a e = unlisted t w v o p x all (Err y) y refl h (subst (λ r. Leads (m.add_constants all (state_of w o)) v p r) e g)
+
+pub sound_after : (x : Layout) (added : Result (Unit {0}) TextErr) (q : Result Layout TextErr) → IsSound x → IfOk q (λ y. (y ≡ x) × (added ≡ Ok (tt {0}))) → IfOk q (λ y. IsSound y)
+sound_after x added (Ok y) s a = subst (λ (z : Layout). IsSound z) (sym a.0) s
+sound_after x added (Err e) s a = tt
 
 found_at : (j : Judged (layouts.Layout × m.State)) (w : Walker) (o : Open) (x : Layout) → Forms j w o (Ok x) → j ≡ Ok (layout_is x, state_of w o)
 found_at (Ok found) w o x h = ap Ok (λ i. (h.0 i, h.1 i))

@@ -1,7 +1,7 @@
 -- Instances that are opened.
 use Rattle.std.proofs.Common.{◌≡◌, ℕ, zero, suc, ◌+◌, ◌<◌, ◌≤◌, Bool, false, List, [], ◌∷◌, ◌++◌, length, map, drop, get_or, None, Result, Ok, Err, refl, sym, ap, ◌∙◌, subst, arith, Vec, Global}
 use mathlib.Core.Path.{fun_ext}
-use Rattle.std.specs.Result.{IfOk, IsErrAnd}
+use Rattle.std.specs.Result.{IfOk, IfErr, IsErrAnd}
 use Rattle.sv_outside.specs.declared.refusal.Refusal.{Refusal}
 use Rattle.sv_outside.specs.declared.refusal.TextErr.{TextErr}
 use Rattle.sv_outside.specs.declared.refusal.TextErr.TheVariants.{No, Memory}
@@ -18,18 +18,21 @@ use Rattle.sv_meaning.specs.Params.{Connection, connections}
 use Rattle.sv_hierarchy.specs.Scopes as m
 use Rattle.sv_hierarchy.specs.Scopes.{walk_all, child}
 use Rattle.sv_loops.specs.Answers.{Answers}
+use Rattle.sv_loops.proofs.Chains.{answers_ok}
 use Rattle.sv_modules.specs.Connections.{connection_is}
+use Rattle.sv_modules.specs.declared.connect.Connection.{Connection as Coded}
 use Rattle.sv_modules.specs.Naming.{holds}
 use Rattle.sv_names.specs.Kinds.{entries_are}
 use Rattle.sv_levels.specs.Levels.{front_is, level_is, levels_are}
 use Rattle.sv_levels.specs.declared.library.Wiring.{Wiring}
-use Rattle.sv_levels.proofs.Wired.{passed_on, refused_first}
+use Rattle.sv_levels.proofs.Wired.{passed_on, refused_first, same_refusal}
 use Rattle.sv_levels.specs.Library.{IsWiring, wiring, child_alone}
 use Rattle.sv_levels.specs.declared.levels.Front.{Front}
 use Rattle.sv_levels.specs.declared.levels.Level.{Level}
 use Rattle.sv_levels.specs.declared.levels.Levels.{Levels}
 use Rattle.sv_levels.specs.declared.tasks.Child.{Child}
 use Rattle.sv_levels.specs.Tasks.{child_is, given_is, work_is}
+use Rattle.sv_walk.specs.Instances.{behind_wiring}
 use Rattle.sv_walk.specs.Walks.{IsBare, IsNothing, state_of}
 use Rattle.sv_walk.specs.declared.walker.Walker.{Walker}
 use Rattle.sv_walk.specs.declared.walker.Open.{Open}
@@ -62,10 +65,6 @@ wired_first (Ok a) (Ok b) f = refl
 wired_first (Ok a) (Err why) f = refl
 wired_first (Err why) k f = refl
 
--- what comes behind the connections
-abbrev behind_wiring : m.Known → m.Child → m.State → List Connection × List Connection → Judged m.State
-behind_wiring k c st x = m.count_instance c st >>= λ d. m.instance_walk false k.tree c.at x.1 (m.begun k c.path c.at.level (m.given_by c.at x.0) d)
-
 alone_is : (k : m.Known) (c : m.Child) (st : m.State) → child_alone k c st ≡ (wiring (m.seen_at st.levels c.at) k.tree c >>= behind_wiring k c st)
 alone_is k c st =
     wired_first (connections (m.seen_at st.levels c.at) (m.open_params k.tree) c.params) (connections (m.seen_at st.levels c.at) (m.port_texts (m.ports_of k.tree)) c.pins) (λ a b. behind_wiring k c st (a, b))
@@ -79,12 +78,10 @@ alone_from : (k : m.Known) (c : m.Child) (st : m.State) (w : Wiring) → Answers
     child_alone k c st ≡ behind_wiring k c st (map connection_is w.params.items, map connection_is w.pins.items)
 alone_from k c st w h = alone_is k c st ∙ ap (λ (j : Judged (List Connection × List Connection)). j >>= behind_wiring k c st) (wiring_is (wiring (m.seen_at st.levels c.at) k.tree c) w h)
 
--- where one instance more is counted
-alone_counted : (k : m.Known) (c : m.Child) (st more first : m.State) (w : Wiring) → Answers IsWiring (wiring (m.seen_at st.levels c.at) k.tree c) (Ok w) → m.count_instance c st ≡ Ok more →
-    first ≡ m.begun k c.path c.at.level (m.given_by c.at (map connection_is w.params.items)) more → child_alone k c st ≡ m.instance_walk false k.tree c.at (map connection_is w.pins.items) first
-alone_counted k c st more first w h e f =
-    alone_from k c st w h ∙ ap (λ (j : Judged m.State). j >>= λ d. m.instance_walk false k.tree c.at (map connection_is w.pins.items) (m.begun k c.path c.at.level (m.given_by c.at (map connection_is w.params.items)) d)) e
-    ∙ ap (λ (s : m.State). m.instance_walk false k.tree c.at (map connection_is w.pins.items) s) (sym f)
+pub alone_wired : (g : Open → m.State) (k : m.Known) (c : m.Child) (st : m.State) (w : Wiring) (params pins : List Coded) (q : Result Open TextErr) → Answers IsWiring (wiring (m.seen_at st.levels c.at) k.tree c) (Ok w) → params ≡ w.params.items → pins ≡ w.pins.items →
+    Answers (λ s o. s ≡ g o) (behind_wiring k c st (map connection_is params, map connection_is pins)) q → Answers (λ s o. s ≡ g o) (child_alone k c st) q
+alone_wired g k c st w params pins q h e f a =
+    subst (λ (j : Judged m.State). Answers (λ s o. s ≡ g o) j q) (sym (alone_from k c st w h ∙ λ i. behind_wiring k c st (map connection_is (sym e i), map connection_is (sym f i)))) a
 
 -- ---- one value, of any kind
 
@@ -162,12 +159,10 @@ no_wiring s k c st q e h g =
     passed_on Reached s (child_alone k c st) q e h
     (subst (λ (j : Judged m.State). Answers Reached j (Err e)) (sym (alone_is k c st)) (refused_first IsWiring Reached (wiring (m.seen_at st.levels c.at) k.tree c) (behind_wiring k c st) e g))
 
-pub no_room : {B D : Type 0} (r : m.State → B → Type 0) (s : m.State → D → Type 0) (k : m.Known) (c : m.Child) (st : m.State) (w : Wiring) (q : Result D TextErr) (e : TextErr) → IsErrAnd q (λ y. y ≡ e) →
-    Answers IsWiring (wiring (m.seen_at st.levels c.at) k.tree c) (Ok w) → Answers r (m.count_instance c st) (Err e) → Answers s (child_alone k c st) q
-no_room r s k c st w q e h f g =
-    passed_on Reached s (child_alone k c st) q e h
-    (subst (λ (j : Judged m.State). Answers Reached j (Err e)) (sym (alone_from k c st w f))
-    (refused_first r Reached (m.count_instance c st) (λ d. m.instance_walk false k.tree c.at (map connection_is w.pins.items) (m.begun k c.path c.at.level (m.given_by c.at (map connection_is w.params.items)) d)) e g))
+pub no_room : {B D : Type 0} (r : m.State → B → Type 0) (s : m.State → D → Type 0) (k : m.Known) (c : m.Child) (st : m.State) (x : List Connection × List Connection) (q : Result D TextErr) (e : TextErr) → IsErrAnd q (λ y. y ≡ e) →
+    Answers r (m.count_instance c st) (Err e) → Answers s (behind_wiring k c st x) q
+no_room r s k c st x q e h g =
+    passed_on Reached s (behind_wiring k c st x) q e h (refused_first r Reached (m.count_instance c st) (λ d. m.instance_walk false k.tree c.at x.1 (m.begun k c.path c.at.level (m.given_by c.at x.0) d)) e g)
 
 -- ---- one instance more
 
@@ -200,15 +195,20 @@ counted_err r c st e h =
     subst (λ (n : ℕ). Answers r (provided (m.size_faults c.name.place n) (record st { bits = n })) (Err e)) more
     (counted_cause r (m.size_faults c.name.place (st.bits + 1)) st.turns (st.bits + 1) (record st { bits = st.bits + 1 }) e h)
 
-pub alone_ok : (k : m.Known) (c : m.Child) (st more first last : m.State) (w : Wiring) → Answers IsWiring (wiring (m.seen_at st.levels c.at) k.tree c) (Ok w) → m.count_instance c st ≡ Ok more →
-    first ≡ m.begun k c.path c.at.level (m.given_by c.at (map connection_is w.params.items)) more → m.instance_walk false k.tree c.at (map connection_is w.pins.items) first ≡ Ok last → child_alone k c st ≡ Ok last
-alone_ok k c st more first last w h e f i = alone_counted k c st more first w h e f ∙ i
+-- a scope, where what was done with it came to its end
+after_ends : (g : Open → m.State) (j : Judged m.State) (own : Open) (done : Result (Unit {0}) TextErr) (q : Result Open TextErr) → Answers (λ s (u : Unit {0}). s ≡ g own) j done → IfOk q (λ o. (o ≡ own) × (done ≡ Ok (tt {0}))) →
+    IfErr q (λ e. done ≡ Err e) → Answers (λ s o. s ≡ g o) j q
+after_ends g j own done (Ok o) a h e =
+    answers_ok (λ s x. s ≡ g x) j (g own) o (walked_to j (g own) (tt {0}) (subst (λ d. Answers (λ s (u : Unit {0}). s ≡ g own) j d) h.1 a)) (sym (ap g h.0))
+after_ends g j own done (Err why) a h e = same_refusal (λ s (u : Unit {0}). s ≡ g own) (λ s o. s ≡ g o) j why (subst (λ d. Answers (λ s (u : Unit {0}). s ≡ g own) j d) e a)
 
-pub alone_refused : {B D : Type 0} (r : m.State → B → Type 0) (s : m.State → D → Type 0) (k : m.Known) (c : m.Child) (st more first : m.State) (w : Wiring) (q : Result D TextErr) (why : TextErr) → IsErrAnd q (λ y. y ≡ why) →
-    Answers IsWiring (wiring (m.seen_at st.levels c.at) k.tree c) (Ok w) → m.count_instance c st ≡ Ok more →
-    first ≡ m.begun k c.path c.at.level (m.given_by c.at (map connection_is w.params.items)) more → Answers r (m.instance_walk false k.tree c.at (map connection_is w.pins.items) first) (Err why) → Answers s (child_alone k c st) q
-alone_refused r s k c st more first w q why h f e g a =
-    passed_on r s (child_alone k c st) q why h (subst (λ (j : Judged m.State). Answers r j (Err why)) (sym (alone_counted k c st more first w f e g)) a)
+pub wired_ends : (g : Open → m.State) (k : m.Known) (c : m.Child) (st more first : m.State) (x : List Connection × List Connection) (own : Open) (done : Result (Unit {0}) TextErr) (q : Result Open TextErr) → m.count_instance c st ≡ Ok more →
+    first ≡ m.begun k c.path c.at.level (m.given_by c.at x.0) more → Answers (λ s (u : Unit {0}). s ≡ g own) (m.instance_walk false k.tree c.at x.1 first) done → IfOk q (λ o. (o ≡ own) × (done ≡ Ok (tt {0}))) → IfErr q (λ e. done ≡ Err e) →
+    Answers (λ s o. s ≡ g o) (behind_wiring k c st x) q
+wired_ends g k c st more first x own done q n f a h e =
+    let counted : behind_wiring k c st x ≡ m.instance_walk false k.tree c.at x.1 first =
+    ap (λ (j : Judged m.State). j >>= λ d. m.instance_walk false k.tree c.at x.1 (m.begun k c.path c.at.level (m.given_by c.at x.0) d)) n ∙ ap (λ (s : m.State). m.instance_walk false k.tree c.at x.1 s) (sym f) in
+    subst (λ (j : Judged m.State). Answers (λ s o. s ≡ g o) j q) (sym counted) (after_ends g (m.instance_walk false k.tree c.at x.1 first) own done q a h e)
 
 pub too_deep : {D : Type 0} (s : m.State → D → Type 0) (deep : ℕ) (all : m.Library) (c : m.Child) (st : m.State) (e : Refusal) → deep ≡ zero → e ≡ record { number = instance_deep; place = c.name.place; count = 0 } →
     Answers s (m.child deep all c st) (Err (No e))

@@ -1,3 +1,4 @@
 pub mod Walks
 pub mod Looping
 pub mod Items
+pub mod Instances

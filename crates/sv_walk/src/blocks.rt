@@ -6,11 +6,10 @@ ghost use Rattle.std.specs.Prelude.{◌≡◌, IfOk};
 ghost use Rattle.std.specs.Option.{option_copied};
 ghost use Rattle.sv_names.specs.Kinds.{entries_are};
 ghost use Rattle.sv_loops.specs.Answers.{Answers};
-ghost use Rattle.sv_hierarchy.specs.Scopes.{count_turn, inner, under};
+ghost use Rattle.sv_hierarchy.specs.Scopes.{inner, under};
 ghost use Rattle.sv_tree.specs.declared.design.Item.{Item as Tree};
 ghost use Rattle.sv_tree.specs.declared.design.Item.TheVariants as it;
 ghost use Rattle.sv_walk.specs.Items.{Begins, BeginsLoop, OpensLoop, declare_turns, opened_turn};
-ghost use Rattle.sv_walk.specs.declared.walker.Open.{Open as Opened};
 ghost use Rattle.sv_walk.specs.declared.walker.Walker.{Walker as Walking};
 ghost use Rattle.sv_walk.specs.Walks.{Walks, state_of};
 
@@ -50,14 +49,6 @@ fn declare_turns(
 }
 
 impl<'a> Walker<'a> {
-    // One turn more, or E20.
-    fn count_turn(&mut self, place: Place) -> Result<(), TextErr>
-        ensures { (o : Opened) → Walks (count_turn place) self.old o self.new o result }
-    {
-        self.tally = self.tally.with_turn(place)?;
-        Ok(())
-    }
-
     // A block of that name in a path is begun, in which these names stand first.
     fn begin(
         &mut self,
@@ -135,7 +126,7 @@ impl<'a> Walker<'a> {
     ) -> Result<Open<'a>, TextErr>
         ensures { Answers (λ st block. st ≡ state_of self.new block) (opened_turn place name.now variable.now.text bits (state_of self.old current.now)) result }
     {
-        self.count_turn(place)?;
+        self.tally = self.tally.with_turn(place)?;
         let part = turn_name(self.alloc, name, &bits)?;
         let nets = index_scope(self.alloc, variable, bits)?;
         let block = self.begin(current, part.bytes(), nets)?;

@@ -12,7 +12,7 @@ ghost use Rattle.sv_meaning.specs.Layouts.{width};
 ghost use Rattle.sv_hierarchy.specs.Scopes.{add_constant, add_constants, add_genvar, add_typedef, add_wire, formed, seen, walk_all, with_form, with_form_or_bit, with_wire};
 ghost use Rattle.sv_walk.specs.Walks.{Finds, Walks, state_of};
 
-use crate::held::let_go;
+use crate::held::{after, let_go};
 use crate::walker::{Open, Walker};
 use std::alloc::AllocError;
 use sv_levels::Tally;
@@ -39,30 +39,16 @@ impl<'a> Walker<'a> {
         &mut self,
         current: &mut Open<'a>,
         place: Place,
-        name: Name,
+        name: &Name,
         what: What,
     ) -> Result<(), TextErr>
         requires { WhatIsSound what }
-        ensures { Walks (add_constant (record { text = name; place = place }, what_is what)) self.old current.old self.new current.new result }
+        ensures { Walks (add_constant (record { text = name.now; place = place }, what_is what)) self.old current.old self.new current.new result }
     {
-        match current.declare_at(place, name.bytes()) {
-            Ok(()) => {
-                self.levels.add_const(current.level, name, what)?;
-                Ok(())
-            }
-            Err(why) => {
-                let_go(what);
-                Err(why)
-            }
-        }
-    }
-
-    // A constant of an enumeration.
-    fn add_enumerator(&mut self, current: &mut Open<'a>, label: &Enumerator) -> Result<(), TextErr>
-        ensures { Walks (add_constant (declared_is label.now)) self.old current.old self.new current.new result }
-    {
-        let name = label.name.copy()?;
-        self.add_constant(current, label.place, name, What::Number(label.value))
+        current.declare_at(place, name.bytes())?;
+        let text = name.copy()?;
+        self.levels.add_const(current.level, text, what)?;
+        Ok(())
     }
 
     // The constants of an enumeration.
@@ -70,7 +56,7 @@ impl<'a> Walker<'a> {
         ensures { Walks (add_constants (all_declared list.now)) self.old current.old self.new current.new result }
     {
         'list: for label in list {
-            self.add_enumerator(current, label)?;
+            self.add_constant(current, label.place, &label.name, What::Number(label.value))?;
         }
         Ok(())
     }
@@ -86,13 +72,9 @@ impl<'a> Walker<'a> {
     {
         let found = self.form_here(current, tree)?;
         let Formed { layout, declared } = found;
-        match self.add_constants(current, declared.as_slice()) {
-            Ok(()) => Ok(layout),
-            Err(why) => {
-                let_go(layout);
-                Err(why)
-            }
-        }
+        let added = self.add_constants(current, declared.as_slice());
+        let_go(declared);
+        after(layout, added)
     }
 
     // The layout of a type and the constants that it declares, by what is declared above.
@@ -110,9 +92,13 @@ impl<'a> Walker<'a> {
     pub fn add_typedef(&mut self, current: &mut Open<'a>, tree: &Typedef) -> Result<(), TextErr>
         ensures { Walks (add_typedef tree.now) self.old current.old self.new current.new result }
     {
-        let name = tree.name.text.copy()?;
         let layout = self.formed(current, &tree.form)?;
-        self.add_constant(current, tree.name.place, name, What::Kind(layout))
+        self.add_constant(
+            current,
+            tree.name.place,
+            &tree.name.text,
+            What::Kind(layout),
+        )
     }
 
     /// A net or variable: E13 where its name is taken, E22 where there are too many bits.
@@ -211,14 +197,6 @@ impl<'a> Walker<'a> {
         }
     }
 
-    // A variable of generate loops.
-    fn add_genvar(&mut self, current: &mut Open<'a>, word: &Word) -> Result<(), TextErr>
-        ensures { Walks (add_genvar word.now) self.old current.old self.new current.new result }
-    {
-        let name = word.text.copy()?;
-        self.add_constant(current, word.place, name, What::Genvar)
-    }
-
     /// Variables of generate loops.
     pub(crate) fn add_genvars(
         &mut self,
@@ -228,7 +206,7 @@ impl<'a> Walker<'a> {
         ensures { Walks (walk_all add_genvar words.now) self.old current.old self.new current.new result }
     {
         'words: for word in words {
-            self.add_genvar(current, word)?;
+            self.add_constant(current, word.place, &word.text, What::Genvar)?;
         }
         Ok(())
     }

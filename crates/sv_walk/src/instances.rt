@@ -9,9 +9,10 @@ ghost use Rattle.sv_levels.specs.Levels.{front_is};
 ghost use Rattle.sv_levels.specs.Library.{IsLibrary, child_alone, known_is};
 ghost use Rattle.sv_walk.specs.declared.walker.Open.{Open as Opened};
 ghost use Rattle.sv_levels.specs.Tasks.{child_is, given_is};
+ghost use Rattle.sv_walk.specs.Instances.{behind_wiring};
 ghost use Rattle.sv_walk.specs.Walks.{Walks, state_of};
 
-use crate::held::let_go;
+use crate::held::{after, let_go};
 use crate::walker::{Open, Walker};
 use items::Items;
 use std::alloc::AllocError;
@@ -117,18 +118,25 @@ impl<'a> Walker<'a> {
         ensures { (current : Opened) → Answers (λ st own. st ≡ state_of self.new own) (child_alone (known_is known.entry) (child_is child.now) (state_of self.old current)) result }
     {
         let wiring = wiring_of(self.alloc, known.tree, child)?;
-        self.count_child(child)?;
-        let mut own = self.begin_child(known, child, &wiring.params)?;
-        self.instance(&mut own, false, known.tree, child.at, &wiring.pins)?;
-        Ok(own)
+        let own = self.open_wired(known, child, &wiring.params, &wiring.pins);
+        let_go(wiring);
+        own
     }
 
-    // An instance more, or E22.
-    fn count_child(&mut self, child: &Child<'a>) -> Result<(), TextErr>
-        ensures { (o : Opened) → Walks (m.count_instance (child_is child.now)) self.old o self.new o result }
+    // An instance more, with such connections; or E22.
+    fn open_wired(
+        &mut self,
+        known: Known<'a>,
+        child: &Child<'a>,
+        params: &[Connection<'a>],
+        pins: &[Connection<'a>],
+    ) -> Result<Open<'a>, TextErr>
+        ensures { (current : Opened) → Answers (λ st own. st ≡ state_of self.new own) (behind_wiring (known_is known.entry) (child_is child.now) (state_of self.old current) (map connection_is params.now, map connection_is pins.now)) result }
     {
         self.tally = self.tally.with_bits(child.name.place, 1)?;
-        Ok(())
+        let mut own = self.begin_child(known, child, params)?;
+        let done = self.instance(&mut own, false, known.tree, child.at, pins);
+        after(own, done)
     }
 
     // An instance below another is begun, with what it gives to parameters.

@@ -48,8 +48,7 @@ impl<'a> Walker<'a> {
         ensures { Walks (add_param word (option_copied form.entry) name.now value.now) self.old current.old self.new current.new result }
     {
         let known = self.value_here(current, word, form, name, value)?;
-        let text = name.text.copy()?;
-        self.add_constant(current, name.place, text, What::Number(known))
+        self.add_constant(current, name.place, &name.text, What::Number(known))
     }
 
     /// The parameters of a declaration.

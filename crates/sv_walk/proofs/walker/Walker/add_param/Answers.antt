@@ -14,4 +14,4 @@ returns-in_err-known c = param_refused (param_value (m.seen (state_of c.args.sel
 
 pub returns : goal.returns
 returns c =
-    param_added (param_value (m.seen (state_of c.args.self.now c.args.current.now)) (option_copied c.args.form) (m.meant (levels_are c.args.self.now.levels) (m.given_to c.args.word c.args.name.now c.args.value.now (state_of c.args.self.now c.args.current.now)))) (what_is (Number c.in_ok-known.known)) (what_is (Number c.in_ok-known.known)) c.args.name.now c.in_ok-text.text (state_of c.args.self.now c.args.current.now) c.add_constant.new.self c.add_constant.new.current c.add_constant.result c.in_ok-known.ensures refl c.in_ok-text.ensures c.add_constant.ensures
+    param_added (param_value (m.seen (state_of c.args.self.now c.args.current.now)) (option_copied c.args.form) (m.meant (levels_are c.args.self.now.levels) (m.given_to c.args.word c.args.name.now c.args.value.now (state_of c.args.self.now c.args.current.now)))) (what_is (Number c.in_ok-known.known)) (what_is (Number c.in_ok-known.known)) c.args.name.now (state_of c.args.self.now c.args.current.now) c.add_constant.new.self c.add_constant.new.current c.add_constant.result c.in_ok-known.ensures refl c.add_constant.ensures

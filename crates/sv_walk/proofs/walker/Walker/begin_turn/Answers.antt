@@ -1,23 +1,30 @@
-use Rattle.std.proofs.Common.{◌≡◌, ◌∙◌, ◌∷◌, [], Ok}
+use Rattle.std.proofs.Common.{◌≡◌, ◌∙◌, ◌∷◌, [], suc, Result, Ok, Err, refl, sym}
 use Rattle.sv_names.specs.Kinds.{entries_are}
-use Rattle.sv_meaning.specs.Deeds.{index_entry}
+use Rattle.sv_outside.specs.declared.refusal.TextErr.{TextErr}
+use Rattle.sv_meaning.specs.Deeds.{index_entry, turn_faults}
 use Rattle.sv_hierarchy.specs.Scopes.{State, count_turn, inner, turn_name}
 use Rattle.sv_walk.specs.Items.{opened_turn}
 use Rattle.sv_walk.specs.Walks.{state_of}
 use Rattle.sv_walk.proofs.Walking.{ended, handed}
-use Rattle.sv_walk.proofs.WalkingBlocks.{answers_by, turn_opened}
+use Rattle.sv_walk.proofs.WalkingBlocks.{answers_by, provided_handed, provided_ok, turn_opened}
 use Rattle.sv_walk.proofs.walker.Walker.begin_turn.Goals as goal
 
-pub returns-in_err-count_turn : goal.returns-in_err-count_turn
-returns-in_err-count_turn c =
-    handed (λ st u. st ≡ state_of c.count_turn.new.self c.args.current.now) (λ st block. st ≡ state_of c.count_turn.new.self block) (count_turn c.args.place (state_of c.args.self.now c.args.current.now))
-    (λ (x : State). Ok (inner (turn_name c.args.name.now c.args.bits) (index_entry c.args.variable.now.text c.args.bits ∷ []) x)) c.count_turn.result c.in_err-count_turn.field-0.0 c.from_residual.result c.in_err-count_turn.was
-    (c.count_turn.ensures c.args.current.now) c.from_residual.ensures.1
+pub returns-in_err-self : goal.returns-in_err-self
+returns-in_err-self c =
+    let s = state_of c.args.self.now c.args.current.now in
+    let e = c.in_err-self.field-0.0 in
+    let counted : Result (Unit {0}) TextErr = Err e in
+    handed (λ st u. st ≡ s) _ (count_turn c.args.place s) (λ (x : State). Ok (inner (turn_name c.args.name.now c.args.bits) (index_entry c.args.variable.now.text c.args.bits ∷ []) x)) counted e c.from_residual.result refl
+    (provided_handed (λ n t. (t.turns ≡ n) × (t.bits ≡ c.args.self.now.tally.bits)) (λ st u. st ≡ s) (turn_faults c.args.place s.turns) (suc s.turns) (record s { turns = suc s.turns }) c.with_turn.result e counted c.in_err-self.was c.with_turn.ensures refl)
+    c.from_residual.ensures.1
 
 pub returns : goal.returns
 returns c =
     let s = state_of c.args.self.now c.args.current.now in
-    let x = state_of c.count_turn.new.self c.args.current.now in
+    let x = state_of (record c.args.self.now { tally = c.in_ok-self.field-0 }) c.args.current.now in
     answers_by (state_of c.begin.new.self) (opened_turn c.args.place c.args.name.now c.args.variable.now.text c.args.bits s) c.in_ok-block.block
     (turn_opened c.args.place c.args.name.now c.args.variable.now.text c.args.bits s x (state_of c.begin.new.self c.in_ok-block.block) c.bytes.result.now (entries_are c.in_ok-nets.nets)
-    (ended x (count_turn c.args.place s) (tt {0}) (c.in_ok-count_turn.ensures c.args.current.now)) c.in_ok-block.ensures (c.bytes.ensures ∙ c.in_ok-part.ensures) c.in_ok-nets.ensures)
+    (ended x (count_turn c.args.place s) (tt {0})
+    (provided_ok (λ n t. (t.turns ≡ n) × (t.bits ≡ c.args.self.now.tally.bits)) (λ st u. st ≡ x) (turn_faults c.args.place s.turns) (suc s.turns) (record s { turns = suc s.turns }) c.in_ok-self.field-0 (tt {0}) c.in_ok-self.ensures
+    (λ h. λ i. record s { turns = sym h.0 i; bits = sym h.1 i })))
+    c.in_ok-block.ensures (c.bytes.ensures ∙ c.in_ok-part.ensures) c.in_ok-nets.ensures)

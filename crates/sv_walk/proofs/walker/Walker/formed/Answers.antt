@@ -1,8 +1,8 @@
-use Rattle.std.proofs.Common.{◌∙◌, List, Ok, Err, refl, sym, ap}
+use Rattle.std.proofs.Common.{◌∙◌, List, Ok, sym, ap}
 use Rattle.sv_names.specs.Kinds.{layout_is}
 use Rattle.sv_types.specs.declared.enumerators.Enumerator.{Enumerator}
 use Rattle.sv_types.specs.Types.{all_declared}
-use Rattle.sv_walk.proofs.DeclaringWires.{formed_is, unformed, unlisted}
+use Rattle.sv_walk.proofs.DeclaringWires.{formed_after, sound_after, unformed}
 use Rattle.sv_walk.proofs.walker.Walker.formed.Goals as goal
 
 pub returns-in_err-found-clause-is : goal.returns-in_err-found-clause-is
@@ -10,10 +10,8 @@ returns-in_err-found-clause-is c = unformed c.args.tree.now c.args.self.now c.ar
 
 pub returns-clause-is : goal.returns-clause-is
 returns-clause-is c =
-    unlisted c.args.tree.now c.args.self.now c.add_constants.new.self c.args.current.now c.add_constants.new.current c.in_ok-found.found.layout (all_declared c.as_slice.result.now) (Err c.in-Err.why) c.in-Err.why
-    refl (c.in_ok-found.ensures.is ∙ ap (λ (d : List Enumerator). Ok (layout_is c.in_ok-found.found.layout, all_declared d)) (sym c.as_slice.ensures)) c.in-Err.ensures
+    formed_after c.args.tree.now c.args.self.now c.add_constants-added.new.self c.args.current.now c.add_constants-added.new.current c.in_ok-found.found.layout (all_declared c.as_slice.result.now) c.add_constants-added.result c.after.result
+    (c.in_ok-found.ensures.is ∙ ap (λ (d : List Enumerator). Ok (layout_is c.in_ok-found.found.layout, all_declared d)) (sym c.as_slice.ensures)) c.add_constants-added.ensures c.after.ensures.ok c.after.ensures.err
 
-pub returns-in-Ok-clause-is : goal.returns-in-Ok-clause-is
-returns-in-Ok-clause-is c =
-    formed_is c.args.tree.now c.args.self.now c.add_constants.new.self c.args.current.now c.add_constants.new.current c.in_ok-found.found.layout (all_declared c.as_slice.result.now) tt
-    (c.in_ok-found.ensures.is ∙ ap (λ (d : List Enumerator). Ok (layout_is c.in_ok-found.found.layout, all_declared d)) (sym c.as_slice.ensures)) c.in-Ok.ensures
+pub returns-clause-sound : goal.returns-clause-sound
+returns-clause-sound c = sound_after c.in_ok-found.found.layout c.add_constants-added.result c.after.result c.in_ok-found.ensures.sound c.after.ensures.ok
