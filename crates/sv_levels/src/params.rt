@@ -1,7 +1,7 @@
 // Parameters: which expression gives a value, of which type, at which names (IEEE 1800-2017, 6.20). An override keeps its
 // expression and the place where it is read and is evaluated only where the parameter is declared, since the type stands there.
 // Overrides are found by a hash index of their names, so that a list of parameters takes linear time.
-ghost use Rattle.std.specs.Prelude.{◌≡◌, [], None, Option, MatchOption, IfOk, map};
+ghost use Rattle.std.specs.Prelude.{◌≡◌, [], Option, IfOk, map};
 ghost use Rattle.std.specs.Option.{option_copied};
 ghost use Rattle.sv_tree.specs.declared.design.ParamType.{ParamType as TypeOfParam};
 ghost use Rattle.sv_tree.specs.declared.design.ParamWord.{ParamWord as WordOfParam};
@@ -73,7 +73,8 @@ pub fn value_at(
     let names = levels.seen(alloc, at)?;
     let value_names = levels.seen(alloc, given.at)?;
     let known = value_of(alloc, form, &names, given.value, &value_names);
-    let_go((names, value_names));
+    let_go(names);
+    let_go(value_names);
     known
 }
 
@@ -104,17 +105,10 @@ pub fn entry_type<'a>(port: &'a ParPort, before: Option<&'a ParamType>) -> Optio
 {
     match &port.form {
         Some(form) => Some(form),
-        None => type_by_word(port.word, before),
-    }
-}
-
-// The type of an entry without one.
-fn type_by_word<'a>(word: Option<ParamWord>, before: Option<&'a ParamType>) -> Option<&'a ParamType>
-    ensures { MatchOption word (option_copied result ≡ option_copied before.entry) (λ w. option_copied result ≡ None) }
-{
-    match word {
-        Some(_) => None,
-        None => before,
+        None => match port.word {
+            Some(_) => None,
+            None => before,
+        },
     }
 }
 

@@ -41,22 +41,15 @@ impl Drop for OpenPort<'_> {
     }
 }
 
-// Whether the top reads a port from outside.
-fn is_input(way: Way) -> bool
-    ensures { result ≡ is_input way }
-{
-    match way {
-        Way::Input => true,
-        Way::Output => false,
-        Way::Inout => true,
-    }
-}
-
 /// Whether a port is read from outside; those of instances below the top are not.
 pub fn is_read(top: bool, way: Way) -> bool
     ensures { result ≡ (top && is_input way) }
 {
-    if top { is_input(way) } else { false }
+    match way {
+        Way::Input => top,
+        Way::Output => false,
+        Way::Inout => top,
+    }
 }
 
 /// Whether nothing but the name is written.
