@@ -2,41 +2,17 @@
 ghost use Rattle.std.specs.Prelude.{None, Option};
 ghost use Rattle.std.specs.Option.{option_copied};
 ghost use Rattle.sv_tree.specs.declared.design.ParamWord.TheVariants as param_word;
-ghost use Rattle.sv_meaning.specs.Params.{param_value};
-ghost use Rattle.sv_types.specs.Values.{JudgesValue};
-ghost use Rattle.sv_hierarchy.specs.Scopes as m;
-ghost use Rattle.sv_hierarchy.specs.Scopes.{add_param, add_params, header_params, meant, seen};
-ghost use Rattle.sv_walk.specs.Walks.{Walks, state_of};
+ghost use Rattle.sv_hierarchy.specs.Scopes.{add_param, add_params, header_params};
+ghost use Rattle.sv_walk.specs.Walks.{Walks};
 
 use crate::walker::{Open, Walker};
 use sv_levels::{Actual, Given, entry_type, entry_word, given_to, value_at};
-use sv_names::{Known, What};
+use sv_names::What;
 use sv_outside::TextErr;
 use sv_tree::{Expr, ParPort, Param, ParamType, ParamWord, Word};
 
 impl<'a> Walker<'a> {
-    // The value of a parameter by what is declared above it.
-    fn value_here(
-        &self,
-        current: &Open<'a>,
-        word: ParamWord,
-        form: Option<&ParamType>,
-        name: &'a Word,
-        value: &'a Expr,
-    ) -> Result<Known, TextErr>
-        ensures { JudgesValue (param_value (seen (state_of self.now current.now)) (option_copied form.entry) (meant (state_of self.now current.now).levels (m.given_to word name.now value.now (state_of self.now current.now)))) result }
-    {
-        let at = self.here(current);
-        let own = Given {
-            name,
-            at,
-            value: Actual::Written(value),
-        };
-        let given = given_to(&current.overridden, word, own);
-        value_at(self.alloc, &self.levels, at, form, given)
-    }
-
-    // A parameter.
+    // A parameter, whose value sees what is declared above it.
     fn add_param(
         &mut self,
         current: &mut Open<'a>,
@@ -47,7 +23,14 @@ impl<'a> Walker<'a> {
     ) -> Result<(), TextErr>
         ensures { Walks (add_param word (option_copied form.entry) name.now value.now) self.old current.old self.new current.new result }
     {
-        let known = self.value_here(current, word, form, name, value)?;
+        let at = self.here(current);
+        let own = Given {
+            name,
+            at,
+            value: Actual::Written(value),
+        };
+        let given = given_to(&current.overridden, word, own);
+        let known = value_at(self.alloc, &self.levels, at, form, given)?;
         self.add_constant(current, name.place, &name.text, What::Number(known))
     }
 
