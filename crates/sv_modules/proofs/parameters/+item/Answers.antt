@@ -1,5 +1,7 @@
 use Rattle.std.proofs.lemmas.Result.{IfOk-from_err}
-use Rattle.std.proofs.Common.{◌≡◌, ◌∙◌, ◌++◌, List, [], sym, ap, subst, append_assoc}
+use Rattle.std.proofs.Common.{◌≡◌, ◌∙◌, ◌++◌, List, [], sym, ap, subst, append_assoc, arith}
+use Rattle.std.proofs.lemmas.List.{take_all}
+use Rattle.sv_tree.specs.declared.design.Item.{Item}
 use Rattle.std.specs.Result.{OnOk}
 use Rattle.sv_meaning.specs.Layouts.{Name}
 use Rattle.sv_hierarchy.specs.Scopes.{body_params, item_names, params_of_items}
@@ -58,3 +60,7 @@ add_of_items-items-preserved t c =
 
 pub add_of_items-returns-in_err-add_of_item : goal.add_of_items-returns-in_err-add_of_item
 add_of_items-returns-in_err-add_of_item t c = IfOk-from_err _ _ c.from_residual.ensures.0
+
+pub add_of_items-returns : goal.add_of_items-returns
+add_of_items-returns t c =
+    c.items.invariant ∙ ap (λ (l : List Item). texts_of c.args.words.now.items ++ params_of_items l) (take_all c.items.item-index c.args.items.now (omega (arith, c.items-test.false)))

@@ -1,7 +1,9 @@
 use Rattle.std.proofs.lemmas.Result.{IfOk-from_err}
-use Rattle.std.proofs.Common.{◌∙◌, ◌++◌, ◌∷◌, [], List, take, Option, sym, ap, subst}
+use Rattle.std.proofs.Common.{◌∙◌, ◌++◌, ◌∷◌, [], List, take, Option, sym, ap, subst, arith}
+use Rattle.std.proofs.lemmas.List.{take_all}
 use Rattle.std.specs.Result.{OnOk}
 use Rattle.sv_tree.specs.declared.design.Gen.{Gen}
+use Rattle.sv_tree.specs.declared.design.Item.{Item}
 use Rattle.sv_tree.specs.declared.design.Item.TheVariants as it
 use Rattle.sv_meaning.specs.Layouts.{Name}
 use Rattle.sv_hierarchy.specs.Scopes.{instantiated, instantiated_by, instantiated_under}
@@ -83,3 +85,7 @@ add_item-returns-in_err-add_body-in-Some t c = IfOk-from_err _ _ c.from_residual
 
 pub add_items-returns-in_err-add_item : goal.add_items-returns-in_err-add_item
 add_items-returns-in_err-add_item t c = IfOk-from_err _ _ c.from_residual.ensures.0
+
+pub add_items-returns : goal.add_items-returns
+add_items-returns t c =
+    subst (λ (l : List Item). Adds c.args.used.now (instantiated_by l) c.items.used) (take_all c.items.item-index c.args.items.now (omega (arith, c.items-test.false))) c.items.invariant
