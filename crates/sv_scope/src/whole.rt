@@ -125,16 +125,6 @@ fn walk<'a>(walker: &mut Walker<'a>, source: &'a Source, top: Option<&Name>) -> 
     topped(walker, &file, &library, top)
 }
 
-// All that a source has.
-fn walked<'a>(alloc: Global, source: &'a Source, top: Option<&Name>) -> Result<Walker<'a>, TextErr>
-    ensures { Answers (λ st walker. IsWalked st walker) (m.scopes source.now (option_copied top.entry)) result }
-{
-    let mut walker = Walker::new(alloc);
-    let done = walk(&mut walker, source, top);
-    let (walker, _) = both(walker, done)?;
-    Ok(walker)
-}
-
 /// The scopes of a source with a top: the module of a given name or, where none is given, the one module that no module
 /// instantiates. Each instance comes before its generate blocks, these in text order, and before its child instances, each whole;
 /// wires are numbered so: the ports of an instance, its declarations in text order with generate blocks in their place, and then
@@ -148,7 +138,9 @@ pub fn scopes<'a>(
 ) -> Result<DesignScopes<'a>, TextErr>
     ensures { Answers (λ st scopes. IsScoped st scopes) (m.scopes source.now (option_copied top.entry)) result }
 {
-    let walker = walked(alloc, source, top)?;
+    let mut walker = Walker::new(alloc);
+    let done = walk(&mut walker, source, top);
+    let (walker, _) = both(walker, done)?;
     let Walker {
         levels,
         tally,
