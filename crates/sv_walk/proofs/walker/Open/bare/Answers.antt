@@ -1,3 +1,4 @@
+use Rattle.std.proofs.lemmas.Result.{IfOk-from_err}
 use Rattle.std.proofs.Common.{◌∙◌, ap, map}
 use Rattle.sv_levels.specs.Tasks.{given_is}
 use Rattle.sv_walk.proofs.walker.Open.bare.Goals as goal
@@ -9,3 +10,6 @@ returns c = record {
   overridden = c.new.ensures.overridden ∙ ap (map given_is) c.in_ok-overridden.ensures;
   taken = c.new.ensures.taken;
 }
+
+pub returns-in_err-overridden : goal.returns-in_err-overridden
+returns-in_err-overridden c = IfOk-from_err _ _ c.from_residual.ensures.0

@@ -1,3 +1,4 @@
+use Rattle.std.proofs.lemmas.Result.{IfOk-from_err}
 use Rattle.std.proofs.Common.{map}
 use Rattle.sv_hierarchy.specs.Scopes as m
 use Rattle.sv_levels.specs.Levels.{front_is}
@@ -12,3 +13,9 @@ pub returns : goal.returns
 returns c = λ current.
     begun_as (state_of c.begin_instance.new.self) (known_is c.args.known) c.in_ok-path.path c.args.child.now.path c.args.child.now.at.level (map given_is c.in_ok-given.given.items) (m.given_by (front_is c.args.child.now.at) (map connection_is c.args.params.now))
     (state_of c.args.self.now current) c.begin_instance.result c.in_ok-path.ensures c.in_ok-given.ensures (c.begin_instance.ensures current)
+
+pub returns-in_err-path : goal.returns-in_err-path
+returns-in_err-path c = λ current. IfOk-from_err _ _ c.from_residual.ensures.0
+
+pub returns-in_err-given : goal.returns-in_err-given
+returns-in_err-given c = λ current. IfOk-from_err _ _ c.from_residual-in_err-given.ensures.0

@@ -1,3 +1,4 @@
+use Rattle.std.proofs.lemmas.Result.{IfOk-from_err}
 use Rattle.std.proofs.Common.{refl}
 use Rattle.sv_walk.proofs.Opening.{file_begun}
 use Rattle.sv_walk.proofs.walker.Walker.begin_file.Goals as goal
@@ -6,3 +7,9 @@ pub returns : goal.returns
 returns c =
     file_begun c.args.self.now c.push.new.self (record { path = c.in_ok-new.field-0; «module» = 0; parent = 0; around = c.new-2.result; nets = c.new-3.result; consts = c.new-4.result }) c.bare.result
     c.requires c.in_ok-push.ensures c.in_ok-new.ensures refl refl c.new-2.ensures c.new-3.ensures c.new-4.ensures c.bare.ensures
+
+pub returns-in_err-new : goal.returns-in_err-new
+returns-in_err-new c = IfOk-from_err _ _ c.from_residual.ensures.0
+
+pub returns-in_err-push : goal.returns-in_err-push
+returns-in_err-push c = IfOk-from_err _ _ c.from_residual-in_err-push.ensures.0

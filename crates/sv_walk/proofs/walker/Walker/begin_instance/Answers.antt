@@ -1,3 +1,4 @@
+use Rattle.std.proofs.lemmas.Result.{IfOk-from_err}
 use Rattle.std.proofs.Common.{map, refl, ap, ◌∙◌}
 use Rattle.sv_levels.specs.Library.{known_is}
 use Rattle.sv_levels.specs.Tasks.{given_is}
@@ -11,3 +12,12 @@ returns c = λ current.
     c.in_ok-push-2.ensures refl refl refl
     (one_front c.push.new.self c.new-around.result (record { level = 0; nets = 0; consts = c.args.known.above }) c.in_ok-push.ensures.ok c.new-around.ensures)
     c.new.ensures c.new-2.ensures c.new-3.ensures.items (c.new-5.ensures.level ∙ c.len-level.ensures) c.new-5.ensures.constructs (c.new-5.ensures.overridden ∙ ap (map given_is) c.in_ok-overridden.ensures) c.new-5.ensures.taken
+
+pub returns-in_err-push : goal.returns-in_err-push
+returns-in_err-push c = λ current. IfOk-from_err _ _ c.from_residual.ensures.0
+
+pub returns-in_err-push-2 : goal.returns-in_err-push-2
+returns-in_err-push-2 c = λ current. IfOk-from_err _ _ c.from_residual-in_err-push-2.ensures.0
+
+pub returns-in_err-overridden : goal.returns-in_err-overridden
+returns-in_err-overridden c = λ current. IfOk-from_err _ _ c.from_residual-in_err-overridden.ensures.0

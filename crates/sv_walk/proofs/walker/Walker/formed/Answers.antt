@@ -1,3 +1,4 @@
+use Rattle.std.proofs.lemmas.Result.{IfOk-from_err}
 use Rattle.std.proofs.Common.{◌∙◌, List, Ok, sym, ap}
 use Rattle.sv_names.specs.Kinds.{layout_is}
 use Rattle.sv_types.specs.declared.enumerators.Enumerator.{Enumerator}
@@ -15,3 +16,6 @@ returns-clause-is c =
 
 pub returns-clause-sound : goal.returns-clause-sound
 returns-clause-sound c = sound_after c.in_ok-found.found.layout c.add_constants-added.result c.after.result c.in_ok-found.ensures.sound c.after.ensures.ok
+
+pub returns-in_err-found-clause-sound : goal.returns-in_err-found-clause-sound
+returns-in_err-found-clause-sound c = IfOk-from_err _ _ c.from_residual.ensures.0

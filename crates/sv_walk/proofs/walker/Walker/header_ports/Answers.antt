@@ -1,3 +1,4 @@
+use Rattle.std.proofs.lemmas.Result.{IfOk-from_err}
 use Rattle.std.proofs.Common.{◌≡◌, ◌∙◌, ◌+◌, ◌∷◌, [], drop, map, false, sym, ap, subst}
 use Rattle.std.specs.Global.{Vec}
 use Rattle.std.proofs.lemmas.List.{map-append}
@@ -51,3 +52,9 @@ returns-clause-is c =
 
 pub returns-clause-sound : goal.returns-clause-sound
 returns-clause-sound c = c.list.invariant.sound
+
+pub returns-in_err-before-clause-sound : goal.returns-in_err-before-clause-sound
+returns-in_err-before-clause-sound c = IfOk-from_err _ _ c.from_residual-in_err-before.ensures.0
+
+pub returns-in_err-one-clause-sound : goal.returns-in_err-one-clause-sound
+returns-in_err-one-clause-sound c = IfOk-from_err _ _ c.from_residual.ensures.0

@@ -1,3 +1,4 @@
+use Rattle.std.proofs.lemmas.Result.{IfOk-from_err}
 use Rattle.std.proofs.Common.{◌∙◌}
 use Rattle.sv_names.specs.Kinds.{layout_is}
 use Rattle.sv_hierarchy.specs.Scopes.{add_wire}
@@ -26,3 +27,9 @@ returns-clause-is c =
     port_opened c.args.top c.is_read.result c.args.way c.unwrap_or-way.result (layout_is c.args.before.now) c.in_ok-layout.layout c.args.port.now (state_of c.args.self.now c.args.current.now) t u _
     c.in_ok-layout.ensures.is (c.unwrap_or-way.ensures ∙ unwrapped c.args.port.now.way c.args.way) c.is_read.ensures
     (ended u (add_wire c.is_read.result (layout_is c.in_ok-layout.layout) c.args.port.now.name t) (tt {0}) c.in_ok-add_wire.ensures) (λ i. record { name = c.args.port.now.name.text; way = c.unwrap_or-way.result; wire = c.len-wire.ensures i; layout = layout_is c.in_ok-layout.layout })
+
+pub returns-in_err-add_wire-clause-sound : goal.returns-in_err-add_wire-clause-sound
+returns-in_err-add_wire-clause-sound c = IfOk-from_err _ _ c.from_residual-in_err-add_wire.ensures.0
+
+pub returns-in_err-layout-clause-sound : goal.returns-in_err-layout-clause-sound
+returns-in_err-layout-clause-sound c = IfOk-from_err _ _ c.from_residual.ensures.0

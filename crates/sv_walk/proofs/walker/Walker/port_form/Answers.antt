@@ -1,3 +1,4 @@
+use Rattle.std.proofs.lemmas.Result.{IfOk-from_err}
 use Rattle.std.proofs.Common.{◌≡◌, ◌∙◌, Ok, sym, subst}
 use Rattle.sv_names.specs.declared.layout.Layout.{Layout as Coded}
 use Rattle.sv_names.specs.Kinds.{IsSound, layout_is}
@@ -29,3 +30,6 @@ returns-in-None-clause-is c =
     let s = state_of c.args.self.now c.args.current.now in
     finds layout_is s (port_form c.args.port.now (layout_is c.args.before.now) s) c.scalar.result
     (bit_form c.args.port.now (layout_is c.args.before.now) s (sym c.is_bare.ensures ∙ c.if-is_bare.false) c.in-None.is ∙ λ i. Ok (sym c.scalar.ensures.is i, s))
+
+pub returns-in_err-copy-clause-sound : goal.returns-in_err-copy-clause-sound
+returns-in_err-copy-clause-sound c = IfOk-from_err _ _ c.from_residual.ensures.0

@@ -1,3 +1,4 @@
+use Rattle.std.proofs.lemmas.Result.{IfOk-from_err}
 use Rattle.sv_names.proofs.Sound.{sound_some, sound_most}
 use Rattle.sv_walk.proofs.DeclaringWires.{wire_put}
 use Rattle.sv_walk.proofs.walker.Walker.put_wire.Goals as goal
@@ -9,3 +10,18 @@ pub returns : goal.returns
 returns c =
     wire_put c.args.self.now c.args.current.now c.add_net.new.self c.push.new.self c.args.tally c.args.input c.args.layout.now c.in_ok-layout_of_wire.layout_of_wire c.args.word.now.text c.in_ok-name.name c.in_ok-path.path c.bytes.result.now c.len.result
     c.requires.sound c.in_ok-name.ensures c.bytes.ensures c.in_ok-layout_of_wire.ensures c.len.ensures c.in_ok-path.ensures c.in_ok-add_net.ensures c.in_ok-push.ensures c.requires.bits c.requires.turns
+
+pub returns-in_err-add_net : goal.returns-in_err-add_net
+returns-in_err-add_net c = IfOk-from_err _ _ c.from_residual-in_err-add_net.ensures.0
+
+pub returns-in_err-layout_of_wire : goal.returns-in_err-layout_of_wire
+returns-in_err-layout_of_wire c = IfOk-from_err _ _ c.from_residual-in_err-layout_of_wire.ensures.0
+
+pub returns-in_err-name : goal.returns-in_err-name
+returns-in_err-name c = IfOk-from_err _ _ c.from_residual-in_err-name.ensures.0
+
+pub returns-in_err-path : goal.returns-in_err-path
+returns-in_err-path c = IfOk-from_err _ _ c.from_residual.ensures.0
+
+pub returns-in_err-push : goal.returns-in_err-push
+returns-in_err-push c = IfOk-from_err _ _ c.from_residual-in_err-push.ensures.0
