@@ -1,5 +1,6 @@
 -- Names with constants above them.
-use Rattle.std.proofs.Common.{◌≡◌, List, [], ◌∷◌, ◌++◌, map, refl, sym, ap, ◌∙◌, append_assoc}
+use Rattle.std.proofs.Common.{◌≡◌, List, [], ◌∷◌, ◌++◌, map, Result, Ok, Err, refl, sym, ap, ◌∙◌, append_assoc}
+use Rattle.std.specs.Result.{OnOk, OnErr}
 use Rattle.std.proofs.lemmas.List.{append-nil}
 use Rattle.sv_meaning.specs.Forms.{entries_of}
 use Rattle.sv_names.specs.declared.names.Names.{Names}
@@ -40,3 +41,13 @@ constants_named (e ∷ all) = ap (λ z. entry_is (pushed e) ∷ z) (constants_na
 
 pub above_names : (a b : Names) (all : List Enumerator) → IsAbove a b (map pushed all) → constants_are b ≡ m.with_names (constants_are a) (entries_of (all_declared all))
 above_names a b all h = more_constants a b (map pushed all) h.frames h.loops ∙ ap (m.with_names (constants_are a)) (constants_named all)
+
+-- ---- what holds whatever is answered
+
+pub on_ok_always : {T E : Type 0} (r : Result T E) (P : Type 0) → P → OnOk r P
+on_ok_always (Ok x) P h = h
+on_ok_always (Err e) P h = tt
+
+pub on_err_always : {T E : Type 0} (r : Result T E) (P : Type 0) → P → OnErr r P
+on_err_always (Ok x) P h = tt
+on_err_always (Err e) P h = h

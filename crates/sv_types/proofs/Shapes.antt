@@ -255,3 +255,13 @@ type_ok j r x e h = let g = subst (JudgesForm j) e h in record { is = then_ok j 
 
 pub type_err : (j : Judged f.Formed) (r : Result Formed TextErr) (e : TextErr) → r ≡ Err e → JudgesForm j r → Refused (j >>= layout_part) e
 type_err j r e k h = then_err j layout_part e (subst (JudgesForm j) k h)
+
+-- ---- what is sound of parts that are judged
+
+pub formed_sound : (j : Judged f.Formed) (a b : Names) (r : Result Formed TextErr) → Forms j a b r → IfOk r (λ x. IsSound x.layout)
+formed_sound j a b (Ok x) h = h.sound
+formed_sound j a b (Err e) h = tt
+
+pub members_listed : (j : Judged (m.Members × List f.Declared)) (a b : Names) (r : Result Listed TextErr) → JudgesMembers j a b r → IfOk r (λ x. IsListed x)
+members_listed j a b (Ok x) h = h.listed
+members_listed j a b (Err e) h = tt

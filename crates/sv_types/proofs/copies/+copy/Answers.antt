@@ -1,5 +1,6 @@
 use Rattle.std.proofs.lemmas.Result.{IfOk-from_err}
-use Rattle.std.proofs.Common.{sym, subst, All}
+use Rattle.std.proofs.Common.{◌∙◌, sym, subst, All, arith}
+use Rattle.std.proofs.lemmas.List.{take_all}
 use Rattle.sv_names.specs.Kinds.{IsSound, FieldIsSound}
 use Rattle.sv_names.proofs.Sound.{row_each, fields_all}
 use Rattle.sv_types.proofs.Copying.{each_less, fields_less, field_less, sound_at}
@@ -40,3 +41,6 @@ copy-returns-in_err-each-in-Dim-2 t c = IfOk-from_err _ _ c.from_residual-in_err
 
 pub copy-returns-in_err-fields-in-Members : goal.copy-returns-in_err-fields-in-Members
 copy-returns-in_err-fields-in-Members t c = IfOk-from_err _ _ c.from_residual-in_err-fields-in-Members.ensures.0
+
+pub copies-returns : goal.copies-returns
+copies-returns t c = c.fields.invariant ∙ take_all c.fields.field-index c.args.fields.now (omega (arith, c.fields-test.false))

@@ -6,7 +6,7 @@ use Rattle.sv_meaning.specs.Forms.{entries_of, label_entry}
 use Rattle.sv_names.specs.Names.{constants_are}
 use Rattle.sv_types.specs.declared.enumerators.Enumerator.{Enumerator}
 use Rattle.sv_types.specs.Types.{whole_is, all_declared, pushed, IsAbove}
-use Rattle.sv_types.proofs.Above.{above_none, above_names}
+use Rattle.sv_types.proofs.Above.{above_none, above_names, left_then}
 use Rattle.sv_types.proofs.Labels.{Counts, counts_begin, counts_go, counts_end, counts_number, counts_entry, number_ok, number_err, entry_of_result, entry_refused, above_more}
 use Rattle.sv_types.proofs.enumerators.enumerators.Goals as goal
 
@@ -87,3 +87,8 @@ label_entry-requires-clause-some c = c.requires.some
 
 pub label_entry-requires-clause-most : goal.label_entry-requires-clause-most
 label_entry-requires-clause-most c = c.requires.most
+
+pub returns-in_err-declare : goal.returns-in_err-declare
+returns-in_err-declare c =
+    let p = err_from_is_err_and c.from_residual-in_err-declare.result c.from_residual-in_err-declare.ensures.1 in
+    rw (p.1, p.2) (record { cause = tt; left = left_then c.args.names.now c.labels.names c.declare.new.names (map pushed c.labels.declared) c.labels.invariant.names c.in_err-declare.ensures.err })

@@ -9,7 +9,7 @@ use Rattle.sv_types.specs.Types.{IsAbove, Forms, JudgesJoined, pushed, all_decla
 use Rattle.sv_types.proofs.Above.{above_none, above_names}
 use Rattle.sv_types.proofs.Alone.{member_is}
 use Rattle.sv_types.proofs.Gathering.{gathers_begin, gathers_go, gathers_refused, gathers_end}
-use Rattle.sv_types.proofs.Shapes.{arm_vector, arm_integer, arm_named, arm_enum, arm_struct}
+use Rattle.sv_types.proofs.Shapes.{arm_vector, arm_integer, arm_named, arm_enum, arm_struct, formed_sound, members_listed}
 use Rattle.sv_types.proofs.forms.+form.Goals as goal
 
 pub form-returns-in-Vector : goal.form-returns-in-Vector
@@ -84,3 +84,12 @@ forms-returns t c = record {
   names = c.members.invariant.names;
   listed = c.members.invariant.listed;
 }
+
+pub forms-joined-requires-clause-listed : goal.forms-joined-requires-clause-listed
+forms-joined-requires-clause-listed t c = c.members.invariant.listed
+
+pub forms-joined-requires-clause-formed : goal.forms-joined-requires-clause-formed
+forms-joined-requires-clause-formed t c = formed_sound _ c.members.names c.form-formed.new.names c.form-formed.result c.form-formed.ensures
+
+pub form-struct_form-requires : goal.form-struct_form-requires
+form-struct_form-requires t c = members_listed _ c.args.names.now c.forms-listed.new.names c.forms-listed.result c.forms-listed.ensures

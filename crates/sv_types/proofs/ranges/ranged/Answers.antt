@@ -4,7 +4,7 @@ use Rattle.std.proofs.lemmas.Result.{err_from_is_err_and, IfOk-from_err}
 use Rattle.sv_meaning.specs.Faults.{faults_of}
 use Rattle.sv_names.proofs.Sound.{sound_some}
 use Rattle.sv_types.specs.Types.{ranged_form}
-use Rattle.sv_types.proofs.Ranging.{sound_ok, levels_ok, made, makes_bits, dim_levels, bounds_ok, bounds_err, layout_ok, ranged_ok, ranged_wide, ranged_right}
+use Rattle.sv_types.proofs.Ranging.{sound_ok, levels_ok, made, makes_bits, dim_levels, bounds_ok, bounds_err, layout_err, layout_ok, ranged_left, ranged_ok, ranged_wide, ranged_right}
 use Rattle.sv_types.proofs.ranges.ranged.Goals as goal
 
 pub returns-in_err-bounds-clause-is : goal.returns-in_err-bounds-clause-is
@@ -43,3 +43,11 @@ returns-in_err-dim-clause-levels c = IfOk-from_err _ _ c.from_residual-in_err-di
 
 pub returns-in_err-each-clause-levels : goal.returns-in_err-each-clause-levels
 returns-in_err-each-clause-levels c = IfOk-from_err _ _ c.from_residual-in_err-each.ensures.0
+
+pub returns-in_err-each-clause-is : goal.returns-in_err-each-clause-is
+returns-in_err-each-clause-is c = λ j k h i.
+    let p = err_from_is_err_and c.from_residual-in_err-each.result c.from_residual-in_err-each.ensures.1 in
+    rw (p.1, p.2) (ranged_left j k c.args.place c.args.signed c.in_err-each.field-0.0 (layout_err j c.args.each c.in_err-each.field-0.0 c.in_err-each.was h))
+
+pub dim-requires-clause-sound : goal.dim-requires-clause-sound
+dim-requires-clause-sound c = sound_ok c.args.each c.in_ok-each.each c.in_ok-each.was c.requires.sound
