@@ -82,11 +82,11 @@ fn conjunction(aig: &mut Aig, a: Lit, b: Lit) -> Result<Lit, Fault> {
 }
 
 impl Gates {
-    fn inputs(&mut self, count: usize) -> Result<(), Fault> {
-        for _ in 0..count {
+    fn say_word(&mut self, question: &[u8], said: &mut Vec<u8>) -> Result<(), Fault> {
+        for _ in 0..size_at(question, 1)? {
             self.aig.input()?;
         }
-        Ok(())
+        self.say_len(said)
     }
 
     // The conjunctions of two of the nodes from 1 to `count`.
@@ -97,6 +97,11 @@ impl Gates {
             }
         }
         Ok(())
+    }
+
+    fn say_pairs(&mut self, question: &[u8], said: &mut Vec<u8>) -> Result<(), Fault> {
+        self.pairs(size_at(question, 1)?)?;
+        self.say_len(said)
     }
 
     fn say_len(&self, said: &mut Vec<u8>) -> Result<(), Fault> {
@@ -110,7 +115,8 @@ impl Gates {
         self.say_len(said)
     }
 
-    fn say_gate(&self, node: usize, said: &mut Vec<u8>) -> Result<(), Fault> {
+    fn say_gate(&self, question: &[u8], said: &mut Vec<u8>) -> Result<(), Fault> {
+        let node = size_at(question, 1)?;
         if node >= self.aig.len() {
             return Err(Fault::Form);
         }
@@ -122,20 +128,14 @@ impl Gates {
         put_lit(said, l)
     }
 
-    fn say(&mut self, call: Call, question: &[u8], said: &mut Vec<u8>) -> Result<(), Fault> {
-        match call {
+    fn say(&mut self, question: &[u8], said: &mut Vec<u8>) -> Result<(), Fault> {
+        match first_named(&CALLS, question)? {
             Call::Input => self.say_input(said),
             Call::And => self.say_and(question, said),
-            Call::Gate => self.say_gate(size_at(question, 1)?, said),
+            Call::Gate => self.say_gate(question, said),
             Call::Inputs => put_size(said, self.aig.input_count()),
-            Call::Word => {
-                self.inputs(size_at(question, 1)?)?;
-                self.say_len(said)
-            }
-            Call::Pairs => {
-                self.pairs(size_at(question, 1)?)?;
-                self.say_len(said)
-            }
+            Call::Word => self.say_word(question, said),
+            Call::Pairs => self.say_pairs(question, said),
             Call::Len => self.say_len(said),
         }
     }
@@ -151,7 +151,6 @@ fn plain(below: usize) -> Lit {
 
 impl Judge for Gates {
     fn row(&mut self, question: &[u8], _wanted: &[u8], said: &mut Vec<u8>) -> Result<(), Fault> {
-        let call = first_named(&CALLS, question)?;
-        self.say(call, question, said)
+        self.say(question, said)
     }
 }

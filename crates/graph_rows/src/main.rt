@@ -1,44 +1,73 @@
-//! Judges what the crates of vectors, of the graph of expressions and of gates give, by values that were worked out by hand. They stand in
-//! data/; what they mean stands at the head of each module.
+//! Judges what the crates of vectors, of the graph of expressions, of gates, of lists and of joined wires give, by values that were worked
+//! out by hand. They stand in data/; what they mean stands at the head of each module.
 #![tactic(auto)]
 
 mod circuits;
 mod gates;
+mod joins;
+mod lists;
 mod nodes;
+mod parts;
+mod trees;
 mod values;
 
-use case_rows::{Bench, Fault, Report, each_row, judge_files, named, word};
+use case_rows::{Bench, Fault, Report, each_row, first_named, judge_files};
 use circuits::{Circuits, Swapped};
 use gates::judge_gates;
+use joins::{Cut, judge_joins};
+use lists::{Owned, judge_ring};
 use nodes::{Becomes, Nodes, Substituted};
 use std::alloc::Global;
 use std::io;
 use svex_arena::Env;
+use trees::Trees;
 use values::{Entries, Planes, Values};
 
+/// Keys of vectors and of the graph of expressions.
 #[derive(Clone, Copy)]
-enum Key {
+enum Graph {
     Planes,
     Entries,
     Values,
     Nodes,
     Becomes,
     Substitute,
+}
+
+/// Keys of gates, of lists and of joined wires.
+#[derive(Clone, Copy)]
+enum Structure {
     Circuits,
     Swapped,
     Gates,
+    Ring,
+    Owned,
+    Trees,
+    Joins,
+    Cut,
 }
 
-static KEYS: [(&[u8], Key); 9] = [
-    (b"planes", Key::Planes),
-    (b"entries", Key::Entries),
-    (b"values", Key::Values),
-    (b"nodes", Key::Nodes),
-    (b"becomes", Key::Becomes),
-    (b"substitute", Key::Substitute),
-    (b"circuits", Key::Circuits),
-    (b"swapped", Key::Swapped),
-    (b"gates", Key::Gates),
+#[derive(Clone, Copy)]
+enum Key {
+    Graph(Graph),
+    Structure(Structure),
+}
+
+static KEYS: [(&[u8], Key); 14] = [
+    (b"planes", Key::Graph(Graph::Planes)),
+    (b"entries", Key::Graph(Graph::Entries)),
+    (b"values", Key::Graph(Graph::Values)),
+    (b"nodes", Key::Graph(Graph::Nodes)),
+    (b"becomes", Key::Graph(Graph::Becomes)),
+    (b"substitute", Key::Graph(Graph::Substitute)),
+    (b"circuits", Key::Structure(Structure::Circuits)),
+    (b"swapped", Key::Structure(Structure::Swapped)),
+    (b"gates", Key::Structure(Structure::Gates)),
+    (b"ring", Key::Structure(Structure::Ring)),
+    (b"owned", Key::Structure(Structure::Owned)),
+    (b"trees", Key::Structure(Structure::Trees)),
+    (b"joins", Key::Structure(Structure::Joins)),
+    (b"cut", Key::Structure(Structure::Cut)),
 ];
 
 /// What the entries of variables have.
@@ -49,26 +78,41 @@ struct Keys {
 }
 
 impl Keys {
-    // Keys of vectors and of the graph of expressions.
-    fn expressions(&mut self, key: Key, block: &[u8], report: &mut Report) -> Result<(), Fault> {
+    fn graph(&mut self, key: Graph, block: &[u8], report: &mut Report) -> Result<(), Fault> {
         match key {
-            Key::Planes => each_row(&mut Planes, block, report),
-            Key::Entries => each_row(&mut Entries { env: &mut self.env }, block, report),
-            Key::Values => each_row(&mut Values::new(self.alloc, &self.env), block, report),
-            Key::Nodes => each_row(&mut Nodes::new(self.alloc), block, report),
-            Key::Becomes => each_row(&mut Becomes::new(self.alloc), block, report),
-            Key::Substitute => each_row(&mut Substituted::new(self.alloc), block, report),
-            _ => self.gates(key, block, report),
+            Graph::Planes => each_row(&mut Planes, block, report),
+            Graph::Entries => each_row(&mut Entries { env: &mut self.env }, block, report),
+            Graph::Values => each_row(&mut Values::new(self.alloc, &self.env), block, report),
+            Graph::Nodes => each_row(&mut Nodes::new(self.alloc), block, report),
+            Graph::Becomes => each_row(&mut Becomes::new(self.alloc), block, report),
+            Graph::Substitute => each_row(&mut Substituted::new(self.alloc), block, report),
         }
     }
 
-    // Keys of gates.
-    fn gates(&mut self, key: Key, block: &[u8], report: &mut Report) -> Result<(), Fault> {
-        match key {
-            Key::Circuits => each_row(&mut Circuits { alloc: self.alloc }, block, report),
-            Key::Swapped => each_row(&mut Swapped { alloc: self.alloc }, block, report),
-            _ => judge_gates(self.alloc, block, report),
+    fn judge(&mut self, line: &[u8], block: &[u8], report: &mut Report) -> Result<(), Fault> {
+        match first_named(&KEYS, line)? {
+            Key::Graph(key) => self.graph(key, block, report),
+            Key::Structure(key) => judge_structure(self.alloc, key, line, block, report),
         }
+    }
+}
+
+fn judge_structure(
+    alloc: Global,
+    key: Structure,
+    line: &[u8],
+    block: &[u8],
+    report: &mut Report,
+) -> Result<(), Fault> {
+    match key {
+        Structure::Circuits => each_row(&mut Circuits { alloc }, block, report),
+        Structure::Swapped => each_row(&mut Swapped { alloc }, block, report),
+        Structure::Gates => judge_gates(alloc, block, report),
+        Structure::Ring => judge_ring(alloc, line, block, report),
+        Structure::Owned => each_row(&mut Owned::new(alloc), block, report),
+        Structure::Trees => each_row(&mut Trees { alloc }, block, report),
+        Structure::Joins => judge_joins(alloc, line, block, report),
+        Structure::Cut => each_row(&mut Cut { alloc }, block, report),
     }
 }
 
@@ -87,9 +131,10 @@ impl Bench for Keys {
     }
 
     fn key(&mut self, line: &[u8], block: &[u8], report: &mut Report) -> Result<(), Fault> {
-        match named(&KEYS, word(line, 0)) {
-            Some(key) => self.expressions(key, block, report),
-            None => report.take(line, Err(Fault::Form)),
+        let judged = self.judge(line, block, report);
+        match judged {
+            Err(Fault::Form) => report.take(line, Err(Fault::Form)),
+            judged => judged,
         }
     }
 }

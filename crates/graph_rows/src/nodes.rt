@@ -46,8 +46,8 @@ impl Nodes {
         }
     }
 
-    fn many(&mut self, count: usize) -> Result<usize, Fault> {
-        for at in 0..count {
+    fn many(&mut self, question: &[u8]) -> Result<usize, Fault> {
+        for at in 0..size_at(question, 1)? {
             let shape = Shape::Var(VarName::Now(at), 7);
             if self.arena.fits(&shape) {
                 self.arena.intern(self.alloc, shape)?;
@@ -56,7 +56,8 @@ impl Nodes {
         Ok(self.arena.len())
     }
 
-    fn cut(&mut self, len: usize) -> Result<usize, Fault> {
+    fn cut(&mut self, question: &[u8]) -> Result<usize, Fault> {
+        let len = size_at(question, 1)?;
         if len > self.arena.len() {
             return Err(Fault::Form);
         }
@@ -81,8 +82,8 @@ impl Nodes {
 
     fn answer(&mut self, question: &[u8]) -> Result<usize, Fault> {
         match named(&CALLS, word(question, 0)) {
-            Some(Call::Many) => self.many(size_at(question, 1)?),
-            Some(Call::Cut) => self.cut(size_at(question, 1)?),
+            Some(Call::Many) => self.many(question),
+            Some(Call::Cut) => self.cut(question),
             Some(Call::Copy) => self.keep(),
             Some(Call::Back) => self.back(),
             None => self.node(question),

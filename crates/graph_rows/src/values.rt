@@ -50,7 +50,8 @@ fn put_plane(said: &mut Vec<u8>, width: u8, plane: u128) -> Result<(), Fault>
     Ok(())
 }
 
-fn put_bit(said: &mut Vec<u8>, at: u8, a: &Four) -> Result<(), Fault> {
+fn put_bit(said: &mut Vec<u8>, question: &[u8], a: &Four) -> Result<(), Fault> {
+    let at = small_at(question, 2)?;
     if at >= a.width() {
         return Err(Fault::Form);
     }
@@ -61,6 +62,11 @@ fn vector_at(text: &[u8], at: usize) -> Result<Four, Fault> {
     digits(word(text, at)).ok_or(Fault::Form)
 }
 
+fn put_below(said: &mut Vec<u8>, question: &[u8], a: &Four) -> Result<(), Fault> {
+    let b = vector_at(question, 2)?;
+    put_truth(said, a.below(&b))
+}
+
 impl Planes {
     fn say(&self, question: &[u8], a: &Four, said: &mut Vec<u8>) -> Result<(), Fault> {
         match first_named(&CALLS, question)? {
@@ -68,8 +74,8 @@ impl Planes {
             Call::Up => put_plane(said, a.width(), a.up()),
             Call::Low => put_plane(said, a.width(), a.low()),
             Call::IsBool => put_truth(said, a.is_bool()),
-            Call::Below => put_truth(said, a.below(&vector_at(question, 2)?)),
-            Call::Bit => put_bit(said, small_at(question, 2)?, a),
+            Call::Below => put_below(said, question, a),
+            Call::Bit => put_bit(said, question, a),
         }
     }
 }

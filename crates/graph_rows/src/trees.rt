@@ -1,7 +1,7 @@
 //! Trees over lists and boxes. `trees`: a tree as words, a branch before what is on it, and the sum of its leaves modulo 256:
 //! `pair list.3 1 pair 20 30 list.0 4 => 55`.
 
-use case_rows::{Fault, Judge, part, put_number, size, small};
+use case_rows::{Fault, Judge, named, part, put_number, size, small};
 use items::{Boxed, Items, both};
 use std::alloc::{AllocError, Global};
 
@@ -59,29 +59,33 @@ fn take(children: &mut Items<Tree>, stack: &mut Items<Tree>) -> Result<(), Fault
     }
 }
 
-fn take_all(
-    children: &mut Items<Tree>,
-    stack: &mut Items<Tree>,
-    count: usize,
-) -> Result<(), Fault> {
-    for _ in 0..count {
+fn take_all(children: &mut Items<Tree>, stack: &mut Items<Tree>, word: &[u8]) -> Result<(), Fault> {
+    for _ in 0..size(part(word, b'.', 1))? {
         take(children, stack)?;
     }
     Ok(())
 }
 
-fn list(alloc: Global, stack: &mut Items<Tree>, count: usize) -> Result<Tree, Fault> {
+fn list(alloc: Global, stack: &mut Items<Tree>, word: &[u8]) -> Result<Tree, Fault> {
     let mut children = Items::new(alloc);
-    let taken = take_all(&mut children, stack, count);
+    let taken = take_all(&mut children, stack, word);
     let (children, _) = both(children, taken)?;
     Ok(Tree::Node(children))
 }
 
+#[derive(Clone, Copy)]
+enum Branch {
+    Pair,
+    List,
+}
+
+static BRANCHES: [(&[u8], Branch); 2] = [(b"pair", Branch::Pair), (b"list", Branch::List)];
+
 fn put_tree(alloc: Global, word: &[u8], stack: &mut Items<Tree>) -> Result<(), Fault> {
-    let tree = match part(word, b'.', 0) {
-        b"pair" => pair(alloc, stack),
-        b"list" => list(alloc, stack, size(part(word, b'.', 1))?),
-        _ => leaf(word),
+    let tree = match named(&BRANCHES, part(word, b'.', 0)) {
+        Some(Branch::Pair) => pair(alloc, stack),
+        Some(Branch::List) => list(alloc, stack, word),
+        None => leaf(word),
     };
     push(stack, tree)
 }

@@ -1,69 +1,23 @@
-//! Joined wires. A part of a wire is `2.1.2`: the wire, the lowest bit, and how many; `1.4.4,0.0.4` are parts, the highest first, and `-`
-//! is no part.
+//! Joined wires, by parts of them.
 //!
 //! - `joins 4 4 4`: the widths of the wires. `join 2.1.2 0.2.2 => joined` joins parts of a wire to parts of wires below it, or says that
 //!   they are taken; `first 2.0.4 => 2.3.1,0.2.2,2.0.1` are the first bits that those are joined to.
 //!   `rising 1000` joins each of so many wires to the one before it, the first of them first, and `falling` the last of them first;
 //!   `leading` is how many wires lead to the first.
-//! - `cut`: `unite 1.4.4,1.0.4 => 1.0.8` unites parts that adjoin, `slice 3 2 1.4.4 => ..` cuts bits out, from the lowest and so many,
-//!   and `concat 1.4.4 0.0.4` puts parts together.
+//! - `cut`: `unite 1.4.4,1.0.4 => 1.0.8` unites parts that adjoin, `slice 1.4.4 3 1 => 1.7.1` cuts bits out, from that bit on and so many,
+//!   and `concat 1.4.4 0.0.4` puts parts together, and `copy 1.4.4` copies them.
 
 ghost use Rattle.std.specs.Prelude.{◌≡◌, ◌≤◌, All, IsTrue};
 ghost use Rattle.lhs_alias.specs.Joined.{widths_of};
 
+use crate::parts::{parts_of, put_parts};
 use case_rows::{
-    Fault, Judge, Report, each_row, first_named, part, put, put_number, put_size, size, size_at,
-    small, word,
+    Fault, Judge, Report, each_row, first_named, part, put, put_number, size, size_at, small, word,
+    words_from,
 };
 use items::both;
 use lhs_alias::{Joins, Lhs, Seg};
 use std::alloc::Global;
-
-fn seg(text: &[u8]) -> Option<Seg> {
-    Some(Seg {
-        wire: size(part(text, b'.', 0)).ok()?,
-        lo: small(part(text, b'.', 1))?,
-        width: small(part(text, b'.', 2))?,
-    })
-}
-
-fn put_segs(segs: &mut Vec<Seg>, text: &[u8]) -> Result<(), Fault> {
-    if text != b"-".as_slice() {
-        for part in text.split(|c| *c == b',') {
-            let next = seg(part).ok_or(Fault::Form)?;
-            segs.push(next)?;
-        }
-    }
-    Ok(())
-}
-
-fn lhs(alloc: Global, text: &[u8]) -> Result<Lhs, Fault> {
-    let mut segs = Vec::new(alloc);
-    put_segs(&mut segs, text)?;
-    Ok(Lhs::from_vec(segs))
-}
-
-// A point and a number behind it.
-fn put_next(said: &mut Vec<u8>, number: u8) -> Result<(), Fault> {
-    put(said, b".")?;
-    put_number(said, u64::from(number))
-}
-
-fn put_seg(said: &mut Vec<u8>, seg: Seg) -> Result<(), Fault> {
-    put_size(said, seg.wire)?;
-    put_next(said, seg.lo)?;
-    put_next(said, seg.width)
-}
-
-fn put_lhs(said: &mut Vec<u8>, of: &Lhs) -> Result<(), Fault> {
-    for seg in of.segs() {
-        if !said.is_empty() {
-            put(said, b",")?;
-        }
-        put_seg(said, *seg)?;
-    }
-    Ok(())
-}
 
 #[derive(Clone, Copy)]
 enum Call {
@@ -132,8 +86,8 @@ impl Board {
     }
 
     fn join(&mut self, child: &[u8], parent: &[u8]) -> Result<bool, Fault> {
-        let child = lhs(self.alloc, child)?;
-        let (child, parent) = both(child, lhs(self.alloc, parent))?;
+        let child = parts_of(self.alloc, child)?;
+        let (child, parent) = both(child, parts_of(self.alloc, parent))?;
         self.unite(&child, &parent)
     }
 }
@@ -172,18 +126,19 @@ impl Board {
     }
 
     // How many of the wires lead to the first.
-    fn leading(&self, wires: usize) -> Result<u64, Fault> {
+    fn say_leading(&self, said: &mut Vec<u8>) -> Result<(), Fault> {
         let mut leading: u64 = 0;
-        for wire in 0..wires {
+        for wire in 0..self.widths.len() {
             if self.leads(wire)? {
                 leading = leading.saturating_add(1);
             }
         }
-        Ok(leading)
+        put_number(said, leading)
     }
 
     // Joins each wire to the one before it, the first or the last of them first.
-    fn link(&mut self, joins: usize, rising: bool) -> Result<(), Fault> {
+    fn link(&mut self, question: &[u8], rising: bool) -> Result<(), Fault> {
+        let joins = size_at(question, 1)?;
         for k in 0..joins {
             let wire = if rising {
                 k.saturating_add(1)
@@ -201,9 +156,9 @@ impl Board {
         match first_named(&CALLS, question)? {
             Call::Join => self.say_join(question, said),
             Call::First => self.say_first(word(question, 1), said),
-            Call::Rising => self.link(size_at(question, 1)?, true),
-            Call::Falling => self.link(size_at(question, 1)?, false),
-            Call::Leading => put_number(said, self.leading(self.widths.len())?),
+            Call::Rising => self.link(question, true),
+            Call::Falling => self.link(question, false),
+            Call::Leading => self.say_leading(said),
         }
     }
 
@@ -213,10 +168,10 @@ impl Board {
     }
 
     fn say_first(&self, of: &[u8], said: &mut Vec<u8>) -> Result<(), Fault> {
-        let of = lhs(self.alloc, of)?;
+        let of = parts_of(self.alloc, of)?;
         let first = self.first(&of);
         let (_, first) = both(of, first)?;
-        put_lhs(said, &first)
+        put_parts(said, &first)
     }
 }
 
@@ -226,9 +181,9 @@ impl Judge for Board {
     }
 }
 
-// The widths of the words from the second on; `1*1001` is a width so many times.
+// The widths of words; `1*1001` is a width so many times.
 fn put_all_widths(widths: &mut Vec<u8>, words: &[u8]) -> Result<(), Fault> {
-    for word in words.split(|c| *c == b' ').skip(1) {
+    for word in words.split(|c| *c == b' ') {
         put_widths(widths, word)?;
     }
     Ok(())
@@ -256,7 +211,7 @@ pub fn judge_joins(
     block: &[u8],
     report: &mut Report,
 ) -> Result<(), Fault> {
-    let mut board = board_of_words(alloc, line)?;
+    let mut board = board_of_words(alloc, words_from(line, 1))?;
     each_row(&mut board, block, report)
 }
 
@@ -290,8 +245,13 @@ fn slice(of: &Lhs, lo: usize, width: usize) -> Result<Lhs, Fault> {
     Ok(slice)
 }
 
+fn slice_at(of: &Lhs, question: &[u8]) -> Result<Lhs, Fault> {
+    let lo = size_at(question, 2)?;
+    slice(of, lo, size_at(question, 3)?)
+}
+
 fn concat(alloc: Global, high: &Lhs, low: &[u8]) -> Result<Lhs, Fault> {
-    let low = lhs(alloc, low)?;
+    let low = parts_of(alloc, low)?;
     let both = high.concat(&low)?;
     Ok(both)
 }
@@ -320,26 +280,18 @@ impl Cut {
     fn made(&self, question: &[u8], of: &Lhs) -> Result<Lhs, Fault> {
         match first_named(&WAYS, question)? {
             Way::Unite => normal(of),
-            Way::Slice => slice(of, size_at(question, 2)?, size_at(question, 3)?),
+            Way::Slice => slice_at(of, question),
             Way::Concat => concat(self.alloc, of, word(question, 2)),
             Way::Copy => copy(of),
         }
     }
 }
 
-fn put_cut(said: &mut Vec<u8>, made: &Lhs) -> Result<(), Fault> {
-    if made.segs().is_empty() {
-        put(said, b"-")
-    } else {
-        put_lhs(said, made)
-    }
-}
-
 impl Judge for Cut {
     fn row(&mut self, question: &[u8], _wanted: &[u8], said: &mut Vec<u8>) -> Result<(), Fault> {
-        let of = lhs(self.alloc, word(question, 1))?;
+        let of = parts_of(self.alloc, word(question, 1))?;
         let made = self.made(question, &of);
         let (_, made) = both(of, made)?;
-        put_cut(said, &made)
+        put_parts(said, &made)
     }
 }

@@ -2,11 +2,11 @@
 //!
 //! - `ring 6`: the list of numbers below a room, in an order: `push 3`, `front 5`, `remove 5` and `pop` change it, `has 6` tells, and each
 //!   answers the list then, as it is read from its links: `front 5 => 5 3 1`; `pop => 3, 1 5`; `has 6 => no`.
-//! - `calls`: a list that owns its elements: `take 1 2`, `push 3`, `append 4 5`, `pop`, `set 1 9`, `get 4`, `empty`, `len`;
-//!   `whole` goes by way of the vector that it owns, and `boxed 7` is a number in a box.
+//! - `owned`: a list that owns its elements: `take 1 2`, `push 3`, `append 4 5`, `pop`, `set 1 9`, `get 4`, `empty`, `len`;
+//!   `whole` goes by way of the vector that it owns, and `boxed 7` is a number that is put in a box and taken out.
 
 use case_rows::{
-    Fault, Judge, Report, each_row, first_named, put, put_number, size_at, small, small_at,
+    Fault, Judge, Report, each_row, first_named, put, put_size, size, size_at, words_from,
 };
 use idx_list::IdxList;
 use items::{Boxed, Items};
@@ -46,11 +46,22 @@ pub fn judge_ring(
     each_row(&mut ring, block, report)
 }
 
-fn put_size(said: &mut Vec<u8>, size: usize) -> Result<(), Fault> {
-    if !said.is_empty() {
-        put(said, b" ")?;
+// Puts a number behind what is said already.
+fn put_next(said: &mut Vec<u8>, number: usize) -> Result<(), Fault> {
+    put(said, if said.is_empty() { b"" } else { b" " })?;
+    put_size(said, number)
+}
+
+fn put_truth(said: &mut Vec<u8>, holds: bool) -> Result<(), Fault> {
+    put(said, if holds { b"yes," } else { b"no," })
+}
+
+fn put_one(said: &mut Vec<u8>, number: Option<usize>) -> Result<(), Fault> {
+    match number {
+        Some(number) => put_size(said, number)?,
+        None => put(said, b"none")?,
     }
-    put_number(said, size as u64)
+    put(said, b",")
 }
 
 // A number, and what stands behind it. It is told where the link back leads elsewhere.
@@ -60,7 +71,7 @@ fn put_link(
     x: usize,
     said: &mut Vec<u8>,
 ) -> Result<Option<usize>, Fault> {
-    put_size(said, x)?;
+    put_next(said, x)?;
     if !list.has(x) {
         put(said, b" that is not there")?;
         return Ok(None);
@@ -115,19 +126,8 @@ impl Ring {
         }
     }
 
-    fn pop(&mut self, said: &mut Vec<u8>) -> Result<(), Fault> {
-        match self.list.pop_front() {
-            Some(x) => put_number(said, x as u64)?,
-            None => put(said, b"none")?,
-        }
-        put(said, b",")
-    }
-
-    fn has(&self, x: usize, said: &mut Vec<u8>) -> Result<(), Fault> {
-        put_truth(self.list.has(x), said)
-    }
-
-    fn move_front(&mut self, x: usize) -> Result<(), Fault> {
+    fn move_front(&mut self, question: &[u8]) -> Result<(), Fault> {
+        let x = size_at(question, 1)?;
         if !self.list.has(x) {
             return Err(Fault::Form);
         }
@@ -135,7 +135,8 @@ impl Ring {
         Ok(())
     }
 
-    fn remove(&mut self, x: usize) -> Result<(), Fault> {
+    fn remove(&mut self, question: &[u8]) -> Result<(), Fault> {
+        let x = size_at(question, 1)?;
         if !self.list.has(x) {
             return Err(Fault::Form);
         }
@@ -143,7 +144,8 @@ impl Ring {
         Ok(())
     }
 
-    fn push(&mut self, x: usize) -> Result<(), Fault> {
+    fn push(&mut self, question: &[u8]) -> Result<(), Fault> {
+        let x = size_at(question, 1)?;
         if x >= self.list.room() || self.list.has(x) {
             return Err(Fault::Form);
         }
@@ -151,13 +153,18 @@ impl Ring {
         Ok(())
     }
 
+    fn has(&self, question: &[u8], said: &mut Vec<u8>) -> Result<(), Fault> {
+        let x = size_at(question, 1)?;
+        put_truth(said, self.list.has(x))
+    }
+
     fn change(&mut self, question: &[u8], said: &mut Vec<u8>) -> Result<(), Fault> {
         match first_named(&TURNS, question)? {
-            Turn::Pop => self.pop(said),
-            Turn::Push => self.push(size_at(question, 1)?),
-            Turn::Front => self.move_front(size_at(question, 1)?),
-            Turn::Remove => self.remove(size_at(question, 1)?),
-            Turn::Has => self.has(size_at(question, 1)?, said),
+            Turn::Pop => put_one(said, self.list.pop_front()),
+            Turn::Push => self.push(question),
+            Turn::Front => self.move_front(question),
+            Turn::Remove => self.remove(question),
+            Turn::Has => self.has(question, said),
         }
     }
 }
@@ -197,73 +204,65 @@ static CALLS: [(&[u8], Call); 10] = [
 ];
 
 #[derive(Drop)]
-pub struct Calls {
+pub struct Owned {
     alloc: Global,
-    list: Items<u8>,
+    list: Items<usize>,
 }
 
-// Puts the numbers of words from the second on.
-fn put_numbers(numbers: &mut Vec<u8>, words: &[u8]) -> Result<(), Fault> {
-    for word in words.split(|c| *c == b' ').skip(1) {
-        let number = small(word).ok_or(Fault::Form)?;
-        numbers.push(number)?;
+fn put_numbers(numbers: &mut Vec<usize>, words: &[u8]) -> Result<(), Fault> {
+    for word in words.split(|c| *c == b' ') {
+        numbers.push(size(word)?)?;
     }
     Ok(())
 }
 
-fn numbers(alloc: Global, words: &[u8]) -> Result<Items<u8>, Fault> {
+// The numbers behind the first word.
+fn numbers(alloc: Global, question: &[u8]) -> Result<Items<usize>, Fault> {
     let mut numbers = Vec::new(alloc);
-    put_numbers(&mut numbers, words)?;
+    put_numbers(&mut numbers, words_from(question, 1))?;
     Ok(Items::from_vec(numbers))
 }
 
-fn put_truth(holds: bool, said: &mut Vec<u8>) -> Result<(), Fault> {
-    put(said, if holds { b"yes," } else { b"no," })
-}
-
-fn put_one(x: Option<u8>, said: &mut Vec<u8>) -> Result<(), Fault> {
-    match x {
-        Some(x) => put_number(said, u64::from(x))?,
-        None => put(said, b"none")?,
-    }
-    put(said, b",")
-}
-
-// What a box has, and what is taken out of it.
-fn put_boxed(alloc: Global, x: u8, said: &mut Vec<u8>) -> Result<(), Fault> {
-    let boxed = Boxed::from_box(Boxed::new(alloc, x)?.into_box());
+// What a box has, where the same is taken out of it.
+fn boxed(alloc: Global, number: usize) -> Result<Option<usize>, Fault> {
+    let boxed = Boxed::from_box(Boxed::new(alloc, number)?.into_box());
     let seen = *boxed.get();
     let taken = boxed.into_inner();
-    put_size(said, usize::from(seen))?;
-    put_size(said, usize::from(taken))?;
-    put(said, b",")
+    Ok(if seen == taken { Some(seen) } else { None })
 }
 
-impl Calls {
-    pub fn new(alloc: Global) -> Calls {
-        Calls {
+fn put_boxed(alloc: Global, question: &[u8], said: &mut Vec<u8>) -> Result<(), Fault> {
+    let number = size_at(question, 1)?;
+    put_one(said, boxed(alloc, number)?)
+}
+
+impl Owned {
+    pub fn new(alloc: Global) -> Owned {
+        Owned {
             alloc,
             list: Items::new(alloc),
         }
     }
 
     fn put_all(&self, said: &mut Vec<u8>) -> Result<(), Fault> {
-        for x in self.list.as_slice() {
-            put_size(said, usize::from(*x))?;
+        for number in self.list.as_slice() {
+            put_next(said, *number)?;
         }
         Ok(())
     }
 
-    fn set(&mut self, at: usize, x: u8) -> Result<(), Fault> {
+    fn set(&mut self, question: &[u8]) -> Result<(), Fault> {
+        let (at, number) = (size_at(question, 1)?, size_at(question, 2)?);
         if at >= self.list.len() {
             return Err(Fault::Form);
         }
-        self.list.set(at, x);
+        self.list.set(at, number);
         Ok(())
     }
 
-    fn push(&mut self, x: u8) -> Result<(), Fault> {
-        Ok(self.list.push(x)?)
+    fn push(&mut self, question: &[u8]) -> Result<(), Fault> {
+        let number = size_at(question, 1)?;
+        Ok(self.list.push(number)?)
     }
 
     fn append(&mut self, question: &[u8]) -> Result<(), Fault> {
@@ -276,6 +275,11 @@ impl Calls {
         Ok(())
     }
 
+    fn get(&self, question: &[u8], said: &mut Vec<u8>) -> Result<(), Fault> {
+        let at = size_at(question, 1)?;
+        put_one(said, self.list.get(at).copied())
+    }
+
     // The list, by way of the vector that it owns.
     fn make_whole(&mut self) -> Result<(), Fault> {
         let list = mem::replace(&mut self.list, Items::new(self.alloc));
@@ -283,32 +287,25 @@ impl Calls {
         Ok(())
     }
 
-    fn change(&mut self, call: Call, question: &[u8], said: &mut Vec<u8>) -> Result<(), Fault> {
-        match call {
+    fn say(&mut self, question: &[u8], said: &mut Vec<u8>) -> Result<(), Fault> {
+        match first_named(&CALLS, question)? {
             Call::Take => self.take(question),
-            Call::Push => self.push(small_at(question, 1)?),
+            Call::Push => self.push(question),
             Call::Append => self.append(question),
-            Call::Set => self.set(size_at(question, 1)?, small_at(question, 2)?),
+            Call::Set => self.set(question),
             Call::Whole => self.make_whole(),
-            _ => self.tell(call, question, said),
-        }
-    }
-
-    fn tell(&mut self, call: Call, question: &[u8], said: &mut Vec<u8>) -> Result<(), Fault> {
-        match call {
-            Call::Pop => put_one(self.list.pop(), said),
-            Call::Get => put_one(self.list.get(size_at(question, 1)?).copied(), said),
-            Call::Empty => put_truth(self.list.is_empty(), said),
-            Call::Len => put_one(u8::try_from(self.list.len()).ok(), said),
-            _ => put_boxed(self.alloc, small_at(question, 1)?, said),
+            Call::Pop => put_one(said, self.list.pop()),
+            Call::Get => self.get(question, said),
+            Call::Empty => put_truth(said, self.list.is_empty()),
+            Call::Len => put_one(said, Some(self.list.len())),
+            Call::Boxed => put_boxed(self.alloc, question, said),
         }
     }
 }
 
-impl Judge for Calls {
+impl Judge for Owned {
     fn row(&mut self, question: &[u8], _wanted: &[u8], said: &mut Vec<u8>) -> Result<(), Fault> {
-        let call = first_named(&CALLS, question)?;
-        self.change(call, question, said)?;
+        self.say(question, said)?;
         self.put_all(said)
     }
 }
