@@ -60,8 +60,7 @@ fn closing_braces(tokens: &mut Cursor<'_>) -> Result<(Place, Place), ParseErr>
     ensures { Reads ((test.mark Mark.RightBrace ⊗ test.mark Mark.RightBrace) tokens.old) result tokens.new }
 {
     let inner = tokens.mark(Mark::RightBrace)?;
-    let outer = tokens.mark(Mark::RightBrace)?;
-    Ok((inner, outer))
+    both(inner, tokens.mark(Mark::RightBrace))
 }
 
 fn sees(tokens: &Cursor<'_>, mark: Mark) -> bool
@@ -76,18 +75,17 @@ fn sees_select(tokens: &Cursor<'_>) -> bool
     select_opener(tokens).is_some()
 }
 
-// The mark of a range.
-#[tactic(auto, unfolding(sv_cursor::specs::Parsers::token))]
-fn take_range(tokens: &mut Cursor<'_>) -> Result<RangeMark, ParseErr>
-    ensures { Reads (parser.token sign.range_test tokens.old) result tokens.new }
+// The name of a member, which lies one deeper than what it is a member of.
+#[tactic(auto, unfolding(crate::specs::Reading::member))]
+fn member(alloc: Global, tokens: &mut Cursor<'_>, depth: u8) -> Result<Select, ParseErr>
+    ensures { Reads (spec.member depth (spec.expr depth) tokens.old) result tokens.new }
 {
-    match range_mark(tokens) {
-        Some(mark) => {
-            tokens.skip();
-            Ok(mark)
-        }
-        None => Err(tokens.refuse()),
+    if depth == 0 {
+        return Err(tokens.too_deep());
     }
+    let place = tokens.mark(Mark::Dot)?;
+    let word = tokens.id(alloc)?;
+    Ok(Select::Member(place, word))
 }
 
 /// The rules of expressions, over a reader of their parts.
@@ -123,8 +121,7 @@ impl<F: Fn(Global, &mut Cursor<'_>, u8, u8) -> Result<Expr, ParseErr>> Grammar<F
     {
         let open = tokens.mark(Mark::LeftParen)?;
         let inner = self.part(tokens, 0)?;
-        let close = tokens.mark(Mark::RightParen)?;
-        Ok((open, (inner, close)))
+        both(open, both(inner, tokens.mark(Mark::RightParen)))
     }
 
     #[tactic(auto, unfolding(crate::specs::Reading::cast))]
@@ -177,28 +174,7 @@ impl<F: Fn(Global, &mut Cursor<'_>, u8, u8) -> Result<Expr, ParseErr>> Grammar<F
 
     // ---- selects
 
-    #[tactic(auto, unfolding(crate::specs::Reading::member))]
-    fn member(&self, tokens: &mut Cursor<'_>) -> Result<Select, ParseErr>
-        requires { Nests self.now.depth (F.pre self.now.expr) (F.post self.now.expr) }
-        ensures { Reads (spec.member self.now.depth (spec.expr self.now.depth) tokens.old) result tokens.new }
-    {
-        if self.depth == 0 {
-            return Err(tokens.too_deep());
-        }
-        let place = tokens.mark(Mark::Dot)?;
-        let word = tokens.id(self.alloc)?;
-        Ok(Select::Member(place, word))
-    }
-
-    fn range(&self, tokens: &mut Cursor<'_>) -> Result<(RangeMark, Boxed<Expr>), ParseErr>
-        requires { Nests self.now.depth (F.pre self.now.expr) (F.post self.now.expr) }
-        ensures { Reads (spec.range self.now.depth (spec.expr self.now.depth) tokens.old) result tokens.new }
-    {
-        let mark = take_range(tokens)?;
-        let last = self.part(tokens, 0)?;
-        Ok((mark, last))
-    }
-
+    #[tactic(auto, unfolding(sv_cursor::specs::Parsers::token))]
     fn maybe_range(
         &self,
         tokens: &mut Cursor<'_>,
@@ -207,9 +183,10 @@ impl<F: Fn(Global, &mut Cursor<'_>, u8, u8) -> Result<Expr, ParseErr>> Grammar<F
         ensures { Reads (spec.maybe_range self.now.depth (spec.expr self.now.depth) tokens.old) result tokens.new }
     {
         match range_mark(tokens) {
-            Some(_) => {
-                let range = self.range(tokens)?;
-                Ok(Some(range))
+            Some(mark) => {
+                tokens.skip();
+                let last = self.part(tokens, 0)?;
+                Ok(Some((mark, last)))
             }
             None => Ok(None),
         }
@@ -241,23 +218,14 @@ impl<F: Fn(Global, &mut Cursor<'_>, u8, u8) -> Result<Expr, ParseErr>> Grammar<F
         }
     }
 
-    fn select_for(&self, tokens: &mut Cursor<'_>, opener: SelectOpener) -> Result<Select, ParseErr>
-        requires { Nests self.now.depth (F.pre self.now.expr) (F.post self.now.expr) }
-        ensures { Reads (spec.select_for self.now.depth (spec.expr self.now.depth) opener tokens.old) result tokens.new }
-    {
-        match opener {
-            SelectOpener::Dot => self.member(tokens),
-            SelectOpener::Bracket => self.bracket(tokens),
-        }
-    }
-
     #[tactic(auto, unfolding(crate::specs::Reading::select))]
     fn select(&self, tokens: &mut Cursor<'_>) -> Result<Select, ParseErr>
         requires { Nests self.now.depth (F.pre self.now.expr) (F.post self.now.expr) }
         ensures { Reads (spec.select self.now.depth (spec.expr self.now.depth) tokens.old) result tokens.new }
     {
         match select_opener(tokens) {
-            Some(opener) => self.select_for(tokens, opener),
+            Some(SelectOpener::Dot) => member(self.alloc, tokens, self.depth),
+            Some(SelectOpener::Bracket) => self.bracket(tokens),
             None => Err(tokens.refuse()),
         }
     }
@@ -351,8 +319,8 @@ impl<F: Fn(Global, &mut Cursor<'_>, u8, u8) -> Result<Expr, ParseErr>> Grammar<F
         ensures { Reads (spec.copies self.now.depth (spec.expr self.now.depth) tokens.old) result tokens.new }
     {
         tokens.mark(Mark::LeftBrace)?;
-        let (first, more) = self.some(tokens)?;
-        closing_braces(tokens)?;
+        let some = self.some(tokens)?;
+        let ((first, more), _) = both(some, closing_braces(tokens))?;
         let all = with_first(self.alloc, first, more)?;
         Ok(all)
     }
@@ -363,8 +331,7 @@ impl<F: Fn(Global, &mut Cursor<'_>, u8, u8) -> Result<Expr, ParseErr>> Grammar<F
         ensures { Reads (spec.closed_more self.now.depth (spec.expr self.now.depth) tokens.old) result tokens.new }
     {
         let all = self.more(tokens)?;
-        let close = tokens.mark(Mark::RightBrace)?;
-        Ok((all, close))
+        both(all, tokens.mark(Mark::RightBrace))
     }
 
     #[tactic(auto, unfolding(crate::specs::Reading::brace_tail))]
@@ -427,21 +394,6 @@ impl<F: Fn(Global, &mut Cursor<'_>, u8, u8) -> Result<Expr, ParseErr>> Grammar<F
         Ok(Expr::Unary(op, place, operand))
     }
 
-    fn prefix_for(&self, tokens: &mut Cursor<'_>, opener: Opener) -> Result<Expr, ParseErr>
-        requires { Nests self.now.depth (F.pre self.now.expr) (F.post self.now.expr) }
-        ensures { Reads (spec.prefix_for self.now.depth (spec.expr self.now.depth) opener tokens.old) result tokens.new }
-    {
-        match opener {
-            Opener::Literal => self.literal(tokens),
-            Opener::Name => self.named(tokens),
-            Opener::Paren => self.parenthesized(tokens),
-            Opener::Brace => self.braced(tokens),
-            Opener::Sign(sign) => self.cast_sign(tokens, sign),
-            Opener::System(_) => self.called(tokens),
-            Opener::Unary(op) => self.prefixed(tokens, op),
-        }
-    }
-
     /// What has no operator between two of its parts: a primary, or a unary operator and its operand (A.8.4, A.8.3).
     #[tactic(auto, unfolding(crate::specs::Reading::prefix))]
     pub fn prefix(&self, tokens: &mut Cursor<'_>) -> Result<Expr, ParseErr>
@@ -449,7 +401,13 @@ impl<F: Fn(Global, &mut Cursor<'_>, u8, u8) -> Result<Expr, ParseErr>> Grammar<F
         ensures { Reads (spec.prefix self.now.depth (spec.expr self.now.depth) tokens.old) result tokens.new }
     {
         match begins(tokens) {
-            Some(opener) => self.prefix_for(tokens, opener),
+            Some(Opener::Literal) => self.literal(tokens),
+            Some(Opener::Name) => self.named(tokens),
+            Some(Opener::Paren) => self.parenthesized(tokens),
+            Some(Opener::Brace) => self.braced(tokens),
+            Some(Opener::Sign(sign)) => self.cast_sign(tokens, sign),
+            Some(Opener::System(_)) => self.called(tokens),
+            Some(Opener::Unary(op)) => self.prefixed(tokens, op),
             None => Err(tokens.refuse()),
         }
     }

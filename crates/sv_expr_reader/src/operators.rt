@@ -39,14 +39,25 @@ fn goes_on(tokens: &Cursor<'_>, least: u8) -> Option<Joiner>
     }
 }
 
-impl<F: Fn(Global, &mut Cursor<'_>, u8, u8) -> Result<Expr, ParseErr>> Grammar<F> {
-    #[tactic(auto, using(crate::proofs::Turns::fits))]
-    fn fits(&self, high: u8) -> bool
-        ensures { (x : Expr) → high ≡ capped x → result ≡ nat_lt (spec.height x) self.now.depth }
-    {
-        high < self.depth
-    }
+// Whether a left operand of this height is no higher than the depth allows.
+#[tactic(auto, using(crate::proofs::Turns::fits))]
+fn fits(high: u8, depth: u8) -> bool
+    ensures { (x : Expr) → high ≡ capped x → result ≡ nat_lt (spec.height x) depth }
+{
+    high < depth
+}
 
+// What was read from there on lies too deep for one operator more.
+#[tactic(auto, using(crate::proofs::Turns::refused_high))]
+fn too_high(depth: u8, tokens: &Cursor<'_>, from: &Cursor<'_>, left: &Expr) -> ParseErr
+    ensures { result ≡ spec.too_high depth left.now from.now tokens.now }
+{
+    let before = first_at(left, depth);
+    let all = from.left();
+    ParseErr::TooDeep(all.saturating_sub(before), tokens.left())
+}
+
+impl<F: Fn(Global, &mut Cursor<'_>, u8, u8) -> Result<Expr, ParseErr>> Grammar<F> {
     fn joined(
         &self,
         tokens: &mut Cursor<'_>,
@@ -67,8 +78,7 @@ impl<F: Fn(Global, &mut Cursor<'_>, u8, u8) -> Result<Expr, ParseErr>> Grammar<F
         ensures { Reads ((tests.mark Mark.Colon ⊗ spec.expr self.now.depth 1) tokens.old) result tokens.new }
     {
         let colon = tokens.mark(Mark::Colon)?;
-        let second = self.part(tokens, 1)?;
-        Ok((colon, second))
+        both(colon, self.part(tokens, 1))
     }
 
     fn chosen(&self, tokens: &mut Cursor<'_>, test: Boxed<Expr>) -> Result<Expr, ParseErr>
@@ -97,16 +107,6 @@ impl<F: Fn(Global, &mut Cursor<'_>, u8, u8) -> Result<Expr, ParseErr>> Grammar<F
         }
     }
 
-    // What was read from there on lies too deep for one operator more.
-    #[tactic(auto, using(crate::proofs::Turns::refused_high))]
-    fn too_high(&self, tokens: &Cursor<'_>, from: &Cursor<'_>, left: &Expr) -> ParseErr
-        ensures { result ≡ spec.too_high self.now.depth left.now from.now tokens.now }
-    {
-        let before = first_at(left, self.depth);
-        let all = from.left();
-        ParseErr::TooDeep(all.saturating_sub(before), tokens.left())
-    }
-
     fn climb(
         &self,
         tokens: &mut Cursor<'_>,
@@ -123,8 +123,8 @@ impl<F: Fn(Global, &mut Cursor<'_>, u8, u8) -> Result<Expr, ParseErr>> Grammar<F
                 return Ok(left);
             };
             let high = height_over(&left, first);
-            if !self.fits(high) {
-                let refusal = self.too_high(tokens, from, &left);
+            if !fits(high, self.depth) {
+                let refusal = too_high(self.depth, tokens, from, &left);
                 drop(left);
                 return Err(refusal);
             }
