@@ -1,5 +1,5 @@
 -- What an expression is typed as, by its production.
-use Rattle.std.proofs.Common.{◌≡◌, ℕ, zero, suc, ◌+◌, ◌<◌, ◌≤◌, Bool, List, [], ◌∷◌, ◌++◌, length, take, drop, get_or, map, refl, sym, ap, ◌∙◌, subst, Result, Ok, Err, arith, append_assoc}
+use Rattle.std.proofs.Common.{◌≡◌, ℕ, zero, suc, ◌+◌, ◌<◌, ◌≤◌, Bool, false, ◌⊎◌, inl, inr, List, [], ◌∷◌, ◌++◌, length, take, drop, get_or, map, refl, sym, ap, ◌∙◌, subst, Result, Ok, Err, arith, append_assoc}
 use Rattle.std.specs.Result.{IfOk}
 use Rattle.std.specs.List.{AllZip, AllByRecursion}
 use Rattle.std.proofs.lemmas.List.Elements.{All-from_recursion, recursion_from_All}
@@ -10,6 +10,7 @@ use Rattle.sv_outside.specs.declared.refusal.Place.{Place}
 use Rattle.sv_tree.specs.declared.word.Word.{Word}
 use Rattle.sv_tree.specs.declared.exprs.Sign.{Sign}
 use Rattle.sv_tree.specs.declared.exprs.RangeMark.{RangeMark}
+use Rattle.sv_tree.specs.declared.exprs.RangeMark.TheVariants as mark
 use Rattle.sv_tree.specs.declared.exprs.SystemName.{SystemName}
 use Rattle.sv_tree.specs.declared.exprs.UnaryOp.{UnaryOp}
 use Rattle.sv_tree.specs.declared.exprs.BinaryOp.{BinaryOp}
@@ -34,6 +35,7 @@ use Rattle.sv_typed.specs.declared.tree.Pick.{Pick}
 use Rattle.sv_typing.specs.Judging.{IsCause, IsTyped, Types, Judges, AreTyped, JudgesAll, Fixes}
 use Rattle.sv_typing.specs.declared.chain.Chain.{Chain}
 use Rattle.sv_typing.specs.Picks.{Leads, Picks, Chains, Follows}
+use Rattle.sv_typing.specs.Ranges.{is_to}
 use Rattle.sv_typing.specs.Roots.{IsChain}
 use Rattle.sv_typing.proofs.Lists.{both_clear}
 use Rattle.sv_typing.proofs.Judged.{cause_from}
@@ -141,6 +143,17 @@ led_index at j x v p i r h k = leads_as j x _ _ r (ap (step at) h ∙ step_index
 
 pub led_range : (at : Scope) (j : Meaning → Faults) (x : Layout) (v : Select) (p : Place) (a : Expr) (m : RangeMark) (b : Expr) (r : Result (Cursor × Pick) TextErr) → v ≡ s.Range p a m b → Leads j x (to_range p (mean (left_scope m at) a) m (mean (constant_scope at) b)) r → Leads j x (step at v) r
 led_range at j x v p a m b r h k = leads_as j x _ _ r (ap (step at) h ∙ step_range at p a m b) k
+
+-- a range from a computed element on
+pub led_many : (at : Scope) (j : Meaning → Faults) (x : Layout) (v : Select) (p : Place) (a : Expr) (m : RangeMark) (b : Expr) (r : Result (Cursor × Pick) TextErr) → v ≡ s.Range p a m b → is_to m ≡ false → Leads j x (to_range p (mean at a) m (mean (constant_scope at) b)) r → Leads j x (step at v) r
+led_many at j x v p a mark.Up b r h n k = led_range at j x v p a mark.Up b r h k
+led_many at j x v p a mark.Down b r h n k = led_range at j x v p a mark.Down b r h k
+led_many at j x v p a mark.To b r h n k = absurd cc
+
+-- a mark that is one of these two
+pub is_many : (m : RangeMark) → (m ≡ mark.Up) ⊎ (m ≡ mark.Down) → is_to m ≡ false
+is_many m (inl e) = ap is_to e
+is_many m (inr e) = ap is_to e
 
 pub ruleset steps = (led_member, led_index, led_range)
 

@@ -51,5 +51,3 @@ pub cause_stands : (w : Word) (r : Result Literal LitErr) (e : LitErr) → r ≡
 cause_stands w r Shape e a b c = shape_fault w r e a
 cause_stands w r Wide e a b c = wide_fault w r e a b
 cause_stands w r Range e a b c = range_fault w r e a b c
-
-pub ruleset reads = (clear_literal, cause_stands)

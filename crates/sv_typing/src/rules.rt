@@ -8,18 +8,19 @@ ghost use Rattle.sv_typed.specs.Typed.{IsSound};
 ghost use Rattle.sv_meaning.specs.Layouts.{Scope};
 ghost use Rattle.sv_meaning.specs.Values.{mean};
 ghost use Rattle.sv_meaning.specs.Meanings.{Meaning, from, of_literal, to_sign, log_up, chosen, power, whole};
-ghost use Rattle.sv_typing.specs.Judging.{Judges, JudgesBoth, Fixes, IsCause, IsTyped, IsExponent};
+ghost use Rattle.sv_typing.specs.Judging.{Judges, Fixes, IsCause, IsTyped, IsExponent};
 
 use crate::begins::start;
 use crate::constants::both_hold;
 use crate::held::both_made;
-use crate::literals::read;
+use crate::literals::refused;
 use crate::numbers::is_negative;
 use crate::position::Fixed;
 use crate::refusals::refusal;
 use fourvec::Four;
 use items::both;
 use std::alloc::Global;
+use sv_literal::literal;
 use sv_outside::{Place, TextErr};
 use sv_tree::{Expr, Word};
 use sv_typed::{One, Pair, Two, Typed};
@@ -28,9 +29,9 @@ use sv_typed::{One, Pair, Two, Typed};
 pub(crate) fn literal_typed(word: &Word) -> Result<Typed, TextErr>
     ensures { (c : Bool) → Judges (of_literal word.now) c result }
 {
-    match read(word) {
+    match literal(word.text.bytes()) {
         Ok(found) => Ok(Typed::literal(found)),
-        Err(why) => Err(TextErr::No(why)),
+        Err(why) => Err(TextErr::No(refused(why, word.place))),
     }
 }
 
@@ -45,17 +46,6 @@ pub(crate) fn one_typed(alloc: Global, op: One, x: Result<Typed, TextErr>) -> Re
     }
 }
 
-/// Two that are judged each by itself.
-#[tactic(auto, using(crate::proofs::OfRules::both_judged))]
-fn both_typed(
-    x: Result<Typed, TextErr>,
-    y: Result<Typed, TextErr>,
-) -> Result<(Typed, Typed), TextErr>
-    ensures { (m n : Meaning) (c : Bool) → Judges m c x → Judges n c y → JudgesBoth m n c result }
-{
-    both_made(x, y)
-}
-
 // An operator on two operands, but for `**`.
 fn pair_typed(
     alloc: Global,
@@ -65,7 +55,7 @@ fn pair_typed(
 ) -> Result<Typed, TextErr>
     ensures { (m n : Meaning) (c : Bool) → Judges m c x → Judges n c y → Judges (pair_meaning op m n) c result }
 {
-    let (x, y) = both_typed(x, y)?;
+    let (x, y) = both_made(x, y)?;
     Ok(Typed::pair(alloc, op, x, y)?)
 }
 
@@ -78,7 +68,7 @@ pub(crate) fn chosen_typed(
 ) -> Result<Typed, TextErr>
     ensures { (l m n : Meaning) (c : Bool) → Judges l c condition → Judges m c x → Judges n c y → Judges (chosen l m n) c result }
 {
-    let ((condition, x), y) = both_made(both_typed(condition, x), y)?;
+    let ((condition, x), y) = both_made(both_made(condition, x), y)?;
     Ok(Typed::chosen(alloc, condition, x, y)?)
 }
 

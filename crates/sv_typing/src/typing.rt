@@ -237,19 +237,11 @@ fn select_step<'a>(
                 fixed(alloc, left.get(), names),
                 fixed(alloc, right.get(), names),
             ),
-            RangeMark::Up => many_pick(
+            RangeMark::Up | RangeMark::Down => many_pick(
                 alloc,
                 at,
                 *place,
-                RangeMark::Up,
-                typed_index(alloc, left.get(), names, rule),
-                fixed(alloc, right.get(), names),
-            ),
-            RangeMark::Down => many_pick(
-                alloc,
-                at,
-                *place,
-                RangeMark::Down,
+                *mark,
                 typed_index(alloc, left.get(), names, rule),
                 fixed(alloc, right.get(), names),
             ),

@@ -43,3 +43,12 @@ returns c = λ j m n x s e h k.
           c.in-Some.ensures.bound c.in-Some-small.ensures.bound f q (ap (λ w. c.in_ok-count.count * w) c.width.ensures.is) c.both_hold.ensures,
       (c.requires.each, f.some, f.most),
     )
+
+pub between_count-requires-clause-row : goal.between_count-requires-clause-row
+between_count-requires-clause-row c = c.requires
+
+pub lowest_place-requires-clause-row : goal.lowest_place-requires-clause-row
+lowest_place-requires-clause-row c = c.requires
+
+pub width-requires : goal.width-requires
+width-requires c = c.requires.each

@@ -35,3 +35,12 @@ returns c = λ j m n x s e h k.
           (subst (λ (z : ℤ). IsMany row z i) (sym (fixed_number n f k)) many) (c.in_ok-spot.ensures ∙ ap (λ (z : ℤ). place.Moving v (spot_of row v.signed z (i * c.width.result))) d) (ap (λ w. i * w) c.width.ensures.is) c.both_hold-constant.ensures,
       (c.requires.row.each, many.some, many.most),
     )
+
+pub moving-requires-clause-row : goal.moving-requires-clause-row
+moving-requires-clause-row c = c.requires.row
+
+pub many_count-requires-clause-row : goal.many_count-requires-clause-row
+many_count-requires-clause-row c = c.requires.row
+
+pub width-requires : goal.width-requires
+width-requires c = c.requires.row.each

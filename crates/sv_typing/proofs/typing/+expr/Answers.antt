@@ -18,7 +18,7 @@ use Rattle.sv_names.specs.Names.{names_are, constants_are}
 use Rattle.sv_typing.specs.Positions.{is_constant, seen_in}
 use Rattle.sv_typing.specs.Picks.{Chains, Leads, rule_faults, rule_scope}
 use Rattle.sv_typing.specs.Roots.{JudgesRoot}
-use Rattle.sv_typing.proofs.Arms.{sound_of_judged, fixed_expr, judged_at, types_at, fixes_at, all_at, concat_at, repeat_at, judged_literal, judged_name, judged_paren, judged_concat, judged_repeat, judged_cast_literal, judged_cast_name, judged_cast_paren, judged_cast_sign, judged_system, system_is, judged_unary, judged_two, judged_choose, led_member, led_index, led_range, parts_start, parts_more, parts_all, parts_cause, chain_begins, chain_next, chain_cause, chain_ends}
+use Rattle.sv_typing.proofs.Arms.{sound_of_judged, fixed_expr, judged_at, types_at, fixes_at, all_at, concat_at, repeat_at, judged_literal, judged_name, judged_paren, judged_concat, judged_repeat, judged_cast_literal, judged_cast_name, judged_cast_paren, judged_cast_sign, judged_system, system_is, judged_unary, judged_two, judged_choose, led_member, led_index, led_range, led_many, is_many, parts_start, parts_more, parts_all, parts_cause, chain_begins, chain_next, chain_cause, chain_ends}
 use Rattle.sv_typing.proofs.typing.+expr.Goals as goal
 
 pub fixed-returns : goal.fixed-returns
@@ -75,19 +75,15 @@ select_step-returns-in-To t c =
     led_range at (rule_faults c.args.rule) (cursor_is c.args.at) c.args.select.now c.in-Range.place c.in-Range.left mark.To c.in-Range.right c.between_pick.result (c.in-Range.is ∙ ap (λ z. s.Range c.in-Range.place c.in-Range.left z c.in-Range.right) c.in-To.is)
     (c.between_pick.ensures (rule_faults c.args.rule) (mean above c.in-Range.left) (mean above c.in-Range.right) (fixes_at above _ _ _ c.get-in-To.ensures c.fixed.ensures) (fixes_at above _ _ _ c.get-in-To-2.ensures c.fixed-in-To.ensures))
 
+pub select_step-many_pick-requires : goal.select_step-many_pick-requires
+select_step-many_pick-requires t c = record { at = c.requires; mark = is_many c.in-Range.mark c.in-Up.is }
+
 pub select_step-returns-in-Up : goal.select_step-returns-in-Up
 select_step-returns-in-Up t c =
     let at = rule_scope c.args.rule (names_are c.args.names.now) in
     let above = constants_are c.args.names.now in
-    led_range at (rule_faults c.args.rule) (cursor_is c.args.at) c.args.select.now c.in-Range.place c.in-Range.left mark.Up c.in-Range.right c.many_pick.result (c.in-Range.is ∙ ap (λ z. s.Range c.in-Range.place c.in-Range.left z c.in-Range.right) c.in-Up.is)
+    led_many at (rule_faults c.args.rule) (cursor_is c.args.at) c.args.select.now c.in-Range.place c.in-Range.left c.in-Range.mark c.in-Range.right c.many_pick.result c.in-Range.is (is_many c.in-Range.mark c.in-Up.is)
     (c.many_pick.ensures (rule_faults c.args.rule) (mean at c.in-Range.left) (mean above c.in-Range.right) (types_at at (rule_faults c.args.rule) _ _ _ c.get-in-Up.ensures c.typed_index-in-Up.ensures) (fixes_at above _ _ _ c.get-in-Up-2.ensures c.fixed-in-Up.ensures))
-
-pub select_step-returns-in-Down : goal.select_step-returns-in-Down
-select_step-returns-in-Down t c =
-    let at = rule_scope c.args.rule (names_are c.args.names.now) in
-    let above = constants_are c.args.names.now in
-    led_range at (rule_faults c.args.rule) (cursor_is c.args.at) c.args.select.now c.in-Range.place c.in-Range.left mark.Down c.in-Range.right c.many_pick-in-Down.result (c.in-Range.is ∙ ap (λ z. s.Range c.in-Range.place c.in-Range.left z c.in-Range.right) c.in-Down.is)
-    (c.many_pick-in-Down.ensures (rule_faults c.args.rule) (mean at c.in-Range.left) (mean above c.in-Range.right) (types_at at (rule_faults c.args.rule) _ _ _ c.get-in-Down.ensures c.typed_index-in-Down.ensures) (fixes_at above _ _ _ c.get-in-Down-2.ensures c.fixed-in-Down.ensures))
 
 pub typed-fixed_of-requires : goal.typed-fixed_of-requires
 typed-fixed_of-requires t c = sound_of_judged (of_literal c.in-CastLiteral.word) ((of_literal c.in-CastLiteral.word).faults true) c.literal_typed-in-CastLiteral.result (c.literal_typed-in-CastLiteral.ensures true)
@@ -303,3 +299,29 @@ chain_behind-selects-preserved t c =
           (chain_next at j (cursor_is c.args.at) (cursor_is c.selects.end) (cursor_is c.in-Ok.next) c.args.selects.now c.selects.select-index c.select-item.result c.selects.picks c.in-Ok.pick c.selects-test.true c.select-item.is c.selects.invariant.chains led.0);
       sound = led.1;
     }
+
+-- ---- what is required, and want of memory
+
+pub chain_behind-chain_of-requires : goal.chain_behind-chain_of-requires
+chain_behind-chain_of-requires t c = c.selects.invariant.sound
+
+pub named_typed-root_of-requires : goal.named_typed-root_of-requires
+named_typed-root_of-requires t c = c.found.ensures.sound
+
+pub typed-name_cast_typed-requires : goal.typed-name_cast_typed-requires
+typed-name_cast_typed-requires t c = c.find_above.ensures.sound
+
+pub select_step-member_pick-requires : goal.select_step-member_pick-requires
+select_step-member_pick-requires t c = c.requires
+
+pub select_step-index_pick-requires : goal.select_step-index_pick-requires
+select_step-index_pick-requires t c = c.requires
+
+pub select_step-between_pick-requires : goal.select_step-between_pick-requires
+select_step-between_pick-requires t c = c.requires
+
+pub chain_behind-returns-in_err-push-in-Ok : goal.chain_behind-returns-in_err-push-in-Ok
+chain_behind-returns-in_err-push-in-Ok t c = let p = err_from_is_err_and c.from_residual.result c.from_residual.ensures.1 in rw (p.1, p.2) tt
+
+pub typed_parts-returns-in_err-push : goal.typed_parts-returns-in_err-push
+typed_parts-returns-in_err-push t c = let p = err_from_is_err_and c.from_residual-in_err-push.result c.from_residual-in_err-push.ensures.1 in rw (p.1, p.2) tt
