@@ -24,12 +24,17 @@ use Rattle.sv_typed.specs.declared.tree.Origin.{Origin}
 use Rattle.sv_typed.specs.declared.tree.Pick.{Pick}
 use Rattle.sv_typed.specs.declared.tree.PickPlace.TheVariants as place
 use Rattle.sv_typed.specs.declared.tree.Typed.{Typed}
+use Rattle.sv_typed.specs.declared.tree.TypedForm.{TypedForm}
 use Rattle.sv_typed.specs.declared.tree.TypedForm.TheVariants as f
 use Rattle.sv_typed.specs.declared.tree.PickPlace.TheBlock.{shape-the_row-Typed-0, hidden-the_row-Typed-0}
 use Rattle.sv_typed.specs.Ops.{turned, reduced, computed, moved, compared, combined}
 use Rattle.sv_typed.specs.Typed.{form_worth, worth, own, raised, together, picked, place_in, pick_place, spot_place, root_bits}
 use Rattle.sv_typed.proofs.Parts.{row_together_is}
 use Rattle.sv_typed.proofs.Named.{row_picked_is}
+
+-- the bits of a tree by its form, where names are unknown
+pub as_form : (t : Typed) (form : TypedForm) (w : ℕ) (s : Bool) (bits : List Bit) → t.form ≡ form → bits ≡ form_worth t.width form nowhere w s → bits ≡ worth t nowhere w s
+as_form t form w s bits e h = h ∙ sym (ap (λ x. form_worth t.width x nowhere w s) e)
 
 pub worth_literal : (n : ℕ) (l : l.Literal) (read : Read) (w : ℕ) (s : Bool) → form_worth n (f.Literal l) read w s ≡ literal_value l w s
 unfolding form_worth shape-the_row-Typed-0 hidden-the_row-Typed-0 denote.Hole.Carrier.hidden

@@ -7,20 +7,17 @@ ghost use Rattle.sv_outside.specs.declared.refusal.Place.{Place};
 ghost use Rattle.sv_meaning.specs.Faults.{Faults};
 ghost use Rattle.sv_meaning.specs.Layouts.{Layout, width as layout_width, is_signed};
 ghost use Rattle.sv_meaning.specs.Meanings.{Meaning, from, context_one, context_two, shift, comparison, reduction, logical, chosen, to_sign, to_layout, sized_by, number_of, literal_meaning, concat, repeated, power, log_up, constant_of, nowhere};
-ghost use Rattle.sv_meaning.specs.Values.{unary_meaning};
 ghost use Rattle.sv_typed.specs.Ops.{turned, reduced, computed, moved, compared, combined_truths, pair_meaning};
 ghost use Rattle.sv_typed.specs.Typed.{Stands, IsSound, IsWidth, LiteralIsSound, RootIsSound, PickIsSound, own, IsNamed, width_together, picked_width, are_constant, are_constant_picks, root_width, root_is_constant};
 
 use crate::bits::{exponent, log_up, vector};
 use crate::{
-    Arithmetic, Comparison, Logic, One, Pair, Pick, Reduction, Root, Shift, Turn, Typed, TypedForm,
-    one_of,
+    Arithmetic, Comparison, Logic, Pair, Pick, Reduction, Root, Shift, Turn, Typed, TypedForm,
 };
 use fourvec::Four;
 use items::{Boxed, Items, both};
 use std::alloc::{AllocError, Global};
 use sv_literal::Literal;
-use sv_tree::UnaryOp;
 
 impl Root {
     /// The width of the whole constant or signal.
@@ -222,18 +219,6 @@ impl Typed {
             constant,
             form: TypedForm::Combined(op, a, b),
         })
-    }
-
-    /// A unary operator (11.4.3, 11.4.7 to 11.4.9).
-    #[tactic(auto, using(crate::proofs::Operators::unary_is))]
-    pub fn unary(alloc: Global, op: UnaryOp, a: Typed) -> Result<Typed, AllocError>
-        ensures stands { IfOk result (λ t. (m : Meaning) (p : Place) → Stands a m → Stands t (from p (unary_meaning op m))) }
-        ensures sound { IfOk result (λ t. IsSound a → IsSound t) }
-    {
-        match one_of(op) {
-            One::Turned(op) => Typed::turned(alloc, op, a),
-            One::Reduced(op) => Typed::reduced(alloc, op, a),
-        }
     }
 
     /// A binary operator but for `**` (11.4.3 to 11.4.10).

@@ -1,8 +1,15 @@
-use Rattle.std.proofs.Common.{rules, ◌*◌, ◌++◌, length, sym, ap, ◌∙◌, subst, arith}
+use Rattle.std.proofs.Common.{ℕ, ◌*◌, List, ◌++◌, length, max, ◌&&◌, sym, ap, ◌∙◌, subst, arith}
 use Rattle.std.proofs.lemmas.List.{length-append}
-use Rattle.sv_meaning.specs.Meanings.{nowhere}
-use Rattle.sv_typed.proofs.Worth.{together_more, worth_literal, worth_named, worth_turned, worth_reduced, worth_computed, worth_moved, worth_compared, worth_combined, worth_chosen, worth_power, worth_concat, worth_repeat, worth_standing, worth_fitted}
-use Rattle.sv_typed.specs.Typed.{picked_width, IsSound, PickIsSound, own, bits_of}
+use Rattle.fourvec.specs.declared.Bit.{Bit}
+use Rattle.fourvec.specs.Bits.{cond_of, truth_of}
+use Rattle.sv_meaning.specs.Meanings as meant
+use Rattle.sv_meaning.specs.Meanings.{nowhere, extend, copies}
+use Rattle.sv_typed.specs.declared.tree.Typed.{Typed}
+use Rattle.sv_typed.specs.declared.tree.Pick.{Pick}
+use Rattle.sv_typed.specs.declared.tree.TypedForm.TheVariants as f
+use Rattle.sv_typed.specs.Ops as ops
+use Rattle.sv_typed.proofs.Worth.{together_more, as_form, worth_literal, worth_named, worth_turned, worth_reduced, worth_computed, worth_moved, worth_compared, worth_combined, worth_chosen, worth_power, worth_concat, worth_repeat, worth_standing, worth_fitted}
+use Rattle.sv_typed.specs.Typed.{worth, together, picked, raised, picked_width, IsSound, PickIsSound, own, bits_of}
 use Rattle.sv_typed.proofs.Sound.{some_bits, most_bits}
 use Rattle.sv_typed.proofs.Lists.{width_more}
 use Rattle.sv_typed.proofs.Below.{turned, turned_less, turned_fits, reduced, reduced_less, computed_left, computed_left_less, computed_left_fits, computed_right, computed_right_less, computed_right_fits, moved_left, moved_left_less, moved_left_fits, moved_right, moved_right_less, compared_left, compared_right, compared_less, combined_left, combined_right, combined_less, condition, chosen_left, chosen_left_fits, chosen_right, chosen_right_fits, chosen_less, power, power_less, power_fits, standing, standing_less, standing_width, fitted, fitted_less, literal_sound, literal_width, named_root, named_less, named_picks, named_width, concat_width, concat_less, concat_parts, repeat_width, repeat_some, repeat_most, repeat_less, repeat_parts, some_copies, pick_less, element_less, index_less, index_sound}
@@ -107,46 +114,80 @@ value::together-parts-preserved t c =
     }
 
 pub tree::Typed::value-returns-in-Literal-clause-is : goal.tree::Typed::value-returns-in-Literal-clause-is
-tree::Typed::value-returns-in-Literal-clause-is t c = search (rules, worth_literal)
+tree::Typed::value-returns-in-Literal-clause-is t c =
+    as_form c.args.self.now (f.Literal c.in-Literal.literal) c.args.width c.args.signed _ c.in-Literal.is
+    (c.literal_bits.ensures.is ∙ sym (worth_literal _ _ _ _ _))
 
 pub tree::Typed::value-returns-in-Named-clause-is : goal.tree::Typed::value-returns-in-Named-clause-is
-tree::Typed::value-returns-in-Named-clause-is t c = search (rules, worth_named)
+tree::Typed::value-returns-in-Named-clause-is t c =
+    as_form c.args.self.now (f.Named c.in-Named.root c.in-Named.picks) c.args.width c.args.signed _ c.in-Named.is
+    (c.extended.ensures.is ∙ ap (extend c.args.signed c.args.width) (c.picked.ensures.is ∙ ap (λ (all : List Pick). picked nowhere all c.root_bits.result) c.as_slice.ensures ∙ ap (picked nowhere c.in-Named.picks) c.root_bits.ensures.is) ∙ sym (worth_named _ _ _ _ _ _))
 
 pub tree::Typed::value-returns-in-Turned-clause-is : goal.tree::Typed::value-returns-in-Turned-clause-is
-tree::Typed::value-returns-in-Turned-clause-is t c = search (rules, worth_turned)
+tree::Typed::value-returns-in-Turned-clause-is t c =
+    as_form c.args.self.now (f.Turned c.in-Turned.op c.in-Turned.a) c.args.width c.args.signed _ c.in-Turned.is
+    (c.turned.ensures.is ∙ ap (ops.turned c.in-Turned.op) (c.value.ensures.is ∙ ap (λ (x : Typed). worth x nowhere c.args.width c.args.signed) c.get.ensures) ∙ sym (worth_turned _ _ _ _ _ _))
 
 pub tree::Typed::value-returns-in-Reduced-clause-is : goal.tree::Typed::value-returns-in-Reduced-clause-is
-tree::Typed::value-returns-in-Reduced-clause-is t c = search (rules, worth_reduced)
+tree::Typed::value-returns-in-Reduced-clause-is t c =
+    as_form c.args.self.now (f.Reduced c.in-Reduced.op c.in-Reduced.a) c.args.width c.args.signed _ c.in-Reduced.is
+    (c.extended-in-Reduced.ensures.is ∙ ap (extend c.args.signed c.args.width) (c.reduced.ensures.is ∙ ap (ops.reduced c.in-Reduced.op) (c.own.ensures.is ∙ ap (λ (x : Typed). own x nowhere) c.get-in-Reduced.ensures)) ∙ sym (worth_reduced _ _ _ _ _ _))
 
 pub tree::Typed::value-returns-in-Computed-clause-is : goal.tree::Typed::value-returns-in-Computed-clause-is
-tree::Typed::value-returns-in-Computed-clause-is t c = search (rules, worth_computed)
+tree::Typed::value-returns-in-Computed-clause-is t c =
+    let left = c.value-a.ensures.is ∙ ap (λ (x : Typed). worth x nowhere c.args.width c.args.signed) c.get-in-Computed.ensures in
+    let right = c.value-in-Computed.ensures.is ∙ ap (λ (x : Typed). worth x nowhere c.args.width c.args.signed) c.get-in-Computed-2.ensures in
+    as_form c.args.self.now (f.Computed c.in-Computed.op c.in-Computed.a c.in-Computed.b) c.args.width c.args.signed _ c.in-Computed.is
+    (c.computed.ensures.is ∙ ap (λ x. ops.computed c.in-Computed.op c.args.signed x c.value-in-Computed.result) left ∙ ap (ops.computed c.in-Computed.op c.args.signed (worth c.in-Computed.a nowhere c.args.width c.args.signed)) right ∙ sym (worth_computed _ _ _ _ _ _ _))
 
 pub tree::Typed::value-returns-in-Moved-clause-is : goal.tree::Typed::value-returns-in-Moved-clause-is
-tree::Typed::value-returns-in-Moved-clause-is t c = search (rules, worth_moved)
+tree::Typed::value-returns-in-Moved-clause-is t c =
+    let left = c.value-in-Moved.ensures.is ∙ ap (λ (x : Typed). worth x nowhere c.args.width c.args.signed) c.get-in-Moved.ensures in
+    let right = c.own-in-Moved.ensures.is ∙ ap (λ (x : Typed). own x nowhere) c.get-in-Moved-2.ensures in
+    as_form c.args.self.now (f.Moved c.in-Moved.op c.in-Moved.a c.in-Moved.b) c.args.width c.args.signed _ c.in-Moved.is
+    (c.moved.ensures.is ∙ ap (λ x. ops.moved c.in-Moved.op c.args.signed x c.own-in-Moved.result) left ∙ ap (ops.moved c.in-Moved.op c.args.signed (worth c.in-Moved.a nowhere c.args.width c.args.signed)) right ∙ sym (worth_moved _ _ _ _ _ _ _))
 
 pub tree::Typed::value-returns-in-Compared-clause-is : goal.tree::Typed::value-returns-in-Compared-clause-is
-tree::Typed::value-returns-in-Compared-clause-is t c = search (rules, worth_compared)
+tree::Typed::value-returns-in-Compared-clause-is t c =
+    let both : Typed → Typed → List Bit = λ x y. ops.compared c.in-Compared.op (x.signed && y.signed) (worth x nowhere (max x.width y.width) (x.signed && y.signed)) (worth y nowhere (max x.width y.width) (x.signed && y.signed)) in
+    as_form c.args.self.now (f.Compared c.in-Compared.op c.in-Compared.a c.in-Compared.b) c.args.width c.args.signed _ c.in-Compared.is
+    (c.extended-in-Compared.ensures.is ∙ ap (extend c.args.signed c.args.width) (c.compare.ensures.is ∙ ap (λ (x : Typed). both x c.get-in-Compared-2.result.now) c.get-in-Compared.ensures ∙ ap (both c.in-Compared.a) c.get-in-Compared-2.ensures) ∙ sym (worth_compared _ _ _ _ _ _ _))
 
 pub tree::Typed::value-returns-in-Combined-clause-is : goal.tree::Typed::value-returns-in-Combined-clause-is
-tree::Typed::value-returns-in-Combined-clause-is t c = search (rules, worth_combined)
+tree::Typed::value-returns-in-Combined-clause-is t c =
+    as_form c.args.self.now (f.Combined c.in-Combined.op c.in-Combined.a c.in-Combined.b) c.args.width c.args.signed _ c.in-Combined.is
+    (c.extended-in-Combined.ensures.is ∙ ap (extend c.args.signed c.args.width) (c.combine.ensures.is ∙ ap (λ (x : Typed). ops.combined c.in-Combined.op (own x nowhere) (own c.get-in-Combined-2.result.now nowhere)) c.get-in-Combined.ensures ∙ ap (λ (x : Typed). ops.combined c.in-Combined.op (own c.in-Combined.a nowhere) (own x nowhere)) c.get-in-Combined-2.ensures) ∙ sym (worth_combined _ _ _ _ _ _ _))
 
 pub tree::Typed::value-returns-in-Chosen-clause-is : goal.tree::Typed::value-returns-in-Chosen-clause-is
-tree::Typed::value-returns-in-Chosen-clause-is t c = search (rules, worth_chosen)
+tree::Typed::value-returns-in-Chosen-clause-is t c =
+    let each : Typed → Typed → Typed → List Bit = λ l x y. cond_of (truth_of (own l nowhere)) (worth x nowhere c.args.width c.args.signed) (worth y nowhere c.args.width c.args.signed) in
+    as_form c.args.self.now (f.Chosen c.in-Chosen.condition c.in-Chosen.a c.in-Chosen.b) c.args.width c.args.signed _ c.in-Chosen.is
+    (c.choose.ensures.is ∙ ap (λ (l : Typed). each l c.get-in-Chosen-2.result.now c.get-in-Chosen-3.result.now) c.get-in-Chosen.ensures ∙ ap (λ (x : Typed). each c.in-Chosen.condition x c.get-in-Chosen-3.result.now) c.get-in-Chosen-2.ensures ∙ ap (each c.in-Chosen.condition c.in-Chosen.a) c.get-in-Chosen-3.ensures ∙ sym (worth_chosen _ _ _ _ _ _ _))
 
 pub tree::Typed::value-returns-in-Power-clause-is : goal.tree::Typed::value-returns-in-Power-clause-is
-tree::Typed::value-returns-in-Power-clause-is t c = search (rules, worth_power)
+tree::Typed::value-returns-in-Power-clause-is t c =
+    as_form c.args.self.now (f.Power c.in-Power.a c.in-Power.exponent) c.args.width c.args.signed _ c.in-Power.is
+    (c.raised.ensures.is ∙ ap (λ (n : ℕ). raised n c.value-in-Power.result c.in-Power.exponent) c.value-in-Power.ensures.width ∙ ap (λ x. raised c.args.width x c.in-Power.exponent) (c.value-in-Power.ensures.is ∙ ap (λ (x : Typed). worth x nowhere c.args.width c.args.signed) c.get-in-Power.ensures) ∙ sym (worth_power _ _ _ _ _ _))
 
 pub tree::Typed::value-returns-in-Concat-clause-is : goal.tree::Typed::value-returns-in-Concat-clause-is
-tree::Typed::value-returns-in-Concat-clause-is t c = search (rules, worth_concat)
+tree::Typed::value-returns-in-Concat-clause-is t c =
+    as_form c.args.self.now (f.Concat c.in-Concat.parts) c.args.width c.args.signed _ c.in-Concat.is
+    (c.extended-in-Concat.ensures.is ∙ ap (extend c.args.signed c.args.width) (c.together.ensures.is ∙ ap (λ (all : List Typed). together all nowhere) c.as_slice-in-Concat.ensures) ∙ sym (worth_concat _ _ _ _ _))
 
 pub tree::Typed::value-returns-in-Repeat-clause-is : goal.tree::Typed::value-returns-in-Repeat-clause-is
-tree::Typed::value-returns-in-Repeat-clause-is t c = search (rules, worth_repeat)
+tree::Typed::value-returns-in-Repeat-clause-is t c =
+    as_form c.args.self.now (f.Repeat c.in-Repeat.count c.in-Repeat.parts) c.args.width c.args.signed _ c.in-Repeat.is
+    (c.extended-in-Repeat.ensures.is ∙ ap (extend c.args.signed c.args.width) (c.copied.ensures.is ∙ ap (copies c.in-Repeat.count) (c.together-in-Repeat.ensures.is ∙ ap (λ (all : List Typed). together all nowhere) c.as_slice-in-Repeat.ensures)) ∙ sym (worth_repeat _ _ _ _ _ _))
 
 pub tree::Typed::value-returns-in-Standing-clause-is : goal.tree::Typed::value-returns-in-Standing-clause-is
-tree::Typed::value-returns-in-Standing-clause-is t c = search (rules, worth_standing)
+tree::Typed::value-returns-in-Standing-clause-is t c =
+    as_form c.args.self.now (f.Standing c.in-Standing.a) c.args.width c.args.signed _ c.in-Standing.is
+    (c.extended-in-Standing.ensures.is ∙ ap (extend c.args.signed c.args.width) (c.own-in-Standing.ensures.is ∙ ap (λ (x : Typed). own x nowhere) c.get-in-Standing.ensures) ∙ sym (worth_standing _ _ _ _ _))
 
 pub tree::Typed::value-returns-in-Fitted-clause-is : goal.tree::Typed::value-returns-in-Fitted-clause-is
-tree::Typed::value-returns-in-Fitted-clause-is t c = search (rules, worth_fitted)
+tree::Typed::value-returns-in-Fitted-clause-is t c =
+    as_form c.args.self.now (f.Fitted c.in-Fitted.a) c.args.width c.args.signed _ c.in-Fitted.is
+    (c.extended-in-Fitted.ensures.is ∙ ap (extend c.args.signed c.args.width) (c.fitted.ensures.is ∙ ap (meant.fitted c.get-a.result.now.signed c.args.self.now.width) c.own-in-Fitted.ensures.is ∙ ap (λ (x : Typed). meant.fitted x.signed c.args.self.now.width (own x nowhere)) c.get-a.ensures) ∙ sym (worth_fitted _ _ _ _ _))
 
 pub tree::Typed::value-returns-in-Named-clause-width : goal.tree::Typed::value-returns-in-Named-clause-width
 tree::Typed::value-returns-in-Named-clause-width t c = c.extended.ensures.width
