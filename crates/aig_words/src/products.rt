@@ -11,7 +11,7 @@ use crate::sums::add;
 use aig::{Aig, Lit};
 use std::alloc::{AllocError, Global};
 
-// A sum, and a word's multiple by 2 ^ k where a bit is set; `none` is the word of zeros.
+// Adds a word's multiple by 2 ^ k where the bit is set, and else `none`, which is the word of zeros.
 fn add_row(
     alloc: Global,
     aig: &mut Aig,
