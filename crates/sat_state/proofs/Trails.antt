@@ -1,12 +1,13 @@
 -- The trail grows and shrinks at its newest end.
-use Rattle.std.proofs.Common.{◌≡◌, ℕ, ◌<◌, Bool, nat_eq, cond, List, [], ◌∷◌, ◌++◌, length, set, reverse, Option, Some, None, sym, ap, ◌∙◌, subst, ⊎_elim, length-set, get_or-set_same, get_or-set_other}
+use Rattle.std.proofs.Common.{◌≡◌, ℕ, ◌<◌, Bool, nat_eq, cond, List, [], ◌∷◌, ◌++◌, length, set, reverse, Option, Some, None, sym, ap, ◌∙◌, subst, ⊎_elim, length-set, get_or-set_same, get_or-set_other, ◌+◌, arith}
 use mathlib.Core.Path.{fun_ext}
 use Rattle.std.proofs.lemmas.List.{reverse-append}
 use Rattle.std.proofs.lemmas.Bool.{cases_eq, eq-eqb, ne_eqb}
 use Rattle.cnf.specs.declared.Dim.{Dim}
 use Rattle.cnf.specs.Clauses.{Valuation, denied, valuation}
 use Rattle.sat_state.specs.declared.trail.Assigned.{Assigned}
-use Rattle.sat_state.specs.Trail.{dims, falses, IsApart, Tracks, Why, IsExplained}
+use Rattle.sat_state.specs.Trail.{dims, falses, IsApart, Tracks, Why, IsExplained, open_count}
+use Rattle.std.proofs.lemmas.Grind.{common_steps}
 
 pub newest_push : (xs : List Assigned) (e : Assigned) → reverse (xs ++ e ∷ []) ≡ e ∷ reverse xs
 newest_push xs e = reverse-append xs (e ∷ [])
@@ -44,3 +45,7 @@ explained_push db trail e why h = rw (newest_push trail e) (why, h)
 
 pub explained_pop : (db : List (List Dim)) (old trail : List Assigned) (e : Assigned) → old ≡ trail ++ e ∷ [] → IsExplained db (reverse old) → Why db (denied (falses trail)) e × IsExplained db (reverse trail)
 explained_pop db old trail e is h = subst (IsExplained db) (ap reverse is ∙ newest_push trail e) h
+
+-- one open variable less
+pub open_fewer : (values : List (Option Bool)) (v : ℕ) (b : Bool) → v < length values → valuation values v ≡ None → open_count (set values v (Some b)) + 1 ≡ open_count values
+open_fewer values v b lt is = grind (arith, common_steps)

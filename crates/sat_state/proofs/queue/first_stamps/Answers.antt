@@ -1,7 +1,7 @@
 use Rattle.std.proofs.Common.{◌+◌, ◌∙◌, length, ap, arith, ◌≡◌, List, ℕ}
 use Rattle.std.proofs.lemmas.Result.{IfOk-from_err}
 use Rattle.std.proofs.lemmas.List.{length_push}
-use Rattle.sat_state.proofs.Queues.{stamped_more}
+use Rattle.sat_state.proofs.Queues.{stamped_more, stamped_all}
 use Rattle.sat_state.proofs.queue.first_stamps.Goals as goal
 
 pub returns-in_err-stamps : goal.returns-in_err-stamps
@@ -36,3 +36,8 @@ overflow_sub-vars c = c.loop-var.auto.var-end
 
 pub returns-clause-count : goal.returns-clause-count
 returns-clause-count c = let end : c.loop-var.var ≡ c.args.vars = omega arith in c.loop-var.invariant.count ∙ end
+
+pub returns-clause-stamps : goal.returns-clause-stamps
+returns-clause-stamps c =
+    stamped_all c.loop-var.stamps.items c.args.vars (let end : c.loop-var.var ≡ c.args.vars = omega arith in c.loop-var.invariant.count ∙ end)
+    (λ v h. c.loop-var.invariant.stamps v (omega (arith, h, c.loop-var-test.false)))

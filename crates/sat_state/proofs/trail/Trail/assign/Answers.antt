@@ -1,9 +1,10 @@
 use Rattle.std.proofs.lemmas.Result.{IfOk-from_err}
-use Rattle.std.proofs.Common.{◌≡◌, ◌<◌, ◌∷◌, [], ◌++◌, length, Some, None, ap, sym, subst, ◌∙◌, arith, length-set}
+use Rattle.std.proofs.Common.{◌≡◌, ◌<◌, ◌∷◌, [], ◌++◌, length, Some, None, ap, sym, subst, ◌∙◌, arith, length-set, Option, Bool}
 use Rattle.sat_state.specs.Lists.{TrailLists}
 use Rattle.cnf.specs.Clauses.{valuation}
-use Rattle.sat_state.specs.Trail.{Tracks}
-use Rattle.sat_state.proofs.Trails.{tracks_push}
+use Rattle.sat_state.specs.Trail.{Tracks, open_count}
+use Rattle.sat_state.proofs.Trails.{tracks_push, open_fewer}
+use Rattle.sat_state.proofs.Queues.{queue_assigned}
 use Rattle.sat_state.proofs.trail.Trail.assign.Goals as goal
 
 pub returns-in_err-push-clause-entries : goal.returns-in_err-push-clause-entries
@@ -44,3 +45,22 @@ returns-clause-tracks c =
 
 pub returns-clause-width : goal.returns-clause-width
 returns-clause-width c = length-set c.self.inside.values.items c.args.e.dim.var (Some c.args.e.dim.negated) ∙ ap (λ (t : TrailLists). length t.values) c.self.view_is
+
+pub invariant_of-self-2 : goal.invariant_of-self-2
+invariant_of-self-2 c =
+    let inside = c.self.inside in
+    let v = c.args.e.dim.var in
+    let taken : Option Bool = Some c.args.e.dim.negated in
+    let lt : v < length inside.values.items = subst (λ (t : TrailLists). v < length t.values) (sym c.self.view_is) c.requires.range in (
+      length-set inside.levels.items v c.level_with-self-inside.result ∙ c.self.invariant.0 ∙ sym (length-set inside.values.items v taken),
+      length-set inside.phases.items v c.args.e.dim.negated ∙ c.self.invariant.1 ∙ sym (length-set inside.values.items v taken),
+      queue_assigned inside.values.items inside.queue.list.items inside.queue.stamps.items inside.queue.clock v inside.queue.next c.args.e.dim.negated lt c.self.invariant.2,
+    )
+
+pub returns-clause-fewer : goal.returns-clause-fewer
+returns-clause-fewer c =
+    let back = sym c.self.view_is in
+    let e = c.args.e in
+    open_fewer c.self.inside.values.items e.dim.var e.dim.negated
+    (subst (λ (t : TrailLists). e.dim.var < length t.values) back c.requires.range)
+    (subst (λ (t : TrailLists). valuation t.values e.dim.var ≡ None) back c.requires.open) ∙ ap (λ (t : TrailLists). open_count t.values) c.self.view_is
