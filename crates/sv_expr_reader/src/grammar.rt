@@ -319,8 +319,8 @@ impl<F: Fn(Global, &mut Cursor<'_>, u8, u8) -> Result<Expr, ParseErr>> Grammar<F
         ensures { Reads (spec.copies self.now.depth (spec.expr self.now.depth) tokens.old) result tokens.new }
     {
         tokens.mark(Mark::LeftBrace)?;
-        let some = self.some(tokens)?;
-        let ((first, more), _) = both(some, closing_braces(tokens))?;
+        let (first, more) = self.some(tokens)?;
+        closing_braces(tokens)?;
         let all = with_first(self.alloc, first, more)?;
         Ok(all)
     }
