@@ -80,7 +80,7 @@ pub bounds-entries-i : goal.bounds-entries-i
 bounds-entries-i c = omega (arith, c.requires.place, c.requires.range, ap (λ (t : List Assigned). length t) c.entries.ensures)
 
 pub bounds-seen-e-in-Some : goal.bounds-seen-e-in-Some
-bounds-seen-e-in-Some c = 
+bounds-seen-e-in-Some c =
     subst (λ (n : ℕ). (get_or c.entries.result.now c.args.i no_assigned).dim.var < n) (sym c.requires.seen)
     (dim_near (length c.args.trail.now.values) c.args.i c.args.trail.now.entries c.entries.result.now no_assigned c.entries.ensures c.requires.sound.tracks.apart (omega (arith, c.requires.place, c.requires.range)))
 

@@ -13,7 +13,7 @@ pub loop-b-init : goal.loop-b-init
 loop-b-init c = λ k d h. absurd (omega arith)
 
 pub loop-b-preserved : goal.loop-b-preserved
-loop-b-preserved c = 
+loop-b-preserved c =
     let clause : List Dim = c.args.clause.now in
     let a = c.first_of-a.result in
     let i = c.loop-b.b-index in
@@ -21,6 +21,6 @@ loop-b-preserved c =
     subst (All (λ b. b ≡ a)) (sym (take_more clause i none (omega arith))) (All-push (λ b. b ≡ a) (take i clause) (get_or clause i none) c.loop-b.invariant c.if-differ.ensures)
 
 pub returns : goal.returns
-returns c = 
+returns c =
     subst (λ (a : Dim). All (λ b. b ≡ a) c.args.clause.now) c.first_of-a.ensures
     (subst (All (λ b. b ≡ c.first_of-a.result)) (take_all c.loop-b.b-index c.args.clause.now (omega arith)) c.loop-b.invariant)
