@@ -26,5 +26,6 @@ common=(--crate-name "$crate" $root --extern "std=$kit/rlibs/std.rlib" -L "depen
 if [ "$mode" = check ]; then
   exec "$kit/bin/rattle" check "${common[@]}" --incremental out/incremental "$@"
 else
+  rm -rf "$libs/$crate.rlib"
   exec "$kit/bin/rattle" build "${common[@]}" --links "$crate=" --statements -o "$libs/$crate.rlib" "$@"
 fi

@@ -1,4 +1,5 @@
 pub mod Marking
+pub mod Leading
 pub mod Orders
 pub mod Acting
 pub mod Casing

@@ -26,12 +26,12 @@ faults_as f g r h j = subst (λ (z : Faults). JudgesFaults z r) (sym h) j
 
 -- ---- rows are lists
 
-marks_row : (c : Bool) (all : List Stmt) → marks_of c (hidden-the_row-Stmt-1 all) ≡ faults_in (marks c) all
+marks_row : (c : AssignMark) (all : List Stmt) → marks_of c (hidden-the_row-Stmt-1 all) ≡ faults_in (marks c) all
 unfolding marks faults_in shape-the_row-Stmt-0 hidden-the_row-Stmt-0 shape-the_row-Stmt-1 hidden-the_row-Stmt-1 shape-the_row-Arm-2 hidden-the_row-Arm-2 denote.Hole.Carrier.hidden
 marks_row c [] = refl
 marks_row c (x ∷ all) = ap (λ (z : Faults). marks c x ++ z) (marks_row c all)
 
-arms_row : (c : Bool) (all : List Arm) → marks_arms c (hidden-the_row-Arm-2 all) ≡ faults_in (arm_marks c) all
+arms_row : (c : AssignMark) (all : List Arm) → marks_arms c (hidden-the_row-Arm-2 all) ≡ faults_in (arm_marks c) all
 unfolding marks faults_in shape-the_row-Stmt-0 hidden-the_row-Stmt-0 shape-the_row-Stmt-1 hidden-the_row-Stmt-1 shape-the_row-Arm-2 hidden-the_row-Arm-2 denote.Hole.Carrier.hidden
 arms_row c [] = refl
 arms_row c (Labels' xs r (more_of-Stmt x end_of-Stmt) ∷ all) = ap (λ (z : Faults). marks c x ++ z) (arms_row c all)
@@ -39,53 +39,53 @@ arms_row c (Default' b r (more_of-Stmt x end_of-Stmt) ∷ all) = ap (λ (z : Fau
 
 -- ---- statements by their productions
 
-pub marked_empty : (c : Bool) (x : Stmt) → x ≡ st.Empty → marks c x ≡ []
+pub marked_empty : (c : AssignMark) (x : Stmt) → x ≡ st.Empty → marks c x ≡ []
 unfolding marks
 marked_empty c x h = ap (marks c) h
 
-pub marked_block : (c : Bool) (x : Stmt) (p : Place) (b : Option Word) (all given : List Stmt) (e : Option Word) (r : Result Unit TextErr) → x ≡ st.Block p b all e → given ≡ all →
+pub marked_block : (c : AssignMark) (x : Stmt) (p : Place) (b : Option Word) (all given : List Stmt) (e : Option Word) (r : Result Unit TextErr) → x ≡ st.Block p b all e → given ≡ all →
     JudgesFaults (faults_in (marks c) given) r → JudgesFaults (marks c x) r
 unfolding marks shape-the_row-Stmt-0 hidden-the_row-Stmt-0 shape-the_row-Stmt-1 hidden-the_row-Stmt-1 shape-the_row-Arm-2 hidden-the_row-Arm-2 denote.Hole.Carrier.hidden
 marked_block c x p b all given e r h g j = faults_as _ _ r (ap (marks c) h ∙ marks_row c all ∙ ap (faults_in (marks c)) (sym g)) j
 
-if_marks : (c : Bool) (u : Option Uniq) (t : Expr) (x : Stmt) (y : Option Stmt) → marks c (st.If u t x y) ≡ marks c x ++ else_marks c y
+if_marks : (c : AssignMark) (u : Option Uniq) (t : Expr) (x : Stmt) (y : Option Stmt) → marks c (st.If u t x y) ≡ marks c x ++ else_marks c y
 unfolding marks shape-the_row-Stmt-0 hidden-the_row-Stmt-0 shape-the_row-Stmt-1 hidden-the_row-Stmt-1 shape-the_row-Arm-2 hidden-the_row-Arm-2 denote.Hole.Carrier.hidden
 if_marks c u t x None = refl
 if_marks c u t x (Some y) = refl
 
-pub marked_if : (c : Bool) (x : Stmt) (u : Option Uniq) (t : Expr) (y given : Stmt) (other : Option Stmt) (r : Result Unit TextErr) → x ≡ st.If u t y other → given ≡ y →
+pub marked_if : (c : AssignMark) (x : Stmt) (u : Option Uniq) (t : Expr) (y given : Stmt) (other : Option Stmt) (r : Result Unit TextErr) → x ≡ st.If u t y other → given ≡ y →
     JudgesFaults (marks c given ++ else_marks c other) r → JudgesFaults (marks c x) r
 marked_if c x u t y given other r h g j = faults_as _ _ r (ap (marks c) h ∙ if_marks c u t y other ∙ ap (λ (z : Stmt). marks c z ++ else_marks c other) (sym g)) j
 
-pub marked_case : (c : Bool) (x : Stmt) (u : Option Uniq) (w : CaseWord) (v : Expr) (all given : List Arm) (r : Result Unit TextErr) → x ≡ st.Case u w v all → given ≡ all →
+pub marked_case : (c : AssignMark) (x : Stmt) (u : Option Uniq) (w : CaseWord) (v : Expr) (all given : List Arm) (r : Result Unit TextErr) → x ≡ st.Case u w v all → given ≡ all →
     JudgesFaults (faults_in (arm_marks c) given) r → JudgesFaults (marks c x) r
 unfolding marks shape-the_row-Stmt-0 hidden-the_row-Stmt-0 shape-the_row-Stmt-1 hidden-the_row-Stmt-1 shape-the_row-Arm-2 hidden-the_row-Arm-2 denote.Hole.Carrier.hidden
 marked_case c x u w v all given r h g j = faults_as _ _ r (ap (marks c) h ∙ arms_row c all ∙ ap (faults_in (arm_marks c)) (sym g)) j
 
-for_marks : (c : Bool) (p : Place) (form : WholeWord) (v : Word) (start test : Expr) (next : Step) (body : Stmt) → marks c (st.For p form v start test next body) ≡ marks c body
+for_marks : (c : AssignMark) (p : Place) (form : WholeWord) (v : Word) (start test : Expr) (next : Step) (body : Stmt) → marks c (st.For p form v start test next body) ≡ marks c body
 unfolding marks shape-the_row-Stmt-0 hidden-the_row-Stmt-0 shape-the_row-Stmt-1 hidden-the_row-Stmt-1 shape-the_row-Arm-2 hidden-the_row-Arm-2 denote.Hole.Carrier.hidden
 for_marks c p form v start test next body = refl
 
-pub marked_for : (c : Bool) (x : Stmt) (p : Place) (form : WholeWord) (v : Word) (start test : Expr) (next : Step) (body given : Stmt) (r : Result Unit TextErr) → x ≡ st.For p form v start test next body → given ≡ body →
+pub marked_for : (c : AssignMark) (x : Stmt) (p : Place) (form : WholeWord) (v : Word) (start test : Expr) (next : Step) (body given : Stmt) (r : Result Unit TextErr) → x ≡ st.For p form v start test next body → given ≡ body →
     JudgesFaults (marks c given) r → JudgesFaults (marks c x) r
 marked_for c x p form v start test next body given r h g j = faults_as _ _ r (ap (marks c) h ∙ for_marks c p form v start test next body ∙ ap (marks c) (sym g)) j
 
-pub marked_assign : (c : Bool) (x : Stmt) (to : Lvalue) (m : AssignMark) (p : Place) (v : Expr) (r : Result Unit TextErr) → x ≡ st.Assign to m p v → JudgesFaults (mark_faults c m p) r → JudgesFaults (marks c x) r
+pub marked_assign : (c : AssignMark) (x : Stmt) (to : Lvalue) (m : AssignMark) (p : Place) (v : Expr) (r : Result Unit TextErr) → x ≡ st.Assign to m p v → JudgesFaults (mark_faults c m p) r → JudgesFaults (marks c x) r
 unfolding marks
 marked_assign c x to m p v r h j = faults_as _ _ r (ap (marks c) h) j
 
-labels_marks : (c : Bool) (xs : List Expr) (x : Stmt) → arm_marks c (ar.Labels xs x) ≡ marks c x
+labels_marks : (c : AssignMark) (xs : List Expr) (x : Stmt) → arm_marks c (ar.Labels xs x) ≡ marks c x
 unfolding shape-the_row-Stmt-0 hidden-the_row-Stmt-0 shape-the_row-Stmt-1 hidden-the_row-Stmt-1 shape-the_row-Arm-2 hidden-the_row-Arm-2 denote.Hole.Carrier.hidden
 labels_marks c xs x = refl
 
-default_marks : (c : Bool) (b : Bool) (x : Stmt) → arm_marks c (ar.Default b x) ≡ marks c x
+default_marks : (c : AssignMark) (b : Bool) (x : Stmt) → arm_marks c (ar.Default b x) ≡ marks c x
 unfolding shape-the_row-Stmt-0 hidden-the_row-Stmt-0 shape-the_row-Stmt-1 hidden-the_row-Stmt-1 shape-the_row-Arm-2 hidden-the_row-Arm-2 denote.Hole.Carrier.hidden
 default_marks c b x = refl
 
-pub marked_labels : (c : Bool) (a : Arm) (xs : List Expr) (x given : Stmt) (r : Result Unit TextErr) → a ≡ ar.Labels xs x → given ≡ x → JudgesFaults (marks c given) r → JudgesFaults (arm_marks c a) r
+pub marked_labels : (c : AssignMark) (a : Arm) (xs : List Expr) (x given : Stmt) (r : Result Unit TextErr) → a ≡ ar.Labels xs x → given ≡ x → JudgesFaults (marks c given) r → JudgesFaults (arm_marks c a) r
 marked_labels c a xs x given r h g j = faults_as _ _ r (ap (arm_marks c) h ∙ labels_marks c xs x ∙ ap (marks c) (sym g)) j
 
-pub marked_default : (c : Bool) (a : Arm) (b : Bool) (x given : Stmt) (r : Result Unit TextErr) → a ≡ ar.Default b x → given ≡ x → JudgesFaults (marks c given) r → JudgesFaults (arm_marks c a) r
+pub marked_default : (c : AssignMark) (a : Arm) (b : Bool) (x given : Stmt) (r : Result Unit TextErr) → a ≡ ar.Default b x → given ≡ x → JudgesFaults (marks c given) r → JudgesFaults (arm_marks c a) r
 marked_default c a b x given r h g j = faults_as _ _ r (ap (arm_marks c) h ∙ default_marks c b x ∙ ap (marks c) (sym g)) j
 
 -- ---- lists

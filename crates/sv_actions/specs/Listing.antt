@@ -1,5 +1,5 @@
 -- Statements, arms and turns as code lists them, and what is found of them one by one.
-use Rattle.std.specs.Prelude.{◌≡◌, ℕ, ◌+◌, Bool, List, [], ◌∷◌, ◌++◌, map, Option, Some, None, Result, Ok, Err}
+use Rattle.std.specs.Prelude.{◌≡◌, ℕ, ◌+◌, List, [], ◌∷◌, ◌++◌, map, Option, Some, None, Result, Ok, Err}
 use Rattle.std.specs.List.{All, AllZip, Contains}
 use Rattle.fourvec.specs.declared.Bit.{Bit}
 use Rattle.sv_outside.specs.declared.refusal.Place.{Place}
@@ -11,7 +11,8 @@ use Rattle.sv_meaning.specs.Layouts.{Name, Scope, NamedSignal}
 use Rattle.sv_meaning.specs.Meanings.{Meaning}
 use Rattle.sv_meaning.specs.Values.{mean}
 use Rattle.sv_meaning.specs.Deeds.{Deed, CaseArm, deed, idle, after, one_turn, with_index, labels_of, longest, all_signed, all_faults, most_turns_together}
-use Rattle.sv_meaning.specs.Blocks.{marks}
+use Rattle.sv_tree.specs.declared.stmts.AssignMark.{AssignMark}
+use Rattle.sv_meaning.specs.Blocks.{marks, earlier, first_mark}
 use Rattle.sv_typed.specs.Typed.{Stands, IsSound}
 use Rattle.sv_typing.specs.Judging.{IsCause}
 use Rattle.sv_actions.specs.declared.action.Arm as a
@@ -28,18 +29,33 @@ abbrev pub JudgesFaults : {A : Type 0} → Faults → Result A TextErr → Type 
 JudgesFaults all (Ok x) = all ≡ []
 JudgesFaults all (Err e) = IsCause all e
 
-abbrev pub else_marks : Bool → Option Stmt → Faults
-else_marks c None = []
-else_marks c (Some x) = marks c x
+abbrev pub else_marks : AssignMark → Option Stmt → Faults
+else_marks m None = []
+else_marks m (Some x) = marks m x
 
 -- what stands against each of a list
 unfoldable pub faults_in : {A : Type 0} → (A → Faults) → List A → Faults
 faults_in f [] = []
 faults_in f (x ∷ more) = f x ++ faults_in f more
 
-abbrev pub arm_marks : Bool → Arm → Faults
-arm_marks c (Labels' xs r (more_of-Stmt x end_of-Stmt)) = marks c x
-arm_marks c (Default' colon r (more_of-Stmt x end_of-Stmt)) = marks c x
+abbrev pub arm_marks : AssignMark → Arm → Faults
+arm_marks m (Labels' xs r (more_of-Stmt x end_of-Stmt)) = marks m x
+arm_marks m (Default' colon r (more_of-Stmt x end_of-Stmt)) = marks m x
+
+-- ---- the first mark
+
+abbrev pub else_mark : Option Stmt → Option AssignMark
+else_mark None = None
+else_mark (Some x) = first_mark x
+
+abbrev pub arm_mark : Arm → Option AssignMark
+arm_mark (Labels' xs r (more_of-Stmt x end_of-Stmt)) = first_mark x
+arm_mark (Default' colon r (more_of-Stmt x end_of-Stmt)) = first_mark x
+
+-- the first of those of a list
+unfoldable pub first_in : {A : Type 0} → (A → Option AssignMark) → List A → Option AssignMark
+first_in f [] = None
+first_in f (x ∷ more) = earlier (f x) (first_in f more)
 
 -- ---- what statements do
 

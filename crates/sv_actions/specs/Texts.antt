@@ -6,9 +6,10 @@ use Rattle.sv_tree.specs.declared.stmts.Stmt.{Stmt, Empty, Block', If', Case', F
 use Rattle.sv_tree.specs.declared.stmts.Arm.{Arm, Labels', Default'}
 use Rattle.sv_tree.specs.declared.stmts.Block.{Block}
 use Rattle.sv_tree.specs.declared.stmts.BlockKind.{BlockKind}
-use Rattle.sv_tree.specs.declared.stmts.BlockKind.TheVariants as kind
+use Rattle.sv_tree.specs.declared.stmts.Event.{Event}
 use Rattle.sv_meaning.specs.Layouts.{width, Scope, What, signal_is, of_wires, NamedSignal, find}
 use Rattle.sv_meaning.specs.Deeds.{deed}
+use Rattle.sv_meaning.specs.Blocks.{kind_events}
 
 abbrev pub wire_signal : ℕ → ℕ → NamedSignal
 wire_signal n w = record { owner = of_wires; number = n; width = w }
@@ -54,21 +55,22 @@ unfoldable mutual
 
 -- ---- what a block names
 
-abbrev pub event_signals : Scope → BlockKind → List NamedSignal
-event_signals at (kind.Ff e) = signal_of (find e.name.text at)
-event_signals at (kind.Always e) = signal_of (find e.name.text at)
-event_signals at k = []
-
--- what it reads, what its targets name, and its event
-abbrev pub signals_of : Scope → Block → List NamedSignal
-signals_of at b = (deed b.body at).names ++ (target_signals at b.body ++ event_signals at b.kind)
-
--- ---- as code lists them
-
 -- those of each of a list
 unfoldable pub of_each : {A : Type 0} → (A → List NamedSignal) → List A → List NamedSignal
 of_each f [] = []
 of_each f (x ∷ more) = f x ++ of_each f more
+
+abbrev pub event_signal : Scope → Event → List NamedSignal
+event_signal at e = signal_of (find e.name.text at)
+
+abbrev pub event_signals : Scope → BlockKind → List NamedSignal
+event_signals at k = of_each (event_signal at) (kind_events k)
+
+-- what it reads, what its targets name, and its events
+abbrev pub signals_of : Scope → Block → List NamedSignal
+signals_of at b = (deed b.body at).names ++ (target_signals at b.body ++ event_signals at b.kind)
+
+-- ---- as code lists them
 
 abbrev pub other_signals : Scope → Option Stmt → List NamedSignal
 other_signals at None = []

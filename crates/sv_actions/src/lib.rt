@@ -11,5 +11,5 @@ mod statements;
 mod turns;
 
 pub use action::{Action, Arm, Case};
-pub use marks::judge_marks;
+pub use marks::{first_mark, judge_marks};
 pub use statements::{Acted, typed_body};

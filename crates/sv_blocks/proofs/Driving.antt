@@ -90,7 +90,7 @@ drives scene old new nodes first count place value target sc ar are e some withi
     bit_here : (bits : VarName → ℕ → Bit) (i : ℕ) (d : Bit) → i < count → get_or (bits_at_node bits new value) i d ≡ store_of scene old bits nodes first.wire (first.at + i)
     bit_here bits i d l =
         ap (λ v. get_or v i d) (h.value bits) ∙ get_or-take count (drop first.at (bits_at_node bits old (get_or nodes place 0))) i d l ∙ get_or-drop first.at (bits_at_node bits old (get_or nodes place 0)) i d
-        ∙ get_or_default (bits_at_node bits old (get_or nodes place 0)) (first.at + i) d (base scene.clock bits first.wire (first.at + i)) (let a = node_long bits in omega arith)
+        ∙ get_or_default (bits_at_node bits old (get_or nodes place 0)) (first.at + i) d (base scene.manner bits first.wire (first.at + i)) (let a = node_long bits in omega arith)
         ∙ sym (store_at scene old bits nodes first.wire (first.at + i) place e)
 
     lies_in : (widths : List ℕ) → (get_or scene.wires place 0 < length widths) × (get_or widths (get_or scene.wires place 0) 0 ≡ width_in scene place) → LiesIn widths (run_seg first count)

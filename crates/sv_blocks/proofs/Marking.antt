@@ -190,7 +190,7 @@ same_equal b n k e d = ap (λ x. x && eqb b.at k) (eq_true b.wire n e) ∙ eq_tr
 -- ---- a bit more
 
 abbrev pub with_marks : Scene → List Bool → Scene
-with_marks scene marks = record { places = scene.places; wires = scene.wires; widths = scene.widths; marks = marks; clock = scene.clock }
+with_marks scene marks = record { places = scene.places; wires = scene.wires; widths = scene.widths; marks = marks; manner = scene.manner }
 
 some_same : (a b : ℕ) → Some a ≡ Some b → a ≡ b
 some_same a b e = cc
@@ -235,7 +235,7 @@ pub so_far_new : (start scene : Scene) (all bits more : List WireBit) (marks : L
     → marks ≡ set scene.marks m true → more ≡ bits ++ b ∷ [] → IsSoFar start (with_marks scene marks) (b ∷ all) more
 unfolding distinct
 so_far_new start scene all bits more marks b m sc s h l off e d = record {
-  same = record { places = s.same.places; wires = s.same.wires; widths = s.same.widths; clock = s.same.clock; long = ap length e ∙ length-set scene.marks m true ∙ s.same.long };
+  same = record { places = s.same.places; wires = s.same.wires; widths = s.same.widths; manner = s.same.manner; long = ap length e ∙ length-set scene.marks m true ∙ s.same.long };
   marked = λ n k. marked_new_at start scene all marks b m n k sc s.same s.marked h l e (place_in scene n) refl;
   bits_are =
       ap reverse d ∙ reverse-append bits (b ∷ []) ∙ ap (λ xs. b ∷ xs) s.bits_are
@@ -261,7 +261,7 @@ unfolding distinct has_bit
 so_far_none start all at clear e =
     let P : List WireBit → Type 0 = λ xs. IsSoFar start start xs [] in
     subst P (sym (drop_all at all (omega arith))) (record {
-      same = record { places = refl; wires = refl; widths = refl; clock = refl; long = refl };
+      same = record { places = refl; wires = refl; widths = refl; manner = refl; long = refl };
       marked = clear;
       bits_are = refl;
     })

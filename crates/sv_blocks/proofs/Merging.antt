@@ -158,15 +158,15 @@ choose_bit : (scene : Scene) (old new : List Shape) (truth : ℕ) (a b nodes : L
     → store_of scene new bits nodes n k ≡ merged (first (bits_at_node bits old truth)) (store_of scene old bits a) (store_of scene old bits b) n k
 choose_bit scene old new truth a b nodes bits n k sc ar ra rb h None e =
     store_none scene new bits nodes n k e
-    ∙ merged_same (first (bits_at_node bits old truth)) (store_of scene old bits a) (store_of scene old bits b) n k (base scene.clock bits n k) (store_none scene old bits a n k e) (store_none scene old bits b n k e)
+    ∙ merged_same (first (bits_at_node bits old truth)) (store_of scene old bits a) (store_of scene old bits b) n k (base scene.manner bits n k) (store_none scene old bits a n k e) (store_none scene old bits b n k e)
 choose_bit scene old new truth a b nodes bits n k sc ar ra rb h (Some i) e =
     let la = inside scene old a n i sc ra e in
     let lb = inside scene old b n i sc rb e in
     let same : length (bits_at_node bits old (get_or a i 0)) ≡ length (bits_at_node bits old (get_or b i 0)) =
     length-node bits old (get_or a i 0) ar (ra.within i la) ∙ ra.width i la ∙ sym (length-node bits old (get_or b i 0) ar (rb.within i lb) ∙ rb.width i lb) in
     store_at scene new bits nodes n k i e
-    ∙ ap (λ v. get_or v k (base scene.clock bits n k)) ((h.at i la).value bits)
-    ∙ pick_get (bits_at_node bits old truth) (bits_at_node bits old (get_or a i 0)) (bits_at_node bits old (get_or b i 0)) k (base scene.clock bits n k) (store_of scene old bits a) (store_of scene old bits b) n same
+    ∙ ap (λ v. get_or v k (base scene.manner bits n k)) ((h.at i la).value bits)
+    ∙ pick_get (bits_at_node bits old truth) (bits_at_node bits old (get_or a i 0)) (bits_at_node bits old (get_or b i 0)) k (base scene.manner bits n k) (store_of scene old bits a) (store_of scene old bits b) n same
     (store_at scene old bits a n k i e) (store_at scene old bits b n k i e)
 
 choose_store : (scene : Scene) (old new : List Shape) (truth : ℕ) (a b nodes : List ℕ) (bits : VarName → ℕ → Bit) → IsScene scene → IsArena old → AreNodes scene old a → AreNodes scene old b → Chooses old new truth a b nodes (length a)

@@ -38,7 +38,7 @@ use Rattle.sv_blocks.proofs.Acting.{run_assign, run_choose, run_match, names_ass
 pub state_as : (scene : Scene) (shapes : List Shape) (a b : State) → b.nodes ≡ a.nodes → b.seen ≡ a.seen → IsState scene shapes a → IsState scene shapes b
 state_as scene shapes a b e d h = record {
   nodes = subst (AreNodes scene shapes) (sym e) h.nodes;
-  seen = subst (λ xs. SeenBy scene.clock scene shapes b.nodes xs) (sym d) (subst (λ xs. SeenBy scene.clock scene shapes xs a.seen) (sym e) h.seen);
+  seen = subst (λ xs. SeenBy scene.manner scene shapes b.nodes xs) (sym d) (subst (λ xs. SeenBy scene.manner scene shapes xs a.seen) (sym e) h.seen);
 }
 
 pub ran_copied : (scene : Scene) (old new : List Shape) (before copy after : List ℕ) (f : (Store → Read) → Store → Store) (a : List NamedSignal) → copy ≡ before → Ran scene old new copy after f a → Ran scene old new before after f a

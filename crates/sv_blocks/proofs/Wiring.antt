@@ -13,6 +13,7 @@ use Rattle.sv_names.specs.Kinds.{layout_is, IsSound}
 use Rattle.sv_names.proofs.Sound.{sound_width}
 use Rattle.sv_blocks.specs.declared.wires.Wire.{Wire}
 use Rattle.sv_blocks.specs.declared.wires.Places.{Places}
+use Rattle.sv_stores.specs.declared.scene.Manner.{Manner}
 use Rattle.sv_stores.specs.Scenes.{mark_at}
 use Rattle.sv_actions.specs.Texts.{wire_signal, signal_of}
 use Rattle.sv_blocks.specs.Declaring.{wire_is, maybe_wire, wires_are, HasBits, IsAmong, IsThere, ArePlaces, IsBegun}
@@ -145,9 +146,9 @@ given_never : (f : ℕ → Bool) (o : Option ℕ) → ((i : ℕ) → f i ≡ fal
 given_never f None h = refl
 given_never f (Some i) h = h i
 
-pub begun : (named : List NamedSignal) (clock : Option ℕ) (all : Places) (places : List (Option ℕ)) (wires widths : List ℕ) (marks : List Bool) (n : ℕ) → ArePlaces named all → places ≡ all.places.items → wires ≡ all.wires.items → widths ≡ all.widths.items → marks ≡ replicate (n * 128) false → n ≡ length all.wires.items
-    → IsBegun named clock (record { places = places; wires = wires; widths = widths; marks = marks; clock = clock })
-begun named clock all places wires widths marks n h p d f m c = record {
+pub begun : (named : List NamedSignal) (manner : Manner) (all : Places) (places : List (Option ℕ)) (wires widths : List ℕ) (marks : List Bool) (n : ℕ) → ArePlaces named all → places ≡ all.places.items → wires ≡ all.wires.items → widths ≡ all.widths.items → marks ≡ replicate (n * 128) false → n ≡ length all.wires.items
+    → IsBegun named manner (record { places = places; wires = wires; widths = widths; marks = marks; manner = manner })
+begun named manner all places wires widths marks n h p d f m c = record {
   sound = record {
     long = ap length f ∙ h.long ∙ sym (ap length d);
     back = λ k i g. subst (λ xs. (i < length xs) × (get_or xs i 0 ≡ k)) (sym d) (h.back k i (sym (ap (λ xs. entry_at xs k) p) ∙ g));
@@ -157,7 +158,7 @@ begun named clock all places wires widths marks n h p d f m c = record {
   among = λ i l.
       subst (λ xs. Contains named (wire_signal (get_or xs i 0) (get_or widths i 0))) (sym d)
       (subst (λ xs. Contains named (wire_signal (get_or all.wires.items i 0) (get_or xs i 0))) (sym f) (h.among i (subst (λ xs. i < length xs) d l)).there);
-  clocked = refl;
+  manner_is = refl;
   clear = λ k j. given_never (λ i. mark_at marks i j) (entry_at places k) (λ i. ap (λ ms. mark_at ms i j) m ∙ no_mark (n * 128) i j);
   marks = ap length m ∙ length-replicate (n * 128) false ∙ ap (λ k. k * 128) (c ∙ ap length (sym d));
 }

@@ -162,9 +162,9 @@ bits_back v f w e h = same_lists _ _ (bits_length f 0 w ∙ sym e)
 -- ---- a node in the place of another
 
 set_here : (scene : Scene) (shapes : List Shape) (bits : VarName → ℕ → Bit) (nodes : List ℕ) (at node n k : ℕ) → place_in scene n ≡ Some at → at < length nodes
-    → store_of scene shapes bits (set nodes at node) n k ≡ get_or (bits_at_node bits shapes node) k (base scene.clock bits n k)
+    → store_of scene shapes bits (set nodes at node) n k ≡ get_or (bits_at_node bits shapes node) k (base scene.manner bits n k)
 set_here scene shapes bits nodes at node n k e l =
-    store_at scene shapes bits (set nodes at node) n k at e ∙ ap (λ x. get_or (bits_at_node bits shapes x) k (base scene.clock bits n k)) (get_or-set_same nodes at node 0 l)
+    store_at scene shapes bits (set nodes at node) n k at e ∙ ap (λ x. get_or (bits_at_node bits shapes x) k (base scene.manner bits n k)) (get_or-set_same nodes at node 0 l)
 
 other_place : (scene : Scene) (m n i at : ℕ) → IsScene scene → place_in scene n ≡ Some at → place_in scene m ≡ Some i → m ≢ n → i ≢ at
 other_place scene m n i at sc e f ne same = ne (sym (sc.back m i f).1 ∙ ap (λ j. get_or scene.wires j 0) same ∙ (sc.back n at e).1)
@@ -174,7 +174,7 @@ set_other_at : (scene : Scene) (shapes : List Shape) (bits : VarName → ℕ →
 set_other_at scene shapes bits nodes at node n m k sc e ne None f = store_none scene shapes bits (set nodes at node) m k f ∙ sym (store_none scene shapes bits nodes m k f)
 set_other_at scene shapes bits nodes at node n m k sc e ne (Some i) f =
     store_at scene shapes bits (set nodes at node) m k i f
-    ∙ ap (λ x. get_or (bits_at_node bits shapes x) k (base scene.clock bits m k)) (get_or-set_other nodes at i node 0 (other_place scene m n i at sc e f ne))
+    ∙ ap (λ x. get_or (bits_at_node bits shapes x) k (base scene.manner bits m k)) (get_or-set_other nodes at i node 0 (other_place scene m n i at sc e f ne))
     ∙ sym (store_at scene shapes bits nodes m k i f)
 
 -- the bits of a wire are those of its node
@@ -204,11 +204,11 @@ put_bit scene old new bits nodes at node n m k w sc ar br are e l place d here w
     old_long : length (bits_at_node bits old (get_or nodes at 0)) ≡ w
     old_long = length-node bits old (get_or nodes at 0) ar (are.within at l) ∙ are.width at l ∙ d
 
-    by_place : ((k < w) ⊎ (w ≤ k)) → get_or (bits_at_node bits new node) k (base scene.clock bits n k) ≡ get_or (bits_at_node bits new node) k (store_of scene old bits nodes n k)
+    by_place : ((k < w) ⊎ (w ≤ k)) → get_or (bits_at_node bits new node) k (base scene.manner bits n k) ≡ get_or (bits_at_node bits new node) k (store_of scene old bits nodes n k)
     by_place (inl lt) = get_or_default (bits_at_node bits new node) k _ _ (let g = long in omega arith)
     by_place (inr le) =
         ap (λ x. get_or (bits_at_node bits new node) k x)
-        (sym (store_at scene old bits nodes n k at place ∙ get_or_past (bits_at_node bits old (get_or nodes at 0)) k (base scene.clock bits n k) (let g = old_long in omega arith)))
+        (sym (store_at scene old bits nodes n k at place ∙ get_or_past (bits_at_node bits old (get_or nodes at 0)) k (base scene.manner bits n k) (let g = old_long in omega arith)))
 
 put_store : (scene : Scene) (old new : List Shape) (bits : VarName → ℕ → Bit) (nodes : List ℕ) (at node n w : ℕ) → IsScene scene → IsArena old → IsArena new → AreNodes scene old nodes → Extends old new → at < length nodes → place_in scene n ≡ Some at
     → width_in scene at ≡ w → node < length new → width_at new node ≡ w → store_of scene new bits (set nodes at node) ≡ with_wire n (bits_at_node bits new node) (store_of scene old bits nodes)

@@ -6,6 +6,7 @@ use Rattle.lhs_alias.specs.Segs.{bit}
 use Rattle.svex_arena.specs.Substs.{entry_at}
 use Rattle.sv_meaning.specs.Layouts.{NamedSignal}
 use Rattle.sv_meaning.specs.Blocks.{has_bit, distinct}
+use Rattle.sv_stores.specs.declared.scene.Manner.{Manner}
 use Rattle.sv_stores.specs.declared.scene.Scene.{Scene}
 use Rattle.sv_blocks.specs.declared.wires.Wire.{Wire}
 use Rattle.sv_blocks.specs.declared.wires.Places.{Places}
@@ -51,10 +52,10 @@ abbrev pub HasMarks : Scene → Type 0
 HasMarks scene = length scene.marks ≡ length scene.wires * 128
 
 -- a scene with places for such wires, and no bit marked
-pub record IsBegun (named : List NamedSignal) (clock : Option ℕ) (scene : Scene) : Type 0 where
+pub record IsBegun (named : List NamedSignal) (manner : Manner) (scene : Scene) : Type 0 where
   pub sound : IsScene scene
   pub among : SceneAmong named scene
-  pub clocked : scene.clock ≡ clock
+  pub manner_is : scene.manner ≡ manner
   pub clear : (n k : ℕ) → is_written scene n k ≡ false
   pub marks : HasMarks scene
 
@@ -76,7 +77,7 @@ pub record SameWires (a b : Scene) : Type 0 where
   pub places : b.places ≡ a.places
   pub wires : b.wires ≡ a.wires
   pub widths : b.widths ≡ a.widths
-  pub clock : b.clock ≡ a.clock
+  pub manner : b.manner ≡ a.manner
   pub long : length b.marks ≡ length a.marks
 
 -- the bits of a list are marked, and each of them stands once in another, the last first

@@ -14,5 +14,5 @@ mod wires;
 mod writes;
 
 pub use bits::{Marked, all_bits, mark_all};
-pub use ends::{Clock, scene_drivers, wire_of};
+pub use ends::scene_drivers;
 pub use wires::{Wire, scene_of, stmt_wires};

@@ -15,7 +15,7 @@ ghost use Rattle.sv_blocks.specs.Running.{RanArm, RanArms, ArmFits};
 
 use crate::assigns::assign;
 use crate::labels::label_matches;
-use crate::states::{copied, merged, state_of};
+use crate::states::{copied, merged, put_nodes};
 use std::alloc::{AllocError, Global};
 use sv_actions::{Action, Arm, Case};
 use sv_stores::{Scene, State, truth};
@@ -48,8 +48,7 @@ fn merge(
         taken.nodes.as_slice(),
         state.nodes.as_slice(),
     )?;
-    *state = state_of(alloc, arena, scene, nodes)?;
-    Ok(())
+    put_nodes(alloc, arena, scene, state, nodes)
 }
 
 #[cycle(run)]

@@ -1,22 +1,22 @@
-// States of blocks: a node for each wire, and what names see of these. In a combinational block what names see is kept beside
-// the store and changed with it, so that it is made once for each write and not for each name that is read. In a clocked block
-// names read no store, so nothing is kept. A choice between equal nodes makes no node.
-ghost use Rattle.std.specs.Prelude.{◌≡◌, ◌<◌, length, slice_set, IfOk, OnOk, None};
+// States of blocks: a node for each wire, and what names see of these. Where names see the store, what they see is kept beside it
+// and changed with it, so that it is made once for each write and not for each name that is read. In a latch block with `<=` they
+// see the start of the store, which is made once, and in a clocked block nothing is kept. A choice between equal nodes makes no node.
+ghost use Rattle.std.specs.Prelude.{◌≡◌, ◌<◌, length, slice_set, IfOk, OnOk};
 ghost use Rattle.svex_shape.specs.Shapes.{width_at};
 ghost use Rattle.svex_arena.specs.Arenas.{Extends};
 ghost use Rattle.fourvec.specs.Bits.{pick_of};
 ghost use Rattle.sv_lower.specs.Nodes.{FromThree};
-ghost use Rattle.sv_stores.specs.Scenes.{width_in, IsScene, IsState, AreNodes, AreSeen, SeenBy};
+ghost use Rattle.sv_stores.specs.Scenes.{width_in, IsScene, IsState, AreNodes, AreSeen, SeenBy, Starts};
 ghost use Rattle.sv_blocks.specs.Sides.{Merges};
 
 use crate::shown::shown;
 use items::Items;
 use std::alloc::{AllocError, Global};
 use sv_lower::make;
-use sv_stores::{Scene, State};
+use sv_stores::{Manner, Scene, State, sees_store};
 use svex_arena::{Arena, Node, Shape};
 
-// What names see of the nodes of a combinational block.
+// What names see of nodes.
 #[tactic(auto, using(svex_arena::proofs::Keeping::extends_on))]
 fn all_shown(
     alloc: Global,
@@ -37,42 +37,63 @@ fn all_shown(
     Ok(seen)
 }
 
-// What names see of nodes.
-fn seen_of(
+// What names see where a block begins with these nodes.
+fn first_seen(
     alloc: Global,
     arena: &mut Arena,
     scene: &Scene,
     nodes: &[Node],
 ) -> Result<Items<Node>, AllocError>
     requires scene { IsScene scene.now }
-    requires nodes { AreNodes scene.now arena.old nodes.now }
+    requires nodes { Starts scene.now arena.old nodes.now }
     ensures stays { Extends arena.old arena.new }
-    ensures ok { IfOk result (λ seen. SeenBy scene.now.clock scene.now arena.new nodes.now seen) }
+    ensures ok { IfOk result (λ seen. SeenBy scene.now.manner scene.now arena.new nodes.now seen) }
 {
-    match scene.clock {
-        None => {
-            let seen = all_shown(alloc, arena, scene, nodes)?;
-            Ok(seen)
-        }
-        Some(_) => Ok(Items::new(alloc)),
+    match &scene.manner {
+        Manner::Comb => all_shown(alloc, arena, scene, nodes),
+        Manner::Latch => all_shown(alloc, arena, scene, nodes),
+        Manner::HeldLatch => all_shown(alloc, arena, scene, nodes),
+        Manner::Clocked(_) => Ok(Items::new(alloc)),
     }
 }
 
-/// The state with these nodes.
-pub fn state_of(
+/// The state in which a block begins with these nodes.
+pub fn first_state(
     alloc: Global,
     arena: &mut Arena,
     scene: &Scene,
     nodes: Items<Node>,
 ) -> Result<State, AllocError>
     requires scene { IsScene scene.now }
-    requires nodes { AreNodes scene.now arena.old nodes }
+    requires nodes { Starts scene.now arena.old nodes }
     ensures stays { Extends arena.old arena.new }
     ensures nodes { IfOk result (λ state. state.nodes ≡ nodes) }
     ensures state { IfOk result (λ state. IsState scene.now arena.new state) }
 {
-    let seen = seen_of(alloc, arena, scene, nodes.as_slice())?;
+    let seen = first_seen(alloc, arena, scene, nodes.as_slice())?;
     Ok(State { nodes, seen })
+}
+
+/// Puts other nodes in the place of all.
+pub fn put_nodes(
+    alloc: Global,
+    arena: &mut Arena,
+    scene: &Scene,
+    state: &mut State,
+    nodes: Items<Node>,
+) -> Result<(), AllocError>
+    requires scene { IsScene scene.now }
+    requires state { IsState scene.now arena.old state.old }
+    requires nodes { AreNodes scene.now arena.old nodes }
+    ensures stays { Extends arena.old arena.new }
+    ensures nodes { OnOk result (state.new.nodes ≡ nodes) }
+    ensures state { OnOk result (IsState scene.now arena.new state.new) }
+{
+    if sees_store(&scene.manner) {
+        state.seen = all_shown(alloc, arena, scene, nodes.as_slice())?;
+    }
+    state.nodes = nodes;
+    Ok(())
 }
 
 /// The same state once more.
@@ -103,17 +124,14 @@ pub fn put_node(
     ensures nodes { OnOk result (state.new.nodes ≡ slice_set state.old.nodes at node) }
     ensures state { OnOk result (IsState scene.now arena.new state.new) }
 {
-    match scene.clock {
-        None => {
-            let seen = shown(alloc, arena, scene, at, node)?;
-            state.nodes.set(at, node);
-            state.seen.set(at, seen);
-            Ok(())
-        }
-        Some(_) => {
-            state.nodes.set(at, node);
-            Ok(())
-        }
+    if sees_store(&scene.manner) {
+        let seen = shown(alloc, arena, scene, at, node)?;
+        state.nodes.set(at, node);
+        state.seen.set(at, seen);
+        Ok(())
+    } else {
+        state.nodes.set(at, node);
+        Ok(())
     }
 }
 

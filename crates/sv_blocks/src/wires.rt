@@ -11,7 +11,7 @@ ghost use Rattle.sv_blocks.specs.Declaring.{HasBits, IsAmong, IsThere, ArePlaces
 use items::{Boxed, Items};
 use std::alloc::{AllocError, Global};
 use sv_names::{Names, What};
-use sv_stores::Scene;
+use sv_stores::{Manner, Scene};
 use sv_tree::{Arm, Lvalue, Stmt};
 
 /// A wire that a name stands for, with its width.
@@ -212,8 +212,8 @@ fn no_marks(alloc: Global, wires: usize) -> Result<Items<bool>, AllocError>
 }
 
 /// The scene with a place for each of these wires, and no bit marked.
-pub fn scene_of(alloc: Global, found: &[Wire], clock: Option<usize>) -> Result<Scene, AllocError>
-    ensures begun { (named : List NamedSignal) → All (IsAmong named) found.now → IfOk result (λ scene. IsBegun named clock scene) }
+pub fn scene_of(alloc: Global, found: &[Wire], manner: Manner) -> Result<Scene, AllocError>
+    ensures begun { (named : List NamedSignal) → All (IsAmong named) found.now → IfOk result (λ scene. IsBegun named manner scene) }
     ensures there { IfOk result (λ scene. All (IsThere scene.places) found.now) }
 {
     let mut all = Places {
@@ -235,6 +235,6 @@ pub fn scene_of(alloc: Global, found: &[Wire], clock: Option<usize>) -> Result<S
         wires: Items::from_vec(wires),
         widths: Items::from_vec(widths),
         marks,
-        clock,
+        manner,
     })
 }

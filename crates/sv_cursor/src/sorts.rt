@@ -10,7 +10,7 @@ use std::alloc::{AllocError, Global};
 use sv_outside::{Kind, Token, is_id};
 use sv_tree::SystemName;
 
-pub const KEYWORDS: [(&[u8], Keyword); 41] = [
+pub const KEYWORDS: [(&[u8], Keyword); 43] = [
     (b"module", Keyword::Module),
     (b"endmodule", Keyword::Endmodule),
     (b"parameter", Keyword::Parameter),
@@ -41,10 +41,12 @@ pub const KEYWORDS: [(&[u8], Keyword); 41] = [
     (b"begin", Keyword::Begin),
     (b"end", Keyword::End),
     (b"always_comb", Keyword::AlwaysComb),
+    (b"always_latch", Keyword::AlwaysLatch),
     (b"always_ff", Keyword::AlwaysFf),
     (b"always", Keyword::Always),
     (b"posedge", Keyword::Posedge),
     (b"negedge", Keyword::Negedge),
+    (b"or", Keyword::Or),
     (b"case", Keyword::Case),
     (b"casez", Keyword::Casez),
     (b"endcase", Keyword::Endcase),

@@ -83,12 +83,12 @@ pub block_reads : (at : Scope) (b : Block) (now : List ℕ) → Reads (signals_o
 block_reads at b now = record { previous = λ s i. refl; present = λ s i k. has s.number now k }
 
 pub block_worked : (at : Scope) (b : Block) (wires : List Signal) (made next : ℕ) (shapes : List Shape) (all : List Driver) → AreWires at (widths_of wires) → block_faults at b made ≡ [] → next ≡ made + (deed b.body at).turns
-    → ((p : Phase) → drivers_give shapes all p ≡ block_gives (deed b.body at) (block_value (manner at b.kind) (deed b.body at) p.previous p.present)) → All (IsDriver (widths_of wires) shapes) all
-    → ((p : VarName → ℕ → Bool) → Reads (signals_of at b) (block_names wires (manner at b.kind) (deed b.body at)) p → All (λ x. IsTrue (each_variable p shapes x.value)) all) → IsWorked wires (d.block at b) made shapes (alone all next)
+    → ((p : Phase) → drivers_give shapes all p ≡ block_gives (deed b.body at) (block_value (manner at b) (deed b.body at) p.previous p.present)) → All (IsDriver (widths_of wires) shapes) all
+    → ((p : VarName → ℕ → Bool) → Reads (signals_of at b) (block_names wires (manner at b) (deed b.body at)) p → All (λ x. IsTrue (each_variable p shapes x.value)) all) → IsWorked wires (d.block at b) made shapes (alone all next)
 block_worked at b wires made next shapes all a c t g s m = record {
   clear = c;
   made = t;
-  stem = record { gives = g; names = let now = block_names wires (manner at b.kind) (deed b.body at) in m (names_only now) (block_reads at b now) };
+  stem = record { gives = g; names = let now = block_names wires (manner at b) (deed b.body at) in m (names_only now) (block_reads at b now) };
   sound = s;
   links = nothing_linked;
   join_is = no_join (widths_of wires);

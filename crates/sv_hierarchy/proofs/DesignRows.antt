@@ -12,6 +12,7 @@ use Rattle.sv_tree.specs.declared.stmts.Stmt.{Stmt, Block', If' as IfStmt, Assig
 use Rattle.sv_tree.specs.declared.stmts.AssignMark.TheVariants as mark
 use Rattle.sv_tree.specs.declared.stmts.BlockKind.TheVariants as kind
 use Rattle.sv_tree.specs.declared.stmts.Edge.TheVariants as edge
+use Rattle.sv_tree.specs.declared.stmts.EventMark.TheVariants as event_mark
 use Rattle.sv_tree.specs.declared.stmts.Step.TheVariants as loop_step
 use Rattle.sv_tree.specs.declared.stmts.StepMark.TheVariants as step_mark
 use Rattle.sv_tree.specs.declared.design.Way.TheVariants as way
@@ -71,7 +72,18 @@ abbrev comb : Stmt → Item
 comb s = Always (record { kind = kind.Comb; body = s })
 
 abbrev clocked : Stmt → Item
-clocked s = Always (record { kind = kind.Ff (record { edge = edge.Pos; name = word 70 (codes "c") }); body = s })
+clocked s = Always (record { kind = kind.Ff (record { first = record { edge = edge.Pos; name = word 70 (codes "c") }; more = [] }); body = s })
+
+-- @(posedge c or posedge r)
+abbrev clocked_or_reset : Stmt → Item
+clocked_or_reset s =
+    Always (record {
+      kind = kind.Ff (record { first = record { edge = edge.Pos; name = word 70 (codes "c") }; more = record { mark = event_mark.Or; event = record { edge = edge.Pos; name = word 72 (codes "r") } } ∷ [] });
+      body = s;
+    })
+
+abbrev latched : Stmt → Item
+latched s = Always (record { kind = kind.Latch; body = s })
 
 abbrev in_order : Stmt → Stmt → Stmt
 in_order x y = Block' (at 60) None (tt ∷ tt ∷ []) (more_of-Stmt x (more_of-Stmt y end_of-Stmt)) None
@@ -244,6 +256,67 @@ at_the_edge = refl
 without_edge : gives (the_source register) before before ≡ (wire_bit 2 0, Zero) ∷ []
 unfolding designs_on_trees
 without_edge = refl
+
+-- always_ff @(posedge c or posedge r) q <= d: r alone rises, d was 1 and is 0
+abbrev reset_register : Source
+reset_register =
+    alone (input bit (codes "c") ∷ input bit (codes "r") ∷ input bit (codes "d") ∷ output bit (codes "q") ∷ [])
+    (clocked_or_reset (Set (Name (word 5 (codes "q")) []) mark.Nonblocking (at 6) (name 7 (codes "d"))) ∷ [])
+
+abbrev data_is_one : Store
+data_is_one n k = if n == 2 then One else Zero
+
+abbrev reset_is_one : Store
+reset_is_one n k = if n == 1 then One else Zero
+
+at_the_second_edge : gives (the_source reset_register) data_is_one reset_is_one ≡ (wire_bit 3 0, One) ∷ []
+unfolding designs_on_trees
+at_the_second_edge = refl
+
+-- neither rises
+at_no_edge : gives (the_source reset_register) data_is_one data_is_one ≡ (wire_bit 3 0, Zero) ∷ []
+unfolding designs_on_trees
+at_no_edge = refl
+
+-- always_ff @(posedge c or posedge r) q <= r: the name of an event reads the present
+abbrev reset_is_read : Source
+reset_is_read =
+    alone (input bit (codes "c") ∷ input bit (codes "r") ∷ output bit (codes "q") ∷ [])
+    (clocked_or_reset (Set (Name (word 5 (codes "q")) []) mark.Nonblocking (at 6) (name 7 (codes "r"))) ∷ [])
+
+event_reads_the_present : gives (the_source reset_is_read) all_zero reset_is_one ≡ (wire_bit 2 0, One) ∷ []
+unfolding designs_on_trees
+event_reads_the_present = refl
+
+-- always_latch begin q = d; r = q; end: r gets what q is given
+abbrev through_latch : Source
+through_latch =
+    alone (input bit (codes "d") ∷ output bit (codes "q") ∷ output bit (codes "r") ∷ [])
+    (latched (in_order (set 5 (codes "q") (name 7 (codes "d"))) (set 8 (codes "r") (name 10 (codes "q")))) ∷ [])
+
+abbrev first_is_one : Store
+first_is_one n k = if n == 0 then One else Zero
+
+latch_reads_its_store : gives (the_source through_latch) all_zero first_is_one ≡ (wire_bit 1 0, One) ∷ (wire_bit 2 0, One) ∷ []
+unfolding designs_on_trees
+latch_reads_its_store = refl
+
+-- always_latch begin q <= d; r <= q; end: r gets what q was before
+abbrev behind_latch : Source
+behind_latch =
+    alone (input bit (codes "d") ∷ output bit (codes "q") ∷ output bit (codes "r") ∷ [])
+    (latched (in_order (Set (Name (word 5 (codes "q")) []) mark.Nonblocking (at 6) (name 7 (codes "d"))) (Set (Name (word 8 (codes "r")) []) mark.Nonblocking (at 9) (name 10 (codes "q")))) ∷ [])
+
+latch_reads_what_was : gives (the_source behind_latch) all_zero first_is_one ≡ (wire_bit 1 0, One) ∷ (wire_bit 2 0, Zero) ∷ []
+unfolding designs_on_trees
+latch_reads_what_was = refl
+
+-- always_latch begin q = d; r <= d; end: E24 at the `<=`
+mixed_marks : source_faults (alone (input bit (codes "d") ∷ output bit (codes "q") ∷ output bit (codes "r") ∷ [])
+    (latched (in_order (set 5 (codes "q") (name 7 (codes "d"))) (Set (Name (word 8 (codes "r")) []) mark.Nonblocking (at 9) (name 10 (codes "d")))) ∷ [])) None
+    ≡ fault wrong_assign (at 9)
+unfolding designs_on_trees
+mixed_marks = refl
 
 -- always_comb y <= 1'b1: E24 at the mark
 wrong_mark : source_faults (alone (output bit (codes "y") ∷ []) (comb (Set (Name (word 5 (codes "y")) []) mark.Nonblocking (at 6) (lit 7 (codes "1'b1"))) ∷ [])) None ≡ fault wrong_assign (at 6)

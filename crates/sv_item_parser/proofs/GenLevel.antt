@@ -68,6 +68,7 @@ block_grows b = by_kind b.kind
   where
     by_kind : (x : BlockKind) → 0 < length (kind_depths x ++ stmt_depths b.body)
     by_kind kind_of.Comb = omega arith
+    by_kind kind_of.Latch = omega arith
     by_kind (kind_of.Ff e) = omega arith
     by_kind (kind_of.Always e) = omega arith
     by_kind kind_of.Star = omega arith

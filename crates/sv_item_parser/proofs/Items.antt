@@ -155,6 +155,7 @@ type_sort (so.System f) c h = absurd (cc)
 
 pub always_word : (w : Keyword) (c : AlwaysWord) → always_by_word w ≡ Some c → item_by_word w ≡ Some item_by.Always
 always_word k.AlwaysComb c h = refl
+always_word k.AlwaysLatch c h = refl
 always_word k.AlwaysFf c h = refl
 always_word k.Always c h = refl
 always_word _ c h = absurd (cc)

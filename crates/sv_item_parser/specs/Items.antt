@@ -9,6 +9,10 @@ use Rattle.sv_tree.specs.declared.stmts.Lvalue.{Lvalue}
 use Rattle.sv_tree.specs.declared.stmts.Edge.{Edge}
 use Rattle.sv_tree.specs.declared.stmts.Step.{Step}
 use Rattle.sv_tree.specs.declared.stmts.Event.{Event}
+use Rattle.sv_tree.specs.declared.stmts.EventMark.{EventMark}
+use Rattle.sv_tree.specs.declared.stmts.EventMark.TheVariants as event_mark_of
+use Rattle.sv_tree.specs.declared.stmts.NextEvent.{NextEvent}
+use Rattle.sv_tree.specs.declared.stmts.Events.{Events}
 use Rattle.sv_tree.specs.declared.stmts.BlockKind.{BlockKind}
 use Rattle.sv_tree.specs.declared.stmts.BlockKind.TheVariants as kind_of
 use Rattle.sv_tree.specs.declared.stmts.Block.{Block}
@@ -30,7 +34,8 @@ use Rattle.sv_word_parser.specs.declared.openers.ItemOpener.TheVariants as item_
 use Rattle.sv_item_parser.specs.declared.tails.AlwaysTail.{AlwaysTail}
 use Rattle.sv_item_parser.specs.declared.tails.AlwaysTail.TheVariants as always_tail_of
 use Rattle.sv_word_parser.specs.Combined.{◌▸◌, ◌◂◌, word_test, sort_test, listed, kept}
-use Rattle.sv_word_parser.specs.Words.{net_by_word, edge_by_word, always_by_word, item_by_sort}
+use Rattle.sv_word_parser.specs.Words.{net_by_word, edge_by_word, event_mark_by_sort, always_by_word, item_by_sort}
+use Rattle.sv_type_parser.specs.Lists.{while_told}
 use Rattle.sv_type_parser.specs.Forms.{expression, given, names, form, typedef}
 use Rattle.sv_type_parser.specs.Params.{TypedName, typed_name, param}
 use Rattle.sv_stmt_parser.specs.Targets.{lvalue}
@@ -44,19 +49,44 @@ use Rattle.sv_instance_parser.specs.Instances.{more_names, named_item}
 abbrev pub made_event : Edge × Word → Event
 made_event c = record { edge = c.0; name = c.1 }
 
--- the edge and the name of an event, and the `)` behind them
-unfoldable pub event_inside : Parser Event
-event_inside = made_event <$> (token (word_test edge_by_word) ⊗ (token id_test ◂ mark m.RightParen))
-
+-- an edge and a name
 unfoldable pub event : Parser Event
-event = mark m.At ▸ (mark m.LeftParen ▸ event_inside)
+event = made_event <$> (token (word_test edge_by_word) ⊗ token id_test)
+
+abbrev pub made_next_event : EventMark × Event → NextEvent
+made_next_event c = record { mark = c.0; event = c.1 }
+
+abbrev pub event_mark_for : EventMark → Parser EventMark
+event_mark_for event_mark_of.Or = (λ _. event_mark_of.Or) <$> keyword key.Or
+event_mark_for event_mark_of.Comma = (λ _. event_mark_of.Comma) <$> mark m.Comma
+
+-- what parts an event from the one before
+unfoldable pub event_mark : Parser EventMark
+event_mark = by_told (sort_test event_mark_by_sort) event_mark_for refuse
+
+unfoldable pub next_event : Parser NextEvent
+next_event = made_next_event <$> (event_mark ⊗ event)
+
+abbrev pub made_events : Event × List NextEvent → Events
+made_events c = record { first = c.0; more = c.1 }
+
+-- the events behind the first
+abbrev pub next_events : Parser (List NextEvent)
+next_events = while_told (sort_test event_mark_by_sort) next_event
+
+-- one or more events, and the `)` behind them
+unfoldable pub events_inside : Parser Events
+events_inside = made_events <$> (event ⊗ (next_events ◂ mark m.RightParen))
+
+unfoldable pub events : Parser Events
+events = mark m.At ▸ (mark m.LeftParen ▸ events_inside)
 
 unfoldable pub star_inside : Parser AlwaysTail
 star_inside = (λ _. always_tail_of.StarParen) <$> (mark m.Star ◂ mark m.RightParen)
 
 -- behind the `(` of an `always`
 unfoldable pub always_inside : Parser AlwaysTail
-always_inside = by_told (mark_test m.Star) (λ _. star_inside) (always_tail_of.Event <$> event_inside)
+always_inside = by_told (mark_test m.Star) (λ _. star_inside) (always_tail_of.Events <$> events_inside)
 
 unfoldable pub star : Parser AlwaysTail
 star = (λ _. always_tail_of.Star) <$> mark m.Star
@@ -68,11 +98,12 @@ always_tail = by_told (mark_test m.Star) (λ _. star) (kept <$> (mark m.LeftPare
 abbrev pub made_always_kind : AlwaysTail → BlockKind
 made_always_kind always_tail_of.Star = kind_of.Star
 made_always_kind always_tail_of.StarParen = kind_of.StarParen
-made_always_kind (always_tail_of.Event e) = kind_of.Always e
+made_always_kind (always_tail_of.Events all) = kind_of.Always all
 
 abbrev pub kind_for : AlwaysWord → Parser BlockKind
 kind_for always_word.Comb = (λ _. kind_of.Comb) <$> keyword key.AlwaysComb
-kind_for always_word.Ff = kind_of.Ff <$> (keyword key.AlwaysFf ▸ event)
+kind_for always_word.Latch = (λ _. kind_of.Latch) <$> keyword key.AlwaysLatch
+kind_for always_word.Ff = kind_of.Ff <$> (keyword key.AlwaysFf ▸ events)
 kind_for always_word.Always = made_always_kind <$> (keyword key.Always ▸ (mark m.At ▸ always_tail))
 
 unfoldable pub kind : Parser BlockKind

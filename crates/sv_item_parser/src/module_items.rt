@@ -15,33 +15,95 @@ use items::both;
 use std::alloc::Global;
 use sv_cursor::{Cursor, Keyword, Mark, ParseErr, Sort};
 use sv_instance_parser::named_item;
-use sv_stmt_parser::{lvalue, stmt};
-use sv_tree::{AssignPair, Block, BlockKind, Event, Item, Word};
+use sv_stmt_parser::{Nested, lvalue, parts, stmt};
+use sv_tree::{AssignPair, Block, BlockKind, Event, EventMark, Events, Item, NextEvent, Word};
 use sv_type_parser::{
     MOST_NESTING, Part, ended_more, ended_names, ended_parts, form, given, param, typed_name,
     typedef, with_more,
 };
-use sv_word_parser::{AlwaysWord, ItemOpener, always_next, take_edge, take_net};
+use sv_word_parser::{AlwaysWord, ItemOpener, always_next, event_mark_next, take_edge, take_net};
 
 // ---- blocks
-
-#[tactic(auto, unfolding(crate::specs::Items::event_inside))]
-fn event_inside(alloc: Global, tokens: &mut Cursor<'_>) -> Result<Event, ParseErr>
-    ensures { Reads (spec.event_inside tokens.old) result tokens.new }
-{
-    let edge = take_edge(tokens)?;
-    let name = tokens.id(alloc)?;
-    tokens.mark(Mark::RightParen)?;
-    Ok(Event { edge, name })
-}
 
 #[tactic(auto, unfolding(crate::specs::Items::event))]
 fn event(alloc: Global, tokens: &mut Cursor<'_>) -> Result<Event, ParseErr>
     ensures { Reads (spec.event tokens.old) result tokens.new }
 {
+    let edge = take_edge(tokens)?;
+    let name = tokens.id(alloc)?;
+    Ok(Event { edge, name })
+}
+
+fn or_mark(tokens: &mut Cursor<'_>) -> Result<EventMark, ParseErr>
+    ensures { Reads (spec.event_mark_for EventMark.Or tokens.old) result tokens.new }
+{
+    tokens.keyword(Keyword::Or)?;
+    Ok(EventMark::Or)
+}
+
+fn comma_mark(tokens: &mut Cursor<'_>) -> Result<EventMark, ParseErr>
+    ensures { Reads (spec.event_mark_for EventMark.Comma tokens.old) result tokens.new }
+{
+    tokens.mark(Mark::Comma)?;
+    Ok(EventMark::Comma)
+}
+
+#[tactic(auto, unfolding(crate::specs::Items::event_mark))]
+fn event_mark(tokens: &mut Cursor<'_>) -> Result<EventMark, ParseErr>
+    ensures { Reads (spec.event_mark tokens.old) result tokens.new }
+{
+    match event_mark_next(tokens) {
+        Some(EventMark::Or) => or_mark(tokens),
+        Some(EventMark::Comma) => comma_mark(tokens),
+        None => Err(tokens.refuse()),
+    }
+}
+
+/// Reads the events behind the first.
+#[derive(Drop)]
+struct NextEvents {
+    alloc: Global,
+}
+
+impl Nested<NextEvent> for NextEvents {
+    type Opener = EventMark;
+
+    ghost ready = { λ rules. Unit {0} };
+
+    ghost parser = { λ rules. spec.next_event };
+
+    ghost test = { sort_test words.event_mark_by_sort };
+
+    fn comes(tokens: &Cursor<'_>) -> bool {
+        event_mark_next(tokens).is_some()
+    }
+
+    #[tactic(auto, unfolding(crate::specs::Items::next_event))]
+    fn part(&self, tokens: &mut Cursor<'_>) -> Result<NextEvent, ParseErr> {
+        let mark = event_mark(tokens)?;
+        let event = event(self.alloc, tokens)?;
+        Ok(NextEvent { mark, event })
+    }
+}
+
+#[tactic(auto, unfolding(crate::specs::Items::events_inside))]
+fn events_inside(alloc: Global, tokens: &mut Cursor<'_>) -> Result<Events, ParseErr>
+    ensures { Reads (spec.events_inside tokens.old) result tokens.new }
+{
+    let rules = NextEvents { alloc };
+    let first = event(alloc, tokens)?;
+    let (first, more) = both(first, parts(alloc, tokens, &rules))?;
+    tokens.mark(Mark::RightParen)?;
+    Ok(Events { first, more })
+}
+
+#[tactic(auto, unfolding(crate::specs::Items::events))]
+fn events(alloc: Global, tokens: &mut Cursor<'_>) -> Result<Events, ParseErr>
+    ensures { Reads (spec.events tokens.old) result tokens.new }
+{
     tokens.mark(Mark::At)?;
     tokens.mark(Mark::LeftParen)?;
-    event_inside(alloc, tokens)
+    events_inside(alloc, tokens)
 }
 
 #[tactic(auto, unfolding(crate::specs::Items::star_inside))]
@@ -60,8 +122,8 @@ fn always_inside(alloc: Global, tokens: &mut Cursor<'_>) -> Result<AlwaysTail, P
     match tokens.peek_mark(Mark::Star) {
         Some(_) => star_inside(tokens),
         None => {
-            let inside = event_inside(alloc, tokens)?;
-            Ok(AlwaysTail::Event(inside))
+            let inside = events_inside(alloc, tokens)?;
+            Ok(AlwaysTail::Events(inside))
         }
     }
 }
@@ -93,7 +155,7 @@ fn always_kind(tail: AlwaysTail) -> BlockKind
     match tail {
         AlwaysTail::Star => BlockKind::Star,
         AlwaysTail::StarParen => BlockKind::StarParen,
-        AlwaysTail::Event(event) => BlockKind::Always(event),
+        AlwaysTail::Events(all) => BlockKind::Always(all),
     }
 }
 
@@ -104,12 +166,19 @@ fn comb_kind(tokens: &mut Cursor<'_>) -> Result<BlockKind, ParseErr>
     Ok(BlockKind::Comb)
 }
 
+fn latch_kind(tokens: &mut Cursor<'_>) -> Result<BlockKind, ParseErr>
+    ensures { Reads (spec.kind_for AlwaysWord.Latch tokens.old) result tokens.new }
+{
+    tokens.keyword(Keyword::AlwaysLatch)?;
+    Ok(BlockKind::Latch)
+}
+
 fn ff_kind(alloc: Global, tokens: &mut Cursor<'_>) -> Result<BlockKind, ParseErr>
     ensures { Reads (spec.kind_for AlwaysWord.Ff tokens.old) result tokens.new }
 {
     tokens.keyword(Keyword::AlwaysFf)?;
-    let event = event(alloc, tokens)?;
-    Ok(BlockKind::Ff(event))
+    let all = events(alloc, tokens)?;
+    Ok(BlockKind::Ff(all))
 }
 
 fn plain_kind(alloc: Global, tokens: &mut Cursor<'_>) -> Result<BlockKind, ParseErr>
@@ -126,6 +195,7 @@ fn kind_for(alloc: Global, tokens: &mut Cursor<'_>, word: AlwaysWord) -> Result<
 {
     match word {
         AlwaysWord::Comb => comb_kind(tokens),
+        AlwaysWord::Latch => latch_kind(tokens),
         AlwaysWord::Ff => ff_kind(alloc, tokens),
         AlwaysWord::Always => plain_kind(alloc, tokens),
     }
@@ -251,6 +321,7 @@ fn item_of_word(word: Keyword) -> Option<ItemOpener>
         Keyword::Genvar => Some(ItemOpener::Genvar),
         Keyword::Assign => Some(ItemOpener::Assign),
         Keyword::AlwaysComb => Some(ItemOpener::Always),
+        Keyword::AlwaysLatch => Some(ItemOpener::Always),
         Keyword::AlwaysFf => Some(ItemOpener::Always),
         Keyword::Always => Some(ItemOpener::Always),
         Keyword::For => Some(ItemOpener::For),

@@ -1,5 +1,5 @@
 // What stands behind the first part of a tree.
-use sv_tree::Event;
+use sv_tree::Events;
 
 /// What stands behind the `@` of an `always`.
 #[derive(Drop)]
@@ -8,6 +8,6 @@ pub enum AlwaysTail {
     Star,
     /// `(*)`
     StarParen,
-    /// The rest of an event.
-    Event(Event),
+    /// The rest of a list of events.
+    Events(Events),
 }

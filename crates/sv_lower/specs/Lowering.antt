@@ -11,6 +11,7 @@ use Rattle.svex_shape.specs.Values.{each_variable}
 use Rattle.svex_arena.specs.Substs.{entry_at, given_or}
 use Rattle.sv_meaning.specs.Layouts.{Read, Scope, Origin, of_wires, of_choice, of_samples, NamedSignal, Declared}
 use Rattle.sv_meaning.specs.Meanings.{bits_at}
+use Rattle.sv_meaning.specs.Blocks.{is_event}
 use Rattle.sv_typed.specs.declared.tree.Typed.{Typed}
 use Rattle.sv_typed.specs.declared.tree.TypedForm.{TypedForm, Literal, Named', Turned', Reduced', Computed', Moved', Compared', Combined', Chosen', Power', Concat', Repeat', Standing', Fitted', Row_of-Typed, end_of-Typed, more_of-Typed, Row_of-Pick, end_of-Pick, more_of-Pick}
 use Rattle.sv_typed.specs.declared.tree.Pick.{Pick}
@@ -42,7 +43,7 @@ pub record IsIn (look : Look) (shapes : List Shape) : Type 0 where
 -- the variable that a wire reads where it has no node
 abbrev pub wire_variable : Look → ℕ → VarName
 wire_variable Previous n = Prev n
-wire_variable (Clocked clock) n = if n == clock then Now n else Prev n
+wire_variable (Clocked edges) n = if is_event edges.now n then Now n else Prev n
 wire_variable look n = Now n
 
 -- The bits of names, where variables have such bits. A wire with a node reads its bits, X past the last.

@@ -1,4 +1,5 @@
 // What names read.
+use sv_meaning::WireEdge;
 use svex_arena::Node;
 
 /// What a wire reads, by where its name stands. A variable and a sample of a table read themselves everywhere.
@@ -8,10 +9,10 @@ pub enum Look<'a> {
     Present,
     /// The phase before.
     Previous,
-    /// The phase before, but the wire with this number in the present phase: in clocked blocks, whose event names that wire (9.2.2.4).
-    Clocked(usize),
-    /// The node under its number, or the present phase where there is none: in combinational blocks, where wires that the block
-    /// writes have nodes as wide as they are.
+    /// The phase before, but the wires of these events in the present phase: in clocked blocks, which are set off by them (9.2.2.4).
+    Clocked(&'a [WireEdge]),
+    /// The node under its number, or the present phase where there is none: in combinational and latch blocks, where wires that
+    /// the block writes have nodes as wide as they are.
     Mixed(&'a [Option<Node>]),
     /// The same, where only some wires have places among the nodes: the place of each, by its number.
     Placed(&'a [Option<usize>], &'a [Node]),

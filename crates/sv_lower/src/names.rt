@@ -6,6 +6,7 @@ ghost use Rattle.svex_arena.specs.Arenas.{Extends};
 ghost use Rattle.sv_typed.specs.declared.tree.Root.{Root};
 ghost use Rattle.sv_typed.specs.declared.tree.Origin.{Origin};
 ghost use Rattle.sv_typed.specs.Typed.{root_width, IsWidth};
+ghost use Rattle.sv_meaning.specs.Blocks as blocks;
 ghost use Rattle.svex_arena.specs.Substs.{entry_at};
 ghost use Rattle.sv_lower.specs.Lowering.{node_in, node_of, wire_variable, IsIn, LowersRoot};
 
@@ -13,6 +14,7 @@ use crate::Look;
 use crate::parts::{place_at, windowed};
 use crate::steps::{constant, make};
 use std::alloc::{AllocError, Global};
+use sv_meaning::WireEdge;
 use sv_typed::{Origin, Root};
 use svex_arena::{Arena, Node, Shape, VarName};
 
@@ -46,6 +48,13 @@ fn node_of(look: &Look<'_>, number: usize) -> Option<Node>
     }
 }
 
+// Whether a wire is that of an event.
+fn is_event(edges: &[WireEdge], number: usize) -> bool
+    ensures { result ≡ blocks.is_event edges.now number }
+{
+    edges.iter().any(|x| number == x.wire)
+}
+
 // The variable that a wire reads where it has no node.
 fn variable(look: &Look<'_>, number: usize) -> VarName
     ensures { result ≡ wire_variable look.now number }
@@ -53,8 +62,8 @@ fn variable(look: &Look<'_>, number: usize) -> VarName
     match look {
         Look::Present | Look::Mixed(_) | Look::Placed(_, _) => VarName::Now(number),
         Look::Previous => VarName::Prev(number),
-        Look::Clocked(clock) => {
-            if number == *clock {
+        Look::Clocked(edges) => {
+            if is_event(edges, number) {
                 VarName::Now(number)
             } else {
                 VarName::Prev(number)

@@ -1,7 +1,7 @@
 -- Contributions rise with the previous and the present valuation, and none is added or lost.
 use Rattle.std.proofs.Common.{ℕ, max, Bool, true, false, List, [], ◌∷◌, refl, arith, IsTrue, Option, Some, None, cond, ◌==◌}
 use Rattle.fourvec.specs.declared.Bit.{Bit}
-use Rattle.fourvec.specs.Bits.{bit_below, all_pairs, not_of, each, each_pair}
+use Rattle.fourvec.specs.Bits.{bit_below, all_pairs, or_bit, not_of, each, each_pair}
 use Rattle.fourvec.specs.Laws.{Below}
 use Rattle.fourvec.proofs.Order as order
 use Rattle.fourvec.proofs.Monotone as laws
@@ -19,7 +19,10 @@ use Rattle.lhs_alias.specs.Segs.{bit}
 use Rattle.settling.specs.Settling.{Store, Contribution}
 use Rattle.sv_meaning.specs.Targets.{Target, assigned_targets, widths, slots}
 use Rattle.sv_meaning.specs.Deeds.{Deed, deed}
-use Rattle.sv_meaning.specs.Blocks.{has_bit, distinct, reads, all_unknown, comb_look, comb_end, clocked_look, clocked_value, trigger_bit, Manner, comb, clocked, no_manner, manner, block_value}
+use Rattle.sv_meaning.specs.Blocks.{has_bit, distinct, reads, all_unknown, comb_look, comb_end, held, latch_look, latch_end, clocked_look, clocked_value, trigger_bit, trigger, is_event, Manner, comb, latch, clocked, no_manner, manner, block_value}
+use Rattle.sv_meaning.specs.declared.events.WireEdge.{WireEdge}
+use Rattle.sv_tree.specs.declared.stmts.AssignMark.{AssignMark}
+use Rattle.sv_tree.specs.declared.stmts.AssignMark.TheVariants as mark
 use Rattle.sv_meaning.specs.Designs.{driven, assigned_to, port_gives, gives, contributions_of, Work, assignment, block, port, index_scope, is_joined, as_targets, wire_slots, no_word}
 use Rattle.settling.proofs.More.{more-append, more-store}
 use Rattle.settling.specs.Least.{Under, More}
@@ -56,15 +59,36 @@ trigger-rises edge.Pos a b c d h g =
 trigger-rises edge.Neg a b c d h g =
     left_of _ _ (laws.and_monotone (not_of (a ∷ [])) (b ∷ []) (not_of (c ∷ [])) (d ∷ []) (laws.not_monotone (a ∷ []) (c ∷ []) (order.one_below a c h)) (order.one_below b d g))
 
-clocked-rises : (a : Deed) → GoodDeed a → (e : Edge) (c : ℕ) (prev now before later : Store) → Under prev before → Under now later → Under (clocked_value a e c prev now) (clocked_value a e c before later)
-clocked-rises a g e c prev now before later h u =
-    merged-rises _ _ _ _ _ _ (trigger-rises e (now c 0) (prev c 0) (later c 0) (before c 0) (u c 0) (h c 0))
-    (g (clocked_look c prev now) (clocked_look c before later)
-    (λ s t v. reads-rise _ _ (λ n k. pick-rises (n == c) (now n k) (prev n k) (later n k) (before n k) (u n k) (h n k))) prev before h) h
+or-rises : (a b c d : Bit) → IsTrue (bit_below a c) → IsTrue (bit_below b d) → IsTrue (bit_below (or_bit a b) (or_bit c d))
+unfolding each_pair all_pairs
+or-rises a b c d h g = left_of _ _ (laws.or_monotone (a ∷ []) (b ∷ []) (c ∷ []) (d ∷ []) (order.one_below a c h) (order.one_below b d g))
+
+triggers-rise : (edges : List WireEdge) (prev now before later : Store) → Under prev before → Under now later → IsTrue (bit_below (trigger edges prev now) (trigger edges before later))
+unfolding trigger
+triggers-rise [] prev now before later h u = refl
+triggers-rise (x ∷ more) prev now before later h u =
+    or-rises _ _ _ _ (trigger-rises x.edge (now x.wire 0) (prev x.wire 0) (later x.wire 0) (before x.wire 0) (u x.wire 0) (h x.wire 0)) (triggers-rise more prev now before later h u)
+
+clocked-rises : (a : Deed) → GoodDeed a → (edges : List WireEdge) (prev now before later : Store) → Under prev before → Under now later → Under (clocked_value a edges prev now) (clocked_value a edges before later)
+clocked-rises a g edges prev now before later h u =
+    merged-rises _ _ _ _ _ _ (triggers-rise edges prev now before later h u)
+    (g (clocked_look edges prev now) (clocked_look edges before later)
+    (λ s t v. reads-rise _ _ (λ n k. pick-rises (is_event edges n) (now n k) (prev n k) (later n k) (before n k) (u n k) (h n k))) prev before h) h
+
+held-rises : (m : AssignMark) (prev before s t : Store) → Under prev before → Under s t → Under (held m prev s) (held m before t)
+held-rises mark.Blocking prev before s t h v = v
+held-rises mark.Nonblocking prev before s t h v = h
+
+latch-rises : (m : AssignMark) (a : Deed) → GoodDeed a → (prev now before later : Store) → Under prev before → Under now later → Under (latch_end m a prev now) (latch_end m a before later)
+latch-rises m a g prev now before later h u =
+    g (latch_look m a.targets prev now) (latch_look m a.targets before later)
+    (λ s t v. reads-rise _ _ (λ n k. pick-rises (has_bit (bit n k) a.targets) (held m prev s n k) (now n k) (held m before t n k) (later n k) (held-rises m prev before s t h v n k) (u n k)))
+    prev before h
 
 block-rises : (m : Manner) (a : Deed) → GoodDeed a → (prev now before later : Store) → Under prev before → Under now later → Under (block_value m a prev now) (block_value m a before later)
 block-rises comb a g prev now before later h u = comb-rises a g now later u
-block-rises (clocked e c) a g prev now before later h u = clocked-rises a g e c prev now before later h u
+block-rises (latch m) a g prev now before later h u = latch-rises m a g prev now before later h u
+block-rises (clocked edges) a g prev now before later h u = clocked-rises a g edges prev now before later h u
 block-rises no_manner a g prev now before later h u = h
 
 -- ---- lists of contributions: the same bits, and more of each
@@ -102,7 +126,7 @@ more-unless false a c h = h
 more-work : (w : Work) (prev now before later : Store) → Under prev before → Under now later → More (gives w prev now) (gives w before later)
 more-work (assignment at to x) prev now before later h u = more-assigned (assigned_targets at to) (mean at x) (good at x) now later u
 more-work (block at b) prev now before later h u =
-    more-store (distinct (deed b.body at).targets) _ _ (block-rises (manner at b.kind) (deed b.body at) (good-deed b.body at) prev now before later h u)
+    more-store (distinct (deed b.body at).targets) _ _ (block-rises (manner at b) (deed b.body at) (good-deed b.body at) prev now before later h u)
 more-work (port at w n x actual) prev now before later h u = more-unless (is_joined (index_scope w at) at x actual) _ _ (more-port w at n x actual now later u)
 
 more-works : (all : List Work) (prev now before later : Store) → Under prev before → Under now later → More (contributions_of all prev now) (contributions_of all before later)

@@ -20,7 +20,8 @@ use Rattle.lhs_alias.specs.Pairs.{Linked}
 use Rattle.settling.specs.Settling.{Store, value_at, Link, Contribution, first_bit, SettlesBy}
 use Rattle.sv_meaning.specs.Targets.{Target, target_of, target_faults, wide_target, assigned_faults, assigned_targets, widths, are_fixed, slots, bits_named}
 use Rattle.sv_meaning.specs.Deeds.{Deed, deed}
-use Rattle.sv_meaning.specs.Blocks.{has_bit, distinct, reads, Manner, comb, clocked, no_manner, manner, block_value, block_faults}
+use Rattle.sv_meaning.specs.Blocks.{has_bit, distinct, reads, Manner, comb, latch, clocked, no_manner, manner, block_value, block_faults}
+use Rattle.sv_meaning.specs.declared.events.WireEdge.{WireEdge}
 
 -- ---- what the scopes give
 
@@ -128,7 +129,7 @@ block_gives a end = map (λ b. (b, value_at end b)) (distinct a.targets)
 
 abbrev pub gives : Work → Store → Store → List Contribution
 gives (assignment at to x) prev now = assigned_to (assigned_targets at to) (mean at x) now
-gives (block at b) prev now = block_gives (deed b.body at) (block_value (manner at b.kind) (deed b.body at) prev now)
+gives (block at b) prev now = block_gives (deed b.body at) (block_value (manner at b) (deed b.body at) prev now)
 gives (port at w n x actual) prev now = if is_joined (index_scope w at) at x actual then [] else port_gives w at n x actual now
 
 unfoldable pub contributions_of : List Work → Store → Store → List Contribution
@@ -207,7 +208,8 @@ is_read_now wires all n = not (has_all (bits_of_wire n 0 (width_of_wire (slice_g
 -- the wires that it names in the present
 abbrev pub block_names : List Signal → Manner → Deed → List ℕ
 block_names wires comb a = filter (is_read_now wires a.targets) (wires_named a.names)
-block_names wires (clocked e n) a = n ∷ []
+block_names wires (latch m) a = filter (is_read_now wires a.targets) (wires_named a.names)
+block_names wires (clocked edges) a = map (λ x. x.wire) edges
 block_names wires no_manner a = []
 
 abbrev pub port_names : Way → Scope → ℕ → Expr → List ℕ
@@ -216,7 +218,7 @@ port_names w at n actual = wires_named (mean at actual).names
 
 abbrev pub names_now : List Signal → Work → List ℕ
 names_now wires (assignment at to x) = wires_named (mean at x).names
-names_now wires (block at b) = block_names wires (manner at b.kind) (deed b.body at)
+names_now wires (block at b) = block_names wires (manner at b) (deed b.body at)
 names_now wires (port at w n x actual) = if is_joined (index_scope w at) at x actual then [] else port_names w at n actual
 
 -- the bits that it contributes to

@@ -5,7 +5,11 @@
 //! joined bits has the resolution of what is contributed to it. Where the rules give no meaning, faults say why (`Faults`).
 #![tactic(auto)]
 
+mod events;
+
 ghost use Rattle.sv_meaning.specs.Laws.{ContributionsRise, LastIsFound, LeastSettlingExists, LeastSettlingRises, OthersStay};
+
+pub use events::WireEdge;
 
 /// Where the previous and the present valuation have more, each contribution has more, and it goes to the same bit.
 pub fn contributions_rise()

@@ -36,21 +36,21 @@ grammar_words =
     codes "input" ∷ codes "output" ∷ codes "inout" ∷ codes "wire" ∷ codes "tri" ∷ codes "struct" ∷
     codes "packed" ∷ codes "enum" ∷ codes "typedef" ∷ codes "genvar" ∷ codes "assign" ∷ codes "generate" ∷
     codes "endgenerate" ∷ codes "for" ∷ codes "if" ∷ codes "else" ∷ codes "begin" ∷ codes "end" ∷
-    codes "always_comb" ∷ codes "always_ff" ∷ codes "always" ∷ codes "posedge" ∷ codes "negedge" ∷
-    codes "case" ∷ codes "casez" ∷ codes "endcase" ∷ codes "unique" ∷ codes "unique0" ∷ codes "priority" ∷
+    codes "always_comb" ∷ codes "always_latch" ∷ codes "always_ff" ∷ codes "always" ∷ codes "posedge" ∷
+    codes "negedge" ∷ codes "or" ∷ codes "case" ∷ codes "casez" ∷ codes "endcase" ∷ codes "unique" ∷ codes "unique0" ∷ codes "priority" ∷
     codes "default" ∷ []
 
 -- the keywords of Annex B whose constructs are out of the tool's scope
 unfoldable pub out_of_scope_words : List (List ℕ)
 out_of_scope_words =
-    codes "alias" ∷ codes "always_latch" ∷ codes "and" ∷ codes "assert" ∷ codes "assume" ∷ codes "automatic" ∷
+    codes "alias" ∷ codes "and" ∷ codes "assert" ∷ codes "assume" ∷ codes "automatic" ∷
     codes "bind" ∷ codes "break" ∷ codes "buf" ∷ codes "bufif0" ∷ codes "bufif1" ∷ codes "byte" ∷
     codes "casex" ∷ codes "checker" ∷ codes "class" ∷ codes "clocking" ∷ codes "const" ∷ codes "continue" ∷
     codes "cover" ∷ codes "covergroup" ∷ codes "deassign" ∷ codes "defparam" ∷ codes "disable" ∷ codes "do" ∷
     codes "event" ∷ codes "export" ∷ codes "extern" ∷ codes "final" ∷ codes "force" ∷ codes "foreach" ∷
     codes "forever" ∷ codes "fork" ∷ codes "function" ∷ codes "import" ∷ codes "initial" ∷ codes "inside" ∷
     codes "interface" ∷ codes "join" ∷ codes "longint" ∷ codes "nand" ∷ codes "nor" ∷ codes "not" ∷
-    codes "notif0" ∷ codes "notif1" ∷ codes "or" ∷ codes "package" ∷ codes "primitive" ∷ codes "program" ∷
+    codes "notif0" ∷ codes "notif1" ∷ codes "package" ∷ codes "primitive" ∷ codes "program" ∷
     codes "property" ∷ codes "pulldown" ∷ codes "pullup" ∷ codes "real" ∷ codes "realtime" ∷ codes "release" ∷
     codes "repeat" ∷ codes "return" ∷ codes "sequence" ∷ codes "shortint" ∷ codes "shortreal" ∷
     codes "specify" ∷ codes "static" ∷ codes "string" ∷ codes "supply0" ∷ codes "supply1" ∷ codes "task" ∷

@@ -10,7 +10,7 @@ ghost use Rattle.sv_outside.specs.Words as form;
 
 // The reserved words by their first letter, from `a` on, with a blank behind each; under a letter those of the grammar come first.
 static BY_LETTER: [&[u8]; 26] = [
-    b"assign always_comb always_ff always alias always_latch and assert assume automatic ",
+    b"assign always_comb always_latch always_ff always alias and assert assume automatic ",
     b"bit begin bind break buf bufif0 bufif1 byte ",
     b"case casez casex checker class clocking const continue cover covergroup ",
     b"default deassign defparam disable do ",

@@ -12,76 +12,9 @@ ghost use Rattle.sv_parser.specs.Whole.{IsParsed, IsRead};
 use crate::source::source;
 use crate::two_state::is_two_state_type;
 use std::alloc::{AllocError, Global};
-use sv_cursor::{Cursor, Keyword, Mark, ParseErr, Sort, place_at, refusal, sort_of, syntax_number};
+use sv_cursor::{Cursor, ParseErr, place_at, refusal, syntax_number};
 use sv_outside::{Place, TextErr, Token, Tokens};
 use sv_tree::Source;
-
-fn sort_at(tokens: &[Token], at: usize) -> Sort
-    ensures { result ≡ spec.sort_at tokens.now at }
-{
-    match tokens.get(at) {
-        Some(token) => sort_of(token),
-        None => Sort::Other,
-    }
-}
-
-fn is_edge_word(word: Keyword) -> bool
-    ensures { result ≡ spec.is_edge_word word }
-{
-    match word {
-        Keyword::Posedge => true,
-        Keyword::Negedge => true,
-        _ => false,
-    }
-}
-
-fn is_edge(sort: Sort) -> bool
-    ensures { result ≡ spec.is_edge sort }
-{
-    match sort {
-        Sort::Keyword(word) => is_edge_word(word),
-        _ => false,
-    }
-}
-
-fn is_comma_mark(mark: Mark) -> bool
-    ensures { result ≡ spec.is_comma_mark mark }
-{
-    match mark {
-        Mark::Comma => true,
-        _ => false,
-    }
-}
-
-fn is_comma(sort: Sort) -> bool
-    ensures { result ≡ spec.is_comma sort }
-{
-    match sort {
-        Sort::Mark(mark) => is_comma_mark(mark),
-        _ => false,
-    }
-}
-
-// Whether an edge stands two tokens before.
-fn edge_before(tokens: &[Token], at: usize) -> bool
-    ensures { result ≡ spec.edge_before tokens.now at }
-{
-    if at < 2 {
-        false
-    } else {
-        is_edge(sort_at(tokens, at - 2))
-    }
-}
-
-fn is_event_comma(tokens: &[Token], at: usize) -> bool
-    ensures { result ≡ spec.is_event_comma tokens.now at }
-{
-    if is_comma(sort_at(tokens, at)) {
-        edge_before(tokens, at)
-    } else {
-        false
-    }
-}
 
 // The number of the refusal where reading stops at that token.
 #[tactic(auto, unfolding(crate::specs::Whole::number_at))]
@@ -90,9 +23,6 @@ fn number_at(alloc: Global, tokens: &[Token], at: usize) -> Result<u8, AllocErro
 {
     let two_state = is_two_state_type(alloc, tokens, at)?;
     if two_state {
-        return Ok(25);
-    }
-    if is_event_comma(tokens, at) {
         Ok(25)
     } else {
         Ok(syntax_number(tokens, at))
@@ -167,10 +97,10 @@ fn parsed(alloc: Global, tokens: &[Token], end: Place) -> Result<Source, TextErr
 /// The tree that all of the tokens spell (A.1.2, source_text). They spell no other.
 ///
 /// Refused where no tree spells them: as E25 at a reserved word that is in no rule of the grammar, at `===`, `!==`,
-/// `==?` or `!=?`, at a system name that the grammar does not have, at `int` and `bit` where `logic` could be read, and
-/// at the comma behind the event of a block, and else as E8, at the token at which reading stops, or at the end of the
-/// text. As E9 at a token that over 200 expressions, statements, generate constructs or types hold in each tree whose
-/// spelling begins as the tokens do. `Memory` says nothing of the tokens.
+/// `==?` or `!=?`, at a system name that the grammar does not have, and at `int` and `bit` where `logic` could be read,
+/// and else as E8, at the token at which reading stops, or at the end of the text. As E9 at a token that over 200
+/// expressions, statements, generate constructs or types hold in each tree whose spelling begins as the tokens do.
+/// `Memory` says nothing of the tokens.
 pub fn parse(alloc: Global, tokens: &Tokens) -> Result<Source, TextErr>
     ensures { IsParsed tokens.now.list tokens.now.end result }
 {

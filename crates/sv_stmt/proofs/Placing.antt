@@ -13,6 +13,7 @@ use Rattle.sv_meaning.specs.Layouts.{Scope, Origin, of_wires, of_choice, of_samp
 use Rattle.sv_actions.specs.declared.action.Action.{Action}
 use Rattle.sv_actions.specs.Texts.{wire_signal, target_signals}
 use Rattle.sv_actions.specs.Doing.{Aims, names_all}
+use Rattle.sv_stores.specs.declared.scene.Manner.{Manner as Held}
 use Rattle.sv_stores.specs.declared.scene.Scene.{Scene}
 use Rattle.sv_stores.specs.Scenes.{place_in, width_in, is_narrow}
 use Rattle.sv_blocks.specs.declared.wires.Wire.{Wire}
@@ -32,7 +33,7 @@ one_width at widths w s t d e same = sym (width_is s d) ∙ ap (λ n. get_or wid
     width_is x k = let h : eqb (get_or widths x.number 0) x.width ≡ true = right_of (nat_lt x.number (length widths)) (eqb (get_or widths x.number 0) x.width) (w.wire x k) in grind (arith, nat_tests, h)
 
 pub same_wires : (scene : Scene) → SameWires scene scene
-same_wires scene = record { places = refl; wires = refl; widths = refl; clock = refl; long = refl }
+same_wires scene = record { places = refl; wires = refl; widths = refl; manner = refl; long = refl }
 
 found_there : (places : List (Option ℕ)) (all : List Wire) (s : NamedSignal) → AllByRecursion (IsThere places) all → Contains (wires_are all) s → is_some (entry_at places s.number) ≡ true
 found_there places [] s h k = absurd (omega (arith, k.1))
@@ -40,18 +41,18 @@ found_there places (x ∷ more) s h (zero, l, e) = subst (λ y. is_some (entry_a
 found_there places (x ∷ more) s h (suc i, l, e) = found_there places more s h.1 (i, omega arith, e)
 
 -- the width of a declared name at a place of its wire
-width_there : (at : Scope) (named : List NamedSignal) (clock : Option ℕ) (scene : Scene) (s : NamedSignal) → IsBegun named clock scene → AreDeclared at named → OneWidth at → Declared at s → (i : ℕ) → place_in scene s.number ≡ Some i → width_in scene i ≡ s.width
-width_there at named clock scene s b d one k i e =
+width_there : (at : Scope) (named : List NamedSignal) (m : Held) (scene : Scene) (s : NamedSignal) → IsBegun named m scene → AreDeclared at named → OneWidth at → Declared at s → (i : ℕ) → place_in scene s.number ≡ Some i → width_in scene i ≡ s.width
+width_there at named m scene s b d one k i e =
     let back = b.sound.back s.number i e in
     one (wire_signal (get_or scene.wires i 0) (width_in scene i)) s (d _ (b.among i back.0)) k back.1
 
 pub all_there : (named : List NamedSignal) (found : List Wire) (scene : Scene) → wires_are found ≡ named → All (IsThere scene.places) found → AreThere named scene
 all_there named found scene e there s h = found_there scene.places found s (recursion_from_All (IsThere scene.places) found there) (subst (λ ns. Contains ns s) (sym e) h)
 
-placed : (at : Scope) (named : List NamedSignal) (clock : Option ℕ) (scene : Scene) → IsBegun named clock scene → AreThere named scene → AreDeclared at named → OneWidth at → Placed scene named
-placed at named clock scene b there d one s h = record {
+placed : (at : Scope) (named : List NamedSignal) (m : Held) (scene : Scene) → IsBegun named m scene → AreThere named scene → AreDeclared at named → OneWidth at → Placed scene named
+placed at named m scene b there d one s h = record {
   there = there s h;
-  width = width_there at named clock scene s b d one (d s h);
+  width = width_there at named m scene s b d one (d s h);
 }
 
 le_same : (a b : ℕ) → b ≡ a → nat_le a b ≡ true
@@ -67,18 +68,14 @@ narrow_at scene of_wires n w h = go (place_in scene n) h
     go (Some i) k = le_same w (width_in scene i) (k i refl)
 
 -- the actions of a block sit in a scene with the wires that its text names
-pub scene_sits : (at : Scope) (body : Stmt) (all : List Action) (clock : Option ℕ) (start scene : Scene) → SameWires start scene → IsBegun (target_signals at body) clock start → AreThere (target_signals at body) start
+pub scene_sits : (at : Scope) (body : Stmt) (all : List Action) (m : Held) (start scene : Scene) → SameWires start scene → IsBegun (target_signals at body) m start → AreThere (target_signals at body) start
     → All (Aims (target_signals at body)) all → AreDeclared at (names_all all) → OneWidth at → All (Sits scene) all
-scene_sits at body all clock start scene same b there aims names one =
-    sit_all scene (target_signals at body) all (λ s h. same_place start scene s.number s.width same (placed at (target_signals at body) clock start b there (targets_declared at body) one s h)) aims
+scene_sits at body all m start scene same b there aims names one =
+    sit_all scene (target_signals at body) all (λ s h. same_place start scene s.number s.width same (placed at (target_signals at body) m start b there (targets_declared at body) one s h)) aims
     (λ s h. narrow_at scene s.owner s.number s.width (λ i p.
-    ap (λ xs. get_or xs i 0) same.widths ∙ width_there at (target_signals at body) clock start s b (targets_declared at body) one (names s h) i (sym (ap (λ xs. entry_at xs s.number) same.places) ∙ p)))
+    ap (λ xs. get_or xs i 0) same.widths ∙ width_there at (target_signals at body) m start s b (targets_declared at body) one (names s h) i (sym (ap (λ xs. entry_at xs s.number) same.places) ∙ p)))
 
 -- ---- a scene that is made
-
-pub begun_by : {E : Type 0} (r : Result Scene E) (named : List NamedSignal) (a b : Option ℕ) → a ≡ b → IfOk r (λ scene. IsBegun named a scene) → IfOk r (λ scene. IsBegun named b scene)
-begun_by (Ok scene) named a b e h = subst (λ o. IsBegun named o scene) e h
-begun_by (Err why) named a b e h = tt
 
 pub there_by : {E : Type 0} (r : Result Scene E) (named : List NamedSignal) (found : List Wire) → wires_are found ≡ named → IfOk r (λ scene. All (IsThere scene.places) found) → IfOk r (λ scene. AreThere named scene)
 there_by (Ok scene) named found e h = all_there named found scene e h

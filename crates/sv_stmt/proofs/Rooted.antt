@@ -7,11 +7,12 @@ use Rattle.sv_tree.specs.declared.stmts.Lvalue.{Lvalue, Name, Concat', Row_of-Lv
 use Rattle.sv_tree.specs.declared.stmts.Stmt.{Stmt, Empty, Block', If', Case', For', Assign, Row_of-Stmt, end_of-Stmt, more_of-Stmt, Row_of-Arm, end_of-Arm, more_of-Arm, Held-Stmt-If-3, None', Some'}
 use Rattle.sv_tree.specs.declared.stmts.Arm.{Labels', Default'}
 use Rattle.sv_tree.specs.declared.stmts.BlockKind.{BlockKind}
-use Rattle.sv_tree.specs.declared.stmts.BlockKind.TheVariants as kind
+use Rattle.sv_tree.specs.declared.stmts.Event.{Event}
 use Rattle.sv_meaning.specs.Layouts.{Name as Text, Entry, Scope, What, signal_is, number_is, type_is, genvar_is, of_wires, of_choice, of_samples, find, last_of, or_else, NamedSignal, Declared}
 use Rattle.std.specs.Prelude.{bytes_eq}
 use Rattle.std.proofs.Common.{cond, true, false}
-use Rattle.sv_actions.specs.Texts.{signal_of, root_signals, all_root_signals, target_signals, else_signals, signals_in, arms_signals, event_signals}
+use Rattle.sv_actions.specs.Texts.{signal_of, root_signals, all_root_signals, target_signals, else_signals, signals_in, arms_signals, of_each, event_signal, event_signals}
+use Rattle.sv_meaning.specs.Blocks.{kind_events}
 use Rattle.sv_stmt.specs.Blocks.{AreDeclared}
 
 abbrev pub Signals : Type 0
@@ -92,9 +93,10 @@ mutual
   arms_declared at (more_of-Arm (Labels' xs r (more_of-Stmt x end_of-Stmt)) all) = two_declared at (target_signals at x) (arms_signals at all) (targets_declared at x) (arms_declared at all)
   arms_declared at (more_of-Arm (Default' colon r (more_of-Stmt x end_of-Stmt)) all) = two_declared at (target_signals at x) (arms_signals at all) (targets_declared at x) (arms_declared at all)
 
+each_declared : (at : Scope) (all : List Event) → AreDeclared at (of_each (event_signal at) all)
+unfolding of_each
+each_declared at [] = none at
+each_declared at (e ∷ more) = two_declared at (event_signal at e) (of_each (event_signal at) more) (one_declared at e.name.text (find e.name.text at) refl) (each_declared at more)
+
 pub event_declared : (at : Scope) (k : BlockKind) → AreDeclared at (event_signals at k)
-event_declared at kind.Comb = none at
-event_declared at kind.Star = none at
-event_declared at kind.StarParen = none at
-event_declared at (kind.Ff e) = one_declared at e.name.text (find e.name.text at) refl
-event_declared at (kind.Always e) = one_declared at e.name.text (find e.name.text at) refl
+event_declared at k = each_declared at (kind_events k)

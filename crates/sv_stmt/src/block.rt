@@ -1,7 +1,7 @@
-// Blocks as drivers (IEEE 1800-2017, 9.2.2). The event is judged first, then the marks, and then what the statements do; only
+// Blocks as drivers (IEEE 1800-2017, 9.2.2). The events are judged first, then the marks, and then what the statements do; only
 // after that nodes are made, so that nothing is refused any more where the graph has grown. The scene is made in two steps:
 // places for all wires that targets name, and then marks on the bits that actions write.
-ghost use Rattle.std.specs.Prelude.{◌≡◌, ℕ, Bool, false, ◌+◌, List, [], true, All, Some, is_some, IsTrue, IfOk, IfErr};
+ghost use Rattle.std.specs.Prelude.{◌≡◌, ℕ, Bool, false, ◌+◌, List, [], ◌∷◌, ◌++◌, All, Some, IsTrue, IfOk, IfErr};
 ghost use Rattle.sv_outside.specs.declared.text.Signal.{Signal};
 ghost use Rattle.svex_shape.specs.declared.shape.VarName.{VarName};
 ghost use Rattle.svex_shape.specs.Values.{each_variable};
@@ -12,40 +12,40 @@ ghost use Rattle.sv_typing.specs.Judging.{IsCause};
 ghost use Rattle.sv_names.specs.Names.{names_are};
 ghost use Rattle.sv_meaning.specs.Deeds.{deed};
 ghost use Rattle.sv_meaning.specs.Layouts.{Scope, find};
-ghost use Rattle.sv_meaning.specs.Blocks.{is_clocked, clock_faults, event_faults, event_manner, block_faults, block_value, manner};
+ghost use Rattle.sv_meaning.specs.Blocks.{clock_of, edge_of, edges_of, events_of, clock_faults, events_faults, event_faults, mark_or, first_mark, block_mark, latch, block_faults, block_value, manner};
+ghost use Rattle.sv_tree.specs.declared.stmts.Event.{Event};
 ghost use Rattle.sv_meaning.specs.Designs.{block_gives, block_names};
 ghost use Rattle.sv_actions.specs.Doing.{Fits, Aims, names_all, writes_all};
-ghost use Rattle.sv_actions.specs.Texts.{signal_of, target_signals, event_signals, signals_of};
+ghost use Rattle.sv_actions.specs.Texts.{target_signals, of_each, event_signal, event_signals, signals_of};
 ghost use Rattle.sv_stores.specs.Scenes.{is_written, IsScene};
 ghost use Rattle.sv_blocks.specs.Fitting.{Sits};
 ghost use Rattle.sv_blocks.specs.Declaring.{HasMarks, IsBegun, IsMarked};
-ghost use Rattle.sv_blocks.specs.Ending.{clock_wire};
-ghost use Rattle.sv_stmt.specs.Blocks.{AreThere, AreDeclared, AreWires, OneWidth, Reads, JudgesClock, Contributes};
+ghost use Rattle.sv_stmt.specs.Blocks.{AreThere, AreDeclared, AreWires, OneWidth, Reads, manner_is, mark_of, manner_signals, JudgesEdge, JudgesEdges, JudgesManner, AreEdgesOf, AddsEdge, Contributes};
 
 use driver_resolve::Driver;
 use items::Items;
 use std::alloc::{AllocError, Global};
-use sv_actions::{Acted, Action, judge_marks, typed_body};
-use sv_blocks::{Clock, Marked, all_bits, mark_all, scene_drivers, scene_of, stmt_wires, wire_of};
+use sv_actions::{Acted, Action, first_mark, judge_marks, typed_body};
+use sv_blocks::{Marked, all_bits, mark_all, scene_drivers, scene_of, stmt_wires};
+use sv_meaning::WireEdge;
 use sv_names::{Names, What};
 use sv_outside::TextErr;
-use sv_stores::Scene;
-use sv_tree::{Block, BlockKind, Event, Stmt};
+use sv_stores::{Manner, Scene};
+use sv_tree::{AssignMark, Block, BlockKind, Event, Events, Stmt};
 use sv_typing::refusal;
 use svex_arena::Arena;
 
-// The clock of an event by what its name stands for: a net or variable of one bit; or E12 or E14.
-fn clock_in(event: &Event, what: &What) -> Result<Option<Clock>, TextErr>
-    ensures clock { (at : Scope) → WhatIsSound what.now → find event.now.name.text at ≡ Some (what_is what.now) → JudgesClock (signal_of (find event.now.name.text at)) (clock_faults event.now.name (find event.now.name.text at)) (event_manner at event.now) result }
-    ensures some { IfOk result (λ o. is_some o ≡ true) }
+// The edge of an event by what its name stands for: a net or variable of one bit; or E12 or E14.
+fn edge_in(event: &Event, what: &What) -> Result<WireEdge, TextErr>
+    ensures { (at : Scope) → WhatIsSound what.now → find event.now.name.text at ≡ Some (what_is what.now) → JudgesEdge (event_signal at event.now) (clock_faults event.now.name (find event.now.name.text at)) (edge_of event.now.edge (clock_of (find event.now.name.text at))) result }
 {
     match what {
         What::Wire { number, layout } => {
             if layout.width == 1 {
-                Ok(Some(Clock {
+                Ok(WireEdge {
                     edge: event.edge,
                     wire: *number,
-                }))
+                })
             } else {
                 Err(TextErr::No(refusal(14, event.name.place)))
             }
@@ -58,28 +58,74 @@ fn clock_in(event: &Event, what: &What) -> Result<Option<Clock>, TextErr>
     }
 }
 
-// The clock of an event.
-fn event_clock(event: &Event, names: &Names<'_>) -> Result<Option<Clock>, TextErr>
-    ensures clock { JudgesClock (signal_of (find event.now.name.text (names_are names.now))) (clock_faults event.now.name (find event.now.name.text (names_are names.now))) (event_manner (names_are names.now) event.now) result }
-    ensures some { IfOk result (λ o. is_some o ≡ true) }
+// The edge of an event.
+fn event_edge(event: &Event, names: &Names<'_>) -> Result<WireEdge, TextErr>
+    ensures { JudgesEdge (event_signal (names_are names.now) event.now) (clock_faults event.now.name (find event.now.name.text (names_are names.now))) (edge_of event.now.edge (clock_of (find event.now.name.text (names_are names.now)))) result }
 {
     match names.find(event.name.text.bytes()) {
-        Some(what) => clock_in(event, what),
+        Some(what) => edge_in(event, what),
         None => Err(TextErr::No(refusal(12, event.name.place))),
     }
 }
 
-// The clock of a block, if it is clocked.
-fn clock_of(kind: &BlockKind, names: &Names<'_>) -> Result<Option<Clock>, TextErr>
-    ensures clock { JudgesClock (event_signals (names_are names.now) kind.now) (event_faults (names_are names.now) kind.now) (manner (names_are names.now) kind.now) result }
-    ensures clocked { IfOk result (λ o. is_some o ≡ is_clocked kind.now) }
+// The edge of an event, behind those of others.
+fn add_edge(event: &Event, names: &Names<'_>, edges: &mut Items<WireEdge>) -> Result<(), TextErr>
+    ensures { (all : List Event) → AreEdgesOf (names_are names.now) all edges.old → AddsEdge (names_are names.now) (all ++ event.now ∷ []) edges.new result }
 {
-    match kind {
-        BlockKind::Comb => Ok(None),
-        BlockKind::Star => Ok(None),
-        BlockKind::StarParen => Ok(None),
-        BlockKind::Ff(event) => event_clock(event, names),
-        BlockKind::Always(event) => event_clock(event, names),
+    let edge = event_edge(event, names)?;
+    edges.push(edge)?;
+    Ok(())
+}
+
+// The edges of events.
+fn edges_of(alloc: Global, events: &Events, names: &Names<'_>) -> Result<Items<WireEdge>, TextErr>
+    ensures { JudgesEdges (of_each (event_signal (names_are names.now)) (events_of events.now)) (events_faults (names_are names.now) (events_of events.now)) (edges_of (names_are names.now) (events_of events.now)) result }
+{
+    let mut edges = Items::new(alloc);
+    add_edge(&events.first, names, &mut edges)?;
+    'more: for next in events.more.as_slice() {
+        add_edge(&next.event, names, &mut edges)?;
+    }
+    Ok(edges)
+}
+
+// How a latch block holds its wires, by its first assignment.
+fn latch_of(body: &Stmt) -> Manner
+    ensures is { manner_is result ≡ latch (mark_or (first_mark body.now)) }
+    ensures mark { mark_of result ≡ mark_or (first_mark body.now) }
+    ensures named { manner_signals result ≡ [] }
+{
+    match first_mark(body) {
+        None => Manner::Latch,
+        Some(AssignMark::Blocking) => Manner::Latch,
+        Some(AssignMark::Nonblocking) => Manner::HeldLatch,
+    }
+}
+
+// How a block holds its wires, and what sets it off.
+fn manner_of(alloc: Global, block: &Block, names: &Names<'_>) -> Result<Manner, TextErr>
+    ensures manner { JudgesManner (event_signals (names_are names.now) block.now.kind) (event_faults (names_are names.now) block.now.kind) (manner (names_are names.now) block.now) result }
+    ensures mark { IfOk result (λ held. mark_of held ≡ block_mark block.now) }
+{
+    match &block.kind {
+        BlockKind::Comb => Ok(Manner::Comb),
+        BlockKind::Latch => Ok(latch_of(&block.body)),
+        BlockKind::Star => Ok(Manner::Comb),
+        BlockKind::StarParen => Ok(Manner::Comb),
+        BlockKind::Ff(events) => edges_of(alloc, events, names).map(Manner::Clocked),
+        BlockKind::Always(events) => edges_of(alloc, events, names).map(Manner::Clocked),
+    }
+}
+
+// The mark that the assignments of a block have.
+fn mark_of(manner: &Manner) -> AssignMark
+    ensures { result ≡ mark_of manner.now }
+{
+    match manner {
+        Manner::Comb => AssignMark::Blocking,
+        Manner::Latch => AssignMark::Blocking,
+        Manner::HeldLatch => AssignMark::Nonblocking,
+        Manner::Clocked(_) => AssignMark::Nonblocking,
     }
 }
 
@@ -88,14 +134,14 @@ fn scene_in(
     alloc: Global,
     body: &Stmt,
     names: &Names<'_>,
-    clock: Option<Clock>,
+    manner: Manner,
 ) -> Result<Scene, AllocError>
-    ensures begun { IfOk result (λ scene. IsBegun (target_signals (names_are names.now) body.now) (clock_wire clock) scene) }
+    ensures begun { IfOk result (λ scene. IsBegun (target_signals (names_are names.now) body.now) manner scene) }
     ensures there { IfOk result (λ scene. AreThere (target_signals (names_are names.now) body.now) scene) }
 {
     let mut wires = Vec::new(alloc);
     stmt_wires(body, names, &mut wires)?;
-    scene_of(alloc, &wires, wire_of(clock))
+    scene_of(alloc, &wires, manner)
 }
 
 // The scene with the bits marked that actions write.
@@ -118,7 +164,7 @@ fn drivers_in(
     arena: &mut Arena,
     body: &Stmt,
     names: &Names<'_>,
-    clock: Option<Clock>,
+    manner: Manner,
     actions: &[Action],
 ) -> Result<Items<Driver>, AllocError>
     requires fits { All Fits actions.now }
@@ -126,11 +172,11 @@ fn drivers_in(
     requires names { AreDeclared (names_are names.now) (names_all actions.now) }
     requires widths { OneWidth (names_are names.now) }
     ensures stays { Extends arena.old arena.new }
-    ensures ok { IfOk result (λ all. Contributes (names_are names.now) (target_signals (names_are names.now) body.now) clock actions.now arena.new all) }
+    ensures ok { IfOk result (λ all. Contributes (names_are names.now) (target_signals (names_are names.now) body.now) manner actions.now arena.new all) }
 {
-    let scene = scene_in(alloc, body, names, clock)?;
+    let scene = scene_in(alloc, body, names, manner)?;
     let Marked { scene, bits } = marked_in(alloc, scene, actions)?;
-    let all = scene_drivers(alloc, arena, &scene, clock, actions, bits.as_slice())?;
+    let all = scene_drivers(alloc, arena, &scene, actions, bits.as_slice())?;
     Ok(all)
 }
 
@@ -156,20 +202,20 @@ pub fn block_drivers(
 
     // The drivers give in every phase exactly what the block contributes there, in the same order.
     ensures gives { IfOk result (λ t. (p : Phase) → drivers_give arena.new t.0 p
-        ≡ block_gives (deed block.now.body (names_are names.old)) (block_value (manner (names_are names.old) block.now.kind) (deed block.now.body (names_are names.old)) p.previous p.present)) }
+        ≡ block_gives (deed block.now.body (names_are names.old)) (block_value (manner (names_are names.old) block.now) (deed block.now.body (names_are names.old)) p.previous p.present)) }
 
     // Each is sound, where each name of a signal stands for one of these wires.
     ensures sound { IfOk result (λ t. (widths : List ℕ) → AreWires (names_are names.old) widths → All (IsDriver widths arena.new) t.0) }
 
     // They mention no signals but those that the block names, and in the present only those that it names there.
     ensures mentions { IfOk result (λ t. (wires : List Signal) (p : VarName → ℕ → Bool) → AreWires (names_are names.old) (widths_of wires)
-        → Reads (signals_of (names_are names.old) block.now) (block_names wires (manner (names_are names.old) block.now.kind) (deed block.now.body (names_are names.old))) p
+        → Reads (signals_of (names_are names.old) block.now) (block_names wires (manner (names_are names.old) block.now) (deed block.now.body (names_are names.old))) p
         → All (λ d. IsTrue (each_variable p arena.new d.value)) t.0) }
     ensures cause { IfErr result (λ e. IsCause (block_faults (names_are names.old) block.now made) e) }
 {
-    let clock = clock_of(&block.kind, names)?;
-    judge_marks(clock.is_some(), &block.body)?;
+    let manner = manner_of(alloc, block, names)?;
+    judge_marks(mark_of(&manner), &block.body)?;
     let Acted { actions, made } = typed_body(alloc, &block.body, names, made)?;
-    let all = drivers_in(alloc, arena, &block.body, names, clock, actions.as_slice())?;
+    let all = drivers_in(alloc, arena, &block.body, names, manner, actions.as_slice())?;
     Ok((all, made))
 }

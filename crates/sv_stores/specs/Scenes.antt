@@ -1,5 +1,5 @@
 -- Stores of blocks as nodes, and what names read there. Sections are those of IEEE 1800-2017.
-use Rattle.std.specs.Prelude.{◌≡◌, ℕ, zero, suc, ◌+◌, ◌*◌, ◌<◌, ◌≤◌, nat_lt, nat_le, ◌==◌, Bool, true, false, ◌&&◌, ◌||◌, List, length, slice_index_or, Option, Some, None, IsTrue, if◌then◌else◌}
+use Rattle.std.specs.Prelude.{◌≡◌, ℕ, zero, suc, ◌+◌, ◌*◌, ◌<◌, ◌≤◌, nat_lt, nat_le, Bool, true, false, ◌&&◌, ◌||◌, List, length, slice_index_or, Option, Some, IsTrue, if◌then◌else◌}
 use Rattle.std.specs.List.{Contains}
 use Rattle.fourvec.specs.declared.Bit.{Bit}
 use Rattle.fourvec.specs.declared.Bit.TheVariants.{Unknown}
@@ -12,6 +12,9 @@ use Rattle.svex_arena.specs.Substs.{entry_at, given_or}
 use Rattle.settling.specs.Settling.{Store}
 use Rattle.sv_meaning.specs.Layouts.{Read, Origin, of_wires, of_choice, of_samples, NamedSignal}
 use Rattle.sv_lower.specs.Nodes.{bits_at_node}
+use Rattle.sv_meaning.specs.Blocks.{is_event}
+use Rattle.sv_stores.specs.declared.scene.Manner.{Manner}
+use Rattle.sv_stores.specs.declared.scene.Manner.TheVariants.{Comb, Latch, HeldLatch, Clocked}
 use Rattle.sv_stores.specs.declared.scene.Scene.{Scene}
 use Rattle.sv_stores.specs.declared.scene.State.{State}
 
@@ -48,27 +51,51 @@ pub record IsScene (scene : Scene) : Type 0 where
 
 -- ---- stores
 
--- what a store has where a block begins: X in a combinational block (9.2.2.2), and the phase before in a clocked one (9.2.2.4)
-abbrev pub base : Option ℕ → (VarName → ℕ → Bit) → Store
-base None bits n k = Unknown
-base (Some clock) bits n k = bits (Prev n) k
+-- it begins with X
+abbrev pub is_comb : Manner → Bool
+is_comb Comb = true
+is_comb m = false
+
+-- a bit that it writes reads the store
+abbrev pub sees_store : Manner → Bool
+sees_store Comb = true
+sees_store Latch = true
+sees_store m = false
+
+-- names read nodes of what they see
+abbrev pub sees_nodes : Manner → Bool
+sees_nodes (Clocked edges) = false
+sees_nodes m = true
+
+-- what a store has where a block begins: X in a combinational block (9.2.2.2), and the phase before in a latch block (9.2.2.3) and
+-- in a clocked one (9.2.2.4)
+abbrev pub base : Manner → (VarName → ℕ → Bit) → Store
+base Comb bits n k = Unknown
+base Latch bits n k = bits (Prev n) k
+base HeldLatch bits n k = bits (Prev n) k
+base (Clocked edges) bits n k = bits (Prev n) k
 
 -- what nodes stand for, where variables have such bits
 unfoldable pub store_of : Scene → List Shape → (VarName → ℕ → Bit) → List ℕ → Store
 store_of scene shapes bits nodes n k =
-    given_or (λ i. slice_index_or (bits_at_node bits shapes (slice_index_or nodes i 0)) k (base scene.clock bits n k)) (base scene.clock bits n k) (place_in scene n)
+    given_or (λ i. slice_index_or (bits_at_node bits shapes (slice_index_or nodes i 0)) k (base scene.manner bits n k)) (base scene.manner bits n k) (place_in scene n)
 
 -- ---- names
 
--- a bit of a wire, which the block may write
-abbrev pub wire_bit : Option ℕ → Bool → (VarName → ℕ → Bit) → Store → Store
-wire_bit None written bits store n k = if written then store n k else bits (Now n) k
-wire_bit (Some clock) written bits store n k = if n == clock then bits (Now n) k else bits (Prev n) k
+-- a bit of a wire that the block writes, where it is not clocked
+abbrev pub own_bit : Manner → (VarName → ℕ → Bit) → Store → Store
+own_bit HeldLatch bits store n k = bits (Prev n) k
+own_bit m bits store n k = store n k
 
--- What names read. In a combinational block a bit that it writes reads the store, and any other the present phase. In a clocked one each
--- reads the phase before, but for the wire of the event.
+-- a bit of a wire, which the block may write
+abbrev pub wire_bit : Manner → Bool → (VarName → ℕ → Bit) → Store → Store
+wire_bit (Clocked edges) written bits store n k = if is_event edges n then bits (Now n) k else bits (Prev n) k
+wire_bit m written bits store n k = if written then own_bit m bits store n k else bits (Now n) k
+
+-- What names read. In a combinational block and in a latch block with `=` a bit that it writes reads the store, in one with `<=` the
+-- phase before, and any other bit the present phase. In a clocked one each reads the phase before, but for the wires of the events.
 unfoldable pub reads_in : Scene → (VarName → ℕ → Bit) → Store → Read
-reads_in scene bits store of_wires n k = wire_bit scene.clock (is_written scene n k) bits store n k
+reads_in scene bits store of_wires n k = wire_bit scene.manner (is_written scene n k) bits store n k
 reads_in scene bits store of_choice n k = bits (Chosen n) k
 reads_in scene bits store of_samples n k = bits (Sampled n) k
 
@@ -83,13 +110,19 @@ Narrow scene names = (s : NamedSignal) → Contains names s → IsTrue (is_narro
 
 -- ---- tests of variables
 
-abbrev pub wire_test : Option ℕ → Scene → (VarName → ℕ → Bool) → ℕ → ℕ → Bool
-wire_test None scene p n w = given_or (λ i. is_whole scene i || p (Now n) (width_in scene i)) (p (Now n) w) (place_in scene n)
-wire_test (Some clock) scene p n w = p (if n == clock then Now n else Prev n) w
+-- of what a wire of a width that the block writes reads of the phase before
+abbrev pub held_test : Manner → (VarName → ℕ → Bool) → ℕ → ℕ → Bool
+held_test HeldLatch p n w = p (Prev n) w
+held_test m p n w = true
+
+abbrev pub wire_test : Manner → Scene → (VarName → ℕ → Bool) → ℕ → ℕ → Bool
+wire_test (Clocked edges) scene p n w = p (if is_event edges n then Now n else Prev n) w
+wire_test m scene p n w =
+    given_or (λ i. held_test m p n (width_in scene i) && (is_whole scene i || p (Now n) (width_in scene i))) (p (Now n) w) (place_in scene n)
 
 -- a test of each variable that a signal of a width reads, but for those of the store
 unfoldable pub name_test : Scene → (VarName → ℕ → Bool) → Origin → ℕ → ℕ → Bool
-name_test scene p of_wires n w = wire_test scene.clock scene p n w
+name_test scene p of_wires n w = wire_test scene.manner scene p n w
 name_test scene p of_choice n w = p (Chosen n) w
 name_test scene p of_samples n w = p (Sampled n) w
 
@@ -122,14 +155,48 @@ pub record AreSeen (scene : Scene) (shapes : List Shape) (nodes seen : List ℕ)
   pub long : length seen ≡ length scene.wires
   pub shows : (i : ℕ) → i < length seen → Shows scene shapes i (slice_index_or nodes i 0) (slice_index_or seen i 0)
 
--- In a clocked block names see nothing of the store.
-abbrev pub SeenBy : Option ℕ → Scene → List Shape → List ℕ → List ℕ → Type 0
-SeenBy None scene shapes nodes seen = AreSeen scene shapes nodes seen
-SeenBy (Some clock) scene shapes nodes seen = Unit {0}
+-- ---- where a block begins
+
+-- a test of what a wire of a width has there
+abbrev pub start_test : Manner → (VarName → ℕ → Bool) → ℕ → ℕ → Bool
+start_test Comb p n w = true
+start_test Latch p n w = p (Prev n) w
+start_test HeldLatch p n w = p (Prev n) w
+start_test (Clocked edges) p n w = p (Prev n) w
+
+-- what the wire at a place has there
+pub record StartsAt (scene : Scene) (shapes : List Shape) (i node : ℕ) : Type 0 where
+  pub within : node < length shapes
+  pub width : width_at shapes node ≡ width_in scene i
+  pub value : (bits : VarName → ℕ → Bit) (k : ℕ) → slice_index_or (bits_at_node bits shapes node) k (base scene.manner bits (slice_index_or scene.wires i 0) k) ≡ base scene.manner bits (slice_index_or scene.wires i 0) k
+  pub mentions : (p : VarName → ℕ → Bool) → IsTrue (start_test scene.manner p (slice_index_or scene.wires i 0) (width_in scene i)) → IsTrue (each_variable p shapes node)
+
+-- nodes of the store there
+pub record Starts (scene : Scene) (shapes : List Shape) (nodes : List ℕ) : Type 0 where
+  pub nodes_are : AreNodes scene shapes nodes
+  pub at : (i : ℕ) → i < length scene.wires → StartsAt scene shapes i (slice_index_or nodes i 0)
+  pub value : (bits : VarName → ℕ → Bit) → store_of scene shapes bits nodes ≡ base scene.manner bits
+  pub mentions : (p : VarName → ℕ → Bool) → ((i : ℕ) → i < length scene.wires → IsTrue (start_test scene.manner p (slice_index_or scene.wires i 0) (width_in scene i))) → HoldsIn p shapes nodes
+
+-- ---- what names see
+
+-- what they see of the nodes of the store at the start
+pub record SeesStart (scene : Scene) (shapes : List Shape) (seen : List ℕ) : Type 0 where
+  pub start : List ℕ
+  pub start_are : AreNodes scene shapes start
+  pub at : (i : ℕ) → i < length scene.wires → StartsAt scene shapes i (slice_index_or start i 0)
+  pub seen_are : AreSeen scene shapes start seen
+
+-- In a latch block with `<=` names see the start of the store, and in a clocked block nothing of it.
+abbrev pub SeenBy : Manner → Scene → List Shape → List ℕ → List ℕ → Type 0
+SeenBy Comb scene shapes nodes seen = AreSeen scene shapes nodes seen
+SeenBy Latch scene shapes nodes seen = AreSeen scene shapes nodes seen
+SeenBy HeldLatch scene shapes nodes seen = SeesStart scene shapes seen
+SeenBy (Clocked edges) scene shapes nodes seen = Unit {0}
 
 pub record IsState (scene : Scene) (shapes : List Shape) (state : State) : Type 0 where
   pub nodes : AreNodes scene shapes state.nodes
-  pub seen : SeenBy scene.clock scene shapes state.nodes state.seen
+  pub seen : SeenBy scene.manner scene shapes state.nodes state.seen
 
 -- ---- nodes and steps
 

@@ -8,5 +8,5 @@ mod start;
 
 pub use look::{lowered, truth};
 pub use places::{place_in, place_of};
-pub use scene::{Scene, State};
+pub use scene::{Manner, Scene, State, is_comb, sees_store};
 pub use start::{start_nodes, trigger};

@@ -5,6 +5,10 @@ use Rattle.sv_tree.specs.declared.forms.Typedef.{Typedef as TypedefTree}
 use Rattle.sv_tree.specs.declared.stmts.Edge.{Edge}
 use Rattle.sv_tree.specs.declared.stmts.Edge.TheVariants as edge
 use Rattle.sv_tree.specs.declared.stmts.Event.{Event}
+use Rattle.sv_tree.specs.declared.stmts.EventMark.{EventMark}
+use Rattle.sv_tree.specs.declared.stmts.EventMark.TheVariants as event_mark
+use Rattle.sv_tree.specs.declared.stmts.NextEvent.{NextEvent}
+use Rattle.sv_tree.specs.declared.stmts.Events.{Events}
 use Rattle.sv_tree.specs.declared.stmts.BlockKind.{BlockKind}
 use Rattle.sv_tree.specs.declared.stmts.BlockKind.TheVariants as kind
 use Rattle.sv_tree.specs.declared.stmts.Block.{Block}
@@ -37,11 +41,11 @@ use Rattle.sv_tree.specs.declared.design.Gen.{Gen, Block', Single'}
 use Rattle.sv_tree.specs.Spelling.{Spelled, ◌⨟◌, first_at, maybe}
 use Rattle.sv_tree.specs.GrammarExprs.{Spells}
 use Rattle.sv_tree.specs.GrammarForms.{sign_key, SpellsRange, SpellsType, SpellsTypedef, param_bits_key, param_key, SpellsParamType, SpellsParPort, SpellsParamItem, SpellsParam, way_key, net_key, SpellsPort}
-use Rattle.sv_tree.specs.GrammarStmts.{edge_key, SpellsEvent, SpellsKind, SpellsBlock, block_name}
+use Rattle.sv_tree.specs.GrammarStmts.{edge_key, SpellsEvent, SpellsEventMark, SpellsNextEvent, SpellsEvents, SpellsKind, SpellsBlock, block_name}
 use Rattle.sv_tree.specs.GrammarDesign.{SpellsPair, SpellsPin, SpellsNamed, SpellsPins, SpellsOne, SpellsGiven, SpellsInst, genvar_if, is_closed_gen, SpellsItem, SpellsGen, SpellsElse, SpellsItems}
 use Rattle.sv_tree.specs.Nesting.{Depths, in_generate, if_given, word_depths, label_depths, expr_depths}
-use Rattle.sv_tree.specs.NestingDesign.{range_depths, type_depths, typedef_depths, param_type_depths, par_port_depths, param_item_depths, param_depths, port_depths, if_true, kind_depths, block_depths, pair_depths, pin_depths, named_depths, pins_depths, one_depths, override_depths, inst_depths, item_depths, gen_depths, other_depths, items_depths}
-use Rattle.sv_tree.proofs.Counted.{Counted, counted_as, ◌⋈◌, counted_token, counted_nothing, counted_never, counted_when, counted_mark, counted_key, counted_key_at, counted_name, counted_expr, counted_maybe, counted_commas, counted_names, counted_sign, counted_whole, counted_range, counted_given, counted_type, counted_lvalue, counted_step, counted_stmt, counted_block_name, counted_label_of}
+use Rattle.sv_tree.specs.NestingDesign.{range_depths, type_depths, typedef_depths, param_type_depths, par_port_depths, param_item_depths, param_depths, port_depths, if_true, event_depths, next_event_depths, events_depths, kind_depths, block_depths, pair_depths, pin_depths, named_depths, pins_depths, one_depths, override_depths, inst_depths, item_depths, gen_depths, other_depths, items_depths}
+use Rattle.sv_tree.proofs.Counted.{Counted, counted_as, ◌⋈◌, counted_token, counted_nothing, counted_never, counted_when, counted_mark, counted_key, counted_key_at, counted_name, counted_expr, counted_maybe, counted_each, counted_commas, counted_names, counted_sign, counted_whole, counted_range, counted_given, counted_type, counted_lvalue, counted_step, counted_stmt, counted_block_name, counted_label_of}
 
 pub counted_typedef : (d : TypedefTree) → Counted (SpellsTypedef d) (length (typedef_depths d))
 counted_typedef d = counted_as _ (simp length-append (omega arith)) (counted_key (codes "typedef") ⋈ counted_type d.form ⋈ counted_name d.name ⋈ counted_mark (codes ";"))
@@ -103,13 +107,26 @@ counted_edge : (e : Edge) → Counted (edge_key e) 1
 counted_edge edge.Pos = counted_token _
 counted_edge edge.Neg = counted_token _
 
-pub counted_event : (e : Event) → Counted (SpellsEvent e) 5
-counted_event e = counted_as 5 (omega arith) (counted_mark (codes "@") ⋈ counted_mark (codes "(") ⋈ counted_edge e.edge ⋈ counted_name e.name ⋈ counted_mark (codes ")"))
+pub counted_event : (e : Event) → Counted (SpellsEvent e) (length (event_depths e))
+counted_event e = counted_as _ (omega arith) (counted_edge e.edge ⋈ counted_name e.name)
+
+pub counted_event_mark : (m : EventMark) → Counted (SpellsEventMark m) 1
+counted_event_mark event_mark.Or = counted_token _
+counted_event_mark event_mark.Comma = counted_token _
+
+pub counted_next_event : (e : NextEvent) → Counted (SpellsNextEvent e) (length (next_event_depths e))
+counted_next_event e = counted_as _ (omega arith) (counted_event_mark e.mark ⋈ counted_event e.event)
+
+pub counted_events : (all : Events) → Counted (SpellsEvents all) (length (events_depths all))
+counted_events all =
+    counted_as _ (simp length-append (omega arith))
+    (counted_mark (codes "@") ⋈ counted_mark (codes "(") ⋈ counted_event all.first ⋈ counted_each SpellsNextEvent next_event_depths counted_next_event all.more ⋈ counted_mark (codes ")"))
 
 pub counted_kind : (k : BlockKind) → Counted (SpellsKind k) (length (kind_depths k))
 counted_kind kind.Comb = counted_token _
-counted_kind (kind.Ff e) = counted_as _ (omega arith) (counted_key (codes "always_ff") ⋈ counted_event e)
-counted_kind (kind.Always e) = counted_as _ (omega arith) (counted_key (codes "always") ⋈ counted_event e)
+counted_kind kind.Latch = counted_token _
+counted_kind (kind.Ff all) = counted_as _ (simp length-append (omega arith)) (counted_key (codes "always_ff") ⋈ counted_events all)
+counted_kind (kind.Always all) = counted_as _ (simp length-append (omega arith)) (counted_key (codes "always") ⋈ counted_events all)
 counted_kind kind.Star = counted_as _ (omega arith) (counted_key (codes "always") ⋈ counted_mark (codes "@") ⋈ counted_mark (codes "*"))
 counted_kind kind.StarParen =
     counted_as _ (omega arith) (counted_key (codes "always") ⋈ counted_mark (codes "@") ⋈ counted_mark (codes "(") ⋈ counted_mark (codes "*") ⋈ counted_mark (codes ")"))

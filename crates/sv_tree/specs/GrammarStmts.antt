@@ -19,12 +19,16 @@ use Rattle.sv_tree.specs.declared.stmts.AssignMark.TheVariants as assign_mark
 use Rattle.sv_tree.specs.declared.stmts.Edge.{Edge}
 use Rattle.sv_tree.specs.declared.stmts.Edge.TheVariants as edge
 use Rattle.sv_tree.specs.declared.stmts.Event.{Event}
+use Rattle.sv_tree.specs.declared.stmts.EventMark.{EventMark}
+use Rattle.sv_tree.specs.declared.stmts.EventMark.TheVariants as event_mark
+use Rattle.sv_tree.specs.declared.stmts.NextEvent.{NextEvent}
+use Rattle.sv_tree.specs.declared.stmts.Events.{Events}
 use Rattle.sv_tree.specs.declared.stmts.BlockKind.{BlockKind}
 use Rattle.sv_tree.specs.declared.stmts.BlockKind.TheVariants as kind
 use Rattle.sv_tree.specs.declared.stmts.Block.{Block}
 use Rattle.sv_tree.specs.declared.stmts.Stmt.{Stmt, Empty, Block', If', Case', For', Assign, Row_of-Stmt, end_of-Stmt, more_of-Stmt, Row_of-Arm, end_of-Arm, more_of-Arm, Held-Stmt-If-3, None', Some'}
 use Rattle.sv_tree.specs.declared.stmts.Arm.{Arm, Labels', Default'}
-use Rattle.sv_tree.specs.Spelling.{Text, Spelled, nothing, never, ◌⨟◌, when, mark, mark_at, key, key_at, name, maybe, commas, label_of}
+use Rattle.sv_tree.specs.Spelling.{Text, Spelled, nothing, never, ◌⨟◌, when, mark, mark_at, key, key_at, name, maybe, each, commas, label_of}
 use Rattle.sv_tree.specs.GrammarExprs.{Spells, SpellsSelect, is_range}
 use Rattle.sv_tree.specs.GrammarForms.{whole_key}
 
@@ -142,12 +146,23 @@ edge_key edge.Pos = key (codes "posedge")
 edge_key edge.Neg = key (codes "negedge")
 
 abbrev pub SpellsEvent : Event → Spelled
-SpellsEvent e = mark (codes "@") ⨟ mark (codes "(") ⨟ edge_key e.edge ⨟ name e.name ⨟ mark (codes ")")
+SpellsEvent e = edge_key e.edge ⨟ name e.name
+
+abbrev pub SpellsEventMark : EventMark → Spelled
+SpellsEventMark event_mark.Or = key (codes "or")
+SpellsEventMark event_mark.Comma = mark (codes ",")
+
+abbrev pub SpellsNextEvent : NextEvent → Spelled
+SpellsNextEvent e = SpellsEventMark e.mark ⨟ SpellsEvent e.event
+
+abbrev pub SpellsEvents : Events → Spelled
+SpellsEvents all = mark (codes "@") ⨟ mark (codes "(") ⨟ SpellsEvent all.first ⨟ each SpellsNextEvent all.more ⨟ mark (codes ")")
 
 abbrev pub SpellsKind : BlockKind → Spelled
 SpellsKind kind.Comb = key (codes "always_comb")
-SpellsKind (kind.Ff e) = key (codes "always_ff") ⨟ SpellsEvent e
-SpellsKind (kind.Always e) = key (codes "always") ⨟ SpellsEvent e
+SpellsKind kind.Latch = key (codes "always_latch")
+SpellsKind (kind.Ff all) = key (codes "always_ff") ⨟ SpellsEvents all
+SpellsKind (kind.Always all) = key (codes "always") ⨟ SpellsEvents all
 SpellsKind kind.Star = key (codes "always") ⨟ mark (codes "@") ⨟ mark (codes "*")
 SpellsKind kind.StarParen = key (codes "always") ⨟ mark (codes "@") ⨟ mark (codes "(") ⨟ mark (codes "*") ⨟ mark (codes ")")
 

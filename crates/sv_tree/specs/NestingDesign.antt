@@ -9,6 +9,9 @@ use Rattle.sv_tree.specs.declared.forms.Typedef.{Typedef as TypedefTree}
 use Rattle.sv_tree.specs.declared.stmts.Lvalue.{Lvalue, Name, Concat', Row_of-Lvalue, end_of-Lvalue, more_of-Lvalue}
 use Rattle.sv_tree.specs.declared.stmts.Step.{Step}
 use Rattle.sv_tree.specs.declared.stmts.Step.TheVariants as step
+use Rattle.sv_tree.specs.declared.stmts.Event.{Event}
+use Rattle.sv_tree.specs.declared.stmts.NextEvent.{NextEvent}
+use Rattle.sv_tree.specs.declared.stmts.Events.{Events}
 use Rattle.sv_tree.specs.declared.stmts.BlockKind.{BlockKind}
 use Rattle.sv_tree.specs.declared.stmts.BlockKind.TheVariants as kind
 use Rattle.sv_tree.specs.declared.stmts.Block.{Block}
@@ -142,14 +145,23 @@ unfoldable mutual
   arm_depths (Labels' xs r (more_of-Stmt x end_of-Stmt)) = commas_depths expr_depths xs ++ one ++ stmt_depths x
   arm_depths (Default' b r (more_of-Stmt x end_of-Stmt)) = one ++ if_true b ++ stmt_depths x
 
--- `@`, `(`, the edge, the name and `)`
-abbrev pub event_depths : Depths
-event_depths = three ++ two
+-- the edge and the name
+abbrev pub event_depths : Event → Depths
+event_depths e = two
+
+-- what parts it from the one before, and the event
+abbrev pub next_event_depths : NextEvent → Depths
+next_event_depths e = one ++ event_depths e.event
+
+-- `@`, `(`, the events and `)`
+abbrev pub events_depths : Events → Depths
+events_depths all = two ++ event_depths all.first ++ each_depths next_event_depths all.more ++ one
 
 abbrev pub kind_depths : BlockKind → Depths
 kind_depths kind.Comb = one
-kind_depths (kind.Ff e) = one ++ event_depths
-kind_depths (kind.Always e) = one ++ event_depths
+kind_depths kind.Latch = one
+kind_depths (kind.Ff all) = one ++ events_depths all
+kind_depths (kind.Always all) = one ++ events_depths all
 kind_depths kind.Star = three
 kind_depths kind.StarParen = three ++ two
 

@@ -19,7 +19,7 @@ pub use design::{
 pub use exprs::{BinaryOp, Expr, RangeMark, Select, Sign, SystemName, UnaryOp};
 pub use forms::{BitsWord, EnumLabel, Member, Range, TypeTree, Typedef, WholeWord};
 pub use stmts::{
-    Arm, AssignMark, Block, BlockKind, CaseWord, Edge, Event, Lvalue, Step, StepMark, StepSign,
-    Stmt, Uniq,
+    Arm, AssignMark, Block, BlockKind, CaseWord, Edge, Event, EventMark, Events, Lvalue, NextEvent,
+    Step, StepMark, StepSign, Stmt, Uniq,
 };
 pub use word::Word;

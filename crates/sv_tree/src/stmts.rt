@@ -149,7 +149,7 @@ pub enum Edge {
     Neg,
 }
 
-/// `@(` edge name `)` (A.6.5, event_control)
+/// An edge of a name (A.6.5, event_expression).
 pub struct Event {
     pub edge: Edge,
     pub name: Word,
@@ -161,14 +161,49 @@ impl Drop for Event {
     }
 }
 
+/// What parts an event from the one before (A.6.5, event_expression).
+#[derive(Clone, Copy)]
+pub enum EventMark {
+    /// `or`
+    Or,
+    /// `,`
+    Comma,
+}
+
+/// An event behind another, and what parts the two.
+pub struct NextEvent {
+    pub mark: EventMark,
+    pub event: Event,
+}
+
+impl Drop for NextEvent {
+    fn drop(self) {
+        let NextEvent { mark: _, event: _ } = self;
+    }
+}
+
+/// `@(` one or more events `)` (A.6.5, event_control)
+pub struct Events {
+    pub first: Event,
+    pub more: Items<NextEvent>,
+}
+
+impl Drop for Events {
+    fn drop(self) {
+        let Events { first: _, more: _ } = self;
+    }
+}
+
 /// What stands before the statement of a block (A.6.2, always_construct).
 pub enum BlockKind {
     /// `always_comb`
     Comb,
-    /// `always_ff` and an event.
-    Ff(Event),
-    /// `always` and an event.
-    Always(Event),
+    /// `always_latch`
+    Latch,
+    /// `always_ff` and events.
+    Ff(Events),
+    /// `always` and events.
+    Always(Events),
     /// `always @*`
     Star,
     /// `always @(*)`
@@ -179,6 +214,7 @@ impl Drop for BlockKind {
     fn drop(self) {
         match self {
             BlockKind::Comb => {}
+            BlockKind::Latch => {}
             BlockKind::Ff(_) => {}
             BlockKind::Always(_) => {}
             BlockKind::Star => {}

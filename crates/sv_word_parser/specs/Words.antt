@@ -32,6 +32,8 @@ use Rattle.sv_tree.specs.declared.stmts.CaseWord.{CaseWord}
 use Rattle.sv_tree.specs.declared.stmts.CaseWord.TheVariants as case_word
 use Rattle.sv_tree.specs.declared.stmts.Edge.{Edge}
 use Rattle.sv_tree.specs.declared.stmts.Edge.TheVariants as edge
+use Rattle.sv_tree.specs.declared.stmts.EventMark.{EventMark}
+use Rattle.sv_tree.specs.declared.stmts.EventMark.TheVariants as event_mark
 use Rattle.sv_word_parser.specs.declared.openers.AlwaysWord.{AlwaysWord}
 use Rattle.sv_word_parser.specs.declared.openers.AlwaysWord.TheVariants as always_word
 use Rattle.sv_word_parser.specs.declared.openers.TailOpener.{TailOpener}
@@ -103,6 +105,19 @@ abbrev pub edge_by_word : Keyword → Option Edge
 edge_by_word key.Posedge = Some edge.Pos
 edge_by_word key.Negedge = Some edge.Neg
 edge_by_word _ = None
+
+abbrev pub event_mark_by_word : Keyword → Option EventMark
+event_mark_by_word key.Or = Some event_mark.Or
+event_mark_by_word _ = None
+
+abbrev pub event_mark_by_mark : MarkName → Option EventMark
+event_mark_by_mark m.Comma = Some event_mark.Comma
+event_mark_by_mark _ = None
+
+abbrev pub event_mark_by_sort : Sort → Option EventMark
+event_mark_by_sort (s.Keyword word) = event_mark_by_word word
+event_mark_by_sort (s.Mark name) = event_mark_by_mark name
+event_mark_by_sort _ = None
 
 abbrev pub step_by_mark : MarkName → Option StepMark
 step_by_mark m.Increment = Some step_mark.Inc
@@ -230,6 +245,7 @@ item_by_word key.Localparam = Some item_by.Param
 item_by_word key.Genvar = Some item_by.Genvar
 item_by_word key.Assign = Some item_by.Assign
 item_by_word key.AlwaysComb = Some item_by.Always
+item_by_word key.AlwaysLatch = Some item_by.Always
 item_by_word key.AlwaysFf = Some item_by.Always
 item_by_word key.Always = Some item_by.Always
 item_by_word key.For = Some item_by.For
@@ -251,6 +267,7 @@ item_by_sort _ = None
 
 abbrev pub always_by_word : Keyword → Option AlwaysWord
 always_by_word key.AlwaysComb = Some always_word.Comb
+always_by_word key.AlwaysLatch = Some always_word.Latch
 always_by_word key.AlwaysFf = Some always_word.Ff
 always_by_word key.Always = Some always_word.Always
 always_by_word _ = None

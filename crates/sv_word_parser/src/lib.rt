@@ -16,8 +16,9 @@ pub use openers::{
     TargetOpener, TypeOpener,
 };
 pub use told::{
-    always_next, bits_next, case_next, edge_next, maybe_net, maybe_param, maybe_sign, maybe_uniq,
-    maybe_way, net_next, param_bits_next, param_next, sees, sign_next, step_next, step_sign_next,
-    take_bits, take_case, take_edge, take_net, take_param, take_param_bits, take_sign, take_step,
-    take_step_sign, take_uniq, take_way, take_whole, taken, uniq_next, way_next, whole_next,
+    always_next, bits_next, case_next, edge_next, event_mark_next, maybe_net, maybe_param,
+    maybe_sign, maybe_uniq, maybe_way, net_next, param_bits_next, param_next, sees, sign_next,
+    step_next, step_sign_next, take_bits, take_case, take_edge, take_net, take_param,
+    take_param_bits, take_sign, take_step, take_step_sign, take_uniq, take_way, take_whole, taken,
+    uniq_next, way_next, whole_next,
 };

@@ -84,6 +84,7 @@ pub enum TailOpener {
 #[derive(Clone, Copy)]
 pub enum AlwaysWord {
     Comb,
+    Latch,
     Ff,
     Always,
 }

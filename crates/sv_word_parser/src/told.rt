@@ -11,8 +11,8 @@ ghost use Rattle.sv_word_parser.specs.Words as words;
 use crate::openers::AlwaysWord;
 use sv_cursor::{Cursor, Keyword, Mark, ParseErr, Sort};
 use sv_tree::{
-    BitsWord, CaseWord, Edge, NetWord, ParamBits, ParamWord, Sign, StepMark, StepSign, Uniq, Way,
-    WholeWord,
+    BitsWord, CaseWord, Edge, EventMark, NetWord, ParamBits, ParamWord, Sign, StepMark, StepSign,
+    Uniq, Way, WholeWord,
 };
 
 /// Whether the mark comes next.
@@ -403,11 +403,48 @@ pub fn take_edge(tokens: &mut Cursor<'_>) -> Result<Edge, ParseErr>
     taken(tokens, word)
 }
 
+fn event_mark_of_word(word: Keyword) -> Option<EventMark>
+    ensures { result ≡ words.event_mark_by_word word }
+{
+    match word {
+        Keyword::Or => Some(EventMark::Or),
+        _ => None,
+    }
+}
+
+fn event_mark_of_mark(mark: Mark) -> Option<EventMark>
+    ensures { result ≡ words.event_mark_by_mark mark }
+{
+    match mark {
+        Mark::Comma => Some(EventMark::Comma),
+        _ => None,
+    }
+}
+
+fn event_mark_of(sort: Sort) -> Option<EventMark>
+    ensures { result ≡ words.event_mark_by_sort sort }
+{
+    match sort {
+        Sort::Keyword(word) => event_mark_of_word(word),
+        Sort::Mark(mark) => event_mark_of_mark(mark),
+        _ => None,
+    }
+}
+
+/// What parts events (A.6.5, event_expression) that comes next.
+#[tactic(auto, using(crate::proofs::Firsts::sort_first))]
+pub fn event_mark_next(tokens: &Cursor<'_>) -> Option<EventMark>
+    ensures { result ≡ told (spec.sort_test words.event_mark_by_sort) tokens.now }
+{
+    event_mark_of(tokens.sort())
+}
+
 fn always_of(word: Keyword) -> Option<AlwaysWord>
     ensures { result ≡ words.always_by_word word }
 {
     match word {
         Keyword::AlwaysComb => Some(AlwaysWord::Comb),
+        Keyword::AlwaysLatch => Some(AlwaysWord::Latch),
         Keyword::AlwaysFf => Some(AlwaysWord::Ff),
         Keyword::Always => Some(AlwaysWord::Always),
         _ => None,

@@ -1,6 +1,5 @@
 -- Parts that are written one behind the other.
-use Rattle.std.proofs.Common.{◌≡◌, List, Result, Ok, Err, IfOk, refl, sym, ap, ◌∙◌}
-use Rattle.std.proofs.lemmas.Result.{IfOk-weaker}
+use Rattle.std.proofs.Common.{◌≡◌, List, refl, sym, ap, ◌∙◌}
 use Rattle.sv_write.specs.declared.lexeme.Lexeme.{Lexeme}
 use Rattle.sv_write.specs.declared.lexeme.Writer.{Writer}
 use Rattle.sv_write.specs.Writing.{Write, ◌⨾◌, nothing}
@@ -27,13 +26,3 @@ both_under f {y = y} {s = s} same also p = under (f y) also (under (λ (x : _). 
 -- a tree that is made of parts, which are written
 pub made : {A : Type 0} (f : A → Write) {x y : A} {g : Write} {a b : Writer} → x ≡ y → ((l : List Lexeme) → f y l ≡ g l) → Adds g a b → Adds (f x) a b
 made f same is p = turned (λ l. ap (λ (x : _). f x l) same ∙ is l) p
-
--- ---- behind a list
-
-all_of : {E : Type 0} → List Lexeme → Result (List Lexeme) E → List Lexeme
-all_of other (Ok all) = all
-all_of other (Err e) = other
-
-pub ended : {E R : Type 0} {f : Write} {a b : Writer} {old : List Lexeme} (new : List Lexeme) (r : Result R E) → a.written ≡ Ok old → Adds f a b → IfOk r (λ _. b.written ≡ Ok new) → IfOk r (λ _. new ≡ f old)
-unfolding all_of
-ended {f = f} {old = old} new r first p last = IfOk-weaker r _ _ (λ _ e. let s = p.says new e in s.2 ∙ ap f (ap (all_of old) (sym s.1 ∙ first))) last

@@ -13,15 +13,19 @@ use Rattle.sv_tree.specs.declared.stmts.CaseWord.TheVariants as case_word
 use Rattle.sv_tree.specs.declared.stmts.Edge.{Edge}
 use Rattle.sv_tree.specs.declared.stmts.Edge.TheVariants as edge
 use Rattle.sv_tree.specs.declared.stmts.Event.{Event}
+use Rattle.sv_tree.specs.declared.stmts.EventMark.{EventMark}
+use Rattle.sv_tree.specs.declared.stmts.EventMark.TheVariants as event_mark
+use Rattle.sv_tree.specs.declared.stmts.NextEvent.{NextEvent}
+use Rattle.sv_tree.specs.declared.stmts.Events.{Events}
 use Rattle.sv_tree.specs.declared.stmts.BlockKind.{BlockKind}
 use Rattle.sv_tree.specs.declared.stmts.BlockKind.TheVariants as kind
 use Rattle.sv_tree.specs.declared.stmts.Block.{Block}
 use Rattle.sv_tree.specs.declared.stmts.Stmt.{Stmt, Empty, Block', If', Case', For', Assign, Row_of-Stmt, end_of-Stmt, more_of-Stmt, Row_of-Arm, end_of-Arm, more_of-Arm, Held-Stmt-If-3, None', Some'}
 use Rattle.sv_tree.specs.declared.stmts.Arm.{Arm, Labels', Default'}
-use Rattle.sv_tree.specs.GrammarStmts.{SpellsChain, SpellsLvalue, SpellsLvalues, MoreLvalues, SpellsStep, uniq_key, case_key, block_name, colon_if, SpellsStmt, SpellsElse, SpellsStmts, SpellsArms, MoreArms, SpellsArm, edge_key, SpellsEvent, SpellsKind, SpellsBlock, step_text, step_sign_text, assign_text, is_closed}
-use Rattle.sv_write.specs.Stmts.{write_chain, write_lvalue, write_lvalues, write_more_lvalues, write_step, write_uniq_key, write_case_key, write_block_name, write_colon_if, write_stmt, write_else, write_stmts, write_arms, write_more_arms, write_arm, write_edge_key, write_event, write_kind, write_block}
+use Rattle.sv_tree.specs.GrammarStmts.{SpellsChain, SpellsLvalue, SpellsLvalues, MoreLvalues, SpellsStep, uniq_key, case_key, block_name, colon_if, SpellsStmt, SpellsElse, SpellsStmts, SpellsArms, MoreArms, SpellsArm, edge_key, SpellsEvent, SpellsEventMark, SpellsNextEvent, SpellsEvents, SpellsKind, SpellsBlock, step_text, step_sign_text, assign_text, is_closed}
+use Rattle.sv_write.specs.Stmts.{write_chain, write_lvalue, write_lvalues, write_more_lvalues, write_step, write_uniq_key, write_case_key, write_block_name, write_colon_if, write_stmt, write_else, write_stmts, write_arms, write_more_arms, write_arm, write_edge_key, write_event, write_event_mark, write_next_event, write_events, write_kind, write_block}
 use Rattle.sv_write.specs.Writing as w
-use Rattle.sv_write.proofs.Lawful.{Law, ◌▹◌, law_mark, law_mark_at, law_key, law_key_at, law_name, law_nothing, law_never, law_when, law_maybe, law_commas, law_label_of}
+use Rattle.sv_write.proofs.Lawful.{Law, ◌▹◌, law_mark, law_mark_at, law_key, law_key_at, law_name, law_nothing, law_never, law_when, law_maybe, law_each, law_commas, law_label_of}
 use Rattle.sv_write.proofs.ExprsLaws.{law_expr, law_select}
 use Rattle.sv_write.proofs.FormsLaws.{law_whole_key}
 
@@ -110,13 +114,27 @@ law_edge_key edge.Neg = law_key (codes "negedge")
 
 pub law_event : (x : Event) → Law (SpellsEvent x) (write_event x)
 unfolding write_event
-law_event e = law_mark (codes "@") ▹ law_mark (codes "(") ▹ law_edge_key e.edge ▹ law_name e.name ▹ law_mark (codes ")")
+law_event e = law_edge_key e.edge ▹ law_name e.name
+
+pub law_event_mark : (x : EventMark) → Law (SpellsEventMark x) (write_event_mark x)
+unfolding write_event_mark
+law_event_mark event_mark.Or = law_key (codes "or")
+law_event_mark event_mark.Comma = law_mark (codes ",")
+
+pub law_next_event : (x : NextEvent) → Law (SpellsNextEvent x) (write_next_event x)
+unfolding write_next_event
+law_next_event e = law_event_mark e.mark ▹ law_event e.event
+
+pub law_events : (x : Events) → Law (SpellsEvents x) (write_events x)
+unfolding write_events
+law_events all = law_mark (codes "@") ▹ law_mark (codes "(") ▹ law_event all.first ▹ law_each law_next_event all.more ▹ law_mark (codes ")")
 
 pub law_kind : (x : BlockKind) → Law (SpellsKind x) (write_kind x)
 unfolding write_kind
 law_kind kind.Comb = law_key (codes "always_comb")
-law_kind (kind.Ff e) = law_key (codes "always_ff") ▹ law_event e
-law_kind (kind.Always e) = law_key (codes "always") ▹ law_event e
+law_kind kind.Latch = law_key (codes "always_latch")
+law_kind (kind.Ff all) = law_key (codes "always_ff") ▹ law_events all
+law_kind (kind.Always all) = law_key (codes "always") ▹ law_events all
 law_kind kind.Star = law_key (codes "always") ▹ law_mark (codes "@") ▹ law_mark (codes "*")
 law_kind kind.StarParen = law_key (codes "always") ▹ law_mark (codes "@") ▹ law_mark (codes "(") ▹ law_mark (codes "*") ▹ law_mark (codes ")")
 

@@ -13,12 +13,16 @@ use Rattle.sv_tree.specs.declared.stmts.CaseWord.TheVariants as case_word
 use Rattle.sv_tree.specs.declared.stmts.Edge.{Edge}
 use Rattle.sv_tree.specs.declared.stmts.Edge.TheVariants as edge
 use Rattle.sv_tree.specs.declared.stmts.Event.{Event}
+use Rattle.sv_tree.specs.declared.stmts.EventMark.{EventMark}
+use Rattle.sv_tree.specs.declared.stmts.EventMark.TheVariants as event_mark
+use Rattle.sv_tree.specs.declared.stmts.NextEvent.{NextEvent}
+use Rattle.sv_tree.specs.declared.stmts.Events.{Events}
 use Rattle.sv_tree.specs.declared.stmts.BlockKind.{BlockKind}
 use Rattle.sv_tree.specs.declared.stmts.BlockKind.TheVariants as kind
 use Rattle.sv_tree.specs.declared.stmts.Block.{Block}
 use Rattle.sv_tree.specs.declared.stmts.Stmt.{Stmt, Empty, Block', If', Case', For', Assign, Row_of-Stmt, end_of-Stmt, more_of-Stmt, Row_of-Arm, end_of-Arm, more_of-Arm, Held-Stmt-If-3, None', Some'}
 use Rattle.sv_tree.specs.declared.stmts.Arm.{Arm, Labels', Default'}
-use Rattle.sv_write.specs.Writing.{Write, ◌⨾◌, nothing, mark, key, name, maybe, commas, label}
+use Rattle.sv_write.specs.Writing.{Write, ◌⨾◌, nothing, mark, key, name, maybe, each, commas, label}
 use Rattle.sv_tree.specs.GrammarStmts.{step_text, step_sign_text, assign_text}
 use Rattle.sv_tree.specs.Spelling.{Text}
 use Rattle.sv_tree.specs.declared.forms.WholeWord.{WholeWord}
@@ -104,12 +108,23 @@ write_edge_key edge.Pos = key (codes "posedge")
 write_edge_key edge.Neg = key (codes "negedge")
 
 unfoldable pub write_event : Event → Write
-write_event e = mark (codes "@") ⨾ mark (codes "(") ⨾ write_edge_key e.edge ⨾ name e.name ⨾ mark (codes ")")
+write_event e = write_edge_key e.edge ⨾ name e.name
+
+unfoldable pub write_event_mark : EventMark → Write
+write_event_mark event_mark.Or = key (codes "or")
+write_event_mark event_mark.Comma = mark (codes ",")
+
+unfoldable pub write_next_event : NextEvent → Write
+write_next_event e = write_event_mark e.mark ⨾ write_event e.event
+
+unfoldable pub write_events : Events → Write
+write_events all = mark (codes "@") ⨾ mark (codes "(") ⨾ write_event all.first ⨾ each write_next_event all.more ⨾ mark (codes ")")
 
 unfoldable pub write_kind : BlockKind → Write
 write_kind kind.Comb = key (codes "always_comb")
-write_kind (kind.Ff e) = key (codes "always_ff") ⨾ write_event e
-write_kind (kind.Always e) = key (codes "always") ⨾ write_event e
+write_kind kind.Latch = key (codes "always_latch")
+write_kind (kind.Ff all) = key (codes "always_ff") ⨾ write_events all
+write_kind (kind.Always all) = key (codes "always") ⨾ write_events all
 write_kind kind.Star = key (codes "always") ⨾ mark (codes "@") ⨾ mark (codes "*")
 write_kind kind.StarParen = key (codes "always") ⨾ mark (codes "@") ⨾ mark (codes "(") ⨾ mark (codes "*") ⨾ mark (codes ")")
 

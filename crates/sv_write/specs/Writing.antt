@@ -46,12 +46,6 @@ literal w = put k.Literal w.text
 abbrev pub name : Word → Write
 name w = put k.Word w.text
 
-abbrev pub two_marks : Text → Text → Write
-two_marks text next = mark text ⨾ mark next
-
-abbrev pub name_and_mark : Word → Text → Write
-name_and_mark w text = name w ⨾ mark text
-
 abbrev pub maybe : {A : Type 0} → (A → Write) → Option A → Write
 maybe f None = nothing
 maybe f (Some x) = f x

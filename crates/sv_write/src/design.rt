@@ -12,7 +12,7 @@ use crate::exprs::{exprs, in_parens};
 use crate::forms::{form, given, names_end, param, typedef};
 use crate::lexeme::Writer;
 use crate::part::{Part, commas, maybe};
-use crate::stmts::{begin, end, lvalue, turns, whole_block};
+use crate::stmts::{begin, block, end, lvalue, turns};
 use items::Boxed;
 use sv_tree::{
     AssignPair, Expr, Gen, Inst, Item, NamedPin, NetWord, One, Pin, Pins, Step, TypeTree, Word,
@@ -194,7 +194,7 @@ fn item(out: &mut Writer, x: &Item)
         Item::Param(inner) => param(out, inner),
         Item::Genvar(all) => genvars(out, all.as_slice()),
         Item::Assign(all) => assigns(out, all.as_slice()),
-        Item::Always(inner) => whole_block(out, inner),
+        Item::Always(inner) => block(out, inner),
         Item::Inst(inner) => inst(out, inner),
         Item::For(_, header, of, start, test, next, inner) => {
             for_word(out, *header);

@@ -5,7 +5,6 @@ ghost use Rattle.sv_write.specs.Writing as spec;
 
 use items::Items;
 use std::alloc::{AllocError, Global};
-use std::mem;
 use sv_outside::{Kind, Name};
 use sv_tree::Word;
 
@@ -63,31 +62,6 @@ impl Writer {
         written
     }
 
-    /// A writer behind what is written, which it has until `give`. Takes no memory.
-    pub fn behind(alloc: Global, out: &mut Lexemes) -> Writer
-        ensures { result.written ≡ Ok out.old }
-    {
-        let before = mem::replace(out, Items::new(alloc));
-        Writer {
-            alloc,
-            written: Ok(before),
-        }
-    }
-
-    /// Gives back all that is written. Where memory was out, nothing is.
-    pub fn give(self, out: &mut Lexemes) -> Result<(), AllocError>
-        ensures { IfOk result (λ _. self.written ≡ Ok out.new) }
-    {
-        let Writer { alloc: _, written } = self;
-        match written {
-            Ok(all) => {
-                *out = all;
-                Ok(())
-            }
-            Err(want) => Err(want),
-        }
-    }
-
     fn put(&mut self, kind: Kind, text: &[u8])
         ensures { Adds (spec.put kind text.now) self.old self.new }
     {
@@ -130,46 +104,4 @@ impl Writer {
     {
         self.put(Kind::Word, word.text.bytes())
     }
-}
-
-// ---- onto a list, as blocks are written
-
-/// Writes a mark.
-fn mark(alloc: Global, out: &mut Lexemes, text: &[u8]) -> Result<(), AllocError>
-    ensures { IfOk result (λ _. out.new ≡ spec.mark text.now out.old) }
-{
-    put(alloc, out, Kind::Mark, text)
-}
-
-/// Writes a mark, and one more.
-pub fn two_marks(
-    alloc: Global,
-    out: &mut Lexemes,
-    text: &[u8],
-    next: &[u8],
-) -> Result<(), AllocError>
-    ensures { IfOk result (λ _. out.new ≡ spec.two_marks text.now next.now out.old) }
-{
-    mark(alloc, out, text)?;
-    mark(alloc, out, next)
-}
-
-/// Writes a keyword.
-pub fn key(alloc: Global, out: &mut Lexemes, text: &[u8]) -> Result<(), AllocError>
-    ensures { IfOk result (λ _. out.new ≡ spec.key text.now out.old) }
-{
-    put(alloc, out, Kind::Word, text)
-}
-
-/// Writes a name, and the mark behind it.
-pub fn name_and_mark(
-    alloc: Global,
-    out: &mut Lexemes,
-    word: &Word,
-    text: &[u8],
-) -> Result<(), AllocError>
-    ensures { IfOk result (λ _. out.new ≡ spec.name_and_mark word.now text.now out.old) }
-{
-    put(alloc, out, Kind::Word, word.text.bytes())?;
-    mark(alloc, out, text)
 }

@@ -1,7 +1,7 @@
 // Targets, statements and blocks are written (A.6, A.8.5). What stands before the statements that a statement holds (the head
 // of an `if`, of a case statement or of a loop, and labels) is written by functions of their own, so that the cycle of
 // statements only puts heads and bodies one behind the other.
-ghost use Rattle.std.specs.Prelude.{◌≡◌, IfOk};
+ghost use Rattle.std.specs.Prelude.{◌≡◌};
 ghost use Rattle.sv_write.specs.Adds.{Adds};
 ghost use Rattle.sv_write.specs.Exprs as exprs_spec;
 ghost use Rattle.sv_write.specs.Forms as forms_spec;
@@ -11,13 +11,12 @@ ghost use Rattle.sv_tree.specs.GrammarStmts as texts;
 
 use crate::exprs::{expr, expr_and_mark, exprs, in_parens, selects};
 use crate::forms::whole_word;
-use crate::lexeme::{Lexemes, Writer, key, name_and_mark, two_marks};
-use crate::part::{Part, maybe};
+use crate::lexeme::Writer;
+use crate::part::{Part, each, maybe};
 use items::Boxed;
-use std::alloc::{AllocError, Global};
 use sv_tree::{
-    Arm, AssignMark, Block, BlockKind, CaseWord, Edge, Event, Expr, Lvalue, Step, StepMark,
-    StepSign, Stmt, Uniq, WholeWord, Word,
+    Arm, AssignMark, Block, BlockKind, CaseWord, Edge, Event, EventMark, Events, Expr, Lvalue,
+    NextEvent, Step, StepMark, StepSign, Stmt, Uniq, WholeWord, Word,
 };
 
 // ---- targets
@@ -300,78 +299,85 @@ pub fn statement(out: &mut Writer, x: &Stmt)
     }
 }
 
-// Blocks are written onto a list, and answer the want of memory at once: a writer takes the list over for their statement, and
-// one lends it for a block.
-fn stmt(alloc: Global, out: &mut Lexemes, x: &Stmt) -> Result<(), AllocError>
-    ensures { IfOk result (λ _. out.new ≡ spec.write_stmt x.now out.old) }
+// ---- blocks
+
+fn edge_word(out: &mut Writer, word: Edge)
+    ensures { Adds (spec.write_edge_key word) out.old out.new }
 {
-    let mut writer = Writer::behind(alloc, out);
-    statement(&mut writer, x);
-    writer.give(out)
+    match word {
+        Edge::Pos => out.key(b"posedge"),
+        Edge::Neg => out.key(b"negedge"),
+    }
+}
+
+fn event(out: &mut Writer, x: &Event)
+    ensures { Adds (spec.write_event x.now) out.old out.new }
+{
+    edge_word(out, x.edge);
+    out.name(&x.name)
+}
+
+fn event_mark(out: &mut Writer, by: EventMark)
+    ensures { Adds (spec.write_event_mark by) out.old out.new }
+{
+    match by {
+        EventMark::Or => out.key(b"or"),
+        EventMark::Comma => out.mark(b","),
+    }
+}
+
+impl Part for NextEvent {
+    ghost text = { spec.write_next_event };
+
+    fn put(&self, out: &mut Writer) {
+        event_mark(out, self.mark);
+        event(out, &self.event)
+    }
+}
+
+fn events(out: &mut Writer, all: &Events)
+    ensures { Adds (spec.write_events all.now) out.old out.new }
+{
+    out.mark(b"@");
+    out.mark(b"(");
+    event(out, &all.first);
+    each(out, all.more.as_slice());
+    out.mark(b")")
+}
+
+fn block_kind(out: &mut Writer, x: &BlockKind)
+    ensures { Adds (spec.write_kind x.now) out.old out.new }
+{
+    match x {
+        BlockKind::Comb => out.key(b"always_comb"),
+        BlockKind::Latch => out.key(b"always_latch"),
+        BlockKind::Ff(all) => {
+            out.key(b"always_ff");
+            events(out, all)
+        }
+        BlockKind::Always(all) => {
+            out.key(b"always");
+            events(out, all)
+        }
+        BlockKind::Star => {
+            out.key(b"always");
+            out.mark(b"@");
+            out.mark(b"*")
+        }
+        BlockKind::StarParen => {
+            out.key(b"always");
+            out.mark(b"@");
+            out.mark(b"(");
+            out.mark(b"*");
+            out.mark(b")")
+        }
+    }
 }
 
 /// Writes a block.
-pub fn whole_block(out: &mut Writer, x: &Block)
+pub fn block(out: &mut Writer, x: &Block)
     ensures { Adds (spec.write_block x.now) out.old out.new }
 {
-    if let Ok(all) = &mut out.written {
-        if let Err(want) = block(out.alloc, all, x) {
-            out.written = Err(want);
-        }
-    }
-}
-
-// ---- blocks
-
-#[tactic(auto, unfolding(crate::specs::Stmts::write_edge_key))]
-fn edge_word(alloc: Global, out: &mut Lexemes, word: Edge) -> Result<(), AllocError>
-    ensures { IfOk result (λ _. out.new ≡ spec.write_edge_key word out.old) }
-{
-    match word {
-        Edge::Pos => key(alloc, out, b"posedge"),
-        Edge::Neg => key(alloc, out, b"negedge"),
-    }
-}
-
-#[tactic(auto, unfolding(crate::specs::Stmts::write_event))]
-fn event(alloc: Global, out: &mut Lexemes, x: &Event) -> Result<(), AllocError>
-    ensures { IfOk result (λ _. out.new ≡ spec.write_event x.now out.old) }
-{
-    two_marks(alloc, out, b"@", b"(")?;
-    edge_word(alloc, out, x.edge)?;
-    name_and_mark(alloc, out, &x.name, b")")
-}
-
-#[tactic(auto, unfolding(crate::specs::Stmts::write_kind))]
-fn block_kind(alloc: Global, out: &mut Lexemes, x: &BlockKind) -> Result<(), AllocError>
-    ensures { IfOk result (λ _. out.new ≡ spec.write_kind x.now out.old) }
-{
-    match x {
-        BlockKind::Comb => key(alloc, out, b"always_comb"),
-        BlockKind::Ff(on) => {
-            key(alloc, out, b"always_ff")?;
-            event(alloc, out, on)
-        }
-        BlockKind::Always(on) => {
-            key(alloc, out, b"always")?;
-            event(alloc, out, on)
-        }
-        BlockKind::Star => {
-            key(alloc, out, b"always")?;
-            two_marks(alloc, out, b"@", b"*")
-        }
-        BlockKind::StarParen => {
-            key(alloc, out, b"always")?;
-            two_marks(alloc, out, b"@", b"(")?;
-            two_marks(alloc, out, b"*", b")")
-        }
-    }
-}
-
-#[tactic(auto, unfolding(crate::specs::Stmts::write_block))]
-pub fn block(alloc: Global, out: &mut Lexemes, x: &Block) -> Result<(), AllocError>
-    ensures { IfOk result (λ _. out.new ≡ spec.write_block x.now out.old) }
-{
-    block_kind(alloc, out, &x.kind)?;
-    stmt(alloc, out, &x.body)
+    block_kind(out, &x.kind);
+    statement(out, &x.body)
 }

@@ -1,7 +1,7 @@
 use Rattle.std.proofs.lemmas.Result.{IfOk-from_err}
 use Rattle.std.proofs.Common.{sym, ◌∙◌, subst}
 use Rattle.svex_arena.proofs.Keeping.{extends_on}
-use Rattle.sv_stores.specs.Scenes.{AreNodes}
+use Rattle.sv_stores.specs.Scenes.{AreNodes, Starts}
 use Rattle.sv_stores.proofs.Stores.{nodes_kept}
 use Rattle.sv_blocks.proofs.Ending.{ended_ok}
 use Rattle.sv_blocks.proofs.ends.last_nodes.Goals as goal
@@ -11,8 +11,13 @@ ended-requires-clause-start c =
     subst (λ xs. AreNodes c.args.scene.now c.run_actions.new.arena xs) (sym c.as_slice-2.ensures)
     (nodes_kept _ _ _ _ c.in_ok-start.ensures.ok.nodes_are (extends_on _ _ _ c.in_ok-state.ensures.stays c.in_ok-run_actions.ensures.stays))
 
+pub first_state-requires-clause-nodes : goal.first_state-requires-clause-nodes
+first_state-requires-clause-nodes c =
+    subst (λ xs. Starts c.args.scene.now c.start_nodes.new.arena xs) (sym (c.from_vec-nodes.ensures ∙ c.in_ok-to_vec.ensures.items_if_clones_equal (λ x y h. h) ∙ c.as_slice.ensures)) c.in_ok-start.ensures.ok
+
 pub returns-clause-ok : goal.returns-clause-ok
-returns-clause-ok c = ended_ok c.ended.result c.args.scene.now c.start_nodes.new.arena c.state_of.new.arena c.run_actions.new.arena c.ended.new.arena c.args.clock c.args.actions.now c.in_ok-start.start c.as_slice-2.result.now c.in_ok-state.state.nodes c.run_actions.new.state.nodes c.requires.scene c.requires.clock
+returns-clause-ok c =
+    ended_ok c.ended.result c.args.scene.now c.start_nodes.new.arena c.first_state.new.arena c.run_actions.new.arena c.ended.new.arena c.args.actions.now c.in_ok-start.start c.as_slice-2.result.now c.in_ok-state.state.nodes c.run_actions.new.state.nodes c.requires.scene
     c.in_ok-start.ensures.ok (c.in_ok-state.ensures.nodes ∙ c.from_vec-nodes.ensures ∙ c.in_ok-to_vec.ensures.items_if_clones_equal (λ x y h. h) ∙ c.as_slice.ensures) c.in_ok-state.ensures.stays c.in_ok-run_actions.ensures.stays c.in_ok-run_actions.ensures.ran c.as_slice-2.ensures c.ended.ensures.ok
 
 pub returns-in_err-start-clause-stays : goal.returns-in_err-start-clause-stays

@@ -17,7 +17,7 @@ found-preserved c =
 
 pub returns-clause-begun : goal.returns-clause-begun
 returns-clause-begun c = λ named d.
-    begun named c.args.clock c.found.all _ _ _ _ _ (c.found.invariant.are named d) c.from_vec.ensures c.from_vec-2.ensures c.from_vec-3.ensures c.in_ok-marks.ensures (c.len.ensures ∙ c.found.all.wires.ok.0)
+    begun named c.args.manner c.found.all _ _ _ _ _ (c.found.invariant.are named d) c.from_vec.ensures c.from_vec-2.ensures c.from_vec-3.ensures c.in_ok-marks.ensures (c.len.ensures ∙ c.found.all.wires.ok.0)
 
 pub returns-clause-there : goal.returns-clause-there
 returns-clause-there c = there_all _ _ c.args.found.now c.found.wire-index c.found-test.false c.from_vec.ensures c.found.invariant.there

@@ -4,7 +4,7 @@ use Rattle.sv_typing.specs.Judging.{IsCause}
 use Rattle.sv_names.specs.Names.{names_are}
 use Rattle.sv_meaning.specs.Layouts.{Scope}
 use Rattle.sv_meaning.specs.Deeds.{deed}
-use Rattle.sv_meaning.specs.Blocks.{event_faults, marks, is_clocked, manner}
+use Rattle.sv_meaning.specs.Blocks.{event_faults, marks, block_mark, manner}
 use Rattle.sv_actions.specs.declared.action.Action.{Action}
 use Rattle.sv_actions.specs.Doing.{Aims, names_all}
 use Rattle.sv_actions.specs.Texts.{target_signals}
@@ -19,24 +19,24 @@ returns-in_err-judge_marks-clause-cause c =
     let b = c.args.block.now in
     let p = err_from_is_err_and c.from_residual-in_err-judge_marks.result c.from_residual-in_err-judge_marks.ensures.1 in
     let e = c.in_err-judge_marks.field-0.0 in
-    let m : IsCause (marks (is_clocked b.kind) b.body) e = mark_cause c.is_some.result (is_clocked b.kind) b.body e (c.is_some.ensures ∙ c.in_ok-clock.ensures.clocked) c.in_err-judge_marks.ensures.cause in
-    rw (p.1, p.2) (cause_mark (event_faults at b.kind) (marks (is_clocked b.kind) b.body) ((deed b.body at).faults ++ (deed b.body at).overrun c.args.made) e m)
+    let m : IsCause (marks (block_mark b) b.body) e = mark_cause c.mark_of.result (block_mark b) b.body e (c.mark_of.ensures ∙ c.in_ok-manner.ensures.mark) c.in_err-judge_marks.ensures.cause in
+    rw (p.1, p.2) (cause_mark (event_faults at b.kind) (marks (block_mark b) b.body) ((deed b.body at).faults ++ (deed b.body at).overrun c.args.made) e m)
 
 pub returns-clause-sound : goal.returns-clause-sound
 returns-clause-sound c = λ widths w.
     let b = c.args.block.now in
     let same = c.in_ok-actions.ensures.names in
-    let g = subst (λ (s : Scope). Contributes s (target_signals s b.body) c.in_ok-clock.clock c.as_slice.result.now c.drivers_in.new.arena c.in_ok-all.all) same c.in_ok-all.ensures.ok in
-    let h = subst (λ (z : List Action). Contributes (names_are c.args.names.now) (target_signals (names_are c.args.names.now) b.body) c.in_ok-clock.clock z c.drivers_in.new.arena c.in_ok-all.all) c.as_slice.ensures g in
-    block_sound (names_are c.args.names.now) c.in_ok-clock.clock _ b c.drivers_in.new.arena c.in_ok-all.all c.in_ok-clock.ensures.clock.named_are c.in_ok-actions.ensures.is.does h widths w
+    let g = subst (λ (s : Scope). Contributes s (target_signals s b.body) c.in_ok-manner.manner c.as_slice.result.now c.drivers_in.new.arena c.in_ok-all.all) same c.in_ok-all.ensures.ok in
+    let h = subst (λ (z : List Action). Contributes (names_are c.args.names.now) (target_signals (names_are c.args.names.now) b.body) c.in_ok-manner.manner z c.drivers_in.new.arena c.in_ok-all.all) c.as_slice.ensures g in
+    block_sound (names_are c.args.names.now) c.in_ok-manner.manner _ b c.drivers_in.new.arena c.in_ok-all.all c.in_ok-manner.ensures.manner.named_are c.in_ok-actions.ensures.is.does h widths w
 
 pub returns-clause-mentions : goal.returns-clause-mentions
 returns-clause-mentions c = λ wires p w r.
     let b = c.args.block.now in
     let same = c.in_ok-actions.ensures.names in
-    let g = subst (λ (s : Scope). Contributes s (target_signals s b.body) c.in_ok-clock.clock c.as_slice.result.now c.drivers_in.new.arena c.in_ok-all.all) same c.in_ok-all.ensures.ok in
-    let h = subst (λ (z : List Action). Contributes (names_are c.args.names.now) (target_signals (names_are c.args.names.now) b.body) c.in_ok-clock.clock z c.drivers_in.new.arena c.in_ok-all.all) c.as_slice.ensures g in
-    block_mentions (names_are c.args.names.now) c.in_ok-clock.clock _ b (manner (names_are c.args.names.now) b.kind) c.drivers_in.new.arena c.in_ok-all.all c.in_ok-clock.ensures.clock.manner_is c.in_ok-clock.ensures.clock.named_are c.in_ok-actions.ensures.is.does h wires p w r
+    let g = subst (λ (s : Scope). Contributes s (target_signals s b.body) c.in_ok-manner.manner c.as_slice.result.now c.drivers_in.new.arena c.in_ok-all.all) same c.in_ok-all.ensures.ok in
+    let h = subst (λ (z : List Action). Contributes (names_are c.args.names.now) (target_signals (names_are c.args.names.now) b.body) c.in_ok-manner.manner z c.drivers_in.new.arena c.in_ok-all.all) c.as_slice.ensures g in
+    block_mentions (names_are c.args.names.now) c.in_ok-manner.manner _ b (manner (names_are c.args.names.now) b) c.drivers_in.new.arena c.in_ok-all.all c.in_ok-manner.ensures.manner.is c.in_ok-manner.ensures.manner.named_are c.in_ok-actions.ensures.is.does h wires p w r
 
 pub drivers_in-requires-clause-aims : goal.drivers_in-requires-clause-aims
 drivers_in-requires-clause-aims c =
@@ -86,20 +86,20 @@ returns-in_err-all-clause-sound c = IfOk-from_err _ _ c.from_residual-in_err-all
 pub returns-in_err-all-clause-turns : goal.returns-in_err-all-clause-turns
 returns-in_err-all-clause-turns c = IfOk-from_err _ _ c.from_residual-in_err-all.ensures.0
 
-pub returns-in_err-clock-clause-clear : goal.returns-in_err-clock-clause-clear
-returns-in_err-clock-clause-clear c = IfOk-from_err _ _ c.from_residual.ensures.0
+pub returns-in_err-manner-clause-clear : goal.returns-in_err-manner-clause-clear
+returns-in_err-manner-clause-clear c = IfOk-from_err _ _ c.from_residual.ensures.0
 
-pub returns-in_err-clock-clause-gives : goal.returns-in_err-clock-clause-gives
-returns-in_err-clock-clause-gives c = IfOk-from_err _ _ c.from_residual.ensures.0
+pub returns-in_err-manner-clause-gives : goal.returns-in_err-manner-clause-gives
+returns-in_err-manner-clause-gives c = IfOk-from_err _ _ c.from_residual.ensures.0
 
-pub returns-in_err-clock-clause-mentions : goal.returns-in_err-clock-clause-mentions
-returns-in_err-clock-clause-mentions c = IfOk-from_err _ _ c.from_residual.ensures.0
+pub returns-in_err-manner-clause-mentions : goal.returns-in_err-manner-clause-mentions
+returns-in_err-manner-clause-mentions c = IfOk-from_err _ _ c.from_residual.ensures.0
 
-pub returns-in_err-clock-clause-sound : goal.returns-in_err-clock-clause-sound
-returns-in_err-clock-clause-sound c = IfOk-from_err _ _ c.from_residual.ensures.0
+pub returns-in_err-manner-clause-sound : goal.returns-in_err-manner-clause-sound
+returns-in_err-manner-clause-sound c = IfOk-from_err _ _ c.from_residual.ensures.0
 
-pub returns-in_err-clock-clause-turns : goal.returns-in_err-clock-clause-turns
-returns-in_err-clock-clause-turns c = IfOk-from_err _ _ c.from_residual.ensures.0
+pub returns-in_err-manner-clause-turns : goal.returns-in_err-manner-clause-turns
+returns-in_err-manner-clause-turns c = IfOk-from_err _ _ c.from_residual.ensures.0
 
 pub returns-in_err-judge_marks-clause-clear : goal.returns-in_err-judge_marks-clause-clear
 returns-in_err-judge_marks-clause-clear c = IfOk-from_err _ _ c.from_residual-in_err-judge_marks.ensures.0

@@ -1,57 +1,30 @@
-use Rattle.std.proofs.lemmas.Result.{IfOk-from_err}
-use Rattle.std.proofs.Common.{refl, subst, sym}
+use Rattle.std.proofs.Common.{◌≡◌, ◌<◌, ◌+◌, ◌-◌, length, arith}
 use Rattle.svex_arena.proofs.Keeping.{extends_on}
 use Rattle.sv_lower.proofs.Lowered.{if_ok}
-use Rattle.sv_stores.specs.Starting.{Triggers}
-use Rattle.sv_stores.proofs.Starting.{trigger_pos, trigger_neg, fits_pos, fits_neg}
+use Rattle.sv_stores.proofs.Starting.{triggers_empty, edges_last, edges_next}
 use Rattle.sv_stores.proofs.start.trigger.Goals as goal
 
-pub binary-requires-clause-fits : goal.binary-requires-clause-fits
-binary-requires-clause-fits c =
-    fits_pos _ _ _ _ c.args.wire _ _ _ _ c.in_ok-before.ensures.stays c.in_ok-low-in-Pos.ensures.stays c.in_ok-now.ensures.ok c.in_ok-before.ensures.ok c.in_ok-low-in-Pos.ensures.ok refl
+pub returns-then-at-eq0-clause-ok : goal.returns-then-at-eq0-clause-ok
+returns-then-at-eq0-clause-ok c =
+    let none : length c.args.edges.now ≡ 0 = let t = c.if-at-eq0.true in omega arith in
+    if_ok _ _ _ c.constant.ensures.ok (λ n h. triggers_empty _ c.args.edges.now _ n none c.new.ensures h)
 
-pub binary-requires-in-Neg-clause-fits : goal.binary-requires-in-Neg-clause-fits
-binary-requires-in-Neg-clause-fits c =
-    fits_neg _ _ _ _ c.args.wire _ _ _ _ c.in_ok-before.ensures.stays c.in_ok-low-in-Neg.ensures.stays c.in_ok-now.ensures.ok c.in_ok-before.ensures.ok c.in_ok-low-in-Neg.ensures.ok refl
+pub edges-init : goal.edges-init
+edges-init c =
+    let l : length c.args.edges.now - 1 < length c.args.edges.now = let t = c.if-at-eq0.false in omega arith in
+    record {
+      stays = c.in_ok-node.ensures.stays;
+      within = omega arith;
+      told = edges_last _ c.args.edges.now (length c.args.edges.now - 1) _ _ l (omega arith) c.in_ok-node.ensures.ok;
+    }
 
-pub returns-in_ok-low-in-Pos-clause-ok : goal.returns-in_ok-low-in-Pos-clause-ok
-returns-in_ok-low-in-Pos-clause-ok c =
-    if_ok _ _ _ c.binary.ensures.ok (λ n h.
-    subst (λ e. Triggers c.binary.new.arena e c.args.wire n) (sym c.in-Pos.is)
-    (trigger_pos _ _ _ _ _ c.args.wire _ _ _ _ _ _ c.in_ok-before.ensures.stays c.in_ok-low-in-Pos.ensures.stays c.in_ok-now.ensures.ok c.in_ok-before.ensures.ok c.in_ok-low-in-Pos.ensures.ok h refl))
-
-pub returns-in_ok-low-in-Neg-clause-ok : goal.returns-in_ok-low-in-Neg-clause-ok
-returns-in_ok-low-in-Neg-clause-ok c =
-    if_ok _ _ _ c.binary-in-Neg.ensures.ok (λ n h.
-    subst (λ e. Triggers c.binary-in-Neg.new.arena e c.args.wire n) (sym c.in-Neg.is)
-    (trigger_neg _ _ _ _ _ c.args.wire _ _ _ _ _ _ c.in_ok-before.ensures.stays c.in_ok-low-in-Neg.ensures.stays c.in_ok-now.ensures.ok c.in_ok-before.ensures.ok c.in_ok-low-in-Neg.ensures.ok refl h refl))
-
-pub returns-in_err-now-clause-ok : goal.returns-in_err-now-clause-ok
-returns-in_err-now-clause-ok c = IfOk-from_err _ _ c.from_residual.ensures.0
-
-pub returns-in_err-before-clause-ok : goal.returns-in_err-before-clause-ok
-returns-in_err-before-clause-ok c = IfOk-from_err _ _ c.from_residual-in_err-before.ensures.0
-
-pub returns-in_err-low-in-Pos-clause-ok : goal.returns-in_err-low-in-Pos-clause-ok
-returns-in_err-low-in-Pos-clause-ok c = IfOk-from_err _ _ c.from_residual-in_err-low-in-Pos.ensures.0
-
-pub returns-in_err-low-in-Neg-clause-ok : goal.returns-in_err-low-in-Neg-clause-ok
-returns-in_err-low-in-Neg-clause-ok c = IfOk-from_err _ _ c.from_residual-in_err-low-in-Neg.ensures.0
-
-pub returns-in_err-now-clause-stays : goal.returns-in_err-now-clause-stays
-returns-in_err-now-clause-stays c = c.in_err-now.ensures.stays
-
-pub returns-in_err-before-clause-stays : goal.returns-in_err-before-clause-stays
-returns-in_err-before-clause-stays c = extends_on _ _ _ c.in_ok-now.ensures.stays c.in_err-before.ensures.stays
-
-pub returns-in_err-low-in-Pos-clause-stays : goal.returns-in_err-low-in-Pos-clause-stays
-returns-in_err-low-in-Pos-clause-stays c = extends_on _ _ _ (extends_on _ _ _ c.in_ok-now.ensures.stays c.in_ok-before.ensures.stays) c.in_err-low-in-Pos.ensures.stays
-
-pub returns-in_err-low-in-Neg-clause-stays : goal.returns-in_err-low-in-Neg-clause-stays
-returns-in_err-low-in-Neg-clause-stays c = extends_on _ _ _ (extends_on _ _ _ c.in_ok-now.ensures.stays c.in_ok-before.ensures.stays) c.in_err-low-in-Neg.ensures.stays
-
-pub returns-in_ok-low-in-Pos-clause-stays : goal.returns-in_ok-low-in-Pos-clause-stays
-returns-in_ok-low-in-Pos-clause-stays c = extends_on _ _ _ (extends_on _ _ _ (extends_on _ _ _ c.in_ok-now.ensures.stays c.in_ok-before.ensures.stays) c.in_ok-low-in-Pos.ensures.stays) c.binary.ensures.stays
-
-pub returns-in_ok-low-in-Neg-clause-stays : goal.returns-in_ok-low-in-Neg-clause-stays
-returns-in_ok-low-in-Neg-clause-stays c = extends_on _ _ _ (extends_on _ _ _ (extends_on _ _ _ c.in_ok-now.ensures.stays c.in_ok-before.ensures.stays) c.in_ok-low-in-Neg.ensures.stays) c.binary-in-Neg.ensures.stays
+pub edges-preserved : goal.edges-preserved
+edges-preserved c =
+    let i = c.edges.invariant in
+    let l : c.edges.at - 1 < length c.args.edges.now = let a = c.edges-test.true in let b = i.within in omega arith in
+    let next : c.edges.at ≡ c.edges.at - 1 + 1 = let a = c.edges-test.true in omega arith in
+    record {
+      stays = extends_on _ _ _ i.stays c.in_ok-node-2.ensures.stays;
+      within = omega arith;
+      told = edges_next _ c.args.edges.now (c.edges.at - 1) c.edges.at _ _ l next (c.in_ok-node-2.ensures.ok _ i.told);
+    }

@@ -43,7 +43,7 @@ pub item-returns-in-Assign : goal.item-returns-in-Assign
 item-returns-in-Assign t c = made write_item c.in-Assign.is (made_assign _) (under assigns c.as_slice-in-Assign.ensures c.assigns.ensures)
 
 pub item-returns-in-Always : goal.item-returns-in-Always
-item-returns-in-Always t c = made write_item c.in-Always.is (made_always _) (c.whole_block.ensures)
+item-returns-in-Always t c = made write_item c.in-Always.is (made_always _) (c.block.ensures)
 
 pub item-returns-in-Inst : goal.item-returns-in-Inst
 item-returns-in-Inst t c = made write_item c.in-Inst.is (made_inst _) (c.inst.ensures)

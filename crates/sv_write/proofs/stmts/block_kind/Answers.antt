@@ -1,17 +1,28 @@
-use Rattle.std.proofs.lemmas.Result.{IfOk-from_err}
+use Rattle.std.proofs.Common.{refl}
+use Rattle.sv_write.specs.Stmts.{write_kind}
+use Rattle.sv_write.proofs.Adding.{◌▷◌, made}
 use Rattle.sv_write.proofs.stmts.block_kind.Goals as goal
 
-pub returns-in_err-key-in-Always : goal.returns-in_err-key-in-Always
-returns-in_err-key-in-Always c = IfOk-from_err _ _ c.from_residual-in_err-key-in-Always.ensures.0
+pub returns-in-Comb : goal.returns-in-Comb
+unfolding write_kind
+returns-in-Comb c = made write_kind c.in-Comb.is (λ l. refl) c.key.ensures
 
-pub returns-in_err-key-in-Ff : goal.returns-in_err-key-in-Ff
-returns-in_err-key-in-Ff c = IfOk-from_err _ _ c.from_residual.ensures.0
+pub returns-in-Latch : goal.returns-in-Latch
+unfolding write_kind
+returns-in-Latch c = made write_kind c.in-Latch.is (λ l. refl) c.key-in-Latch.ensures
 
-pub returns-in_err-key-in-Star : goal.returns-in_err-key-in-Star
-returns-in_err-key-in-Star c = IfOk-from_err _ _ c.from_residual-in_err-key-in-Star.ensures.0
+pub returns-in-Ff : goal.returns-in-Ff
+unfolding write_kind
+returns-in-Ff c = made write_kind c.in-Ff.is (λ l. refl) (c.key-in-Ff.ensures ▷ c.events.ensures)
 
-pub returns-in_err-key-in-StarParen : goal.returns-in_err-key-in-StarParen
-returns-in_err-key-in-StarParen c = IfOk-from_err _ _ c.from_residual-in_err-key-in-StarParen.ensures.0
+pub returns-in-Always : goal.returns-in-Always
+unfolding write_kind
+returns-in-Always c = made write_kind c.in-Always.is (λ l. refl) (c.key-in-Always.ensures ▷ c.events-in-Always.ensures)
 
-pub returns-in_err-two_marks-in-StarParen : goal.returns-in_err-two_marks-in-StarParen
-returns-in_err-two_marks-in-StarParen c = IfOk-from_err _ _ c.from_residual-in_err-two_marks-in-StarParen.ensures.0
+pub returns-in-Star : goal.returns-in-Star
+unfolding write_kind
+returns-in-Star c = made write_kind c.in-Star.is (λ l. refl) (c.key-in-Star.ensures ▷ c.mark.ensures ▷ c.mark-in-Star.ensures)
+
+pub returns-in-StarParen : goal.returns-in-StarParen
+unfolding write_kind
+returns-in-StarParen c = made write_kind c.in-StarParen.is (λ l. refl) (c.key-in-StarParen.ensures ▷ c.mark-in-StarParen.ensures ▷ c.mark-in-StarParen-2.ensures ▷ c.mark-in-StarParen-3.ensures ▷ c.mark-in-StarParen-4.ensures)
