@@ -13,6 +13,7 @@ use Rattle.lhs_alias.specs.Lies.{IsBitOf}
 use Rattle.lhs_alias.proofs.Lying.{lhs_bits-lie}
 use Rattle.settling.specs.Settling.{value_at as value_in_store, Link, Contribution, first_bit, is_one_class, given_to}
 use Rattle.settling.proofs.Classes.{joined-exactly, same-name}
+use Rattle.settling.proofs.Overriding.{given_to-append}
 use Rattle.svex_shape.specs.declared.shape.Shape.{Shape}
 use Rattle.svex_shape.specs.Values.{Vector, value_at}
 use Rattle.driver_resolve.specs.declared.driver.Driver.{Driver}
@@ -66,11 +67,6 @@ pub given_at-append : (values stim : List Vector) (place : ℕ) (a b : List Gift
 given_at-append values stim place a b =
     ap (λ l. map (λ x. gift_bit values stim x) l) (filter-append (λ x. eqb x.to place) a b)
     ∙ map-append (λ x. gift_bit values stim x) (filter (λ x. eqb x.to place) a) (filter (λ x. eqb x.to place) b)
-
-pub given_to-append : (links : List Link) (b : WireBit) (x y : List Contribution) → given_to links b (x ++ y) ≡ given_to links b x ++ given_to links b y
-given_to-append links b x y =
-    ap (λ l. map (λ c. c.1) l) (filter-append (λ c. is_one_class links c.0 b) x y)
-    ∙ map-append (λ c. c.1) (filter (λ c. is_one_class links c.0 b) x) (filter (λ c. is_one_class links c.0 b) y)
 
 -- ---- one source
 

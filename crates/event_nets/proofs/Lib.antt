@@ -2,6 +2,7 @@ pub mod Reading
 pub mod Homes
 pub mod Giving
 pub mod Laying
+pub mod Cutting
 mod Joining
 pub mod NetPlaces
 pub mod FlatNets

@@ -1,5 +1,5 @@
 -- All tables of a flat design.
-use Rattle.std.proofs.Common.{◌≡◌, ℕ, suc, ◌<◌, ◌≤◌, Bool, true, false, cond, List, [], ◌∷◌, ◌++◌, length, ap, ◌∙◌, arith}
+use Rattle.std.proofs.Common.{◌≡◌, ℕ, suc, ◌<◌, ◌≤◌, Bool, true, false, cond, List, [], ◌∷◌, ◌++◌, length, sym, ap, ◌∙◌, subst, arith}
 use Rattle.std.specs.Prelude.{All}
 use Rattle.std.proofs.lemmas.List.Elements.{All-head, All-tail, All-nil, All-cons, All-append, All-weaker, All-map}
 use Rattle.sv_outside.specs.declared.text.Signal.{Signal}
@@ -18,11 +18,11 @@ use Rattle.flat_net.specs.Flats.{IsSignal, IsFlat, links_of}
 use Rattle.event_nets.specs.declared.gift.Gift.{Gift}
 use Rattle.event_nets.specs.declared.gift.Source.{Source}
 use Rattle.event_nets.specs.declared.gift.Source.TheVariants.{Value, Stimulus}
-use Rattle.event_nets.specs.Gifts.{gifts_at, gifts_to, driver_gifts, stimulus_gifts, HasTarget}
-use Rattle.event_nets.specs.Tables.{home_of}
+use Rattle.event_nets.specs.Gifts.{gifts_at, gifts_to, driver_gifts, stimulus_gifts, overriding_gifts, HasTarget}
+use Rattle.event_nets.specs.Tables.{home_of, own_gifts, gifts_of}
 use Rattle.event_nets.proofs.Homes.{IsInside, links-inside, first-inside}
-use Rattle.event_nets.proofs.Giving.{AreWires, wires-rest, wire-lies}
-use Rattle.event_nets.proofs.Giving.{wires-are}
+use Rattle.event_nets.proofs.Giving.{AreWires, wires-rest, wire-lies, wires-are}
+use Rattle.event_nets.proofs.Cutting.{as_inputs, gifts-as_inputs, wires-as_inputs, All-left}
 
 pub wires-narrow : (wires : List Signal) → All IsSignal wires → All (λ width. (1 ≤ width) × (width ≤ 128)) (widths_of wires)
 wires-narrow wires h =
@@ -38,6 +38,14 @@ gifts-made links w w' d d' s s' none one all e f g ew ed es =
     ∙ ap (λ l. driver_gifts (home_of links w) l ++ stimulus_gifts (home_of links w) 0 s) ed
     ∙ ap (λ l. driver_gifts (home_of links w) d' ++ stimulus_gifts (home_of links w) 0 l) es
     ∙ ap (λ ws. driver_gifts (home_of links ws) d' ++ stimulus_gifts (home_of links ws) 0 s') ew
+
+pub overriding-made : (links : List Link) (w w' : List ℕ) (s s' : List Signal) (over : List ℕ) (none all : List Gift)
+    → none ≡ [] → all ≡ none ++ overriding_gifts (home_of links w) 0 s over → w ≡ w' → s ≡ s' → all ≡ overriding_gifts (home_of links w') 0 s' over
+overriding-made links w w' s s' over none all e f ew es =
+    f
+    ∙ ap (λ l. l ++ overriding_gifts (home_of links w) 0 s over) e
+    ∙ ap (λ l. overriding_gifts (home_of links w) 0 l over) es
+    ∙ ap (λ ws. overriding_gifts (home_of links ws) 0 s' over) ew
 
 -- ---- the places of gifts
 
@@ -75,14 +83,24 @@ stimuli-below widths links i n (s ∷ more) h =
     All-append (IsBelow (length (all_bits widths))) (cond s.input (gifts_to (home_of links widths) (Stimulus n) 0 (wire_bits n s.width)) []) (stimulus_gifts (home_of links widths) (suc n) more)
     (chosen-below widths links i n s.width s.input (wire-lies widths n s more h)) (stimuli-below widths links i (suc n) more (wires-rest widths n s more h))
 
-pub all-below : (flat : Flat) → IsFlat flat → All (λ g. g.to < length (all_bits (widths_of flat.wires)))
-    (driver_gifts (home_of (links_of flat.joins) (widths_of flat.wires)) flat.drivers ++ stimulus_gifts (home_of (links_of flat.joins) (widths_of flat.wires)) 0 flat.wires)
-all-below flat ok =
+pub own-below : (flat : Flat) → IsFlat flat → All (λ g. g.to < length (all_bits (widths_of flat.wires))) (own_gifts flat)
+own-below flat ok =
     let widths = widths_of flat.wires in
     let links = links_of flat.joins in
     let inside = links-inside widths flat.joins ok.joins in
     All-append (IsBelow (length (all_bits widths))) (driver_gifts (home_of links widths) flat.drivers) (stimulus_gifts (home_of links widths) 0 flat.wires)
     (drivers-below flat widths links inside flat.drivers ok.drivers) (stimuli-below widths links inside 0 flat.wires (wires-are flat.wires))
+
+pub overriding-below : (flat : Flat) → IsFlat flat → (over : List ℕ)
+    → All (λ g. g.to < length (all_bits (widths_of flat.wires))) (overriding_gifts (home_of (links_of flat.joins) (widths_of flat.wires)) 0 flat.wires over)
+overriding-below flat ok over =
+    let widths = widths_of flat.wires in
+    let links = links_of flat.joins in
+    subst (λ l. All (IsBelow (length (all_bits widths))) l) (sym (gifts-as_inputs (home_of links widths) 0 flat.wires over))
+    (stimuli-below widths links (links-inside widths flat.joins ok.joins) 0 (as_inputs 0 flat.wires over) (wires-as_inputs flat.wires over))
+
+pub all-below : (flat : Flat) → IsFlat flat → (over : List ℕ) → All (λ g. g.to < length (all_bits (widths_of flat.wires))) (gifts_of flat over)
+all-below flat ok over = All-left (IsBelow (length (all_bits (widths_of flat.wires)))) _ (own_gifts flat) (overriding-below flat ok over) (own-below flat ok)
 
 -- ---- targets
 

@@ -18,25 +18,26 @@ use Rattle.flat_net.specs.Flats.{IsFlat, links_of}
 use Rattle.event_nets.specs.declared.gift.Gift.{Gift}
 use Rattle.event_nets.specs.declared.gift.Source.{Source}
 use Rattle.event_nets.specs.declared.gift.Source.TheVariants.{Value, Stimulus}
-use Rattle.event_nets.specs.Gifts.{gifts_at, gifts_to, driver_gifts, stimulus_gifts}
+use Rattle.event_nets.specs.Gifts.{gifts_at, gifts_to, driver_gifts, stimulus_gifts, overriding_gifts}
 use Rattle.event_nets.specs.declared.tables.Tables.{Tables}
 use Rattle.event_nets.specs.Needs.{IsRoot, node_of, gift_rows}
 use Rattle.event_nets.specs.Runs.{is_at}
 use Rattle.event_nets.specs.Nets.{is_net_bit, run_of, low_of}
-use Rattle.event_nets.specs.Tables.{AreTables, home_of, lows_of, gifts_of}
+use Rattle.event_nets.specs.Tables.{AreTables, home_of, lows_of, own_gifts, gifts_of}
+use Rattle.event_nets.proofs.Cutting.{as_inputs, gifts-as_inputs, All-left}
 use Rattle.event_nets.proofs.FlatNets.{run-inside}
 
 -- the lowest bit of a net has a place in the row
-pub lows-inside : (flat : Flat) (k : ℕ) → IfSome (get_or (lows_of flat) k None) (λ low. low < length (all_bits (widths_of flat.wires)))
+pub lows-inside : (flat : Flat) (over : List ℕ) (k : ℕ) → IfSome (get_or (lows_of flat over) k None) (λ low. low < length (all_bits (widths_of flat.wires)))
 unfolding low_of
-lows-inside flat k = elim (cases_lt k (length (all_bits (widths_of flat.wires)))) [
-  | inl lt ↦ subst (λ (o : Option ℕ). IfSome o (λ low. low < length (all_bits (widths_of flat.wires)))) (sym (get_or-map (low_of (place_of (widths_of flat.wires)) flat) (all_bits (widths_of flat.wires)) k (bit 0 0) None lt))
-      (pick (get_or (all_bits (widths_of flat.wires)) k (bit 0 0)) (all_bits-lie (widths_of flat.wires) k (bit 0 0) lt) (is_net_bit flat (get_or (all_bits (widths_of flat.wires)) k (bit 0 0))))
-  | inr past ↦ subst (λ (o : Option ℕ). IfSome o (λ low. low < length (all_bits (widths_of flat.wires)))) (sym (get_or_past (lows_of flat) k None (omega (arith, past, length-map (all_bits (widths_of flat.wires)) (low_of (place_of (widths_of flat.wires)) flat))))) tt
+lows-inside flat over k = elim (cases_lt k (length (all_bits (widths_of flat.wires)))) [
+  | inl lt ↦ subst (λ (o : Option ℕ). IfSome o (λ low. low < length (all_bits (widths_of flat.wires)))) (sym (get_or-map (low_of (place_of (widths_of flat.wires)) flat over) (all_bits (widths_of flat.wires)) k (bit 0 0) None lt))
+      (pick (get_or (all_bits (widths_of flat.wires)) k (bit 0 0)) (all_bits-lie (widths_of flat.wires) k (bit 0 0) lt) (is_net_bit flat over (get_or (all_bits (widths_of flat.wires)) k (bit 0 0))))
+  | inr past ↦ subst (λ (o : Option ℕ). IfSome o (λ low. low < length (all_bits (widths_of flat.wires)))) (sym (get_or_past (lows_of flat over) k None (omega (arith, past, length-map (all_bits (widths_of flat.wires)) (low_of (place_of (widths_of flat.wires)) flat over))))) tt
 ]
   where
-    pick : (b : WireBit) → IsBitOf (widths_of flat.wires) b → (t : Bool) → IfSome (cond t (Some (place_of (widths_of flat.wires) (run_of flat b))) None) (λ low. low < length (all_bits (widths_of flat.wires)))
-    pick b i true = place-below (widths_of flat.wires) (run_of flat b) (run-inside flat b i)
+    pick : (b : WireBit) → IsBitOf (widths_of flat.wires) b → (t : Bool) → IfSome (cond t (Some (place_of (widths_of flat.wires) (run_of flat over b))) None) (λ low. low < length (all_bits (widths_of flat.wires)))
+    pick b i true = place-below (widths_of flat.wires) (run_of flat over b) (run-inside flat over b i)
     pick b i false = tt
 
 -- the nodes whose values are given are there
@@ -65,14 +66,17 @@ stimuli-root n home k (s ∷ more) =
     (chosen-root n (gifts_to home (Stimulus k) 0 (wire_bits k s.width)) s.input (gifts-root n (Stimulus k) tt 0 (map home (wire_bits k s.width))))
     (stimuli-root n home (suc k) more)
 
-pub roots-below : (flat : Flat) → IsFlat flat → All (IsRoot (length flat.arena)) (gifts_of flat)
-roots-below flat ok =
+pub roots-below : (flat : Flat) → IsFlat flat → (over : List ℕ) → All (IsRoot (length flat.arena)) (gifts_of flat over)
+roots-below flat ok over =
     let home = home_of (links_of flat.joins) (widths_of flat.wires) in
-    All-append (IsRoot (length flat.arena)) (driver_gifts home flat.drivers) (stimulus_gifts home 0 flat.wires)
-    (drivers-root (widths_of flat.wires) flat.arena home flat.drivers ok.drivers) (stimuli-root (length flat.arena) home 0 flat.wires)
+    let P : Gift → Type 0 = IsRoot (length flat.arena) in
+    All-left P (overriding_gifts home 0 flat.wires over) (own_gifts flat)
+    (subst (λ (l : List Gift). All P l) (sym (gifts-as_inputs home 0 flat.wires over)) (stimuli-root (length flat.arena) home 0 (as_inputs 0 flat.wires over)))
+    (All-append P (driver_gifts home flat.drivers) (stimulus_gifts home 0 flat.wires)
+    (drivers-root (widths_of flat.wires) flat.arena home flat.drivers ok.drivers) (stimuli-root (length flat.arena) home 0 flat.wires))
 
-pub net-roots : (flat : Flat) (tables : Tables) → IsFlat flat → AreTables flat tables → (low : ℕ) → low < length (all_bits (widths_of flat.wires)) → All (IsRoot (length flat.arena)) (get_or (gift_rows tables.given.items) low [])
-net-roots flat tables ok are low lt =
+pub net-roots : (flat : Flat) (over : List ℕ) (tables : Tables) → IsFlat flat → AreTables flat over tables → (low : ℕ) → low < length (all_bits (widths_of flat.wires)) → All (IsRoot (length flat.arena)) (get_or (gift_rows tables.given.items) low [])
+net-roots flat over tables ok are low lt =
     let P : Gift → Type 0 = IsRoot (length flat.arena) in
     subst (λ (l : List Gift). All P l) (sym (are.given low lt))
-    (All-filter (λ g. is_at (get_or tables.lows.items g.to None) low) P tables.gifts.items (subst (λ (l : List Gift). All P l) (sym are.gifts) (roots-below flat ok)))
+    (All-filter (λ g. is_at (get_or tables.lows.items g.to None) low) P tables.gifts.items (subst (λ (l : List Gift). All P l) (sym are.gifts) (roots-below flat ok over)))

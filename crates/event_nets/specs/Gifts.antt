@@ -1,5 +1,6 @@
 -- What is given to classes of joined bits, one bit after another.
-use Rattle.std.specs.Prelude.{◌≡◌, ◌==◌, ℕ, suc, ◌<◌, ◌≤◌, List, [], ◌∷◌, ◌++◌, length, map, filter, Option, None, Some, slice_index_or, if◌then◌else◌}
+use Rattle.std.specs.Prelude.{◌≡◌, ◌==◌, not, Bool, ℕ, suc, ◌<◌, ◌≤◌, List, [], ◌∷◌, ◌++◌, length, map, filter, Option, None, Some, slice_index_or, if◌then◌else◌}
+use Rattle.std.specs.List.{list_any}
 use Rattle.fourvec.specs.declared.Bit.{Bit}
 use Rattle.fourvec.specs.declared.Bit.TheVariants.{Unknown, Floating}
 use Rattle.fourvec.specs.Bits.{res_bit, over}
@@ -9,7 +10,7 @@ use Rattle.lhs_alias.specs.Segs.{lhs_bits}
 use Rattle.lhs_alias.specs.Lies.{LieIn}
 use Rattle.svex_shape.specs.Values.{Vector}
 use Rattle.driver_resolve.specs.declared.driver.Driver.{Driver}
-use Rattle.driver_resolve.specs.Drivers.{wire_bits}
+use Rattle.driver_resolve.specs.Drivers.{wire_bits, has_wire}
 use Rattle.event_nets.specs.declared.gift.Gift.{Gift}
 use Rattle.event_nets.specs.declared.gift.Source.{Source}
 use Rattle.event_nets.specs.declared.gift.Source.TheVariants.{Value, Stimulus}
@@ -72,6 +73,20 @@ unfoldable pub stimulus_gifts : (WireBit → ℕ) → ℕ → List Signal → Li
 stimulus_gifts home n [] = []
 stimulus_gifts home n (s ∷ more) =
     (if s.input then gifts_to home (Stimulus n) 0 (wire_bits n s.width) else []) ++ stimulus_gifts home (suc n) more
+
+-- those of the wires that are overridden, in the same way
+unfoldable pub overriding_gifts : (WireBit → ℕ) → ℕ → List Signal → List ℕ → List Gift
+overriding_gifts home n [] over = []
+overriding_gifts home n (s ∷ more) over =
+    (if has_wire over n then gifts_to home (Stimulus n) 0 (wire_bits n s.width) else []) ++ overriding_gifts home (suc n) more over
+
+-- the class at a place gets one of these
+abbrev pub has_gift : List Gift → ℕ → Bool
+has_gift gifts place = list_any (λ g. g.to == place) gifts
+
+-- what is left where some classes are overridden: gifts to other classes, and what overrides
+unfoldable pub left : List Gift → List Gift → List Gift
+left over gifts = filter (λ g. not (has_gift over g.to)) gifts ++ over
 
 -- the driver's target lies in the wires, and has 128 bits at most
 pub record HasTarget (widths : List ℕ) (d : Driver) : Type 0 where

@@ -10,7 +10,7 @@ use Rattle.flat_net.specs.declared.flat.Flat.{Flat}
 use Rattle.flat_net.specs.Flats.{links_of}
 use Rattle.event_nets.specs.declared.gift.Gift.{Gift}
 use Rattle.event_nets.specs.declared.tables.Tables.{Tables}
-use Rattle.event_nets.specs.Gifts.{driver_gifts, stimulus_gifts}
+use Rattle.event_nets.specs.Gifts.{driver_gifts, stimulus_gifts, overriding_gifts, left}
 use Rattle.event_nets.specs.Nets.{nets_of, low_of}
 use Rattle.event_nets.specs.Needs.{gift_rows, given_to}
 
@@ -35,21 +35,25 @@ abbrev pub homes_of : Flat → List ℕ
 homes_of flat = map (home_of (links_of flat.joins) (widths_of flat.wires)) (all_bits (widths_of flat.wires))
 
 -- what drivers and stimuli give to classes, in order
-abbrev pub gifts_of : Flat → List Gift
-gifts_of flat =
+abbrev pub own_gifts : Flat → List Gift
+own_gifts flat =
     driver_gifts (home_of (links_of flat.joins) (widths_of flat.wires)) flat.drivers
     ++ stimulus_gifts (home_of (links_of flat.joins) (widths_of flat.wires)) 0 flat.wires
 
--- for each bit that lies in a net the place of the net's lowest bit
-abbrev pub lows_of : Flat → List (Option ℕ)
-lows_of flat = map (low_of (place_of (widths_of flat.wires)) flat) (all_bits (widths_of flat.wires))
+-- what is given to classes where wires are overridden
+abbrev pub gifts_of : Flat → List ℕ → List Gift
+gifts_of flat over = left (overriding_gifts (home_of (links_of flat.joins) (widths_of flat.wires)) 0 flat.wires over) (own_gifts flat)
 
--- what is kept of the flat design
-pub record AreTables (flat : Flat) (tables : Tables) : Type 0 where
+-- for each bit that lies in a net the place of the net's lowest bit
+abbrev pub lows_of : Flat → List ℕ → List (Option ℕ)
+lows_of flat over = map (low_of (place_of (widths_of flat.wires)) flat over) (all_bits (widths_of flat.wires))
+
+-- what is kept of the flat design where these wires are overridden
+pub record AreTables (flat : Flat) (over : List ℕ) (tables : Tables) : Type 0 where
   pub starts : tables.starts.items ≡ starts_of (widths_of flat.wires)
   pub homes : tables.homes.items ≡ homes_of flat
-  pub gifts : tables.gifts.items ≡ gifts_of flat
-  pub lows : tables.lows.items ≡ lows_of flat
-  pub nets : tables.nets.items ≡ map (place_of (widths_of flat.wires)) (nets_of flat)
+  pub gifts : tables.gifts.items ≡ gifts_of flat over
+  pub lows : tables.lows.items ≡ lows_of flat over
+  pub nets : tables.nets.items ≡ map (place_of (widths_of flat.wires)) (nets_of flat over)
   pub given_each : length tables.given.items ≡ length (all_bits (widths_of flat.wires))
   pub given : (low : ℕ) → low < length (all_bits (widths_of flat.wires)) → slice_index_or (gift_rows tables.given.items) low [] ≡ given_to tables.lows.items tables.gifts.items low

@@ -12,7 +12,7 @@ use svex_arena::Node;
 pub enum Source {
     /// The value of a driver.
     Value(Node),
-    /// The stimulus of a wire.
+    /// What a wire is set to from outside.
     Stimulus(usize),
 }
 

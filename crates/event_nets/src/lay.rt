@@ -243,28 +243,29 @@ pub fn give_inputs(
         → gifts.new.items ≡ gifts.old.items ++ stimulus_gifts (home_of links (joined_widths joins.now)) 0 wires.now) }
 {
     for wire in 0..wires.len() {
-        give_input(alloc, joins, starts, wire, &wires[wire], gifts)?;
+        let signal = &wires[wire];
+        give_wire(alloc, joins, starts, wire, signal, signal.input, gifts)?;
     }
     Ok(())
 }
 
-// What the stimulus of a wire gives, where it is an input of the top.
-fn give_input(
+/// What a wire is set to from outside, where that counts.
+pub fn give_wire(
     alloc: Global,
     joins: &Joins,
     starts: &[usize],
     wire: usize,
     signal: &Signal,
+    counts: bool,
     gifts: &mut Vec<Gift>,
 ) -> Result<(), AllocError>
     requires lies { LieIn (joined_widths joins.now) ((record { wire = wire; lo = 0; width = signal.now.width }) ∷ []) }
     requires starts { starts.now ≡ starts_of (joined_widths joins.now) }
     requires fits { length (all_bits (joined_widths joins.now)) < 2 ^ 64 }
     ensures { OnOk result ((links : List Link) → Stands joins.now links
-        → gifts.new.items ≡ gifts.old.items ++ (if signal.now.input
+        → gifts.new.items ≡ gifts.old.items ++ (if counts
         then gifts_to (home_of links (joined_widths joins.now)) (Stimulus wire) 0 (wire_bits wire signal.now.width) else [])) }
 {
-    let counts = signal.input;
     if counts {
         let whole = whole_wire(alloc, wire, signal.width)?;
         let from = Source::Stimulus(wire);

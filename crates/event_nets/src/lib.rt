@@ -7,6 +7,7 @@ pub mod lay;
 pub mod make;
 mod needs;
 pub mod nets;
+mod overriding;
 pub mod tables;
 pub mod values;
 pub mod walk;

@@ -1,4 +1,4 @@
-//! The nets of a flat design: maximal runs of driven bits in one wire that are the first of their classes. A net is named by
+//! The nets of a flat design: maximal runs of bits in one wire that are driven or overridden, and the first of their classes. A net is named by
 //! the place of its lowest bit, which is written down at each of its bits, so that a bit tells its net in one step. Runs are
 //! found in one walk over the row, each bit by the one below it.
 

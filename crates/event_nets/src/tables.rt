@@ -11,11 +11,12 @@ pub struct Tables {
     pub starts: Vec<usize>,
     /// For each bit the place of the first bit of its class.
     pub homes: Vec<usize>,
-    /// For each driven first bit the place of the lowest bit of its net.
+    /// For each first bit that is driven or overridden the place of the lowest bit of its net.
     pub lows: Vec<Option<usize>>,
     /// The place of each net's lowest bit.
     pub nets: Vec<usize>,
-    /// What is given to classes: the drivers in order, and then the inputs of the top.
+    /// What is given to classes: by the drivers in order, and then by the inputs of the top; but to classes of overridden wires
+    /// by these alone, behind all others.
     pub gifts: Vec<Gift>,
     /// What is given to each net, by the place of its lowest bit.
     pub given: Vec<Vec<Gift>>,

@@ -2,7 +2,7 @@
 //! does not count), and what the wires have in the least settling: `0 1 x => 0 1 x`. What the first row is driven with is also what the wires
 //! had in the phase before. Each phase is settled by steps and by sweeps.
 
-ghost use Rattle.std.specs.Prelude.{◌≡◌, ◌≤◌, length};
+ghost use Rattle.std.specs.Prelude.{◌≡◌, ◌≤◌, [], length};
 ghost use Rattle.driver_resolve.specs.Drivers.{widths_of};
 ghost use Rattle.flat_net.specs.Flats.{IsFlat};
 ghost use Rattle.event_sim.specs.Sims.{IsValuation, now_values, Fits};
@@ -43,8 +43,8 @@ fn put_now(sim: &Sim, wanted: &[Four], said: &mut Vec<u8>) -> Result<(), Fault>
 // Takes each net by turns, from the last one down, as often as there are bits.
 fn step_all(sim: &mut Sim, flat: &Flat)
     requires flat { IsFlat flat.now }
-    requires fits { Fits flat.now sim.old }
-    ensures { Fits flat.now sim.new }
+    requires fits { Fits flat.now [] sim.old }
+    ensures { Fits flat.now [] sim.new }
 {
     'turns: for _turn in 0..16 {
         step_each(sim, flat);
@@ -53,8 +53,8 @@ fn step_all(sim: &mut Sim, flat: &Flat)
 
 fn step_each(sim: &mut Sim, flat: &Flat)
     requires flat { IsFlat flat.now }
-    requires fits { Fits flat.now sim.old }
-    ensures { Fits flat.now sim.new }
+    requires fits { Fits flat.now [] sim.old }
+    ensures { Fits flat.now [] sim.new }
 {
     let nets = sim.nets();
     'nets: for net in 0..nets {
@@ -72,9 +72,9 @@ fn phase(
     said: &mut Vec<u8>,
 ) -> Result<bool, Fault>
     requires flat { IsFlat flat.now }
-    requires fits { Fits flat.now sim.old }
+    requires fits { Fits flat.now [] sim.old }
     requires prev { IsValuation (widths_of flat.now.wires) prev.old.values }
-    ensures fits { Fits flat.now sim.new }
+    ensures fits { Fits flat.now [] sim.new }
     ensures prev { IsValuation (widths_of flat.now.wires) prev.new.values }
 {
     if !is_valuation(flat.wires.as_slice(), stim.values.as_slice()) {
@@ -102,9 +102,9 @@ fn phase_of_row(
     said: &mut Vec<u8>,
 ) -> Result<bool, Fault>
     requires flat { IsFlat flat.now }
-    requires fits { Fits flat.now sim.old }
+    requires fits { Fits flat.now [] sim.old }
     requires prev { IsValuation (widths_of flat.now.wires) prev.old.values }
-    ensures fits { Fits flat.now sim.new }
+    ensures fits { Fits flat.now [] sim.new }
     ensures prev { IsValuation (widths_of flat.now.wires) prev.new.values }
 {
     let (question, wanted) = sides(row);
@@ -134,7 +134,7 @@ fn run(
     report: &mut Report,
 ) -> Result<(), Fault>
     requires flat { IsFlat flat.now }
-    requires fits { Fits flat.now sim.old }
+    requires fits { Fits flat.now [] sim.old }
 {
     if !is_valuation(flat.wires.as_slice(), prev.values.as_slice()) {
         return Err(Fault::Form);
@@ -151,7 +151,7 @@ fn run(
 fn settle(alloc: Global, flat: &Flat, block: &[u8], report: &mut Report) -> Result<(), Fault>
     requires { IsFlat flat.now }
 {
-    let sim = Sim::new(alloc, flat)?;
+    let sim = Sim::new(alloc, flat, &[])?;
     let (mut sim, prev) = both(sim, values(alloc, first_question(block)))?;
     let mut prev = Valuation { values: prev };
     run(alloc, flat, &mut sim, &mut prev, block, report)

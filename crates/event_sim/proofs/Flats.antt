@@ -1,10 +1,11 @@
 -- What holds beside a flat design: what its drivers read, and what its classes are told.
-use Rattle.std.proofs.Common.{◌≡◌, ℕ, suc, ◌+◌, ◌<◌, ◌≤◌, Bool, true, false, cond, List, [], ◌∷◌, ◌++◌, length, get_or, map, sym, ap, ◌∙◌, arith, zero-add, add-zero}
-use Rattle.std.specs.Prelude.{All, Option, None}
-use Rattle.std.specs.List.{range_with_len}
+use Rattle.std.proofs.Common.{◌≡◌, ℕ, suc, ◌+◌, ◌<◌, ◌≤◌, Bool, true, false, not, cond, ◌||◌, List, [], ◌∷◌, ◌++◌, length, get_or, map, refl, sym, ap, ◌∙◌, subst, arith, zero-add, add-zero}
+use Rattle.std.specs.Prelude.{All, Option, None, filter}
+use Rattle.std.specs.List.{range_with_len, list_any}
 use Rattle.std.proofs.lemmas.Bool.{eqb-true, eq-eqb, ltb-true}
 use Rattle.std.proofs.lemmas.List.{ext_get_or}
 use Rattle.std.proofs.lemmas.List.Elements.{All-head, All-tail, All-nil, All-cons, All-append, All-weaker}
+use Rattle.std.proofs.lemmas.List.Folds.{list_any-append}
 use Rattle.std.proofs.lemmas.List.FromFn.{get_or-map-range_with_len, length-map-range_with_len}
 use Rattle.fourvec.specs.declared.Bit.{Bit}
 use Rattle.fourvec.specs.declared.Bit.TheVariants.{Unknown}
@@ -17,8 +18,10 @@ use Rattle.lhs_alias.specs.Lies.{IsBitOf}
 use Rattle.lhs_alias.specs.Joined.{all_bits}
 use Rattle.lhs_alias.proofs.Lying.{lhs_bits-lie}
 use Rattle.lhs_alias.proofs.Row.{place-below}
-use Rattle.settling.specs.Settling.{Link, first_bit, given_to}
+use Rattle.settling.specs.Settling.{Store, Link, Contribution, value_at as value_in_store, first_bit, is_one_class, given_to}
 use Rattle.settling.specs.Events.{resolved}
+use Rattle.settling.specs.Overriding.{is_given, overridden}
+use Rattle.settling.proofs.Overriding.{given_to-append, overriding_tells}
 use Rattle.svex_shape.specs.declared.shape.VarName.TheVariants.{Now, Prev, Stim, Chosen, Sampled}
 use Rattle.svex_shape.specs.declared.shape.Shape.{Shape}
 use Rattle.svex_arena.specs.Arenas.{IsArena}
@@ -27,17 +30,21 @@ use Rattle.svex_arena.proofs.Lifted.{values_alike}
 use Rattle.svex_shape.proofs.Readings.{read_has_widths}
 use Rattle.svex_arena.proofs.Widths.{length-value_at}
 use Rattle.driver_resolve.specs.declared.driver.Driver.{Driver}
-use Rattle.driver_resolve.specs.Drivers.{Phase, reading, drivers_give, stimuli_from, wire_bits, widths_of, is_wire, is_of_wires, IsDriver}
+use Rattle.driver_resolve.specs.Drivers.{Phase, reading, drivers_give, stimuli_from, overriding_from, wire_bits, widths_of, is_wire, is_of_wires, IsDriver}
 use Rattle.flat_net.specs.declared.flat.Flat.{Flat}
 use Rattle.flat_net.specs.Flats.{IsFlat, links_of, given}
+use Rattle.event_nets.specs.declared.gift.Gift.{Gift}
 use Rattle.event_nets.specs.declared.gift.Source.{Source}
 use Rattle.event_nets.specs.declared.gift.Source.TheVariants.{Value, Stimulus}
-use Rattle.event_nets.specs.Gifts.{source_in, told_of, told_bit, given_at, IsGift, IsTold, gifts_at, gifts_to, driver_gifts, stimulus_gifts}
+use Rattle.event_nets.specs.Gifts.{source_in, told_of, told_bit, given_at, IsGift, IsTold, gifts_at, gifts_to, driver_gifts, stimulus_gifts, overriding_gifts, has_gift}
 use Rattle.event_sim.specs.Passes.{HasValues}
-use Rattle.event_nets.specs.Tables.{store_of, IsValuation, home_of}
+use Rattle.event_nets.specs.Nets.{input_bits}
+use Rattle.event_nets.specs.Tables.{store_of, IsValuation, home_of, own_gifts, gifts_of}
 use Rattle.event_nets.proofs.Homes.{IsInside, links-inside, first-inside}
 use Rattle.event_sim.proofs.Telling.{told-resolved}
-use Rattle.event_nets.proofs.Giving.{AreInside, inside-append, given_at-append, given_to-append, HasDriverValues, drivers-give, drivers-inside, AreWires, wires-rest, wire-lies, wires-are, stimuli-give, stimuli-inside}
+use Rattle.event_nets.proofs.Giving.{AreInside, inside-append, given_at-append, HasDriverValues, drivers-give, drivers-inside, AreWires, wires-rest, wire-lies, wires-are, stimuli-give, stimuli-inside}
+use Rattle.event_nets.proofs.Cutting.{as_inputs, gifts-as_inputs, bits-as_inputs, from-as_inputs, wires-as_inputs, given-left, All-left}
+use Rattle.event_nets.proofs.FlatNets.{any-overriding}
 use Rattle.event_sim.proofs.Passing.{width-at}
 
 -- ---- what drivers read
@@ -85,31 +92,117 @@ all-have widths shapes i rows v u values h drivers ok =
 
 -- ---- what classes are told
 
-pub class-told : (flat : Flat) → IsArena flat.arena → IsFlat flat → (rows : Rows) → IsValuation (widths_of flat.wires) rows.present → IsValuation (widths_of flat.wires) rows.previous
-    → (values : List Vector) → HasValues (read rows) flat.arena values (length flat.arena)
-    → (told : List (Option Bit)) → length told ≡ length (all_bits (widths_of flat.wires))
-    → IsTold values rows.stim (driver_gifts (home_of (links_of flat.joins) (widths_of flat.wires)) flat.drivers ++ stimulus_gifts (home_of (links_of flat.joins) (widths_of flat.wires)) 0 flat.wires) told
-    → (b : WireBit) → IsBitOf (widths_of flat.wires) b
-    → told_bit (get_or told (home_of (links_of flat.joins) (widths_of flat.wires) b) None) ≡ resolved (given_to (links_of flat.joins) b (given flat (phase_of rows)))
-class-told flat i ok rows v u values h told long is b ib =
+-- what drivers and inputs give to a class, without what overrides
+own-give : (flat : Flat) → IsArena flat.arena → IsFlat flat → (rows : Rows) → IsValuation (widths_of flat.wires) rows.present → IsValuation (widths_of flat.wires) rows.previous
+    → (values : List Vector) → HasValues (read rows) flat.arena values (length flat.arena) → (b : WireBit) → IsBitOf (widths_of flat.wires) b
+    → given_at values rows.stim (home_of (links_of flat.joins) (widths_of flat.wires) b) (own_gifts flat)
+    ≡ given_to (links_of flat.joins) b (drivers_give flat.arena flat.drivers (phase_of rows) ++ stimuli_from 0 flat.wires (store_of rows.stim))
+own-give flat i ok rows v u values h b ib =
     let widths = widths_of flat.wires in
     let links = links_of flat.joins in
     let home = home_of links widths in
     let inside = links-inside widths flat.joins ok.joins in
-    let below : home b < length told = omega (arith, place-below widths (first_bit links b) (first-inside widths links inside b ib), long) in
-    let all = given_at-append values rows.stim (home b) (driver_gifts home flat.drivers) (stimulus_gifts home 0 flat.wires)
+    given_at-append values rows.stim (home b) (driver_gifts home flat.drivers) (stimulus_gifts home 0 flat.wires)
     ∙ ap (λ l. l ++ given_at values rows.stim (home b) (stimulus_gifts home 0 flat.wires)) (drivers-give widths links inside flat.arena (phase_of rows) values rows.stim b ib flat.drivers ok.drivers (all-have widths flat.arena i rows v u values h flat.drivers ok.drivers))
     ∙ ap (λ l. given_to links b (drivers_give flat.arena flat.drivers (phase_of rows)) ++ l) (stimuli-give widths links inside values rows.stim b ib 0 flat.wires (wires-are flat.wires))
-    ∙ sym (given_to-append links b (drivers_give flat.arena flat.drivers (phase_of rows)) (stimuli_from 0 flat.wires (store_of rows.stim))) in
-    ap told_bit (is (home b) below ∙ ap told_of all) ∙ told-resolved (given_to links b (given flat (phase_of rows)))
+    ∙ sym (given_to-append links b (drivers_give flat.arena flat.drivers (phase_of rows)) (stimuli_from 0 flat.wires (store_of rows.stim)))
 
-pub given-inside : (flat : Flat) → IsArena flat.arena → IsFlat flat → (rows : Rows) → IsValuation (widths_of flat.wires) rows.present → IsValuation (widths_of flat.wires) rows.previous
-    → (values : List Vector) → HasValues (read rows) flat.arena values (length flat.arena) → AreInside (widths_of flat.wires) (given flat (phase_of rows))
-given-inside flat i ok rows v u values h =
+-- what overridden wires give to a class
+overriding-give : (flat : Flat) → IsFlat flat → (over : List ℕ) (values stim : List Vector) (b : WireBit) → IsBitOf (widths_of flat.wires) b
+    → given_at values stim (home_of (links_of flat.joins) (widths_of flat.wires) b) (overriding_gifts (home_of (links_of flat.joins) (widths_of flat.wires)) 0 flat.wires over)
+    ≡ given_to (links_of flat.joins) b (overriding_from 0 flat.wires over (store_of stim))
+overriding-give flat ok over values stim b ib =
     let widths = widths_of flat.wires in
-    inside-append widths (drivers_give flat.arena flat.drivers (phase_of rows)) (stimuli_from 0 flat.wires (store_of rows.stim))
+    let links = links_of flat.joins in
+    let home = home_of links widths in
+    ap (λ l. given_at values stim (home b) l) (gifts-as_inputs home 0 flat.wires over)
+    ∙ stimuli-give widths links (links-inside widths flat.joins ok.joins) values stim b ib 0 (as_inputs 0 flat.wires over) (wires-as_inputs flat.wires over)
+    ∙ ap (λ l. given_to links b l) (sym (from-as_inputs 0 flat.wires over (store_of stim)))
+
+any-store : (class : WireBit → Bool) (s : Store) (bits : List WireBit) → list_any class bits ≡ list_any (λ c. class c.0) (let l : List Contribution = map (λ c. (c, value_in_store s c)) bits in l)
+any-store class s [] = refl
+any-store class s (b ∷ bits) = ap (λ t. class b || t) (any-store class s bits)
+
+any-counted : (class : WireBit → Bool) (s : Store) (bits : List WireBit) (t : Bool)
+    → list_any class (cond t bits []) ≡ list_any (λ c. class c.0) (let l : List Contribution = cond t (map (λ c. (c, value_in_store s c)) bits) [] in l)
+any-counted class s bits true = any-store class s bits
+any-counted class s bits false = refl
+
+-- a class has a bit of an input exactly where something is given to it
+any-from : (links : List Link) (b : WireBit) (stim : Store) (n : ℕ) (wires : List Signal) → list_any (λ c. is_one_class links c b) (input_bits n wires) ≡ is_given links (stimuli_from n wires stim) b
+unfolding input_bits stimuli_from
+any-from links b stim n [] = refl
+any-from links b stim n (s ∷ more) =
+    let class : WireBit → Bool = λ c. is_one_class links c b in
+    let of_class : Contribution → Bool = λ c. class c.0 in
+    let bits = wire_bits n s.width in
+    let here : List Contribution = cond s.input (map (λ c. (c, value_in_store stim c)) bits) [] in
+    list_any-append class (cond s.input bits []) (input_bits (suc n) more)
+    ∙ ap (λ t. t || list_any class (input_bits (suc n) more)) (any-counted class stim bits s.input)
+    ∙ ap (λ t. list_any of_class here || t) (any-from links b stim (suc n) more)
+    ∙ sym (list_any-append of_class here (stimuli_from (suc n) more stim))
+
+-- a class has an overriding gift exactly where something overrides it
+gift-given : (flat : Flat) → IsFlat flat → (over : List ℕ) (stim : Store) (b : WireBit) → IsBitOf (widths_of flat.wires) b
+    → has_gift (overriding_gifts (home_of (links_of flat.joins) (widths_of flat.wires)) 0 flat.wires over) (home_of (links_of flat.joins) (widths_of flat.wires) b)
+    ≡ is_given (links_of flat.joins) (overriding_from 0 flat.wires over stim) b
+gift-given flat ok over stim b ib =
+    let links = links_of flat.joins in
+    any-overriding flat ok over b ib
+    ∙ ap (λ l. list_any (λ c. is_one_class links c b) l) (bits-as_inputs 0 flat.wires over)
+    ∙ any-from links b stim 0 (as_inputs 0 flat.wires over)
+    ∙ ap (λ l. is_given links l b) (sym (from-as_inputs 0 flat.wires over stim))
+
+-- the gifts to a class are what is given to it
+gifts-give : (flat : Flat) → IsArena flat.arena → IsFlat flat → (over : List ℕ) (rows : Rows) → IsValuation (widths_of flat.wires) rows.present → IsValuation (widths_of flat.wires) rows.previous
+    → (values : List Vector) → HasValues (read rows) flat.arena values (length flat.arena) → (b : WireBit) → IsBitOf (widths_of flat.wires) b
+    → given_at values rows.stim (home_of (links_of flat.joins) (widths_of flat.wires) b) (gifts_of flat over) ≡ given_to (links_of flat.joins) b (given flat over (phase_of rows))
+gifts-give flat i ok over rows v u values h b ib =
+    let links = links_of flat.joins in
+    let home = home_of links (widths_of flat.wires) in
+    let gifts = overriding_gifts home 0 flat.wires over in
+    let from = overriding_from 0 flat.wires over (store_of rows.stim) in
+    let all = drivers_give flat.arena flat.drivers (phase_of rows) ++ stimuli_from 0 flat.wires (store_of rows.stim) in
+    given-left values rows.stim gifts (own_gifts flat) (home b)
+    ∙ ap (λ t. cond t (given_at values rows.stim (home b) gifts) (given_at values rows.stim (home b) (own_gifts flat))) (gift-given flat ok over (store_of rows.stim) b ib)
+    ∙ ap (λ l. cond (is_given links from b) l (given_at values rows.stim (home b) (own_gifts flat))) (overriding-give flat ok over values rows.stim b ib)
+    ∙ ap (λ l. cond (is_given links from b) (given_to links b from) l) (own-give flat i ok rows v u values h b ib)
+    ∙ sym (overriding_tells links from all b)
+
+pub class-told : (flat : Flat) → IsArena flat.arena → IsFlat flat → (over : List ℕ) (rows : Rows) → IsValuation (widths_of flat.wires) rows.present → IsValuation (widths_of flat.wires) rows.previous
+    → (values : List Vector) → HasValues (read rows) flat.arena values (length flat.arena)
+    → (told : List (Option Bit)) → length told ≡ length (all_bits (widths_of flat.wires)) → IsTold values rows.stim (gifts_of flat over) told
+    → (b : WireBit) → IsBitOf (widths_of flat.wires) b
+    → told_bit (get_or told (home_of (links_of flat.joins) (widths_of flat.wires) b) None) ≡ resolved (given_to (links_of flat.joins) b (given flat over (phase_of rows)))
+class-told flat i ok over rows v u values h told long is b ib =
+    let widths = widths_of flat.wires in
+    let links = links_of flat.joins in
+    let home = home_of links widths in
+    let below : home b < length told = omega (arith, place-below widths (first_bit links b) (first-inside widths links (links-inside widths flat.joins ok.joins) b ib), long) in
+    ap told_bit (is (home b) below ∙ ap told_of (gifts-give flat i ok over rows v u values h b ib)) ∙ told-resolved (given_to links b (given flat over (phase_of rows)))
+
+inside-filter : (widths : List ℕ) (p : Contribution → Bool) (all : List Contribution) → AreInside widths all → AreInside widths (filter p all)
+inside-filter widths p [] h = tt
+inside-filter widths p (c ∷ all) h = pick (p c) (inside-filter widths p all h.1)
+  where
+    pick : (t : Bool) → AreInside widths (filter p all) → AreInside widths (cond t (c ∷ filter p all) (filter p all))
+    pick true r = (h.0, r)
+    pick false r = r
+
+pub given-inside : (flat : Flat) → IsArena flat.arena → IsFlat flat → (over : List ℕ) (rows : Rows) → IsValuation (widths_of flat.wires) rows.present → IsValuation (widths_of flat.wires) rows.previous
+    → (values : List Vector) → HasValues (read rows) flat.arena values (length flat.arena) → AreInside (widths_of flat.wires) (given flat over (phase_of rows))
+unfolding overridden
+given-inside flat i ok over rows v u values h =
+    let widths = widths_of flat.wires in
+    let links = links_of flat.joins in
+    let from = overriding_from 0 flat.wires over (store_of rows.stim) in
+    let all = drivers_give flat.arena flat.drivers (phase_of rows) ++ stimuli_from 0 flat.wires (store_of rows.stim) in
+    inside-append widths (filter (λ c. not (is_given links from c.0)) all) from
+    (inside-filter widths (λ c. not (is_given links from c.0)) all
+    (inside-append widths (drivers_give flat.arena flat.drivers (phase_of rows)) (stimuli_from 0 flat.wires (store_of rows.stim))
     (drivers-inside widths flat.arena (phase_of rows) values flat.drivers ok.drivers (all-have widths flat.arena i rows v u values h flat.drivers ok.drivers))
-    (stimuli-inside widths rows.stim 0 flat.wires (wires-are flat.wires))
+    (stimuli-inside widths rows.stim 0 flat.wires (wires-are flat.wires))))
+    (subst (λ l. AreInside widths l) (sym (from-as_inputs 0 flat.wires over (store_of rows.stim))) (stimuli-inside widths rows.stim 0 (as_inputs 0 flat.wires over) (wires-as_inputs flat.wires over)))
 
 -- ---- gifts are sound
 
@@ -158,13 +251,17 @@ stimuli-sound widths links i values stim v n (s ∷ more) h =
     (chosen-sound widths links i values stim n s.width s.input wide (wire-lies widths n s more h))
     (stimuli-sound widths links i values stim v (suc n) more (wires-rest widths n s more h))
 
-pub all-sound : (flat : Flat) → IsArena flat.arena → IsFlat flat → (rows : Rows) → IsValuation (widths_of flat.wires) rows.present → IsValuation (widths_of flat.wires) rows.previous → IsValuation (widths_of flat.wires) rows.stim
+pub all-sound : (flat : Flat) → IsArena flat.arena → IsFlat flat → (over : List ℕ) (rows : Rows) → IsValuation (widths_of flat.wires) rows.present → IsValuation (widths_of flat.wires) rows.previous → IsValuation (widths_of flat.wires) rows.stim
     → (values : List Vector) → HasValues (read rows) flat.arena values (length flat.arena)
-    → All (IsGift values rows.stim (length (all_bits (widths_of flat.wires)))) (driver_gifts (home_of (links_of flat.joins) (widths_of flat.wires)) flat.drivers ++ stimulus_gifts (home_of (links_of flat.joins) (widths_of flat.wires)) 0 flat.wires)
-all-sound flat i ok rows v u s values h =
+    → All (IsGift values rows.stim (length (all_bits (widths_of flat.wires)))) (gifts_of flat over)
+all-sound flat i ok over rows v u s values h =
     let widths = widths_of flat.wires in
     let links = links_of flat.joins in
+    let home = home_of links widths in
     let inside = links-inside widths flat.joins ok.joins in
-    All-append (IsGift values rows.stim (length (all_bits widths))) (driver_gifts (home_of links widths) flat.drivers) (stimulus_gifts (home_of links widths) 0 flat.wires)
+    let P : Gift → Type 0 = IsGift values rows.stim (length (all_bits widths)) in
+    All-left P (overriding_gifts home 0 flat.wires over) (own_gifts flat)
+    (subst (λ l. All P l) (sym (gifts-as_inputs home 0 flat.wires over)) (stimuli-sound widths links inside values rows.stim s 0 (as_inputs 0 flat.wires over) (wires-as_inputs flat.wires over)))
+    (All-append P (driver_gifts home flat.drivers) (stimulus_gifts home 0 flat.wires)
     (drivers-sound widths links inside flat.arena (phase_of rows) values rows.stim flat.drivers ok.drivers (all-have widths flat.arena i rows v u values h flat.drivers ok.drivers))
-    (stimuli-sound widths links inside values rows.stim s 0 flat.wires (wires-are flat.wires))
+    (stimuli-sound widths links inside values rows.stim s 0 flat.wires (wires-are flat.wires)))

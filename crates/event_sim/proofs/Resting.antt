@@ -20,19 +20,22 @@ use Rattle.settling.specs.Settling.{Store, value_at, Link, Contribution, first_b
 use Rattle.settling.specs.Least.{Under}
 use Rattle.settling.specs.Events.{Net, resolved, step, after_events}
 use Rattle.settling.proofs.Classes.{joined-first, first-joined}
+use Rattle.settling.specs.Overriding.{is_given}
+use Rattle.settling.proofs.Overriding.{overriding_tells}
 use Rattle.settling.proofs.Events.{events_stay_below, events_raise, rest_is_least}
 use Rattle.svex_arena.specs.Arenas.{IsArena}
 use Rattle.driver_resolve.specs.declared.driver.Driver.{Driver}
-use Rattle.driver_resolve.specs.Drivers.{Phase, driver_gives, drivers_give, wire_bits, stimuli_from, widths_of}
+use Rattle.driver_resolve.specs.Drivers.{Phase, driver_gives, drivers_give, wire_bits, stimuli_from, overriding_from, widths_of}
 use Rattle.flat_net.specs.declared.flat.Flat.{Flat}
 use Rattle.flat_net.specs.Flats.{IsFlat, links_of, given, given_in}
-use Rattle.event_nets.specs.Nets.{target_bits, input_bits, is_driven, is_net_bit, lowest, run_of, nets_of}
+use Rattle.flat_net.proofs.Leasts.{given-rises}
+use Rattle.event_nets.specs.Nets.{target_bits, input_bits, overridden_bits, is_driven, is_net_bit, lowest, run_of, nets_of}
 use Rattle.event_sim.specs.Steps.{net_of, after_steps, StepsStayBelow, StepsRaise, RestIsLeast, FewChange, Changed, none, stayed, rose}
 use Rattle.event_nets.proofs.Homes.{links-inside, first-inside, same-itself}
 use Rattle.event_sim.proofs.Stepping.{outside-undriven}
 use Rattle.event_sim.proofs.Falling.{weight, weight-falls, weight-same}
 use Rattle.event_nets.proofs.FlatNets.{run-inside}
-use Rattle.event_sim.proofs.Settled.{given-rises}
+use Rattle.event_nets.proofs.Cutting.{as_inputs, bits-as_inputs, from-as_inputs}
 
 -- ---- nothing is given to a class that is not driven
 
@@ -92,24 +95,38 @@ stimuli-none links b stim n (s ∷ more) h =
     none-append links b (cond s.input (map (λ c. (c, value_at stim c)) (wire_bits n s.width)) []) (stimuli_from (suc n) more stim)
     (chosen-none links b stim (wire_bits n s.width) s.input parts.0) (stimuli-none links b stim (suc n) more parts.1)
 
-pub undriven-none : (flat : Flat) (p : Phase) (b : WireBit) → is_driven flat b ≡ false → given_to (links_of flat.joins) b (given flat p) ≡ []
-undriven-none flat p b h =
+pub undriven-none : (flat : Flat) (over : List ℕ) (p : Phase) (b : WireBit) → is_driven flat over b ≡ false → given_to (links_of flat.joins) b (given flat over p) ≡ []
+undriven-none flat over p b h =
     let links = links_of flat.joins in
     let class : WireBit → Bool = λ c. is_one_class links c b in
-    let parts = or-none (list_any class (target_bits flat.drivers)) (list_any class (input_bits 0 flat.wires)) (sym (list_any-append class (target_bits flat.drivers) (input_bits 0 flat.wires)) ∙ h) in
-    none-append links b (drivers_give flat.arena flat.drivers p) (stimuli_from 0 flat.wires p.stim) (drivers-none flat links b p flat.drivers parts.0) (stimuli-none links b p.stim 0 flat.wires parts.1)
+    let targets = target_bits flat.drivers in
+    let inputs = input_bits 0 flat.wires in
+    let set = overridden_bits 0 flat.wires over in
+    let from = overriding_from 0 flat.wires over p.stim in
+    let own = drivers_give flat.arena flat.drivers p ++ stimuli_from 0 flat.wires p.stim in
+    let halves = or-none (list_any class (targets ++ inputs)) (list_any class set) (sym (list_any-append class (targets ++ inputs) set) ∙ h) in
+    let parts = or-none (list_any class targets) (list_any class inputs) (sym (list_any-append class targets inputs) ∙ halves.0) in
+    let set-none : given_to links b from ≡ [] =
+    ap (λ l. given_to links b l) (from-as_inputs 0 flat.wires over p.stim)
+    ∙ stimuli-none links b p.stim 0 (as_inputs 0 flat.wires over) (ap (λ l. list_any class l) (sym (bits-as_inputs 0 flat.wires over)) ∙ halves.1) in
+    let own-none = none-append links b (drivers_give flat.arena flat.drivers p) (stimuli_from 0 flat.wires p.stim) (drivers-none flat links b p flat.drivers parts.0) (stimuli-none links b p.stim 0 flat.wires parts.1) in
+    overriding_tells links from own b ∙ either (is_given links from b) set-none own-none
+  where
+    either : (t : Bool) {x y : List Bit} → x ≡ [] → y ≡ [] → cond t x y ≡ []
+    either true e f = e
+    either false e f = f
 
 -- ---- a bit of a class that is not driven stays X
 
-undriven-step : (flat : Flat) (stim prev s : Store) (b : WireBit) → is_driven flat b ≡ false → value_at (step (links_of flat.joins) (given_in flat stim prev) s) b ≡ Unknown
-undriven-step flat stim prev s b h = ap resolved (undriven-none flat (record { stim = stim; previous = prev; present = s }) b h)
+undriven-step : (flat : Flat) (over : List ℕ) (stim prev s : Store) (b : WireBit) → is_driven flat over b ≡ false → value_at (step (links_of flat.joins) (given_in flat over stim prev) s) b ≡ Unknown
+undriven-step flat over stim prev s b h = ap resolved (undriven-none flat over (record { stim = stim; previous = prev; present = s }) b h)
 
-undriven-stays : (flat : Flat) (stim prev : Store) (b : WireBit) → is_driven flat b ≡ false → (nets : List Net) → value_at (after_events (links_of flat.joins) (given_in flat stim prev) nets) b ≡ Unknown
+undriven-stays : (flat : Flat) (over : List ℕ) (stim prev : Store) (b : WireBit) → is_driven flat over b ≡ false → (nets : List Net) → value_at (after_events (links_of flat.joins) (given_in flat over stim prev) nets) b ≡ Unknown
 unfolding after_events
-undriven-stays flat stim prev b h [] = refl
-undriven-stays flat stim prev b h (net ∷ before) =
-    let s = after_events (links_of flat.joins) (given_in flat stim prev) before in
-    pick (net b) (undriven-step flat stim prev s b h) (undriven-stays flat stim prev b h before)
+undriven-stays flat over stim prev b h [] = refl
+undriven-stays flat over stim prev b h (net ∷ before) =
+    let s = after_events (links_of flat.joins) (given_in flat over stim prev) before in
+    pick (net b) (undriven-step flat over stim prev s b h) (undriven-stays flat over stim prev b h before)
   where
     pick : (t : Bool) {x y : Bit} → x ≡ Unknown → y ≡ Unknown → cond t x y ≡ Unknown
     pick true e f = e
@@ -146,74 +163,74 @@ filter-at p (y ∷ xs) x (suc k) lt e h = pick (p y) (filter-at p xs x k (omega 
     pick true c = let l = c.1 in (suc c.0, omega (arith, l), c.2)
     pick false c = c
 
-run-named : (flat : Flat) (b : WireBit) → IsBitOf (widths_of flat.wires) b → is_net_bit flat b ≡ true → Contains (nets_of flat) (run_of flat b)
-run-named flat b ib h =
+run-named : (flat : Flat) (over : List ℕ) (b : WireBit) → IsBitOf (widths_of flat.wires) b → is_net_bit flat over b ≡ true → Contains (nets_of flat over) (run_of flat over b)
+run-named flat over b ib h =
     let widths = widths_of flat.wires in
-    let p : ℕ → Bool = λ j. is_net_bit flat (bit b.wire j) in
-    let run = run_of flat b in
-    let irun = run-inside flat b ib in
-    let again : same_bit (run_of flat run) run ≡ true = ap (λ j. same_bit (bit b.wire j) run) (lowest-again p b.at) ∙ same-itself run in
-    filter-at (λ c. is_net_bit flat c && same_bit (run_of flat c) c) (all_bits widths) run
+    let p : ℕ → Bool = λ j. is_net_bit flat over (bit b.wire j) in
+    let run = run_of flat over b in
+    let irun = run-inside flat over b ib in
+    let again : same_bit (run_of flat over run) run ≡ true = ap (λ j. same_bit (bit b.wire j) run) (lowest-again p b.at) ∙ same-itself run in
+    filter-at (λ c. is_net_bit flat over c && same_bit (run_of flat over c) c) (all_bits widths) run
     (place_of widths run) (place-below widths run irun) (bit-at_place widths run run irun)
     (both _ _ (lowest-holds p b.at h) again)
 
 -- a driven bit is one of the wires
-driven-inside : (flat : Flat) → IsFlat flat → (b : WireBit) → is_driven flat b ≡ true → IsBitOf (widths_of flat.wires) b
-driven-inside flat ok b h = elim (cases_lt b.wire (length (widths_of flat.wires))) [
+driven-inside : (flat : Flat) → IsFlat flat → (over : List ℕ) (b : WireBit) → is_driven flat over b ≡ true → IsBitOf (widths_of flat.wires) b
+driven-inside flat ok over b h = elim (cases_lt b.wire (length (widths_of flat.wires))) [
   | inl lt ↦ elim (cases_lt b.at (get_or (widths_of flat.wires) b.wire 0)) [
     | inl low ↦ record { wire = lt; place = low }
-    | inr high ↦ absurd (differ (outside-undriven flat ok b (λ i. let p = i.place in omega (arith, p, high))))
+    | inr high ↦ absurd (differ (outside-undriven flat ok over b (λ i. let p = i.place in omega (arith, p, high))))
   ]
-  | inr past ↦ absurd (differ (outside-undriven flat ok b (λ i. let w = i.wire in omega (arith, w, past))))
+  | inr past ↦ absurd (differ (outside-undriven flat ok over b (λ i. let w = i.wire in omega (arith, w, past))))
 ]
   where
-    differ : is_driven flat b ≡ false → ⊥
+    differ : is_driven flat over b ≡ false → ⊥
     differ e = let k : true ≡ false = sym h ∙ e in cc
 
-net-bit : (flat : Flat) (x : WireBit) → same_bit (first_bit (links_of flat.joins) x) x ≡ true → is_driven flat x ≡ true → is_net_bit flat x ≡ true
+net-bit : (flat : Flat) (over : List ℕ) (x : WireBit) → same_bit (first_bit (links_of flat.joins) x) x ≡ true → is_driven flat over x ≡ true → is_net_bit flat over x ≡ true
 unfolding is_net_bit
-net-bit flat x e f = both _ _ e f
+net-bit flat over x e f = both _ _ e f
 
 -- a driven class has its net
-pub net-found : (flat : Flat) → IsFlat flat → (b : WireBit) → is_driven flat b ≡ true → (k : ℕ) × (k < length (nets_of flat)) × (net_of flat k b ≡ true)
-net-found flat ok b h =
+pub net-found : (flat : Flat) → IsFlat flat → (over : List ℕ) (b : WireBit) → is_driven flat over b ≡ true → (k : ℕ) × (k < length (nets_of flat over)) × (net_of flat over k b ≡ true)
+net-found flat ok over b h =
     let widths = widths_of flat.wires in
     let links = links_of flat.joins in
     let inside = links-inside widths flat.joins ok.joins in
     let first = first_bit links b in
     let own : first_bit links first ≡ first = sym (first-joined links b first (joined-first links b)) in
-    let ifirst = first-inside widths links inside b (driven-inside flat ok b h) in
-    let is : is_net_bit flat first ≡ true = net-bit flat first (ap (λ x. same_bit x first) own ∙ same-itself first)
-    (ap (λ x. list_any (λ c. same_bit (first_bit links c) x) (target_bits flat.drivers ++ input_bits 0 flat.wires)) own ∙ h) in
-    let at = run-named flat first ifirst is in
-    let run = run_of flat first in (
+    let ifirst = first-inside widths links inside b (driven-inside flat ok over b h) in
+    let is : is_net_bit flat over first ≡ true = net-bit flat over first (ap (λ x. same_bit x first) own ∙ same-itself first)
+    (ap (λ x. list_any (λ c. same_bit (first_bit links c) x) (target_bits flat.drivers ++ input_bits 0 flat.wires ++ overridden_bits 0 flat.wires over)) own ∙ h) in
+    let at = run-named flat over first ifirst is in
+    let run = run_of flat over first in (
       at.0,
       at.1,
-      ap (λ x. is_net_bit flat first && same_bit run x) (get_or_default (nets_of flat) at.0 (bit 0 0) run at.1 ∙ at.2)
+      ap (λ x. is_net_bit flat over first && same_bit run x) (get_or_default (nets_of flat over) at.0 (bit 0 0) run at.1 ∙ at.2)
           ∙ both _ _ is (same-itself run),
     )
 
 -- ---- the law
 
-pub rest-is_least : (flat : Flat) → IsArena flat.arena → IsFlat flat → RestIsLeast flat
-rest-is_least flat i ok stim prev steps h =
-    rest_is_least (links_of flat.joins) (given_in flat stim prev) (given-rises flat i ok stim prev) (map (net_of flat) steps) (λ b. at b (is_driven flat b) refl)
+pub rest-is_least : (flat : Flat) → IsArena flat.arena → IsFlat flat → (over : List ℕ) → RestIsLeast flat over
+rest-is_least flat i ok over stim prev steps h =
+    rest_is_least (links_of flat.joins) (given_in flat over stim prev) (given-rises flat i ok over stim prev) (map (net_of flat over) steps) (λ b. at b (is_driven flat over b) refl)
   where
-    at : (b : WireBit) (t : Bool) → is_driven flat b ≡ t
-        → value_at (step (links_of flat.joins) (given_in flat stim prev) (after_steps flat stim prev steps)) b ≡ value_at (after_steps flat stim prev steps) b
+    at : (b : WireBit) (t : Bool) → is_driven flat over b ≡ t
+        → value_at (step (links_of flat.joins) (given_in flat over stim prev) (after_steps flat over stim prev steps)) b ≡ value_at (after_steps flat over stim prev steps) b
     at b true e =
-        let net = net-found flat ok b e in
-        let s = after_steps flat stim prev steps in
-        ap (λ t. cond t (value_at (step (links_of flat.joins) (given_in flat stim prev) s) b) (value_at s b)) (sym net.2) ∙ h net.0 net.1 b.wire b.at
+        let net = net-found flat ok over b e in
+        let s = after_steps flat over stim prev steps in
+        ap (λ t. cond t (value_at (step (links_of flat.joins) (given_in flat over stim prev) s) b) (value_at s b)) (sym net.2) ∙ h net.0 net.1 b.wire b.at
     at b false e =
-        undriven-step flat stim prev (after_steps flat stim prev steps) b e
-        ∙ sym (undriven-stays flat stim prev b e (map (net_of flat) steps))
+        undriven-step flat over stim prev (after_steps flat over stim prev steps) b e
+        ∙ sym (undriven-stays flat over stim prev b e (map (net_of flat over) steps))
 
-pub below-settlings : (flat : Flat) → IsArena flat.arena → IsFlat flat → StepsStayBelow flat
-below-settlings flat i ok stim prev steps t e = events_stay_below (links_of flat.joins) (given_in flat stim prev) (given-rises flat i ok stim prev) (map (net_of flat) steps) t e
+pub below-settlings : (flat : Flat) → IsArena flat.arena → IsFlat flat → (over : List ℕ) → StepsStayBelow flat over
+below-settlings flat i ok over stim prev steps t e = events_stay_below (links_of flat.joins) (given_in flat over stim prev) (given-rises flat i ok over stim prev) (map (net_of flat over) steps) t e
 
-pub steps-raise : (flat : Flat) → IsArena flat.arena → IsFlat flat → StepsRaise flat
-steps-raise flat i ok stim prev steps k = events_raise (links_of flat.joins) (given_in flat stim prev) (given-rises flat i ok stim prev) (map (net_of flat) steps) (net_of flat k)
+pub steps-raise : (flat : Flat) → IsArena flat.arena → IsFlat flat → (over : List ℕ) → StepsRaise flat over
+steps-raise flat i ok over stim prev steps k = events_raise (links_of flat.joins) (given_in flat over stim prev) (given-rises flat i ok over stim prev) (map (net_of flat over) steps) (net_of flat over k)
 
 -- ---- few steps change anything
 
@@ -238,24 +255,24 @@ same-weights s t h (b ∷ bits) e =
     All-cons (λ c. value_at s c ≡ value_at t c) b bits (weight-same (value_at s b) (value_at t b) (h b.wire b.at) (omega (arith, e, p, q)))
     (same-weights s t h bits (omega (arith, e, p, q)))
 
-outside-stays : (flat : Flat) → IsFlat flat → (stim prev : Store) (b : WireBit) → (IsBitOf (widths_of flat.wires) b → ⊥) → (steps : List ℕ) → value_at (after_steps flat stim prev steps) b ≡ Unknown
-outside-stays flat ok stim prev b out steps = undriven-stays flat stim prev b (outside-undriven flat ok b out) (map (net_of flat) steps)
+outside-stays : (flat : Flat) → IsFlat flat → (over : List ℕ) (stim prev : Store) (b : WireBit) → (IsBitOf (widths_of flat.wires) b → ⊥) → (steps : List ℕ) → value_at (after_steps flat over stim prev steps) b ≡ Unknown
+outside-stays flat ok over stim prev b out steps = undriven-stays flat over stim prev b (outside-undriven flat ok over b out) (map (net_of flat over) steps)
 
 -- valuations after steps that are the same at all bits of the wires
-same-steps : (flat : Flat) → IsFlat flat → (stim prev : Store) (steps more : List ℕ)
-    → All (λ b. value_at (after_steps flat stim prev steps) b ≡ value_at (after_steps flat stim prev more) b) (all_bits (widths_of flat.wires))
-    → after_steps flat stim prev steps ≡ after_steps flat stim prev more
-same-steps flat ok stim prev steps more h = fun_ext (λ n. fun_ext (λ k. at n k))
+same-steps : (flat : Flat) → IsFlat flat → (over : List ℕ) (stim prev : Store) (steps more : List ℕ)
+    → All (λ b. value_at (after_steps flat over stim prev steps) b ≡ value_at (after_steps flat over stim prev more) b) (all_bits (widths_of flat.wires))
+    → after_steps flat over stim prev steps ≡ after_steps flat over stim prev more
+same-steps flat ok over stim prev steps more h = fun_ext (λ n. fun_ext (λ k. at n k))
   where
-    inside : (b : WireBit) → IsBitOf (widths_of flat.wires) b → value_at (after_steps flat stim prev steps) b ≡ value_at (after_steps flat stim prev more) b
+    inside : (b : WireBit) → IsBitOf (widths_of flat.wires) b → value_at (after_steps flat over stim prev steps) b ≡ value_at (after_steps flat over stim prev more) b
     inside b i =
         let widths = widths_of flat.wires in
-        subst (λ c. value_at (after_steps flat stim prev steps) c ≡ value_at (after_steps flat stim prev more) c) (bit-at_place widths b (bit 0 0) i) (h (place_of widths b) (bit 0 0) (place-below widths b i))
+        subst (λ c. value_at (after_steps flat over stim prev steps) c ≡ value_at (after_steps flat over stim prev more) c) (bit-at_place widths b (bit 0 0) i) (h (place_of widths b) (bit 0 0) (place-below widths b i))
 
-    outside : (b : WireBit) → (IsBitOf (widths_of flat.wires) b → ⊥) → value_at (after_steps flat stim prev steps) b ≡ value_at (after_steps flat stim prev more) b
-    outside b out = outside-stays flat ok stim prev b out steps ∙ sym (outside-stays flat ok stim prev b out more)
+    outside : (b : WireBit) → (IsBitOf (widths_of flat.wires) b → ⊥) → value_at (after_steps flat over stim prev steps) b ≡ value_at (after_steps flat over stim prev more) b
+    outside b out = outside-stays flat ok over stim prev b out steps ∙ sym (outside-stays flat ok over stim prev b out more)
 
-    at : (n k : ℕ) → after_steps flat stim prev steps n k ≡ after_steps flat stim prev more n k
+    at : (n k : ℕ) → after_steps flat over stim prev steps n k ≡ after_steps flat over stim prev more n k
     at n k = elim (cases_lt n (length (widths_of flat.wires))) [
       | inl lt ↦ elim (cases_lt k (get_or (widths_of flat.wires) n 0)) [
         | inl low ↦ inside (bit n k) (record { wire = lt; place = low })
@@ -264,26 +281,26 @@ same-steps flat ok stim prev steps more h = fun_ext (λ n. fun_ext (λ k. at n k
       | inr past ↦ outside (bit n k) (λ i. let w = i.wire in omega (arith, w, past))
     ]
 
-counted : (flat : Flat) → IsArena flat.arena → IsFlat flat → (stim prev : Store) (steps : List ℕ) (count : ℕ) → Changed flat stim prev steps count
-    → count + weights (after_steps flat stim prev steps) (all_bits (widths_of flat.wires)) ≤ length (all_bits (widths_of flat.wires))
+counted : (flat : Flat) → IsArena flat.arena → IsFlat flat → (over : List ℕ) (stim prev : Store) (steps : List ℕ) (count : ℕ) → Changed flat over stim prev steps count
+    → count + weights (after_steps flat over stim prev steps) (all_bits (widths_of flat.wires)) ≤ length (all_bits (widths_of flat.wires))
 unfolding after_events
-counted flat i ok stim prev [] count none = let e = weights-none (all_bits (widths_of flat.wires)) in omega (arith, e)
-counted flat i ok stim prev (k ∷ before) count (stayed c e) =
+counted flat i ok over stim prev [] count none = let e = weights-none (all_bits (widths_of flat.wires)) in omega (arith, e)
+counted flat i ok over stim prev (k ∷ before) count (stayed c e) =
     let bits = all_bits (widths_of flat.wires) in
-    let h = counted flat i ok stim prev before count c in
-    let w : weights (after_steps flat stim prev (k ∷ before)) bits ≡ weights (after_steps flat stim prev before) bits = ap (λ s. weights s bits) e in
+    let h = counted flat i ok over stim prev before count c in
+    let w : weights (after_steps flat over stim prev (k ∷ before)) bits ≡ weights (after_steps flat over stim prev before) bits = ap (λ s. weights s bits) e in
     omega (arith, h, w)
-counted flat i ok stim prev (k ∷ before) (suc count) (rose c apart) =
+counted flat i ok over stim prev (k ∷ before) (suc count) (rose c apart) =
     let bits = all_bits (widths_of flat.wires) in
-    let h = counted flat i ok stim prev before count c in
-    let old = after_steps flat stim prev before in
-    let new = after_steps flat stim prev (k ∷ before) in
-    let up : Under old new = steps-raise flat i ok stim prev before k in
+    let h = counted flat i ok over stim prev before count c in
+    let old = after_steps flat over stim prev before in
+    let new = after_steps flat over stim prev (k ∷ before) in
+    let up : Under old new = steps-raise flat i ok over stim prev before k in
     let q = weights-fall old new up bits in
     elim (cases_lt (weights new bits) (weights old bits)) [
       | inl lt ↦ omega (arith, h, lt)
-      | inr le ↦ absurd (apart (sym (same-steps flat ok stim prev before (k ∷ before) (same-weights old new up bits (omega (arith, q, le))))))
+      | inr le ↦ absurd (apart (sym (same-steps flat ok over stim prev before (k ∷ before) (same-weights old new up bits (omega (arith, q, le))))))
     ]
 
-pub few-change : (flat : Flat) → IsArena flat.arena → IsFlat flat → FewChange flat
-few-change flat i ok stim prev steps count c = let h = counted flat i ok stim prev steps count c in omega (arith, h)
+pub few-change : (flat : Flat) → IsArena flat.arena → IsFlat flat → (over : List ℕ) → FewChange flat over
+few-change flat i ok over stim prev steps count c = let h = counted flat i ok over stim prev steps count c in omega (arith, h)

@@ -33,12 +33,12 @@ prev_of sim = store_of (prev_values sim)
 abbrev pub stim_of : Sim → Store
 stim_of sim = store_of (stim_values sim)
 
--- The simulation was made for this flat design.
-pub record Fits (flat : Flat) (sim : Sim) : Type 0 where
+-- The simulation was made for this flat design and these wires, which are overridden.
+pub record Fits (flat : Flat) (over : List ℕ) (sim : Sim) : Type 0 where
   pub present : IsValuation (widths_of flat.wires) sim.env.present
   pub previous : IsValuation (widths_of flat.wires) sim.env.previous
   pub stim : IsValuation (widths_of flat.wires) sim.env.stim
-  pub tables : AreTables flat sim.tables
+  pub tables : AreTables flat over sim.tables
   pub values : length sim.work.values.items ≡ length flat.arena
   pub told : length sim.work.told.items ≡ length (all_bits (widths_of flat.wires))
   pub room : HasRoom (length flat.arena) sim.work.walk

@@ -13,44 +13,44 @@ use Rattle.event_nets.specs.Nets.{nets_of, net_bits}
 use Rattle.event_sim.specs.Sims.{now_of, prev_of, stim_of}
 
 -- the bits of the net of a number
-abbrev pub net_of : Flat → ℕ → Net
-net_of flat k = net_bits flat (slice_index_or (nets_of flat) k (bit 0 0))
+abbrev pub net_of : Flat → List ℕ → ℕ → Net
+net_of flat over k = net_bits flat over (slice_index_or (nets_of flat over) k (bit 0 0))
 
 -- one step
-abbrev pub stepped : Flat → Store → Store → ℕ → Store → Store
-stepped flat stim prev k now = event (links_of flat.joins) (given_in flat stim prev) (net_of flat k) now
+abbrev pub stepped : Flat → List ℕ → Store → Store → ℕ → Store → Store
+stepped flat over stim prev k now = event (links_of flat.joins) (given_in flat over stim prev) (net_of flat over k) now
 
 -- the valuation after steps, the latest first
-abbrev pub after_steps : Flat → Store → Store → List ℕ → Store
-after_steps flat stim prev steps = after_events (links_of flat.joins) (given_in flat stim prev) (map (net_of flat) steps)
+abbrev pub after_steps : Flat → List ℕ → Store → Store → List ℕ → Store
+after_steps flat over stim prev steps = after_events (links_of flat.joins) (given_in flat over stim prev) (map (net_of flat over) steps)
 
 -- the simulation has the valuation after these steps, over the stimulus and the previous valuation that it holds
-abbrev pub IsAfter : Flat → Sim → List ℕ → Type 0
-IsAfter flat sim steps = (n at : ℕ) → now_of sim n at ≡ after_steps flat (stim_of sim) (prev_of sim) steps n at
+abbrev pub IsAfter : Flat → List ℕ → Sim → List ℕ → Type 0
+IsAfter flat over sim steps = (n at : ℕ) → now_of sim n at ≡ after_steps flat over (stim_of sim) (prev_of sim) steps n at
 
 -- it stays below every settling
-abbrev pub StepsStayBelow : Flat → Type 0
-StepsStayBelow flat = (stim prev : Store) (steps : List ℕ) (t : Store) → Settles flat stim prev t → Under (after_steps flat stim prev steps) t
+abbrev pub StepsStayBelow : Flat → List ℕ → Type 0
+StepsStayBelow flat over = (stim prev : Store) (steps : List ℕ) (t : Store) → Settles flat over stim prev t → Under (after_steps flat over stim prev steps) t
 
 -- a step raises bits or changes nothing
-abbrev pub StepsRaise : Flat → Type 0
-StepsRaise flat = (stim prev : Store) (steps : List ℕ) (k : ℕ)
-    → Under (after_steps flat stim prev steps) (stepped flat stim prev k (after_steps flat stim prev steps))
+abbrev pub StepsRaise : Flat → List ℕ → Type 0
+StepsRaise flat over = (stim prev : Store) (steps : List ℕ) (k : ℕ)
+    → Under (after_steps flat over stim prev steps) (stepped flat over stim prev k (after_steps flat over stim prev steps))
 
 -- where no step changes anything more, it is the least settling
-abbrev pub RestIsLeast : Flat → Type 0
-RestIsLeast flat = (stim prev : Store) (steps : List ℕ)
-    → ((k : ℕ) → k < length (nets_of flat) → (n at : ℕ) → stepped flat stim prev k (after_steps flat stim prev steps) n at ≡ after_steps flat stim prev steps n at)
-    → IsLeastSettling flat stim prev (after_steps flat stim prev steps)
+abbrev pub RestIsLeast : Flat → List ℕ → Type 0
+RestIsLeast flat over = (stim prev : Store) (steps : List ℕ)
+    → ((k : ℕ) → k < length (nets_of flat over) → (n at : ℕ) → stepped flat over stim prev k (after_steps flat over stim prev steps) n at ≡ after_steps flat over stim prev steps n at)
+    → IsLeastSettling flat over stim prev (after_steps flat over stim prev steps)
 
 -- so many of the steps changed the valuation
-pub data Changed (flat : Flat) (stim prev : Store) : List ℕ → ℕ → Type 0 where
-  none : Changed flat stim prev [] 0
-  stayed : {k : ℕ} {before : List ℕ} {count : ℕ} → Changed flat stim prev before count
-      → after_steps flat stim prev (k ∷ before) ≡ after_steps flat stim prev before → Changed flat stim prev (k ∷ before) count
-  rose : {k : ℕ} {before : List ℕ} {count : ℕ} → Changed flat stim prev before count
-      → (after_steps flat stim prev (k ∷ before) ≡ after_steps flat stim prev before → ⊥) → Changed flat stim prev (k ∷ before) (suc count)
+pub data Changed (flat : Flat) (over : List ℕ) (stim prev : Store) : List ℕ → ℕ → Type 0 where
+  none : Changed flat over stim prev [] 0
+  stayed : {k : ℕ} {before : List ℕ} {count : ℕ} → Changed flat over stim prev before count
+      → after_steps flat over stim prev (k ∷ before) ≡ after_steps flat over stim prev before → Changed flat over stim prev (k ∷ before) count
+  rose : {k : ℕ} {before : List ℕ} {count : ℕ} → Changed flat over stim prev before count
+      → (after_steps flat over stim prev (k ∷ before) ≡ after_steps flat over stim prev before → ⊥) → Changed flat over stim prev (k ∷ before) (suc count)
 
 -- at most as many steps change it as there are bits
-abbrev pub FewChange : Flat → Type 0
-FewChange flat = (stim prev : Store) (steps : List ℕ) (count : ℕ) → Changed flat stim prev steps count → count ≤ length (all_bits (widths_of flat.wires))
+abbrev pub FewChange : Flat → List ℕ → Type 0
+FewChange flat over = (stim prev : Store) (steps : List ℕ) (count : ℕ) → Changed flat over stim prev steps count → count ≤ length (all_bits (widths_of flat.wires))

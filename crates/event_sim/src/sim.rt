@@ -29,7 +29,8 @@ use fourvec::Four;
 use std::alloc::{AllocError, Global};
 use svex_arena::Env;
 
-/// The valuation of the wires of a flat design in one phase, and all the memory that it takes to settle it.
+/// The valuation of the wires of a flat design in one phase, and all the memory that it takes to settle it. Some wires may be
+/// overridden: what they are set to stands in the stimulus.
 pub struct Sim {
     tables: Tables,
     // the values of the wires: present, previous and stimulus
@@ -48,14 +49,16 @@ impl Drop for Sim {
 }
 
 impl Sim {
-    /// Takes all the memory that it takes to settle this flat design. The other calls take none.
-    pub fn new(alloc: Global, flat: &Flat) -> Result<Sim, AllocError>
+    /// Takes all the memory that it takes to settle this flat design where the wires of these numbers are overridden: the value
+    /// of such a wire stands in the stimulus, and its classes have that value alone, whatever drives them. A number may stand
+    /// there more than once, and one past the wires overrides nothing. The other calls take no memory.
+    pub fn new(alloc: Global, flat: &Flat, over: &[usize]) -> Result<Sim, AllocError>
         requires { IsFlat flat.now }
-        ensures { IfOk result (λ sim. Fits flat.now sim) }
+        ensures { IfOk result (λ sim. Fits flat.now over.now sim) }
     {
         let widths = wire_widths(alloc, flat.wires.as_slice())?;
         let mut told = Vec::new(alloc);
-        let tables = tables_of(alloc, flat, &widths, &mut told)?;
+        let tables = tables_of(alloc, flat, over, &widths, &mut told)?;
         let nodes = flat.arena.len();
         let values = vec![in alloc; Four::new(1, 1, 0); nodes]?;
         let walk = Walk::new(alloc, nodes)?;
@@ -67,23 +70,23 @@ impl Sim {
         })
     }
 
-    /// How many nets there are: the maximal runs of driven first bits, by wire and lowest bit.
+    /// How many nets there are: the maximal runs of first bits that are driven or overridden, by wire and lowest bit.
     pub fn nets(&self) -> usize
-        ensures { (flat : Flat) → Fits flat self.now → result ≡ length (nets_of flat) }
+        ensures { (flat : Flat) (over : List ℕ) → Fits flat over self.now → result ≡ length (nets_of flat over) }
     {
         self.tables.nets.len()
     }
 
-    /// Sets every bit to X, and holds a previous valuation and a stimulus.
+    /// Sets every bit to X, and holds a previous valuation and a stimulus, in which the values of overridden wires stand too.
     pub fn start(&mut self, flat: &Flat, prev: &Valuation, stim: &Valuation)
-        requires fits { Fits flat.now self.old }
+        requires fits { (over : List ℕ) × Fits flat.now over self.old }
         requires prev { IsValuation (widths_of flat.now.wires) prev.now.values }
         requires stim { IsValuation (widths_of flat.now.wires) stim.now.values }
-        ensures fits { Fits flat.now self.new }
+        ensures fits { (over : List ℕ) → Fits flat.now over self.old → Fits flat.now over self.new }
         ensures previous { prev_values self.new ≡ prev.now.values }
         ensures stim { stim_values self.new ≡ stim.now.values }
         ensures unknown { (n k : ℕ) → now_of self.new n k ≡ Unknown }
-        ensures after { IsAfter flat.now self.new [] }
+        ensures after { (over : List ℕ) → IsAfter flat.now over self.new [] }
     {
         let _ = flat;
         hold(&mut self.env, &prev.values, &stim.values);
@@ -93,12 +96,12 @@ impl Sim {
     // changed anything.
     fn pass(&mut self, flat: &Flat, net: Option<usize>) -> bool
         requires flat { IsFlat flat.now }
-        requires fits { Fits flat.now self.old }
-        ensures fits { Fits flat.now self.new }
+        requires fits { (over : List ℕ) × Fits flat.now over self.old }
+        ensures fits { (over : List ℕ) → Fits flat.now over self.old → Fits flat.now over self.new }
         ensures previous { prev_values self.new ≡ prev_values self.old }
         ensures stim { stim_values self.new ≡ stim_values self.old }
-        ensures now { (n k : ℕ) → now_of self.new n k
-            ≡ event (links_of flat.now.joins) (given_in flat.now (stim_of self.old) (prev_of self.old))
+        ensures now { (over : List ℕ) → Fits flat.now over self.old → (n k : ℕ) → now_of self.new n k
+            ≡ event (links_of flat.now.joins) (given_in flat.now over (stim_of self.old) (prev_of self.old))
             (picked (links_of flat.now.joins) (widths_of flat.now.wires) self.old.tables.lows.items net) (now_of self.old) n k }
         ensures same { result ≡ false → now_values self.new ≡ now_values self.old }
         ensures arena { IsArena flat.now.arena }
@@ -112,13 +115,13 @@ impl Sim {
     // The same of the net whose lowest bit has this place, over what it needs alone.
     fn pass_net(&mut self, flat: &Flat, low: usize)
         requires flat { IsFlat flat.now }
-        requires fits { Fits flat.now self.old }
+        requires fits { (over : List ℕ) × Fits flat.now over self.old }
         requires low { low < length (all_bits (widths_of flat.now.wires)) }
-        ensures fits { Fits flat.now self.new }
+        ensures fits { (over : List ℕ) → Fits flat.now over self.old → Fits flat.now over self.new }
         ensures previous { prev_values self.new ≡ prev_values self.old }
         ensures stim { stim_values self.new ≡ stim_values self.old }
-        ensures now { (n k : ℕ) → now_of self.new n k
-            ≡ event (links_of flat.now.joins) (given_in flat.now (stim_of self.old) (prev_of self.old))
+        ensures now { (over : List ℕ) → Fits flat.now over self.old → (n k : ℕ) → now_of self.new n k
+            ≡ event (links_of flat.now.joins) (given_in flat.now over (stim_of self.old) (prev_of self.old))
             (picked (links_of flat.now.joins) (widths_of flat.now.wires) self.old.tables.lows.items (Some low)) (now_of self.old) n k }
     {
         let gifts = self.tables.given_to(low);
@@ -130,15 +133,14 @@ impl Sim {
     /// One event: gives a net, and the bits that are joined to it, the resolution of what is given to them.
     pub fn step(&mut self, flat: &Flat, net: usize)
         requires flat { IsFlat flat.now }
-        requires fits { Fits flat.now self.old }
-        requires net { net < length (nets_of flat.now) }
-        ensures fits { Fits flat.now self.new }
+        requires net { (over : List ℕ) × Fits flat.now over self.old × (net < length (nets_of flat.now over)) }
+        ensures fits { (over : List ℕ) → Fits flat.now over self.old → Fits flat.now over self.new }
         ensures previous { prev_values self.new ≡ prev_values self.old }
         ensures stim { stim_values self.new ≡ stim_values self.old }
-        ensures now { (n k : ℕ) → now_of self.new n k
-            ≡ event (links_of flat.now.joins) (given_in flat.now (stim_of self.old) (prev_of self.old))
-            (net_bits flat.now (slice_index_or (nets_of flat.now) net (bit 0 0))) (now_of self.old) n k }
-        ensures after { (steps : List ℕ) → IsAfter flat.now self.old steps → IsAfter flat.now self.new (net ∷ steps) }
+        ensures now { (over : List ℕ) → Fits flat.now over self.old → (n k : ℕ) → now_of self.new n k
+            ≡ event (links_of flat.now.joins) (given_in flat.now over (stim_of self.old) (prev_of self.old))
+            (net_bits flat.now over (slice_index_or (nets_of flat.now over) net (bit 0 0))) (now_of self.old) n k }
+        ensures after { (over : List ℕ) (steps : List ℕ) → Fits flat.now over self.old → IsAfter flat.now over self.old steps → IsAfter flat.now over self.new (net ∷ steps) }
     {
         let low = low_of(&self.tables.nets, net);
         self.pass_net(flat, low);
@@ -147,13 +149,13 @@ impl Sim {
     /// Settles a phase: starts, and sweeps over all nets until a sweep changes nothing.
     pub fn settle(&mut self, flat: &Flat, prev: &Valuation, stim: &Valuation)
         requires flat { IsFlat flat.now }
-        requires fits { Fits flat.now self.old }
+        requires fits { (over : List ℕ) × Fits flat.now over self.old }
         requires prev { IsValuation (widths_of flat.now.wires) prev.now.values }
         requires stim { IsValuation (widths_of flat.now.wires) stim.now.values }
-        ensures fits { Fits flat.now self.new }
+        ensures fits { (over : List ℕ) → Fits flat.now over self.old → Fits flat.now over self.new }
         ensures previous { prev_values self.new ≡ prev.now.values }
         ensures stim { stim_values self.new ≡ stim.now.values }
-        ensures least { IsLeastSettling flat.now (store_of stim.now.values) (store_of prev.now.values) (now_of self.new) }
+        ensures least { (over : List ℕ) → Fits flat.now over self.old → IsLeastSettling flat.now over (store_of stim.now.values) (store_of prev.now.values) (now_of self.new) }
     {
         self.start(flat, prev, stim);
         'sweeps: while self.pass(flat, None) {}

@@ -6,8 +6,9 @@ use Rattle.lhs_alias.specs.Lies.{LieIn}
 use Rattle.lhs_alias.specs.Pairs.{FallTo, HaveOwnChildren}
 use Rattle.settling.specs.Settling.{Store, Contribution, Link, SettlesBy}
 use Rattle.settling.specs.Least.{Giving, IsLeast}
+use Rattle.settling.specs.Overriding.{overridden}
 use Rattle.sv_outside.specs.declared.text.Signal.{Signal}
-use Rattle.driver_resolve.specs.Drivers.{Phase, drivers_give, stimuli_from, widths_of, IsDriver}
+use Rattle.driver_resolve.specs.Drivers.{Phase, drivers_give, stimuli_from, overriding_from, widths_of, IsDriver}
 use Rattle.flat_net.specs.declared.flat.Flat.{Flat}
 use Rattle.flat_net.specs.declared.flat.Join.{Join}
 
@@ -46,19 +47,22 @@ pub record IsFlat (flat : Flat) : Type 0 where
 
 -- ---- settlings
 
--- what drivers and stimuli give in a phase: the drivers in order, and then the inputs of the top
-abbrev pub given : Flat → Phase → List Contribution
-given flat p = drivers_give flat.arena flat.drivers p ++ stimuli_from 0 flat.wires p.stim
+-- What is given in a phase: by the drivers in order, and then by the inputs of the top; and where wires are overridden, what these
+-- are set to, in place of all else that is given to their classes.
+abbrev pub given : Flat → List ℕ → Phase → List Contribution
+given flat over p =
+    overridden (links_of flat.joins) (overriding_from 0 flat.wires over p.stim)
+    (drivers_give flat.arena flat.drivers p ++ stimuli_from 0 flat.wires p.stim)
 
 -- the same, by the present valuation
-abbrev pub given_in : Flat → Store → Store → Giving
-given_in flat stim prev now = given flat (record { stim = stim; previous = prev; present = now })
+abbrev pub given_in : Flat → List ℕ → Store → Store → Giving
+given_in flat over stim prev now = given flat over (record { stim = stim; previous = prev; present = now })
 
--- A valuation settles over the previous one and a stimulus (10.3, 23.3.3): joined bits are equal, and each class that is given
--- values has their resolution.
-abbrev pub Settles : Flat → Store → Store → Store → Type 0
-Settles flat stim prev now = SettlesBy (links_of flat.joins) (given_in flat stim prev now) now
+-- A valuation settles over the previous one and what the wires are set to from outside, where these wires are overridden (10.3,
+-- 23.3.3): joined bits are equal, and each class that is given values has their resolution.
+abbrev pub Settles : Flat → List ℕ → Store → Store → Store → Type 0
+Settles flat over stim prev now = SettlesBy (links_of flat.joins) (given_in flat over stim prev now) now
 
--- a settling below every settling over the same previous valuation and stimulus
-abbrev pub IsLeastSettling : Flat → Store → Store → Store → Type 0
-IsLeastSettling flat stim prev now = IsLeast (links_of flat.joins) (given_in flat stim prev) now
+-- a settling below every settling over the same previous valuation, stimulus and overriding
+abbrev pub IsLeastSettling : Flat → List ℕ → Store → Store → Store → Type 0
+IsLeastSettling flat over stim prev now = IsLeast (links_of flat.joins) (given_in flat over stim prev) now

@@ -1,16 +1,18 @@
 // The laws of settlings.
+ghost use Rattle.std.specs.Prelude.{ℕ, List};
 ghost use Rattle.settling.specs.Settling.{Store};
 ghost use Rattle.settling.specs.Least.{Under};
 ghost use Rattle.flat_net.specs.Flats.{IsFlat, IsLeastSettling};
 
 use crate::Flat;
 
-/// Over each previous valuation and stimulus a flat design has a settling below every settling, and it rises with both.
+/// Over each previous valuation, and whatever its wires are set to from outside, a flat design has a settling below every settling,
+/// whichever of its wires are overridden, and it rises with both.
 pub fn least_settling(flat: &Flat)
     requires { IsFlat flat.now }
-    ensures exists { (stim prev : Store) → (now : Store) × IsLeastSettling flat.now stim prev now }
-    ensures rises { (stim prev more before now later : Store) → Under stim more → Under prev before
-        → IsLeastSettling flat.now stim prev now → IsLeastSettling flat.now more before later → Under now later }
+    ensures exists { (over : List ℕ) (stim prev : Store) → (now : Store) × IsLeastSettling flat.now over stim prev now }
+    ensures rises { (over : List ℕ) (stim prev more before now later : Store) → Under stim more → Under prev before
+        → IsLeastSettling flat.now over stim prev now → IsLeastSettling flat.now over more before later → Under now later }
 {
     let _ = flat.arena.len();
 }

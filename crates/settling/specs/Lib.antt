@@ -1,3 +1,4 @@
 pub mod Settling
 pub mod Least
 pub mod Events
+pub mod Overriding

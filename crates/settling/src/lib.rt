@@ -5,6 +5,7 @@
 ghost use Rattle.settling.specs.Settling.{FirstBitsTell};
 ghost use Rattle.settling.specs.Least.{LeastExists, LeastRises};
 ghost use Rattle.settling.specs.Events.{EventsStayBelow, EventsRaise, RestIsLeast};
+ghost use Rattle.settling.specs.Overriding.{OverridingTells, NoneOverridden, OverridingRises};
 
 /// Two bits are joined by a chain of links exactly where they have one first bit.
 pub fn first_bits_tell()
@@ -23,4 +24,12 @@ pub fn events_reach_the_least_settling()
     ensures below { EventsStayBelow }
     ensures raise { EventsRaise }
     ensures rest { RestIsLeast }
+{}
+
+/// A class with an overridden bit has what overrides it alone, and any other class what it would have; where nothing is overridden,
+/// all stays. It rises with what is given and with what overrides.
+pub fn overriding_cuts()
+    ensures tells { OverridingTells }
+    ensures none { NoneOverridden }
+    ensures rises { OverridingRises }
 {}

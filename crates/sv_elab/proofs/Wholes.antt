@@ -11,7 +11,9 @@ use Rattle.sv_outside.specs.declared.refusal.TextErr.{TextErr}
 use Rattle.sv_outside.specs.declared.refusal.TextErr.TheVariants.{No, Memory}
 use Rattle.lhs_alias.specs.Pairs.{HaveOwnChildren}
 use Rattle.settling.specs.Settling.{Store, Link, SettlesBy}
-use Rattle.driver_resolve.specs.Drivers.{Phase, drivers_give, widths_of, is_wire, stimuli_from}
+use Rattle.settling.specs.Overriding.{overridden}
+use Rattle.sv_meaning.proofs.Overriding.{outside_counts}
+use Rattle.driver_resolve.specs.Drivers.{Phase, drivers_give, widths_of, is_wire, stimuli_from, overriding_from}
 use Rattle.flat_net.specs.declared.flat.Flat.{Flat}
 use Rattle.flat_net.specs.Flats as f
 use Rattle.sv_tree.specs.declared.design.Source.{Source}
@@ -37,7 +39,7 @@ use Rattle.sv_stmt.specs.Blocks.{AreWires}
 use Rattle.sv_elab.specs.declared.whole.Making.{Making}
 use Rattle.sv_elab.specs.Elaborated.{IsElaborated, sound_design}
 use Rattle.sv_elab.specs.Working.{TaskFits, TaskIsFree, TaskStandsAbove, AreSound, IsMade}
-use Rattle.sv_elab.proofs.Wires.{stimuli_are}
+use Rattle.sv_elab.proofs.Wires.{stimuli_are, settings_are}
 use Rattle.sv_lower.proofs.Trees.{taken_more}
 use Rattle.sv_elab.proofs.Lists.{map_twice, split_map}
 use Rattle.sv_elab.proofs.Making.{all_given, one_cause}
@@ -106,7 +108,7 @@ elaborated design flat x signals w a dr jo m = record {
   stem = stems;
   links = linked;
   given = gifts;
-  settles = λ stim prev now. same_sides _ _ (ap (λ links. SettlesBy links (d.given_in design stim prev now) now) (sym linked) ∙ ap (λ all. SettlesBy (f.links_of flat.joins) all now) (sym (gifts stim prev now)));
+  settles = λ stim o prev now. same_sides _ _ (ap (λ links. SettlesBy links (d.given_in design stim o prev now) now) (sym linked) ∙ ap (λ all. SettlesBy (f.links_of flat.joins) all now) (sym (gifts stim o prev now)));
 }
   where
     stems : Rattle.sv_elab.specs.Elaborated.AllStem design.wires flat.arena design.works flat.drivers
@@ -115,10 +117,16 @@ elaborated design flat x signals w a dr jo m = record {
     linked : f.links_of flat.joins ≡ d.links_of design.works
     linked = ap f.links_of jo ∙ m.links
 
-    gifts : (stim prev now : Store) → f.given_in flat stim prev now ≡ d.given_in design stim prev now
-    gifts stim prev now =
-        ap (λ g. g ++ stimuli_from 0 flat.wires stim) (all_given design.wires flat.arena design.works flat.drivers stems (record { stim = stim; previous = prev; present = now }))
-        ∙ ap (λ g. contributions_of design.works prev now ++ g) (ap (λ wires. stimuli_from 0 wires stim) w ∙ sym (stimuli_are 0 design.wires stim))
+    gifts : (stim : Store) (o : d.Overriding) (prev now : Store) → f.given_in flat o.wires (d.outside stim o) prev now ≡ d.given_in design stim o prev now
+    gifts stim o prev now =
+        let own = drivers_give flat.arena flat.drivers (record { stim = d.outside stim o; previous = prev; present = now }) in
+        ap (λ links. overridden links (overriding_from 0 flat.wires o.wires (d.outside stim o)) (own ++ stimuli_from 0 flat.wires (d.outside stim o))) linked
+        ∙ ap (λ wires. overridden (d.links_of design.works) (overriding_from 0 wires o.wires (d.outside stim o)) (own ++ stimuli_from 0 wires (d.outside stim o))) w
+        ∙ ap (λ all. overridden (d.links_of design.works) all (own ++ stimuli_from 0 design.wires (d.outside stim o))) (settings_are 0 design.wires o stim)
+        ∙ ap (λ g. overridden (d.links_of design.works) (d.overriding_from 0 design.wires o) (g ++ stimuli_from 0 design.wires (d.outside stim o)))
+        (all_given design.wires flat.arena design.works flat.drivers stems (record { stim = d.outside stim o; previous = prev; present = now }))
+        ∙ ap (λ g. overridden (d.links_of design.works) (d.overriding_from 0 design.wires o) (contributions_of design.works prev now ++ g)) (sym (stimuli_are 0 design.wires (d.outside stim o)))
+        ∙ outside_counts (d.links_of design.works) o stim design.wires (contributions_of design.works prev now)
 
 -- ---- answers
 

@@ -7,6 +7,7 @@ use Rattle.settling.specs.Settling.{Store, Contribution, value_at}
 use Rattle.driver_resolve.specs.Drivers as f
 use Rattle.sv_meaning.specs.Designs as d
 use Rattle.sv_meaning.specs.Designs.{bits_of_wire, pairs}
+use Rattle.sv_meaning.proofs.Overriding.{same-setting}
 use Rattle.sv_lower.proofs.Trees.{taken_more}
 use Rattle.sv_elab.specs.Working.{wire_seg}
 
@@ -39,6 +40,19 @@ pub stimuli_are : (n : ℕ) (all : List Signal) (stim : Store) → d.stimuli_fro
 unfolding d.stimuli_from f.stimuli_from
 stimuli_are n [] stim = refl
 stimuli_are n (s ∷ all) stim = ap (λ xs. xs ++ d.stimuli_from (suc n) all stim) (stimulus_is n s.width s.input stim) ∙ ap (λ ys. cond s.input (map {B = Contribution} (λ c. (c, value_at stim c)) (f.wire_bits n s.width)) [] ++ ys) (stimuli_are (suc n) all stim)
+
+-- what overridden wires are set to, where this comes from outside beside the stimuli
+setting_is : (n w : ℕ) (b : Bool) (o : d.Overriding) (stim : Store) → d.has_wire o.wires n ≡ b
+    → cond b (map {B = Contribution} (λ c. (c, value_at (d.outside stim o) c)) (f.wire_bits n w)) [] ≡ cond b (map {B = Contribution} (λ c. (c, value_at o.values c)) (bits_of_wire n 0 w)) []
+setting_is n w true o stim e = ap (map {B = Contribution} (λ c. (c, value_at (d.outside stim o) c))) (sym (run_is n 0 w)) ∙ same-setting o n stim e 0 w
+setting_is n w false o stim e = refl
+
+pub settings_are : (n : ℕ) (all : List Signal) (o : d.Overriding) (stim : Store) → f.overriding_from n all o.wires (d.outside stim o) ≡ d.overriding_from n all o
+unfolding d.overriding_from f.overriding_from
+settings_are n [] o stim = refl
+settings_are n (s ∷ all) o stim =
+    ap (λ xs. xs ++ f.overriding_from (suc n) all o.wires (d.outside stim o)) (setting_is n s.width (d.has_wire o.wires n) o stim refl)
+    ∙ ap (λ ys. cond (d.has_wire o.wires n) (map {B = Contribution} (λ c. (c, value_at o.values c)) (bits_of_wire n 0 s.width)) [] ++ ys) (settings_are (suc n) all o stim)
 
 -- ---- copies
 

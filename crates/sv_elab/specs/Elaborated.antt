@@ -54,5 +54,5 @@ pub record IsElaborated (d : Design) (flat : Flat) : Type 0 where
   pub wires : flat.wires ≡ d.wires
   pub stem : AllStem d.wires flat.arena d.works flat.drivers
   pub links : f.links_of flat.joins ≡ designs.links_of d.works
-  pub given : (stim prev now : Store) → f.given_in flat stim prev now ≡ designs.given_in d stim prev now
-  pub settles : (stim prev now : Store) → designs.Settles d stim prev now ↔ f.Settles flat stim prev now
+  pub given : (stim : Store) (o : designs.Overriding) (prev now : Store) → f.given_in flat o.wires (designs.outside stim o) prev now ≡ designs.given_in d stim o prev now
+  pub settles : (stim : Store) (o : designs.Overriding) (prev now : Store) → designs.Settles d stim o prev now ↔ f.Settles flat o.wires (designs.outside stim o) prev now

@@ -5,6 +5,7 @@ pub mod Constants
 pub mod Stores
 pub mod Contributions
 pub mod Leasts
+pub mod Overriding
 pub mod Finding
 pub mod OnTrees
 pub mod Trees

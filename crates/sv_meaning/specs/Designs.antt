@@ -1,7 +1,9 @@
 -- A design, laid flat by its scopes: what contributes to which bits, and which valuations settle.
 use Rattle.std.specs.Prelude.{ℕ, zero, suc, ◌+◌, ◌<◌, ◌≡◌, Bool, true, false, ◌&&◌, not, ◌==◌, List, [], ◌∷◌, ◌++◌, map, filter, Contains, Option, Some, None, slice_get, if◌then◌else◌}
+use Rattle.std.specs.List.{list_any}
 use mathlib.Core.Former.{Count}
 use Rattle.fourvec.specs.declared.Bit.{Bit}
+use Rattle.fourvec.specs.declared.Bit.TheVariants.{Unknown}
 use Rattle.sv_tree.specs.declared.exprs.Expr.{Expr, Name', Concat', Row_of-Expr, end_of-Expr, more_of-Expr}
 use Rattle.sv_tree.specs.declared.stmts.Lvalue.{Lvalue}
 use Rattle.sv_tree.specs.declared.stmts.Block.{Block}
@@ -18,6 +20,7 @@ use Rattle.lhs_alias.specs.declared.segs.WireBit.{WireBit}
 use Rattle.lhs_alias.specs.Segs.{bit}
 use Rattle.lhs_alias.specs.Pairs.{Linked}
 use Rattle.settling.specs.Settling.{Store, value_at, Link, Contribution, first_bit, SettlesBy}
+use Rattle.settling.specs.Overriding.{overridden}
 use Rattle.sv_meaning.specs.Targets.{Target, target_of, target_faults, wide_target, assigned_faults, assigned_targets, widths, are_fixed, slots, bits_named}
 use Rattle.sv_meaning.specs.Deeds.{Deed, deed}
 use Rattle.sv_meaning.specs.Blocks.{has_bit, distinct, reads, Manner, comb, latch, clocked, no_manner, manner, block_value, block_faults}
@@ -172,15 +175,39 @@ stimuli_from n [] stim = []
 stimuli_from n (w ∷ more) stim =
     (if w.input then map (λ b. (b, value_at stim b)) (bits_of_wire n 0 w.width) else []) ++ stimuli_from (suc n) more stim
 
+-- ---- what is set from outside
+
+-- Some wires are set to vectors, whatever drives them.
+pub record Overriding : Type 0 where
+  pub wires : List ℕ
+  pub values : Store
+
+abbrev pub no_overriding : Overriding
+no_overriding = record { wires = []; values = λ n k. Unknown }
+
+abbrev pub has_wire : List ℕ → ℕ → Bool
+has_wire all n = list_any (λ k. k == n) all
+
+-- the vector of each of them
+unfoldable pub overriding_from : ℕ → List Signal → Overriding → List Contribution
+overriding_from n [] o = []
+overriding_from n (w ∷ more) o =
+    (if has_wire o.wires n then map (λ b. (b, value_at o.values b)) (bits_of_wire n 0 w.width) else []) ++ overriding_from (suc n) more o
+
+-- what comes from outside: an overridden wire has what it is set to, and any other its stimulus
+abbrev pub outside : Store → Overriding → Store
+outside stim o n k = if has_wire o.wires n then o.values n k else stim n k
+
 -- ---- settlings
 
--- what is given in each valuation: the contributions, and the stimuli
-abbrev pub given_in : Design → Store → Store → Store → List Contribution
-given_in d stim prev now = contributions d prev now ++ stimuli_from 0 d.wires stim
+-- What is given in each valuation: the contributions and the stimuli, and to a class with a bit of an overridden wire what it is set to
+-- alone.
+abbrev pub given_in : Design → Store → Overriding → Store → Store → List Contribution
+given_in d stim o prev now = overridden (links_of d.works) (overriding_from 0 d.wires o) (contributions d prev now ++ stimuli_from 0 d.wires stim)
 
--- A valuation settles over the previous one and a stimulus: a test of a given valuation.
-abbrev pub Settles : Design → Store → Store → Store → Type 0
-Settles d stim prev now = SettlesBy (links_of d.works) (given_in d stim prev now) now
+-- A valuation settles over the previous one, a stimulus and an overriding: a test of a given valuation.
+abbrev pub Settles : Design → Store → Overriding → Store → Store → Type 0
+Settles d stim o prev now = SettlesBy (links_of d.works) (given_in d stim o prev now) now
 
 -- ---- what feeds what
 

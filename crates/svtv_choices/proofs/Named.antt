@@ -1,6 +1,6 @@
 -- The cells that name the variables of a table.
-use Rattle.std.proofs.Common.{◌≡◌, ℕ, zero, suc, ◌+◌, ◌<◌, List, [], ◌∷◌, ◌++◌, length, get_or, Bool, true, false, cond, Option, Some, refl, sym, subst, arith}
-use Rattle.std.specs.Prelude.{All, Contains, IsSome, nat_lt, not}
+use Rattle.std.proofs.Common.{◌≡◌, ℕ, zero, suc, ◌+◌, ◌<◌, List, [], ◌∷◌, ◌++◌, length, get_or, Bool, true, false, cond, Option, Some, refl, sym, ap, subst, arith}
+use Rattle.std.specs.Prelude.{All, Contains, IsSome, IsTrue, nat_lt, not}
 use Rattle.std.specs.List.{flat_map}
 use Rattle.std.specs.Str.{bytes_eq}
 use Rattle.std.specs.Cmp.Lexicographic.{nat_list_eq_equiv}
@@ -15,9 +15,9 @@ use Rattle.table_cells.specs.declared.table.Cell.{Cell}
 use Rattle.table_cells.specs.declared.table.Cell.TheVariants as cell
 use Rattle.table_cells.specs.declared.table.Row.{Row}
 use Rattle.table_cells.specs.declared.table.RowKind.{RowKind}
-use Rattle.table_cells.specs.declared.table.RowKind.TheVariants.{In, Out}
+use Rattle.table_cells.specs.declared.table.RowKind.TheVariants.{In, Over, Out}
 use Rattle.table_cells.specs.declared.table.Table.{Table}
-use Rattle.svtv_choices.specs.Rooms.{AreNamed, IsNamed, cell_naming, exceeding, most_bits, naming, naming_by, row_naming}
+use Rattle.svtv_choices.specs.Rooms.{AreNamed, IsNamed, cell_naming, exceeding, has_variables, most_bits, naming, naming_by, row_naming}
 
 -- ---- a name that a cell has is found
 
@@ -42,10 +42,15 @@ some_fault true r h = refl
 some_fault false r h = cc
 
 pub is_found : (rows : List Row) (name : List ℕ) → IsNamed rows name → IsSome (first_of (naming rows (Some name)))
-is_found rows name n =
-    some_each (row_naming name) rows n.row n.there (λ at.
-    subst (λ kind. IsSome (first_of (naming_by name kind (at + 1) n.row.cells))) (sym n.kind)
-    (some_each (cell_naming name (at + 1)) n.row.cells (cell.Named name) n.named (λ phase. some_fault (bytes_eq name name) (fault 40 (at + 1) (phase + 3)) (nat_list_eq_equiv.refl name))))
+is_found rows name n = some_each (row_naming name) rows n.row n.there (λ at. by_kind n.row.kind n.kind (at + 1))
+  where
+    named : (line : ℕ) → IsSome (first_of (at_each (cell_naming name line) 0 n.row.cells))
+    named line = some_each (cell_naming name line) n.row.cells (cell.Named name) n.named (λ phase. some_fault (bytes_eq name name) (fault 40 line (phase + 3)) (nat_list_eq_equiv.refl name))
+
+    by_kind : (kind : RowKind) → IsTrue (has_variables kind) → (line : ℕ) → IsSome (first_of (naming_by name kind line n.row.cells))
+    by_kind In h line = named line
+    by_kind Over h line = named line
+    by_kind Out h line = cc
 
 -- ---- the variable that exceeds the most is one of them
 
@@ -83,10 +88,14 @@ module _ (wires : List Signal) (rows : List Row) where
   abbrev Named : VarDecl → Type 0
   Named var = IsNamed rows var.name
 
-  by_kind : (row : Row) → Contains rows row → (kind : RowKind) → row.kind ≡ kind → All Named (declared_by wires kind row)
-  by_kind row there In e =
+  named_by : (row : Row) → Contains rows row → IsTrue (has_variables row.kind) → All Named (declared_by wires In row)
+  named_by row there kind =
       All-map Named (λ name. record { name = name; width = width_of wires row.path }) (names_in row.cells)
-      (All-weaker (λ name. Contains row.cells (cell.Named name)) (IsNamed rows) (λ name named. record { row = row; there = there; kind = e; named = named }) (names_in row.cells) (in_cells row.cells))
+      (All-weaker (λ name. Contains row.cells (cell.Named name)) (IsNamed rows) (λ name named. record { row = row; there = there; kind = kind; named = named }) (names_in row.cells) (in_cells row.cells))
+
+  by_kind : (row : Row) → Contains rows row → (kind : RowKind) → row.kind ≡ kind → All Named (declared_by wires kind row)
+  by_kind row there In e = named_by row there (ap has_variables e)
+  by_kind row there Over e = named_by row there (ap has_variables e)
   by_kind row there Out e = All-nil Named
 
   in_rows : All Named (flat_map (declared_in wires) rows)
@@ -94,7 +103,7 @@ module _ (wires : List Signal) (rows : List Row) where
       all_flat Named (declared_in wires) rows
       (All-weaker (Contains rows) (λ row. All Named (declared_in wires row)) (λ row there. by_kind row there row.kind refl) rows (All-contains_itself rows))
 
--- a cell of an `in` row has the name of each variable of a bound table
+-- a cell of an `in` or `over` row has the name of each variable of a bound table
 pub bound_named : (wires : List Signal) (table : Table) → AreNamed table.rows (bound_of wires table).vars
 unfolding bound_of variables_of
 bound_named wires table = all_first (Named wires table.rows) (flat_map (declared_in wires) table.rows) (in_rows wires table.rows)

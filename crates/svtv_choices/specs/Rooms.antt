@@ -1,5 +1,5 @@
 -- Tables of so many variable bits that their choices are not tried (this project's limit for now).
-use Rattle.std.specs.Prelude.{◌≡◌, ℕ, ◌+◌, nat_lt, List, [], ◌∷◌, Option, Some, None, All, Contains, if◌then◌else◌}
+use Rattle.std.specs.Prelude.{ℕ, ◌+◌, nat_lt, Bool, true, false, IsTrue, List, [], ◌∷◌, Option, Some, None, All, Contains, if◌then◌else◌}
 use Rattle.std.specs.Str.{bytes_eq}
 use Rattle.sv_outside.specs.declared.refusal.Refusal.{Refusal}
 use Rattle.svtv_table.specs.Faults.{fault, fault_if, at_each}
@@ -8,7 +8,7 @@ use Rattle.table_cells.specs.declared.table.Cell.{Cell}
 use Rattle.table_cells.specs.declared.table.Cell.TheVariants as cell
 use Rattle.table_cells.specs.declared.table.Row.{Row}
 use Rattle.table_cells.specs.declared.table.RowKind.{RowKind}
-use Rattle.table_cells.specs.declared.table.RowKind.TheVariants.{In, Out}
+use Rattle.table_cells.specs.declared.table.RowKind.TheVariants.{In, Over, Out}
 
 -- the most bits of all variables of a table
 abbrev pub most_bits : ℕ
@@ -24,9 +24,10 @@ abbrev pub cell_naming : List ℕ → ℕ → ℕ → Cell → List Refusal
 cell_naming name line phase (cell.Named own) = fault_if (bytes_eq own name) (fault 40 line (phase + 3))
 cell_naming name line phase _ = []
 
--- at each such cell of an `in` row
+-- at each such cell of an `in` or `over` row
 abbrev pub naming_by : List ℕ → RowKind → ℕ → List Cell → List Refusal
 naming_by name In line cells = at_each (cell_naming name line) 0 cells
+naming_by name Over line cells = at_each (cell_naming name line) 0 cells
 naming_by name Out line cells = []
 
 abbrev pub row_naming : List ℕ → ℕ → Row → List Refusal
@@ -44,11 +45,17 @@ exceeding_faults rows (Some name) = naming rows (Some name)
 unfoldable pub room_faults : List Row → List VarDecl → List Refusal
 room_faults rows vars = exceeding_faults rows (exceeding 0 vars)
 
--- a cell of an `in` row has the name
+-- a row of that kind names variables, and no samples
+abbrev pub has_variables : RowKind → Bool
+has_variables In = true
+has_variables Over = true
+has_variables Out = false
+
+-- a cell of an `in` or `over` row has the name
 pub record IsNamed (rows : List Row) (name : List ℕ) : Type 0 where
   pub row : Row
   pub there : Contains rows row
-  pub kind : row.kind ≡ In
+  pub kind : IsTrue (has_variables row.kind)
   pub named : Contains row.cells (cell.Named name)
 
 -- so it is with the name of each variable

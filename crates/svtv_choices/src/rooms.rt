@@ -56,7 +56,7 @@ fn row_with(row: &Row, name: &Name, at: usize) -> Option<Refusal>
     ensures { first_of (row_naming name.now at row.now) ≡ result }
 {
     match row.kind {
-        RowKind::In => cell_with(row.cells.as_slice(), name, at + 1),
+        RowKind::In | RowKind::Over => cell_with(row.cells.as_slice(), name, at + 1),
         RowKind::Out => None,
     }
 }
@@ -73,7 +73,7 @@ fn first_with(rows: &[Row], name: &Name) -> Option<Refusal>
     None
 }
 
-// E40 at the first cell of an `in` row with a name, which some cell has.
+// E40 at the first cell of an `in` or `over` row with a name, which some cell has.
 fn refusal_at(rows: &[Row], name: &Name) -> Refusal
     requires { IsNamed rows.now name.now }
     ensures { first_of (naming rows.now (Some name.now)) ≡ Some result }

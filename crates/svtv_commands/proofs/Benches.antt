@@ -1,51 +1,49 @@
 -- A table that is bound to the wires of a design asks of it what its cells say.
-use Rattle.std.proofs.Common.{◌≡◌, ℕ, zero, suc, ◌+◌, ◌<◌, List, [], ◌∷◌, ◌++◌, length, get_or, map, refl, sym, ◌∙◌, ap, subst, arith, Option, Some, None}
+use Rattle.std.proofs.Common.{◌≡◌, ℕ, zero, suc, ◌+◌, List, [], ◌∷◌, ◌++◌, refl, arith, Option, Some, None}
 use Rattle.std.specs.List.{All, AllByRecursion}
-use Rattle.std.proofs.lemmas.List.{get_or-map, length-map}
 use Rattle.std.proofs.lemmas.List.Elements.{All-from_recursion}
 use Rattle.fourvec.specs.declared.Bit.{Bit}
 use Rattle.flat_net.specs.declared.flat.Flat.{Flat}
 use Rattle.sv_elab.specs.Elaborated.{IsElaborated}
 use Rattle.sv_meaning.specs.Designs.{Design}
 use Rattle.sv_outside.specs.declared.text.Signal.{Signal}
-use Rattle.svtv_table.proofs.Apart.{drives_apart}
+use Rattle.svtv_table.proofs.Apart.{drives_apart, overs_apart}
+use Rattle.svtv_least.proofs.Fitting.{still_apart}
 use Rattle.svtv_decide.specs.Trials.{Poses, bench}
-use Rattle.svtv_runs.specs.Runs.{AreApart}
+use Rattle.svtv_runs.specs.Runs.{AreApart, asks_of}
 use Rattle.svtv_table.specs.Binding.{HasWidth, bind_faults, bound_of, cell_sample, sampled_by, sampled_in, samples_of}
 use Rattle.svtv_table.specs.Faults.{at_each}
 use Rattle.svtv_table.specs.Names.{signal_at, wire_of, width_of, wire_number}
-use Rattle.svtv_table.specs.Stimuli.{drive_value, values_of}
-use Rattle.svtv_table.specs.declared.bound.Drive.{Drive}
+use Rattle.svtv_table.specs.Stimuli.{IsChoice, drive_value, setting_value}
 use Rattle.svtv_table.specs.declared.bound.Sample.{Sample}
 use Rattle.table_cells.specs.declared.table.Cell.{Cell}
 use Rattle.table_cells.specs.declared.table.Cell.TheVariants as cell
 use Rattle.table_cells.specs.declared.table.Row.{Row}
 use Rattle.table_cells.specs.declared.table.RowKind.{RowKind}
-use Rattle.table_cells.specs.declared.table.RowKind.TheVariants.{In, Out}
+use Rattle.table_cells.specs.declared.table.RowKind.TheVariants.{In, Over, Out}
 use Rattle.table_cells.specs.declared.table.Table.{Table}
-use Rattle.svtv_table.proofs.Meaning.{means}
+use Rattle.svtv_table.proofs.Meaning.{means, sets}
 use Rattle.svtv_files.specs.Files.{bench_of}
 
--- ---- no wire has two rows
+-- ---- what the bound table asks
 
-pub apart : (wires : List Signal) (table : Table) → bind_faults wires table ≡ [] → (choice : List (List Bit)) → AreApart (values_of choice (bound_of wires table).drives)
-apart wires table h choice i j l k e =
-    let drives = (bound_of wires table).drives in
-    let give : ℕ × List Drive → ℕ × List (Option (List Bit)) = λ row. (row.0, map (drive_value choice) row.1) in
-    let none : ℕ × List Drive = (0, []) in
-    let nothing : ℕ × List (Option (List Bit)) = (0, []) in
-    let long : length (values_of choice drives) ≡ length drives = length-map drives give in
-    let at : (n : ℕ) → n < length drives → (get_or (values_of choice drives) n nothing).0 ≡ (get_or drives n none).0 = λ n m. ap (λ (x : ℕ × List (Option (List Bit))). x.0) (get_or-map give drives n none nothing m) in
-    let li : i < length drives = omega (arith, l, long) in
-    let lj : j < length drives = omega (arith, k, long) in
-    drives_apart wires table h i j none li lj (sym (at i li) ∙ (e ∙ at j lj))
+-- no wire has two rows of one kind
+pub apart : (wires : List Signal) (table : Table) → bind_faults wires table ≡ [] → (choice : List (List Bit)) → AreApart (asks_of choice (bound_of wires table))
+apart wires table h choice = record {
+  stimuli = still_apart (drive_value choice) (bound_of wires table).drives (λ i j l k e. drives_apart wires table h i j (0, []) l k e);
+  settings = still_apart (setting_value choice) (bound_of wires table).overs (λ i j l k e. overs_apart wires table h i j (0, []) l k e);
+}
+
+pub asks_are : (design : Design) (table : Table) → bind_faults design.wires table ≡ [] → (choice : List (List Bit)) → IsChoice (bound_of design.wires table).vars choice → asks_of choice (bound_of design.wires table) ≡ (bench_of design table).asked choice
+unfolding bound_of
+asks_are design table h choice is = λ i. record { stimuli = means design.wires table h choice is i; settings = sets design.wires table h choice is i }
 
 -- the flat design and the bound table pose what the design and the table do
 pub poses : (design : Design) (flat : Flat) (table : Table) → IsElaborated design flat → bind_faults design.wires table ≡ [] → Poses design (bench_of design table).asked flat (bound_of design.wires table)
 unfolding bound_of
 poses design flat table e h = record {
   elaborated = e;
-  asked = λ choice is. means design.wires table h choice is;
+  asked = λ choice is. asks_are design table h choice is;
   apart = λ choice. apart design.wires table h choice;
 }
 
@@ -83,6 +81,7 @@ module _ (wires : List Signal) (wide : All (λ w. HasWidth w.width) wires) where
 
   row_wide : (kind : RowKind) (row : Row) → AllByRecursion IsWide (sampled_by wires kind row)
   row_wide In row = tt
+  row_wide Over row = tt
   row_wide Out row = cells_wide (wire_number wires row.path) (width_of wires row.path) 0 row.cells (wire_wide wires (wire_of wires row.path) wide)
 
   rows_wide : (rows : List Row) → AllByRecursion IsWide (samples_of wires rows)

@@ -22,12 +22,12 @@ use Rattle.svtv_decide.specs.Trials.{Poses, bench}
 use Rattle.svtv_report.specs.Shown.{sample_texts, var_texts}
 use Rattle.svtv_report.specs.Texts.{value_lines, report}
 use Rattle.svtv_least.specs.Running.{AreAsWide}
-use Rattle.svtv_runs.specs.Runs.{Asked, Run, IsLeastRun}
+use Rattle.svtv_runs.specs.Runs.{Asked, Run, IsLeastRun, asks_of}
 use Rattle.svtv_runs.proofs.Runs.{least_run_stands}
 use Rattle.svtv_table.specs.Binding.{HasWidth, IsBound, bound_of}
 use Rattle.svtv_table.specs.Faults as faults
 use Rattle.svtv_table.specs.Names.{name_of}
-use Rattle.svtv_table.specs.Stimuli.{IsChoice, values_of}
+use Rattle.svtv_table.specs.Stimuli.{IsChoice}
 use Rattle.svtv_table.specs.declared.bound.Bound.{Bound}
 use Rattle.svtv_table.specs.declared.bound.Sample.{Sample}
 use Rattle.svtv_table.specs.declared.bound.VarDecl.{VarDecl}
@@ -181,7 +181,7 @@ module _ (told : Told) (d t : Text) (top : Option Text) (x : Setup) (s : Stands 
 
   -- what the text has the samples of
   abbrev Samples : Bound → List (List Bit) → Text → Type 0
-  Samples b choice text = (design : Design) → IsElaborated design x.flat → (r : Run) → IsLeastRun design (values_of choice b.drives) b.phases r
+  Samples b choice text = (design : Design) → IsElaborated design x.flat → (r : Run) → IsLeastRun design (asks_of choice b) b.phases r
       → text ≡ value_lines [] (sample_texts b.samples) (sampled_in b.samples r)
 
   pub is_simulation : (new : Told) (v : Text) (vars : List VarDecl) (choice own : List (List Bit)) (text : Text) → new ≡ told → vars ≡ x.bound.vars → own ≡ choice → IsValuesFile new v vars choice
@@ -194,7 +194,7 @@ module _ (told : Told) (d t : Text) (top : Option Text) (x : Setup) (s : Stands 
       let p = poses s.design x.flat x.table s.elaborated s.setup.is_table.clear in
       let b = bound_of s.design.wires x.table in
       let samples : Samples b choice text = subst (λ c. Samples b c text) o (subst (λ (y : Bound). Samples y own text) s.bound h) in
-      let least = least_run_stands s.design (values_of choice b.drives) b.phases (p.apart choice) in
+      let least = least_run_stands s.design (asks_of choice b) b.phases (p.apart choice) in
       record {
         design = s.design;
         table = x.table;
@@ -202,6 +202,6 @@ module _ (told : Told) (d t : Text) (top : Option Text) (x : Setup) (s : Stands 
         choice = choice;
         is_choice = file;
         run = least.0;
-        least = subst (λ rows. IsLeastRun s.design rows b.phases least.0) (p.asked choice chosen) least.1;
+        least = subst (λ asks. IsLeastRun s.design asks b.phases least.0) (p.asked choice chosen) least.1;
         printed = samples s.design s.elaborated least.0 least.1;
       }

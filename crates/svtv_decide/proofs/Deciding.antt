@@ -17,12 +17,12 @@ use Rattle.svtv_choices.proofs.Numbers.{all_numbered}
 use Rattle.svtv_report.specs.Seen.{verdict_is}
 use Rattle.svtv_report.specs.declared.verdicts.Verdict.{Verdict}
 use Rattle.svtv_report.specs.declared.verdicts.Verdict.TheVariants.{Proved, Vacuous, Failed}
-use Rattle.svtv_runs.specs.Runs.{Asked, Run, IsRun, IsLeastRun}
+use Rattle.svtv_runs.specs.Runs.{Asked, Run, IsRun, IsLeastRun, asks_of}
 use Rattle.svtv_runs.specs.Truths.{IsMet, IsTrueIn, Meets, Holds}
 use Rattle.svtv_runs.proofs.Runs.{least_run_stands}
 use Rattle.svtv_runs.proofs.Truths.{truths_last}
 use Rattle.svtv_table.specs.Binding.{HasWidth}
-use Rattle.svtv_table.specs.Stimuli.{IsChoice, values_of}
+use Rattle.svtv_table.specs.Stimuli.{IsChoice}
 use Rattle.svtv_table.specs.declared.bound.Bound.{Bound}
 use Rattle.svtv_decide.specs.Trials.{Poses, bench, rows_of, is_true, meets, keeps, AreLeast, IsKept, IsBroken, IsDecided}
 use Rattle.svtv_decide.specs.declared.goals.Decided.{Decided}
@@ -51,7 +51,7 @@ module _ (flat : Flat) (bound : Bound) (shapes : List Shape) (tree : GoalTree) (
 
   module _ (d : Design) (asked : List (List Bit) → Asked) (poses : Poses d asked flat bound) where
     abbrev RunUnder : List (List Bit) → Run → Type 0
-    RunUnder choice r = IsLeastRun d (values_of choice bound.drives) bound.phases r
+    RunUnder choice r = IsLeastRun d (asks_of choice bound) bound.phases r
 
     kept : (choice values : List (List Bit)) (r : Run) → IsChoice bound.vars choice → AreLeast flat bound choice values → RunUnder choice r → keeps shapes goal choice values ≡ true
         → Holds bound.vars bound.samples tree choice r
@@ -68,24 +68,24 @@ module _ (flat : Flat) (bound : Bound) (shapes : List Shape) (tree : GoalTree) (
         tree.claims goal.claims is_goal.claims h
 
     -- true in the least run, true in every run
-    every_run : (choice : List (List Bit)) (r s : Run) → RunUnder choice r → IsRun d (values_of choice bound.drives) bound.phases s → Holds bound.vars bound.samples tree choice r
+    every_run : (choice : List (List Bit)) (r s : Run) → RunUnder choice r → IsRun d (asks_of choice bound) bound.phases s → Holds bound.vars bound.samples tree choice r
         → Holds bound.vars bound.samples tree choice s
     every_run choice r s least run h i x l = truths_last bound.vars bound.samples choice r s _ (least.least s run) (h i x l)
 
     is_kept : (choice : List (List Bit)) (s : Run) → IsChoice bound.vars choice → IsRun d (asked choice) bound.phases s → IsKept flat bound shapes goal choice → Holds bound.vars bound.samples tree choice s
     is_kept choice s c run k =
-        let least = least_run_stands d (values_of choice bound.drives) bound.phases (poses.apart choice) in
-        let own : IsRun d (values_of choice bound.drives) bound.phases s = subst (λ rows. IsRun d rows bound.phases s) (sym (poses.asked choice c)) run in
+        let least = least_run_stands d (asks_of choice bound) bound.phases (poses.apart choice) in
+        let own : IsRun d (asks_of choice bound) bound.phases s = subst (λ asks. IsRun d asks bound.phases s) (sym (poses.asked choice c)) run in
         every_run choice least.0 s least.1 own (kept choice k.values least.0 c k.least least.1 k.keeps)
 
     is_failed : (choice shown : List (List Bit)) → IsChoice bound.vars choice → IsBroken flat bound shapes goal choice shown → IsFailed (bench d asked bound) tree choice shown
     is_failed choice shown c b =
-        let least = least_run_stands d (values_of choice bound.drives) bound.phases (poses.apart choice) in
+        let least = least_run_stands d (asks_of choice bound) bound.phases (poses.apart choice) in
         record {
           is = record {
             meets = record { is = c; meets = met choice c b.meets };
             run = least.0;
-            least = subst (λ rows. IsLeastRun d rows bound.phases least.0) (poses.asked choice c) least.1;
+            least = subst (λ asks. IsLeastRun d asks bound.phases least.0) (poses.asked choice c) least.1;
             breaks = λ h. let e = kept_back choice shown least.0 c b.least least.1 h in let f = b.keeps in cc;
           };
           samples = shown_is bound.samples least.0 shown b.least.widths (b.least.least d poses.elaborated least.0 least.1);

@@ -12,11 +12,11 @@ use Rattle.svex_shape.specs.declared.shape.Shape.{Shape}
 use Rattle.svex_shape.specs.Values.{Rows, read, value_at}
 use Rattle.svtv_choices.specs.Choices.{choice_of}
 use Rattle.svtv_least.specs.Running.{sample_widths}
-use Rattle.svtv_runs.specs.Runs.{Asked, AreApart, Run, IsLeastRun}
+use Rattle.svtv_runs.specs.Runs.{Asked, AreApart, Run, IsLeastRun, asks_of}
 use Rattle.svtv_runs.specs.Truths.{sampled}
 use Rattle.svtv_report.specs.declared.verdicts.Verdict.{Verdict}
 use Rattle.svtv_report.specs.declared.verdicts.Verdict.TheVariants.{Proved, Vacuous, Failed}
-use Rattle.svtv_table.specs.Stimuli.{IsChoice, values_of}
+use Rattle.svtv_table.specs.Stimuli.{IsChoice}
 use Rattle.svtv_table.specs.declared.bound.Bound.{Bound}
 use Rattle.svtv_verdicts.specs.Benches.{Bench}
 use Rattle.svtv_decide.specs.declared.tries.Trial.{Trial}
@@ -28,11 +28,11 @@ use Rattle.svtv_decide.specs.declared.tries.Trial.TheVariants.{Unmet, Kept, Brok
 abbrev pub bench : Design → (List (List Bit) → Asked) → Bound → Bench
 bench design asked bound = record { design = design; asked = asked; phases = bound.phases; vars = bound.vars; samples = bound.samples }
 
--- The flat design stems from the design, and under each choice the drives of the table give what is asked, of each wire once.
+-- The flat design stems from the design, and under each choice the bound table asks what is asked, of each wire once by rows of one kind.
 pub record Poses (design : Design) (ask : List (List Bit) → Asked) (flat : Flat) (bound : Bound) : Type 0 where
   pub elaborated : IsElaborated design flat
-  pub asked : (choice : List (List Bit)) → IsChoice bound.vars choice → values_of choice bound.drives ≡ ask choice
-  pub apart : (choice : List (List Bit)) → AreApart (values_of choice bound.drives)
+  pub asked : (choice : List (List Bit)) → IsChoice bound.vars choice → asks_of choice bound ≡ ask choice
+  pub apart : (choice : List (List Bit)) → AreApart (asks_of choice bound)
 
 -- ---- nodes of one bit
 
@@ -51,7 +51,7 @@ all_true shapes rows nodes = list_all (is_true shapes rows) nodes
 -- the samples of the least run under a choice
 pub record AreLeast (flat : Flat) (bound : Bound) (choice values : List (List Bit)) : Type 0 where
   pub widths : map (λ v. length v) values ≡ sample_widths bound.samples
-  pub least : (d : Design) → IsElaborated d flat → (r : Run) → IsLeastRun d (values_of choice bound.drives) bound.phases r
+  pub least : (d : Design) → IsElaborated d flat → (r : Run) → IsLeastRun d (asks_of choice bound) bound.phases r
       → (n k : ℕ) → store_of values n k ≡ sampled r (slice_get bound.samples n) k
 
 -- what came of one choice

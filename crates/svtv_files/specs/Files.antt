@@ -15,7 +15,7 @@ use Rattle.sv_tree.specs.declared.design.Source.{Source}
 use Rattle.svtv_table.specs.Binding.{bind_faults, samples_of, variables_of}
 use Rattle.svtv_table.specs.Fields.{IsRecords}
 use Rattle.svtv_table.specs.Reading.{table_faults, table_of}
-use Rattle.svtv_table.specs.Stimuli.{stimuli_of}
+use Rattle.svtv_table.specs.Stimuli.{settings_of, stimuli_of}
 use Rattle.svtv_table.specs.Valuing.{values_faults, values_of}
 use Rattle.svtv_table.specs.declared.bound.Sample.{Sample}
 use Rattle.svtv_table.specs.declared.bound.VarDecl.{VarDecl}
@@ -67,7 +67,10 @@ samples_in design table = samples_of design.wires table.rows
 abbrev pub bench_of : Design → Table → Bench
 bench_of design table = record {
   design = design;
-  asked = λ choice. stimuli_of choice design.wires (vars_of design table) table.rows;
+  asked = λ choice. record {
+    stimuli = stimuli_of choice design.wires (vars_of design table) table.rows;
+    settings = settings_of choice design.wires (vars_of design table) table.rows;
+  };
   phases = table.phases;
   vars = vars_of design table;
   samples = samples_in design table;

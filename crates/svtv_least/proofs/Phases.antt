@@ -20,55 +20,56 @@ use Rattle.sv_elab.specs.Elaborated.{IsElaborated}
 use Rattle.svtv_table.specs.declared.bound.Sample.{Sample}
 use Rattle.svtv_runs.specs.Runs.{Asked, AreApart, Run, IsLeastRun}
 use Rattle.svtv_runs.specs.Truths.{sampled}
-use Rattle.svtv_runs.specs.Leasts.{least_stimulus}
+use Rattle.svtv_runs.specs.Leasts.{least_overriding, least_stimulus}
 use Rattle.svtv_runs.proofs.Runs.{least_at, least_next, least_run_at}
 use Rattle.svtv_least.specs.Running.{taken_of}
+use Rattle.svtv_least.proofs.Setting.{least_outside}
 
--- a least settling of the flat design is one of the design
-pub of_design : (design : Design) (flat : Flat) (stim prev now : Store) → IsElaborated design flat → f.IsLeastSettling flat stim prev now → laws.IsLeastSettling design stim prev now
-of_design design flat stim prev now e h =
-    subst (λ (g : Giving). IsLeast (d.links_of design.works) g now) (λ i s. e.given stim prev s i)
-    (subst (λ (links : List Link). IsLeast links (f.given_in flat stim prev) now) e.links h)
+-- a least settling of the flat design, where the wires are set from outside, is one of the design
+pub of_design : (design : Design) (flat : Flat) (stim : Store) (o : d.Overriding) (prev now : Store) → IsElaborated design flat → f.IsLeastSettling flat o.wires (d.outside stim o) prev now → laws.IsLeastSettling design stim o prev now
+of_design design flat stim o prev now e h =
+    subst (λ (g : Giving). IsLeast (d.links_of design.works) g now) (λ i s. e.given stim o prev s i)
+    (subst (λ (links : List Link). IsLeast links (f.given_in flat o.wires (d.outside stim o) prev) now) e.links h)
 
-pub next_is : (design : Design) (flat : Flat) (rows : Asked) (phase : ℕ) (prev now : Store) → IsElaborated design flat → prev ≡ least_at design rows phase → f.IsLeastSettling flat (least_stimulus rows phase) prev now → now ≡ least_at design rows (suc phase)
-next_is design flat rows phase prev now e p h = least_next design rows phase prev now p (of_design design flat (least_stimulus rows phase) prev now e h)
+pub next_is : (design : Design) (flat : Flat) (asked : Asked) (phase : ℕ) (prev now : Store) → IsElaborated design flat → prev ≡ least_at design asked phase → f.IsLeastSettling flat (least_overriding asked phase).wires (least_outside asked phase) prev now → now ≡ least_at design asked (suc phase)
+next_is design flat asked phase prev now e p h = least_next design asked phase prev now p (of_design design flat (least_stimulus asked phase) (least_overriding asked phase) prev now e h)
 
-pub first_is : (design : Design) (rows : Asked) (values : List Vector) → ((n k : ℕ) → store_of values n k ≡ Unknown) → store_of values ≡ least_at design rows 0
+pub first_is : (design : Design) (asked : Asked) (values : List Vector) → ((n k : ℕ) → store_of values n k ≡ Unknown) → store_of values ≡ least_at design asked 0
 unfolding least_at
-first_is design rows values h = λ i n k. h n k i
+first_is design asked values h = λ i n k. h n k i
 
 -- ---- the samples of the phases before
 
 abbrev pub early : Design → Asked → ℕ → Option Sample → ℕ → Bit
-early design rows phase None k = Unknown
-early design rows phase (Some s) k = cond (nat_lt s.phase phase) (least_at design rows (suc s.phase) s.wire k) Unknown
+early design asked phase None k = Unknown
+early design asked phase (Some s) k = cond (nat_lt s.phase phase) (least_at design asked (suc s.phase) s.wire k) Unknown
 
-pub none_early : (design : Design) (rows : Asked) (o : Option Sample) (k : ℕ) → early design rows 0 o k ≡ Unknown
-none_early design rows None k = refl
-none_early design rows (Some s) k = let t : nat_lt s.phase 0 ≡ false = grind (arith, nat_tests) in ap (λ b. cond b (least_at design rows (suc s.phase) s.wire k) Unknown) t
+pub none_early : (design : Design) (asked : Asked) (o : Option Sample) (k : ℕ) → early design asked 0 o k ≡ Unknown
+none_early design asked None k = refl
+none_early design asked (Some s) k = let t : nat_lt s.phase 0 ≡ false = grind (arith, nat_tests) in ap (λ b. cond b (least_at design asked (suc s.phase) s.wire k) Unknown) t
 
-pub early_more : (design : Design) (rows : Asked) (phase : ℕ) (o : Option Sample) (now old : Store) (n k : ℕ) → now ≡ least_at design rows (suc phase) → old n k ≡ early design rows phase o k → taken_of o phase now old n k ≡ early design rows (phase + 1) o k
-early_more design rows phase None now old n k e h = h
-early_more design rows phase (Some s) now old n k e h =
-    elim (cases_Bool (eqb s.phase phase)) as (λ _. taken_of (Some s) phase now old n k ≡ early design rows (phase + 1) (Some s) k) [
+pub early_more : (design : Design) (asked : Asked) (phase : ℕ) (o : Option Sample) (now old : Store) (n k : ℕ) → now ≡ least_at design asked (suc phase) → old n k ≡ early design asked phase o k → taken_of o phase now old n k ≡ early design asked (phase + 1) o k
+early_more design asked phase None now old n k e h = h
+early_more design asked phase (Some s) now old n k e h =
+    elim (cases_Bool (eqb s.phase phase)) as (λ _. taken_of (Some s) phase now old n k ≡ early design asked (phase + 1) (Some s) k) [
       | inl t ↦ let q : s.phase ≡ phase = grind (arith, nat_tests, t) in
           let u : nat_lt s.phase (phase + 1) ≡ true = grind (arith, nat_tests, q) in
           ap (λ b. cond b (now s.wire k) (old n k)) t
-          ∙ ap (λ (st : Store). st s.wire k) (e ∙ ap (λ p. least_at design rows (suc p)) (sym q))
-          ∙ sym (ap (λ b. cond b (least_at design rows (suc s.phase) s.wire k) Unknown) u)
-      | inr t ↦ ap (λ b. cond b (now s.wire k) (old n k)) t ∙ h ∙ ap (λ b. cond b (least_at design rows (suc s.phase) s.wire k) Unknown) (side (nat_lt s.phase phase) refl (λ z. let y : eqb s.phase phase ≡ true = grind (arith, nat_tests, z) in let x : true ≡ false = sym y ∙ t in cc))
+          ∙ ap (λ (st : Store). st s.wire k) (e ∙ ap (λ p. least_at design asked (suc p)) (sym q))
+          ∙ sym (ap (λ b. cond b (least_at design asked (suc s.phase) s.wire k) Unknown) u)
+      | inr t ↦ ap (λ b. cond b (now s.wire k) (old n k)) t ∙ h ∙ ap (λ b. cond b (least_at design asked (suc s.phase) s.wire k) Unknown) (side (nat_lt s.phase phase) refl (λ z. let y : eqb s.phase phase ≡ true = grind (arith, nat_tests, z) in let x : true ≡ false = sym y ∙ t in cc))
     ]
   where
     side : (b : Bool) → nat_lt s.phase phase ≡ b → (s.phase ≡ phase → ⊥) → nat_lt s.phase phase ≡ nat_lt s.phase (phase + 1)
     side true q ne = let l : s.phase < phase = grind (arith, nat_tests, q) in let u : nat_lt s.phase (phase + 1) ≡ true = grind (arith, nat_tests, l) in q ∙ sym u
     side false q ne = let l : phase ≤ s.phase = grind (arith, nat_tests, q) in let u : nat_lt s.phase (phase + 1) ≡ false = grind (arith, nat_tests, l, ne) in q ∙ sym u
 
-pub early_all : (design : Design) (rows : Asked) (phases phase : ℕ) (r : Run) (o : Option Sample) (k : ℕ) → AreApart rows → IsLeastRun design rows phases r → phases ≤ phase → phase ≤ phases → early design rows phase o k ≡ sampled r o k
-early_all design rows phases phase r None k apart h l m = refl
-early_all design rows phases phase r (Some s) k apart h l m = go (nat_lt s.phase phase) refl
+pub early_all : (design : Design) (asked : Asked) (phases phase : ℕ) (r : Run) (o : Option Sample) (k : ℕ) → AreApart asked → IsLeastRun design asked phases r → phases ≤ phase → phase ≤ phases → early design asked phase o k ≡ sampled r o k
+early_all design asked phases phase r None k apart h l m = refl
+early_all design asked phases phase r (Some s) k apart h l m = go (nat_lt s.phase phase) refl
   where
-    go : (b : Bool) → nat_lt s.phase phase ≡ b → early design rows phase (Some s) k ≡ sampled r (Some s) k
+    go : (b : Bool) → nat_lt s.phase phase ≡ b → early design asked phase (Some s) k ≡ sampled r (Some s) k
     go true e = let q : s.phase < phases = (let z : s.phase < phase = grind (arith, nat_tests, e) in omega arith) in
-        ap (λ b. cond b (least_at design rows (suc s.phase) s.wire k) Unknown) e ∙ ap (λ (st : Store). st s.wire k) (sym (least_run_at design rows phases apart r h s.phase q))
+        ap (λ b. cond b (least_at design asked (suc s.phase) s.wire k) Unknown) e ∙ ap (λ (st : Store). st s.wire k) (sym (least_run_at design asked phases apart r h s.phase q))
     go false e = let q : phase ≤ s.phase = grind (arith, nat_tests, e) in
-        ap (λ b. cond b (least_at design rows (suc s.phase) s.wire k) Unknown) e ∙ ap (λ (st : Store). st s.wire k) (sym (get_or_past r.later s.phase no_value (let a = h.run.long in omega arith)))
+        ap (λ b. cond b (least_at design asked (suc s.phase) s.wire k) Unknown) e ∙ ap (λ (st : Store). st s.wire k) (sym (get_or_past r.later s.phase no_value (let a = h.run.long in omega arith)))

@@ -3,6 +3,7 @@
 
 mod runner;
 mod samples;
+mod settlers;
 mod stimulus;
 
 pub use runner::Runner;

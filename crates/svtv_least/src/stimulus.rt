@@ -1,17 +1,19 @@
-// The stimulus of a phase: X at every bit, and over that what the rows drive. What no row drives and what is free is X, since a
-// least stimulus lies below all that the table allows. No wire has two rows, so the order of rows says nothing; they are gone
-// through from the last on, as the definition has each row in front of those behind it.
-ghost use Rattle.std.specs.Prelude.{◌≡◌, ℕ, ◌<◌, ◌≤◌, ◌∷◌, [], length, map, slice_index_or, All, IfOk, Some};
+// What comes from outside in a phase: X at every bit, over that what the `in` rows drive, and over that what the `over` rows set.
+// What no row drives and what may be anything is X, since it has to lie below all that the table allows. No wire has two rows of
+// one kind, so the order of rows says nothing; they are gone through from the last on, as the definition has each row in front
+// of those behind it.
+ghost use Rattle.std.specs.Prelude.{◌≡◌, ℕ, ◌<◌, ◌≤◌, ◌∷◌, ◌++◌, [], length, map, slice_index_or, All, IfOk, None, Some};
 ghost use Rattle.fourvec.specs.declared.Bit.TheVariants.{Unknown};
 ghost use Rattle.fourvec.specs.Bits.{all_x};
 ghost use Rattle.driver_resolve.specs.Drivers.{widths_of};
 ghost use Rattle.flat_net.specs.Flats.{IsSignal};
 ghost use Rattle.event_sim.specs.Sims.{IsValuation, store_of};
 ghost use Rattle.svtv_table.specs.declared.bound.Drive.TheVariants as drive;
-ghost use Rattle.svtv_table.specs.Stimuli.{drive_value, given, values_of};
-ghost use Rattle.svtv_runs.specs.Runs.{Asked};
-ghost use Rattle.svtv_runs.specs.Leasts.{least_stimulus};
-ghost use Rattle.svtv_least.specs.Running.{Gives, IsGiven, asked_vector, row_values};
+ghost use Rattle.settling.specs.Settling.{Store};
+ghost use Rattle.svtv_table.specs.Stimuli.{drive_value, given, setting_value, settings_in, values_of};
+ghost use Rattle.svtv_runs.specs.Runs.{Asks, driven_rows, set_if, set_rows};
+ghost use Rattle.svtv_runs.specs.Leasts.{set_over};
+ghost use Rattle.svtv_least.specs.Running.{Gives, IsGiven, Sets, asked_vector};
 
 use fourvec::Four;
 use items::Items;
@@ -77,36 +79,73 @@ fn driven(choice: &[Four], drive: &Drive, width: u8) -> Four
     }
 }
 
-// One row more, in front of others.
-fn drive_row(stim: &mut Items<Four>, wire: usize, drives: &[Drive], choice: &[Four], phase: usize)
+// Sets a wire to what a drive gives it, in front of all that is asked of the wires already.
+fn put_drive(stim: &mut Items<Four>, wire: usize, drive: &Drive, choice: &[Four])
     requires wire { wire < length stim.old }
-    requires there { phase < length drives.now }
-    requires gives { All (Gives choice.now (length (slice_index_or stim.old wire []))) drives.now }
+    requires gives { Gives choice.now (length (slice_index_or stim.old wire [])) drive.now }
     ensures widths { map (λ row. length row) stim.new ≡ map (λ row. length row) stim.old }
-    ensures stim { (rows : Asked) → ((n k : ℕ) → store_of stim.old n k ≡ least_stimulus rows phase n k)
-        → (n k : ℕ) → store_of stim.new n k ≡ least_stimulus (row_values choice.now wire drives.now ∷ rows) phase n k }
+    ensures stim { (asks : Asks) (before : Store) → ((n k : ℕ) → store_of stim.old n k ≡ set_over asks before n k)
+        → (n k : ℕ) → store_of stim.new n k ≡ set_over ((wire, drive_value choice.now drive.now) ∷ asks) before n k }
 {
     let width = stim.as_slice()[wire].width();
-    let value = driven(choice, &drives[phase], width);
+    let value = driven(choice, drive, width);
     stim.set(wire, value);
 }
 
-/// The least stimulus of a phase, where it is X at every bit before.
+// Sets a wire to what its `over` row has in a phase, if it has anything there.
+fn put_setting(
+    stim: &mut Items<Four>,
+    wire: usize,
+    settings: &[Option<Drive>],
+    choice: &[Four],
+    phase: usize,
+)
+    requires wire { wire < length stim.old }
+    requires there { phase < length settings.now }
+    requires gives { All (Sets choice.now (length (slice_index_or stim.old wire []))) settings.now }
+    ensures widths { map (λ row. length row) stim.new ≡ map (λ row. length row) stim.old }
+    ensures stim { (asks : Asks) (before : Store) → ((n k : ℕ) → store_of stim.old n k ≡ set_over asks before n k)
+        → (n k : ℕ) → store_of stim.new n k ≡ set_over (set_if wire (slice_index_or (map (setting_value choice.now) settings.now) phase None) ++ asks) before n k }
+{
+    if let Some(drive) = &settings[phase] {
+        put_drive(stim, wire, drive, choice);
+    }
+}
+
+/// Sets each wire that an `in` row drives to what it is driven with in a phase.
 pub(crate) fn drive(
     stim: &mut Items<Four>,
     rows: &[(usize, Items<Drive>)],
     choice: &[Four],
     phase: usize,
 )
-    requires unknown { (n k : ℕ) → store_of stim.old n k ≡ Unknown }
-    requires given { All (IsGiven choice.now (map (λ row. length row) stim.old) phase) rows.now }
+    requires { All (IsGiven (Gives choice.now) (map (λ row. length row) stim.old) phase) rows.now }
     ensures widths { map (λ row. length row) stim.new ≡ map (λ row. length row) stim.old }
-    ensures stim { (n k : ℕ) → store_of stim.new n k ≡ least_stimulus (values_of choice.now rows.now) phase n k }
+    ensures stim { (n k : ℕ) → store_of stim.new n k ≡ set_over (driven_rows (values_of choice.now rows.now) phase) (store_of stim.old) n k }
 {
     let mut at = rows.len();
     'rows: while at > 0 {
         at -= 1;
         let row = &rows[at];
-        drive_row(stim, row.0, row.1.as_slice(), choice, phase);
+        put_drive(stim, row.0, &row.1.as_slice()[phase], choice);
+    }
+}
+
+/// Sets each wire that an `over` row overrides in a phase to what it is set to there.
+pub(crate) fn override_wires(
+    stim: &mut Items<Four>,
+    rows: &[(usize, Items<Option<Drive>>)],
+    choice: &[Four],
+    phase: usize,
+)
+    requires { All (IsGiven (Sets choice.now) (map (λ row. length row) stim.old) phase) rows.now }
+    ensures widths { map (λ row. length row) stim.new ≡ map (λ row. length row) stim.old }
+    ensures stim { (n k : ℕ) → store_of stim.new n k ≡ set_over (set_rows (settings_in choice.now rows.now) phase) (store_of stim.old) n k }
+{
+    let mut at = rows.len();
+    'rows: while at > 0 {
+        at -= 1;
+        let row = &rows[at];
+        put_setting(stim, row.0, row.1.as_slice(), choice, phase);
     }
 }

@@ -5,7 +5,7 @@ use Rattle.std.specs.List.{AllByRecursion, IsDistinct, flat_map}
 use Rattle.std.specs.Str.{bytes_eq}
 use Rattle.std.proofs.lemmas.List.Elements.{All-from_recursion, recursion_from_All}
 use Rattle.sv_outside.specs.declared.text.Signal.{Signal}
-use Rattle.svtv_table.specs.Binding.{HasWidth, bind_faults, bound_of, declared_by, declared_in, drives_of, row_faults, samples_of, variables_of}
+use Rattle.svtv_table.specs.Binding.{HasWidth, bind_faults, bound_of, declared_by, declared_in, drives_of, overs_of, row_faults, samples_of, variables_of}
 use Rattle.svtv_table.specs.Faults.{at_each}
 use Rattle.svtv_table.specs.Following.{Follows}
 use Rattle.svtv_table.specs.Indexing.{with_var, with_vars}
@@ -17,24 +17,24 @@ use Rattle.svtv_table.specs.declared.bound.Sample.{Sample}
 use Rattle.svtv_table.specs.declared.bound.VarDecl.{VarDecl}
 use Rattle.table_cells.specs.declared.table.Row.{Row}
 use Rattle.table_cells.specs.declared.table.RowKind.{RowKind}
-use Rattle.table_cells.specs.declared.table.RowKind.TheVariants.{In, Out}
+use Rattle.table_cells.specs.declared.table.RowKind.TheVariants.{In, Over, Out}
 use Rattle.table_cells.specs.declared.table.Table.{Table}
 use Rattle.svtv_table.proofs.Declared.{all_distinct, collected}
 
-abbrev pub made : ℕ → List VarDecl → List (ℕ × List Drive) → List Sample → Bound
-made phases vars drives samples = record { phases = phases; vars = vars; drives = drives; samples = samples }
+abbrev pub made : ℕ → List VarDecl → List (ℕ × List Drive) → List (ℕ × List (Option Drive)) → List Sample → Bound
+made phases vars drives overs samples = record { phases = phases; vars = vars; drives = drives; overs = overs; samples = samples }
 
 pub bound_is : (wires ws : List Signal) (table : Table) (rows : List Row) (vars : List VarDecl) (work : Work) → ws ≡ wires → rows ≡ table.rows → vars ≡ variables_of ws rows → Follows ws vars rows work
-    → made table.phases vars work.drives work.samples.list ≡ bound_of wires table
+    → made table.phases vars work.drives.rows work.overs.rows work.samples.list ≡ bound_of wires table
 unfolding bound_of
 bound_is wires ws table rows vars work e r v f =
     let all = variables_of wires table.rows in
     let named : vars ≡ all = v ∙ (ap (λ w. variables_of w rows) e ∙ ap (λ rs. variables_of wires rs) r) in
-    let driven : work.drives ≡ drives_of wires all table.rows =
-    f.drives ∙ (ap (λ w. drives_of w vars rows) e ∙ (ap (λ vs. drives_of wires vs rows) named ∙ ap (λ rs. drives_of wires all rs) r)) in
+    let driven : work.drives.rows ≡ drives_of wires all table.rows =
+    f.drives.rows ∙ (ap (λ w. drives_of w vars rows) e ∙ (ap (λ vs. drives_of wires vs rows) named ∙ ap (λ rs. drives_of wires all rs) r)) in
+    let set : work.overs.rows ≡ overs_of wires all table.rows = f.overs.rows ∙ (ap (λ w. overs_of w vars rows) e ∙ (ap (λ vs. overs_of wires vs rows) named ∙ ap (λ rs. overs_of wires all rs) r)) in
     let sampled : work.samples.list ≡ samples_of wires table.rows = f.samples ∙ (ap (λ w. samples_of w rows) e ∙ ap (λ rs. samples_of wires rs) r) in
-    ap (λ vs. made table.phases vs work.drives work.samples.list) named
-    ∙ (ap (λ ds. made table.phases all ds work.samples.list) driven ∙ ap (λ ss. made table.phases all (drives_of wires all table.rows) ss) sampled)
+    λ i. made table.phases (named i) (driven i) (set i) (sampled i)
 
 pub faults_are : (wires ws : List Signal) (table : Table) (rows : List Row) (vars : List VarDecl) → ws ≡ wires → rows ≡ table.rows → vars ≡ variables_of ws rows
     → at_each (row_faults ws vars rows) 0 rows ≡ bind_faults wires table
@@ -78,6 +78,7 @@ wide_names width (n ∷ ns) h = (h, wide_names width ns h)
 
 wide_declared : (wires : List Signal) (kind : RowKind) (row : Row) → AllByRecursion (λ w. HasWidth w.width) wires → AreWide (declared_by wires kind row)
 wide_declared wires In row h = wide_names (width_of wires row.path) (names_in row.cells) (wide_signal wires (wire_of wires row.path) h)
+wide_declared wires Over row h = wide_names (width_of wires row.path) (names_in row.cells) (wide_signal wires (wire_of wires row.path) h)
 wide_declared wires Out row h = tt
 
 wide_rows : (wires : List Signal) (rows : List Row) → AllByRecursion (λ w. HasWidth w.width) wires → AreWide (flat_map (declared_in wires) rows)

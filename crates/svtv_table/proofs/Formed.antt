@@ -8,7 +8,7 @@ use Rattle.sv_literal.specs.Meaning.{meaning_of}
 use Rattle.sv_literal.specs.declared.meaning.Literal.{Literal}
 use Rattle.sv_outside.specs.declared.refusal.Refusal.{Refusal}
 use Rattle.svtv_table.specs.Faults.{at_each, fault, fault_if}
-use Rattle.table_cells.specs.Cells.{in_cell, out_cell, known_literal, constant_cell, is_cell_name, is_empty, has_value}
+use Rattle.table_cells.specs.Cells.{in_cell, over_cell, out_cell, known_literal, constant_cell, is_cell_name, is_empty, has_value}
 use Rattle.std.specs.Str.{bytes_eq}
 use Rattle.svtv_table.specs.Fields.{field_at}
 use Rattle.svtv_table.specs.Reading.{table_faults, table_of, IsWellFormed, IsKnownCell, record_faults, count_in, cell_in, row_of, front_faults, kind_of}
@@ -16,7 +16,7 @@ use Rattle.table_cells.specs.declared.table.Cell.{Cell}
 use Rattle.table_cells.specs.declared.table.Cell.TheVariants as cell
 use Rattle.table_cells.specs.declared.table.Row.{Row}
 use Rattle.table_cells.specs.declared.table.RowKind.{RowKind}
-use Rattle.table_cells.specs.declared.table.RowKind.TheVariants.{In, Out}
+use Rattle.table_cells.specs.declared.table.RowKind.TheVariants.{In, Over, Out}
 
 pub both_none : (fs gs : List Refusal) → fs ++ gs ≡ [] → (fs ≡ []) × (gs ≡ [])
 both_none [] gs h = (refl, h)
@@ -63,12 +63,21 @@ in_known : (text : List ℕ) → IsKnownIf (in_cell text)
 unfolding in_cell
 in_known text = in_cells_known (is_empty text) (bytes_eq text (codes "_")) (bytes_eq text (codes "z")) (bytes_eq text (codes "~")) (is_cell_name text) text (constant_cell text) (constant_known text)
 
+over_known : (text : List ℕ) → IsKnownIf (over_cell text)
+unfolding over_cell
+over_known text = but_for (bytes_eq text (codes "~")) (in_cell text) (in_known text)
+  where
+    but_for : (b : Bool) (o : Option Cell) → IsKnownIf o → IsKnownIf (cond b None o)
+    but_for true o h = tt
+    but_for false o h = h
+
 out_known : (text : List ℕ) → IsKnownIf (out_cell text)
 unfolding out_cell
 out_known text = out_cells_known (is_empty text) (is_cell_name text) text
 
 known_cell : (kind : RowKind) (text : List ℕ) → IsKnownCell (cell_in kind text)
 known_cell In text = in_known text
+known_cell Over text = over_known text
 known_cell Out text = out_known text
 
 -- a row of a record of that many fields

@@ -1,6 +1,6 @@
--- The drives of a table without faults give what its cells say.
+-- The drives of a table without faults give what its cells say, and its overridings set what they say.
 use Rattle.std.proofs.Common.{◌≡◌, ◌<◌, ◌≤◌, ◌+◌, ℕ, zero, suc, List, [], ◌∷◌, ◌++◌, map, length, get_or, take, Bool, true, false, cond, Option, Some, None, refl, sym, ◌∙◌, ap, subst, arith, ⊎_elim}
-use Rattle.std.specs.Prelude.{is_none, unwrap_or, option_map}
+use Rattle.std.specs.Prelude.{is_none, not, unwrap_or, option_map}
 use Rattle.std.proofs.lemmas.Bool.{cases_lt}
 use Rattle.std.proofs.lemmas.List.{map-append, get_or_past}
 use Rattle.fourvec.specs.declared.Bit.{Bit}
@@ -8,12 +8,12 @@ use Rattle.fourvec.specs.declared.Bit.TheVariants.{Zero, One, Unknown, Floating}
 use Rattle.fourvec.specs.Bits.{each, is_known, not_of}
 use Rattle.sv_outside.specs.declared.refusal.Refusal.{Refusal}
 use Rattle.sv_outside.specs.declared.text.Signal.{Signal}
-use Rattle.svtv_table.specs.Binding.{cell_differs, drive_faults, drives_of, driven_by, driven_in, faults_after, faults_by, bind_faults, bound_of, in_faults, phase_faults, row_faults, variables_of, wire_faults}
-use Rattle.svtv_table.specs.Drives.{drive_before, drive_in, drive_of, flipped_drive, held, phase_drive}
+use Rattle.svtv_table.specs.Binding.{cell_differs, drive_faults, drives_of, driven_by, driven_in, faults_after, faults_by, bind_faults, bound_of, in_faults, over_faults, overridden_by, overridden_in, overs_of, phase_faults, phase_over, row_faults, set_faults, variables_of, wire_faults}
+use Rattle.svtv_table.specs.Drives.{drive_before, drive_in, drive_of, flipped_drive, held, is_over_cell, over_drive, phase_drive}
 use Rattle.table_cells.specs.Constants.{constant, fits}
 use Rattle.svtv_table.specs.Faults.{at_each, fault, fault_if}
 use Rattle.svtv_table.specs.Names.{width_of, wire_number}
-use Rattle.svtv_table.specs.Stimuli.{IsChoice, Means, drive_value, given, stimuli_by, stimuli_of, stimulus, stimulus_before, stimulus_of, values_of}
+use Rattle.svtv_table.specs.Stimuli.{IsChoice, Means, Sets, drive_value, given, setting_of, setting_value, settings_by, settings_in, settings_of, stimuli_by, stimuli_of, stimulus, stimulus_before, stimulus_of, values_of}
 use Rattle.svtv_table.specs.declared.bound.Drive.{Drive}
 use Rattle.svtv_table.specs.declared.bound.Drive.TheVariants as drive
 use Rattle.svtv_table.specs.declared.bound.VarDecl.{VarDecl}
@@ -21,7 +21,7 @@ use Rattle.table_cells.specs.declared.table.Cell.{Cell}
 use Rattle.table_cells.specs.declared.table.Cell.TheVariants as cell
 use Rattle.table_cells.specs.declared.table.Row.{Row}
 use Rattle.table_cells.specs.declared.table.RowKind.{RowKind}
-use Rattle.table_cells.specs.declared.table.RowKind.TheVariants.{In, Out}
+use Rattle.table_cells.specs.declared.table.RowKind.TheVariants.{In, Over, Out}
 use Rattle.table_cells.specs.declared.table.Table.{Table}
 use Rattle.svtv_table.proofs.Formed.{both_none, none_at}
 
@@ -121,6 +121,7 @@ kind_means : (choice : List (List Bit)) → Flips choice → (wires : List Signa
     → values_of choice (driven_by wires vars kind row) ≡ stimuli_by choice wires vars kind row
 kind_means choice f wires vars before line In row h =
     ap (λ vs. (wire_number wires row.path, vs) ∷ []) (row_means choice f (width_of wires row.path) vars row.cells (phases_fine _ (width_of wires row.path) vars line row.cells h))
+kind_means choice f wires vars before line Over row h = refl
 kind_means choice f wires vars before line Out row h = refl
 
 one_means : (choice : List (List Bit)) → Flips choice → (wires : List Signal) (vars : List VarDecl) (before : List Row) (line : ℕ) (row : Row) → faults_after wires vars before line row ≡ []
@@ -141,3 +142,58 @@ rows_mean choice f wires vars all n (row ∷ rows) h =
 pub means : (wires : List Signal) (table : Table) → bind_faults wires table ≡ [] → Means wires table.rows (bound_of wires table)
 unfolding bind_faults bound_of
 means wires table h choice is = rows_mean choice (flips (variables_of wires table.rows) choice is) wires (variables_of wires table.rows) table.rows 0 table.rows h
+
+-- ---- overridings
+
+module _ (choice : List (List Bit)) (width : ℕ) (vars : List VarDecl) where
+  literal_sets : (b : Bool) (v : List Bit) → b ≡ true → setting_value choice (cond b (Some (drive.Fixed v)) None) ≡ Some (Some v)
+  literal_sets true v h = refl
+  literal_sets false v h = cc
+
+  cell_sets : (c : Cell) → is_over_cell width c ≡ true → setting_value choice (over_drive width vars c) ≡ setting_of choice width vars c
+  cell_sets cell.Empty h = refl
+  cell_sets (cell.Literal l) h = literal_sets (fits l width) (constant l width) h
+  cell_sets cell.Zed h = refl
+  cell_sets (cell.Named name) h = refl
+  cell_sets cell.Flip h = cc
+  cell_sets cell.Free h = refl
+
+  is_fine : (b : Bool) (r : Refusal) → fault_if (not b) r ≡ [] → b ≡ true
+  is_fine true r h = refl
+  is_fine false r h = cc
+
+  cells_set : (line n : ℕ) (cells : List Cell) → at_each (over_faults width vars line) n cells ≡ [] → map (setting_value choice) (at_each (phase_over width vars) n cells) ≡ map (setting_of choice width vars) cells
+  unfolding over_faults
+  cells_set line n [] h = refl
+  cells_set line n (c ∷ cells) h =
+      let parts = both_none (over_faults width vars line n c) (at_each (over_faults width vars line) (n + 1) cells) h in
+      let fine : is_over_cell width c ≡ true =
+      is_fine (is_over_cell width c) (fault 28 line (n + 3)) (both_none (fault_if (not (is_over_cell width c)) (fault 28 line (n + 3))) (fault_if (cell_differs width vars c) (fault 31 line (n + 3))) parts.0).0 in
+      ap (λ s. s ∷ map (setting_value choice) (at_each (phase_over width vars) (n + 1) cells)) (cell_sets c fine) ∙ ap (λ more. setting_of choice width vars c ∷ more) (cells_set line (n + 1) cells parts.1)
+
+  row_sets : (again : Bool) (line : ℕ) (cells : List Cell) → set_faults again width vars line cells ≡ [] → map (setting_value choice) (at_each (phase_over width vars) 0 cells) ≡ map (setting_of choice width vars) cells
+  unfolding set_faults
+  row_sets again line cells h = cells_set line 0 cells (both_none (fault_if again (fault 30 line 2)) (at_each (over_faults width vars line) 0 cells) h).1
+
+module _ (choice : List (List Bit)) (wires : List Signal) (vars : List VarDecl) where
+  kind_sets : (before : List Row) (line : ℕ) (kind : RowKind) (row : Row) → faults_by wires vars before line kind row ≡ [] → settings_in choice (overridden_by wires vars kind row) ≡ settings_by choice wires vars kind row
+  kind_sets before line In row h = refl
+  kind_sets before line Over row h = ap (λ vs. (wire_number wires row.path, vs) ∷ []) (row_sets choice (width_of wires row.path) vars _ line row.cells h)
+  kind_sets before line Out row h = refl
+
+  one_sets : (before : List Row) (line : ℕ) (row : Row) → faults_after wires vars before line row ≡ [] → settings_in choice (overridden_in wires vars row) ≡ settings_by choice wires vars row.kind row
+  unfolding faults_after
+  one_sets before line row h = kind_sets before line row.kind row (both_none (wire_faults wires line row) (faults_by wires vars before line row.kind row) h).1
+
+  rows_set : (all : List Row) (n : ℕ) (rows : List Row) → at_each (row_faults wires vars all) n rows ≡ [] → settings_in choice (overs_of wires vars rows) ≡ settings_of choice wires vars rows
+  rows_set all n [] h = refl
+  rows_set all n (row ∷ rows) h =
+      let parts = both_none (row_faults wires vars all n row) (at_each (row_faults wires vars all) (n + 1) rows) h in
+      map-append (λ o. (o.0, map (setting_value choice) o.1)) (overridden_in wires vars row) (overs_of wires vars rows)
+      ∙ (ap (λ vs. vs ++ settings_in choice (overs_of wires vars rows)) (one_sets (take n all) (n + 1) row parts.0)
+      ∙ ap (λ vs. settings_by choice wires vars row.kind row ++ vs) (rows_set all (n + 1) rows parts.1))
+
+-- what is set, under every choice
+pub sets : (wires : List Signal) (table : Table) → bind_faults wires table ≡ [] → Sets wires table.rows (bound_of wires table)
+unfolding bind_faults bound_of
+sets wires table h choice is = rows_set choice wires (variables_of wires table.rows) table.rows 0 table.rows h

@@ -1,4 +1,4 @@
--- Drives are as wide as their wires, for a table without faults.
+-- Drives, and what overrides, are as wide as their wires, for a table without faults.
 use Rattle.std.proofs.Common.{◌≡◌, ◌<◌, ◌≤◌, ◌+◌, ℕ, zero, suc, List, [], ◌∷◌, ◌++◌, map, length, get_or, replicate, Bool, true, false, cond, eqb, ◌||◌, Option, Some, None, refl, sym, ◌∙◌, ap, subst, arith}
 use Rattle.std.specs.Prelude.{All, is_none, is_some, not, unwrap_or}
 use Rattle.std.specs.List.{AllByRecursion, flat_map}
@@ -16,8 +16,8 @@ use Rattle.sv_literal.specs.declared.meaning.Literal.{Literal}
 use Rattle.sv_literal.proofs.Vectors.{length-fitted}
 use Rattle.sv_outside.specs.declared.refusal.Refusal.{Refusal}
 use Rattle.sv_outside.specs.declared.text.Signal.{Signal}
-use Rattle.svtv_table.specs.Binding.{IsAsWide, cell_differs, declared_by, declared_in, differs, drive_faults, first_of_each, in_faults, phase_faults, var_width, variables_of}
-use Rattle.svtv_table.specs.Drives.{chosen, drive_before, drive_in, drive_of, flipped_drive, held, held_before, phase_drive, unless_empty}
+use Rattle.svtv_table.specs.Binding.{IsAsWide, IsSetAsWide, cell_differs, declared_by, declared_in, differs, drive_faults, first_of_each, in_faults, over_faults, phase_faults, phase_over, set_faults, var_width, variables_of}
+use Rattle.svtv_table.specs.Drives.{chosen, drive_before, drive_in, drive_of, flipped_drive, held, held_before, is_over_cell, over_drive, phase_drive, unless_empty}
 use Rattle.table_cells.specs.Constants.{constant, fits}
 use Rattle.svtv_table.specs.Faults.{at_each, fault, fault_if}
 use Rattle.svtv_table.specs.Names.{name_in, name_of, names_in, number_of, width_at, width_of}
@@ -27,7 +27,8 @@ use Rattle.svtv_table.specs.declared.bound.VarDecl.{VarDecl}
 use Rattle.table_cells.specs.declared.table.Cell.{Cell}
 use Rattle.table_cells.specs.declared.table.Cell.TheVariants as cell
 use Rattle.table_cells.specs.declared.table.Row.{Row}
-use Rattle.table_cells.specs.declared.table.RowKind.TheVariants.{In}
+use Rattle.table_cells.specs.declared.table.RowKind.{RowKind}
+use Rattle.table_cells.specs.declared.table.RowKind.TheVariants.{In, Over, Out}
 use Rattle.svtv_table.proofs.Declared.{has, has-others, others}
 use Rattle.svtv_table.proofs.Formed.{both_none, none_at}
 use Rattle.svtv_table.proofs.Places.{is_placed, some_from, within_from}
@@ -113,14 +114,18 @@ has_row wires name (row ∷ rows) (suc i) d l h =
     list_any-append (λ (v : VarDecl). bytes_eq name v.name) (declared_in wires row) (flat_map (declared_in wires) rows)
     ∙ right_true (has name (declared_in wires row)) (has name (flat_map (declared_in wires) rows)) (has_row wires name rows i d (omega (arith, l)) h)
 
--- the names in an `in` row of a table are those of its variables
-pub declares : (wires : List Signal) (rows : List Row) (i : ℕ) (d : Row) → i < length rows → (get_or rows i d).kind ≡ In → Declares (variables_of wires rows) (get_or rows i d).cells
+-- the names in an `in` or `over` row of a table are those of its variables
+pub declares : (wires : List Signal) (rows : List Row) (i : ℕ) (d : Row) → i < length rows → ((get_or rows i d).kind ≡ Out → ⊥) → Declares (variables_of wires rows) (get_or rows i d).cells
 unfolding variables_of
 declares wires rows i d l e k name lk at =
     let row = get_or rows i d in
     let own : has name (declared_by wires In row) ≡ true = has_cell (width_of wires row.path) name row.cells k lk at in
-    let here : has name (declared_in wires row) ≡ true = ap (λ kind. has name (declared_by wires kind row)) e ∙ own in
-    is_placed name_of (first_of_each (flat_map (declared_in wires) rows)) name ∙ has_first name (flat_map (declared_in wires) rows) ∙ has_row wires name rows i d l here
+    is_placed name_of (first_of_each (flat_map (declared_in wires) rows)) name ∙ has_first name (flat_map (declared_in wires) rows) ∙ has_row wires name rows i d l (by_kind row row.kind e own)
+  where
+    by_kind : (row : Row) (kind : RowKind) → (kind ≡ Out → ⊥) → has name (declared_by wires In row) ≡ true → has name (declared_by wires kind row) ≡ true
+    by_kind row In e h = h
+    by_kind row Over e h = h
+    by_kind row Out e h = absurd (e refl)
 
 -- ---- one phase
 
@@ -139,8 +144,7 @@ constant_long literal width = go literal.fill
 
 module _ (width : ℕ) (vars : List VarDecl) where
   abbrev WideIf : Option Drive → Type 0
-  WideIf None = Unit {0}
-  WideIf (Some d) = IsAsWide vars width d
+  WideIf d = IsSetAsWide vars width d
 
   fixed_wide : (b : Bool) (v : List Bit) → length v ≡ width → WideIf (cond b (Some (drive.Fixed v)) None)
   fixed_wide true v h = h
@@ -204,6 +208,16 @@ module _ (width : ℕ) (vars : List VarDecl) where
         All-from_recursion (IsAsWide vars width) (at_each (phase_drive width vars cells) 0 cells)
         (all_each (λ k. unwrap_or (drive_in width vars cells k) drive.Free) 0 cells (λ k l m. unwrapped_wide (drive_in width vars cells k) (in_wide k (omega (arith, m)))))
 
+  -- ---- what overrides
+
+  over_wide : (c : Cell) → NamesWide width vars c → WideIf (over_drive width vars c)
+  over_wide cell.Empty n = tt
+  over_wide (cell.Literal literal) n = fixed_wide (fits literal width) (constant literal width) (constant_long literal width)
+  over_wide cell.Zed n = length-replicate width Floating
+  over_wide (cell.Named name) n = chosen_wide name n
+  over_wide cell.Flip n = tt
+  over_wide cell.Free n = tt
+
 -- ---- a row without faults
 
 none_differs : (b : Bool) (r : Refusal) → fault_if b r ≡ [] → b ≡ false
@@ -224,3 +238,19 @@ cells_wide again width vars line cells h d k l =
 
 pub drives_wide : (again : Bool) (width : ℕ) (vars : List VarDecl) (line : ℕ) (cells : List Cell) → in_faults again width vars line cells ≡ [] → Declares vars cells → All (IsAsWide vars width) (at_each (phase_drive width vars cells) 0 cells)
 drives_wide again width vars line cells h d = row_wide width vars cells (cells_wide again width vars line cells h d)
+
+-- each cell of an `over` row without faults sets what is as wide
+all_overs_wide : (width : ℕ) (vars : List VarDecl) (line n : ℕ) (cells : List Cell) → at_each (over_faults width vars line) n cells ≡ [] → Declares vars cells → AllByRecursion (IsSetAsWide vars width) (at_each (phase_over width vars) n cells)
+unfolding over_faults
+all_overs_wide width vars line n [] h d = tt
+all_overs_wide width vars line n (c ∷ cells) h d =
+    let parts = both_none (over_faults width vars line n c) (at_each (over_faults width vars line) (n + 1) cells) h in
+    let same : cell_differs width vars c ≡ false =
+    none_differs (cell_differs width vars c) (fault 31 line (n + 3)) (both_none (fault_if (not (is_over_cell width c)) (fault 28 line (n + 3))) (fault_if (cell_differs width vars c) (fault 31 line (n + 3))) parts.0).1 in
+    (over_wide width vars c (names_wide width vars c same (λ name at. d 0 name (omega arith) at)), all_overs_wide width vars line (n + 1) cells parts.1 (λ k name l at. d (suc k) name (omega (arith, l)) at))
+
+pub overs_wide : (again : Bool) (width : ℕ) (vars : List VarDecl) (line : ℕ) (cells : List Cell) → set_faults again width vars line cells ≡ [] → Declares vars cells → All (IsSetAsWide vars width) (at_each (phase_over width vars) 0 cells)
+unfolding set_faults
+overs_wide again width vars line cells h d =
+    All-from_recursion (IsSetAsWide vars width) (at_each (phase_over width vars) 0 cells)
+    (all_overs_wide width vars line 0 cells (both_none (fault_if again (fault 30 line 2)) (at_each (over_faults width vars line) 0 cells) h).1 d)

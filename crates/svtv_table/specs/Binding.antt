@@ -4,7 +4,7 @@ use Rattle.std.specs.List.{flat_map, list_any}
 use Rattle.std.specs.Str.{bytes_eq}
 use Rattle.sv_outside.specs.declared.refusal.Refusal.{Refusal}
 use Rattle.sv_outside.specs.declared.text.Signal.{Signal}
-use Rattle.svtv_table.specs.Drives.{drive_in, phase_drive}
+use Rattle.svtv_table.specs.Drives.{drive_in, phase_drive, over_drive, is_over_cell}
 use Rattle.svtv_table.specs.Faults.{fault, fault_if, at_each}
 use Rattle.svtv_table.specs.Names.{is_among, names_in, no_signal, number_of, signal_of, width_of, width_under, wire_number, wire_of}
 use Rattle.svtv_table.specs.declared.bound.Bound.{Bound}
@@ -16,7 +16,7 @@ use Rattle.table_cells.specs.declared.table.Cell.{Cell}
 use Rattle.table_cells.specs.declared.table.Cell.TheVariants as cell
 use Rattle.table_cells.specs.declared.table.Row.{Row}
 use Rattle.table_cells.specs.declared.table.RowKind.{RowKind}
-use Rattle.table_cells.specs.declared.table.RowKind.TheVariants.{In, Out}
+use Rattle.table_cells.specs.declared.table.RowKind.TheVariants.{In, Over, Out}
 use Rattle.table_cells.specs.declared.table.Table.{Table}
 
 -- a width that a vector may have
@@ -25,9 +25,10 @@ HasWidth width = (0 < width) × (width ≤ 128)
 
 -- ---- variables
 
--- the names of an `in` row, each as wide as the row's signal
+-- the names of an `in` or `over` row, each as wide as the row's signal
 abbrev pub declared_by : List Signal → RowKind → Row → List VarDecl
 declared_by wires In row = map (λ name. record { name = name; width = width_of wires row.path }) (names_in row.cells)
+declared_by wires Over row = map (λ name. record { name = name; width = width_of wires row.path }) (names_in row.cells)
 declared_by wires Out row = []
 
 abbrev pub declared_in : List Signal → Row → List VarDecl
@@ -50,6 +51,7 @@ cell_sample wire width phase _ = []
 
 abbrev pub sampled_by : List Signal → RowKind → Row → List Sample
 sampled_by wires In row = []
+sampled_by wires Over row = []
 sampled_by wires Out row = at_each (cell_sample (wire_number wires row.path) (width_of wires row.path)) 0 row.cells
 
 abbrev pub sampled_in : List Signal → Row → List Sample
@@ -63,6 +65,7 @@ samples_of wires rows = flat_map (sampled_in wires) rows
 
 abbrev pub driven_by : List Signal → List VarDecl → RowKind → Row → List (ℕ × List Drive)
 driven_by wires vars In row = (wire_number wires row.path, at_each (phase_drive (width_of wires row.path) vars row.cells) 0 row.cells) ∷ []
+driven_by wires vars Over row = []
 driven_by wires vars Out row = []
 
 abbrev pub driven_in : List Signal → List VarDecl → Row → List (ℕ × List Drive)
@@ -72,6 +75,23 @@ driven_in wires vars row = driven_by wires vars row.kind row
 abbrev pub drives_of : List Signal → List VarDecl → List Row → List (ℕ × List Drive)
 drives_of wires vars rows = flat_map (driven_in wires vars) rows
 
+-- ---- what overrides
+
+abbrev pub phase_over : ℕ → List VarDecl → ℕ → Cell → List (Option Drive)
+phase_over width vars phase cell = over_drive width vars cell ∷ []
+
+abbrev pub overridden_by : List Signal → List VarDecl → RowKind → Row → List (ℕ × List (Option Drive))
+overridden_by wires vars In row = []
+overridden_by wires vars Over row = (wire_number wires row.path, at_each (phase_over (width_of wires row.path) vars) 0 row.cells) ∷ []
+overridden_by wires vars Out row = []
+
+abbrev pub overridden_in : List Signal → List VarDecl → Row → List (ℕ × List (Option Drive))
+overridden_in wires vars row = overridden_by wires vars row.kind row
+
+-- the wire of each `over` row, and phase by phase what it is set to, if to anything
+abbrev pub overs_of : List Signal → List VarDecl → List Row → List (ℕ × List (Option Drive))
+overs_of wires vars rows = flat_map (overridden_in wires vars) rows
+
 -- ---- meaning, where there are no faults
 
 unfoldable pub bound_of : List Signal → Table → Bound
@@ -79,6 +99,7 @@ bound_of wires table = record {
   phases = table.phases;
   vars = variables_of wires table.rows;
   drives = drives_of wires (variables_of wires table.rows) table.rows;
+  overs = overs_of wires (variables_of wires table.rows) table.rows;
   samples = samples_of wires table.rows;
 }
 
@@ -87,6 +108,7 @@ bound_of wires table = record {
 -- no wire has the path, or an `in` row names what is no input
 abbrev pub lacks_signal : List Signal → RowKind → List ℕ → Bool
 lacks_signal wires In path = is_none (wire_of wires path) || not (signal_of wires path).input
+lacks_signal wires Over path = is_none (wire_of wires path)
 lacks_signal wires Out path = is_none (wire_of wires path)
 
 -- E29
@@ -95,11 +117,21 @@ wire_faults wires line row = fault_if (lacks_signal wires row.kind row.path) (fa
 
 abbrev pub drives_path : RowKind → List ℕ → List ℕ → Bool
 drives_path In own path = bytes_eq own path
+drives_path Over own path = false
 drives_path Out own path = false
+
+abbrev pub overrides_path : RowKind → List ℕ → List ℕ → Bool
+overrides_path In own path = false
+overrides_path Over own path = bytes_eq own path
+overrides_path Out own path = false
 
 -- one of the rows is an `in` row of that path
 abbrev pub is_driven : List Row → List ℕ → Bool
 is_driven rows path = list_any (λ row. drives_path row.kind row.path path) rows
+
+-- one of the rows is an `over` row of that path
+abbrev pub is_overridden : List Row → List ℕ → Bool
+is_overridden rows path = list_any (λ row. overrides_path row.kind row.path path) rows
 
 -- a width is told, and it is another
 abbrev pub differs : Option ℕ → ℕ → Bool
@@ -142,9 +174,18 @@ sampled_names wires rows = map sample_name (samples_of wires rows)
 unfoldable pub in_faults : Bool → ℕ → List VarDecl → ℕ → List Cell → List Refusal
 in_faults again width vars line cells = fault_if again (fault 30 line 2) ++ at_each (phase_faults width vars cells line) 0 cells
 
+-- those of a cell of an `over` row. E28: it sets the signal to nothing that it can be set to. E31: it names a variable of another width
+unfoldable pub over_faults : ℕ → List VarDecl → ℕ → ℕ → Cell → List Refusal
+over_faults width vars line phase cell = fault_if (not (is_over_cell width cell)) (fault 28 line (phase + 3)) ++ fault_if (cell_differs width vars cell) (fault 31 line (phase + 3))
+
+-- those of an `over` row. E30: an earlier one has the path
+unfoldable pub set_faults : Bool → ℕ → List VarDecl → ℕ → List Cell → List Refusal
+set_faults again width vars line cells = fault_if again (fault 30 line 2) ++ at_each (over_faults width vars line) 0 cells
+
 -- those of a row whose signal is there, behind the rows before it
 abbrev pub faults_by : List Signal → List VarDecl → List Row → ℕ → RowKind → Row → List Refusal
 faults_by wires vars before line In row = in_faults (is_driven before row.path) (width_of wires row.path) vars line row.cells
+faults_by wires vars before line Over row = set_faults (is_overridden before row.path) (width_of wires row.path) vars line row.cells
 faults_by wires vars before line Out row = at_each (sample_faults vars (sampled_names wires before) row.cells line) 0 row.cells
 
 unfoldable pub faults_after : List Signal → List VarDecl → List Row → ℕ → Row → List Refusal
@@ -177,14 +218,27 @@ pub record IsDriven (wires : List Signal) (vars : List VarDecl) (phases : ℕ) (
   pub long : length row.1 ≡ phases
   pub widths : All (IsAsWide vars (wire_width wires row.0)) row.1
 
+-- it is set to nothing, or to a vector that is as wide
+abbrev pub IsSetAsWide : List VarDecl → ℕ → Option Drive → Type 0
+IsSetAsWide vars width None = Unit {0}
+IsSetAsWide vars width (Some d) = IsAsWide vars width d
+
+-- the same of a row of what overrides
+pub record IsOverridden (wires : List Signal) (vars : List VarDecl) (phases : ℕ) (row : ℕ × List (Option Drive)) : Type 0 where
+  pub wire : row.0 < length wires
+  pub long : length row.1 ≡ phases
+  pub widths : All (IsSetAsWide vars (wire_width wires row.0)) row.1
+
 -- the sample is of a wire, as wide as it, and of a phase
 pub record IsSampled (wires : List Signal) (phases : ℕ) (sample : Sample) : Type 0 where
   pub wire : sample.wire < length wires
   pub phase : sample.phase < phases
   pub width : sample.width ≡ wire_width wires sample.wire
 
--- What the table drives and samples fits these wires, and no wire has two rows.
+-- What the table drives, overrides and samples fits these wires, and no wire has two rows of one kind.
 pub record IsBound (wires : List Signal) (bound : Bound) : Type 0 where
   pub drives : All (IsDriven wires bound.vars bound.phases) bound.drives
   pub apart : (i j : ℕ) → i < length bound.drives → j < length bound.drives → (slice_index_or bound.drives i (0, [])).0 ≡ (slice_index_or bound.drives j (0, [])).0 → i ≡ j
+  pub overs : All (IsOverridden wires bound.vars bound.phases) bound.overs
+  pub overs_apart : (i j : ℕ) → i < length bound.overs → j < length bound.overs → (slice_index_or bound.overs i (0, [])).0 ≡ (slice_index_or bound.overs j (0, [])).0 → i ≡ j
   pub samples : All (IsSampled wires bound.phases) bound.samples

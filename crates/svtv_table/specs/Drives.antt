@@ -1,5 +1,5 @@
 -- What drives an input in each phase (this project's rules).
-use Rattle.std.specs.Prelude.{ℕ, zero, suc, not, false, List, [], ◌∷◌, replicate, slice_index_or, Option, Some, None, unwrap_or, if◌then◌else◌}
+use Rattle.std.specs.Prelude.{ℕ, zero, suc, Bool, not, true, false, List, [], ◌∷◌, replicate, slice_index_or, Option, Some, None, unwrap_or, if◌then◌else◌}
 use Rattle.fourvec.specs.declared.Bit.{Bit}
 use Rattle.fourvec.specs.declared.Bit.TheVariants.{Floating}
 use Rattle.fourvec.specs.Bits.{is_known, not_of}
@@ -70,3 +70,20 @@ drive_in width vars cells phase = drive_of width vars (held cells phase) (drive_
 
 abbrev pub phase_drive : ℕ → List VarDecl → List Cell → ℕ → Cell → List Drive
 phase_drive width vars cells phase cell = unwrap_or (drive_in width vars cells phase) drive.Free ∷ []
+
+-- ---- what a signal is set to
+
+-- What an `over` cell sets a signal of that width to. There is nothing where the cell is empty, and where a literal does not fit.
+abbrev pub over_drive : ℕ → List VarDecl → Cell → Option Drive
+over_drive width vars cell.Empty = None
+over_drive width vars (cell.Literal literal) = fixed_drive literal width
+over_drive width vars cell.Zed = Some (drive.Fixed (replicate width Floating))
+over_drive width vars (cell.Named name) = Some (chosen vars name)
+over_drive width vars cell.Flip = None
+over_drive width vars cell.Free = Some drive.Free
+
+-- the cell is an `over` cell of a signal of that width: `~` is none, and a literal fits
+abbrev pub is_over_cell : ℕ → Cell → Bool
+is_over_cell width cell.Flip = false
+is_over_cell width (cell.Literal literal) = fits literal width
+is_over_cell width _ = true

@@ -2,9 +2,10 @@
 use Rattle.std.specs.Prelude.{◌≡◌, ℕ, Bool, List, map, false, is_some, length, slice_index_or, slice_set, Option, Some, None}
 use Rattle.fourvec.specs.declared.Bit.{Bit}
 use Rattle.sv_outside.specs.declared.text.Signal.{Signal}
-use Rattle.svtv_table.specs.Binding.{drives_of, is_driven, sample_name, samples_of}
+use Rattle.svtv_table.specs.Binding.{drives_of, is_driven, is_overridden, overs_of, sample_name, samples_of}
 use Rattle.svtv_table.specs.Indexing.{Indexes}
 use Rattle.svtv_table.specs.Names.{wire_of}
+use Rattle.svtv_table.specs.declared.binding.Marked.{Marked}
 use Rattle.svtv_table.specs.declared.binding.Work.{Work}
 use Rattle.svtv_table.specs.declared.bound.VarDecl.{VarDecl}
 use Rattle.svtv_table.specs.declared.samples.Samples.{Samples}
@@ -14,13 +15,18 @@ use Rattle.table_cells.specs.declared.table.Row.{Row}
 abbrev pub AreNamed : Samples → Type 0
 AreNamed samples = Indexes samples.taken (map sample_name samples.list)
 
+-- these rows are put in, and a wire is marked where a test of its path says so
+pub record Gathers {T : Type 0} (wires : List Signal) (list : List (ℕ × List T)) (is_marked : List ℕ → Bool) (gathered : Marked T) : Type 0 where
+  pub rows : gathered.rows ≡ list
+  pub room : length gathered.marks.items ≡ length wires
+  pub marks : (path : List ℕ) (wire : ℕ) → wire_of wires path ≡ Some wire → slice_index_or gathered.marks.items wire false ≡ is_marked path
+
 -- the work after rows without faults
 pub record Follows (wires : List Signal) (vars : List VarDecl) (rows : List Row) (work : Work) : Type 0 where
-  pub drives : work.drives ≡ drives_of wires vars rows
+  pub drives : Gathers wires (drives_of wires vars rows) (is_driven rows) work.drives
+  pub overs : Gathers wires (overs_of wires vars rows) (is_overridden rows) work.overs
   pub samples : work.samples.list ≡ samples_of wires rows
   pub named : AreNamed work.samples
-  pub room : length work.driven.items ≡ length wires
-  pub driven : (path : List ℕ) (wire : ℕ) → wire_of wires path ≡ Some wire → slice_index_or work.driven.items wire false ≡ is_driven rows path
 
 -- the variable has a value
 abbrev pub is_valued : List (Option (List Bit)) → Option ℕ → Bool

@@ -10,12 +10,12 @@ use Rattle.table_cells.specs.declared.table.Cell.{Cell}
 use Rattle.table_cells.specs.declared.table.Cell.TheVariants as cell
 use Rattle.table_cells.specs.declared.table.Row.{Row}
 use Rattle.table_cells.specs.declared.table.RowKind.{RowKind}
-use Rattle.table_cells.specs.declared.table.RowKind.TheVariants.{In, Out}
+use Rattle.table_cells.specs.declared.table.RowKind.TheVariants.{In, Over, Out}
 use Rattle.table_cells.specs.declared.table.Table.{Table}
 
 -- the word in the first field
 unfoldable pub kind_of : List ℕ → Option RowKind
-kind_of text = if bytes_eq text (codes "in") then Some In else (if bytes_eq text (codes "out") then Some Out else None)
+kind_of text = if bytes_eq text (codes "in") then Some In else (if bytes_eq text (codes "over") then Some Over else (if bytes_eq text (codes "out") then Some Out else None))
 
 -- ---- faults
 

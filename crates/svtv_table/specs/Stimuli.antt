@@ -17,7 +17,7 @@ use Rattle.table_cells.specs.declared.table.Cell.{Cell}
 use Rattle.table_cells.specs.declared.table.Cell.TheVariants as cell
 use Rattle.table_cells.specs.declared.table.Row.{Row}
 use Rattle.table_cells.specs.declared.table.RowKind.{RowKind}
-use Rattle.table_cells.specs.declared.table.RowKind.TheVariants.{In, Out}
+use Rattle.table_cells.specs.declared.table.RowKind.TheVariants.{In, Over, Out}
 
 -- a vector of 0 and 1 for each variable, as wide as it
 pub record IsChoice (vars : List VarDecl) (choice : List (List Bit)) : Type 0 where
@@ -48,11 +48,30 @@ stimulus choice width vars cells phase cell = stimulus_of choice width vars (hel
 
 abbrev pub stimuli_by : List (List Bit) → List Signal → List VarDecl → RowKind → Row → List (ℕ × List (Option (List Bit)))
 stimuli_by choice wires vars In row = (wire_number wires row.path, at_each (stimulus choice (width_of wires row.path) vars row.cells) 0 row.cells) ∷ []
+stimuli_by choice wires vars Over row = []
 stimuli_by choice wires vars Out row = []
 
 -- of each `in` row its wire, and its stimuli phase by phase
 abbrev pub stimuli_of : List (List Bit) → List Signal → List VarDecl → List Row → List (ℕ × List (Option (List Bit)))
 stimuli_of choice wires vars rows = flat_map (λ row. stimuli_by choice wires vars row.kind row) rows
+
+-- What an `over` cell sets its signal to: nothing where it is empty, a vector, or any vector.
+abbrev pub setting_of : List (List Bit) → ℕ → List VarDecl → Cell → Option (Option (List Bit))
+setting_of choice width vars cell.Empty = None
+setting_of choice width vars (cell.Literal literal) = Some (Some (constant literal width))
+setting_of choice width vars cell.Zed = Some (Some (replicate width Floating))
+setting_of choice width vars (cell.Named name) = Some (Some (given choice (unwrap_or (number_of vars name) 0)))
+setting_of choice width vars cell.Flip = None
+setting_of choice width vars cell.Free = Some None
+
+abbrev pub settings_by : List (List Bit) → List Signal → List VarDecl → RowKind → Row → List (ℕ × List (Option (Option (List Bit))))
+settings_by choice wires vars In row = []
+settings_by choice wires vars Over row = (wire_number wires row.path, map (setting_of choice (width_of wires row.path) vars) row.cells) ∷ []
+settings_by choice wires vars Out row = []
+
+-- of each `over` row its wire, and phase by phase what it is set to
+abbrev pub settings_of : List (List Bit) → List Signal → List VarDecl → List Row → List (ℕ × List (Option (Option (List Bit))))
+settings_of choice wires vars rows = flat_map (λ row. settings_by choice wires vars row.kind row) rows
 
 -- ---- by the drives
 
@@ -65,6 +84,17 @@ drive_value choice drive.Free = None
 abbrev pub values_of : List (List Bit) → List (ℕ × List Drive) → List (ℕ × List (Option (List Bit)))
 values_of choice drives = map (λ row. (row.0, map (drive_value choice) row.1)) drives
 
+-- what is set to, of what a drive gives
+abbrev pub setting_value : List (List Bit) → Option Drive → Option (Option (List Bit))
+setting_value choice d = option_map (drive_value choice) d
+
+abbrev pub settings_in : List (List Bit) → List (ℕ × List (Option Drive)) → List (ℕ × List (Option (Option (List Bit))))
+settings_in choice overs = map (λ row. (row.0, map (setting_value choice) row.1)) overs
+
 -- under every choice the drives give what the cells say
 abbrev pub Means : List Signal → List Row → Bound → Type 0
 Means wires rows bound = (choice : List (List Bit)) → IsChoice bound.vars choice → values_of choice bound.drives ≡ stimuli_of choice wires bound.vars rows
+
+-- and set the signals to what the `over` cells say
+abbrev pub Sets : List Signal → List Row → Bound → Type 0
+Sets wires rows bound = (choice : List (List Bit)) → IsChoice bound.vars choice → settings_in choice bound.overs ≡ settings_of choice wires bound.vars rows

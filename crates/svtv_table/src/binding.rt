@@ -1,23 +1,25 @@
 // Binds a table to the wires of a design. Variables are gathered from all rows first, since a sample may not bear the name of a
 // variable of a later row either; then rows are bound in their order, so that the first fault is told. Which wires have an `in`
-// row is kept as a truth for each wire, so that a second row is seen in one step.
+// row, and which an `over` row, is kept as a truth for each wire, so that a second row is seen in one step.
 ghost use Rattle.std.specs.Prelude.{◌≡◌, ◌<◌, ◌+◌, ◌^◌, ◌∷◌, [], ◌++◌, List, All, Some, map, length, slice_set, slice_index_or, true, false, IfOk, OnOk, IfErr};
 ghost use Rattle.std.specs.List.{IsDistinct};
 ghost use Rattle.std.specs.Str.{bytes_eq};
 ghost use Rattle.svtv_table.specs.Binding as spec;
+ghost use Rattle.svtv_table.specs.Binding.{phase_over};
 ghost use Rattle.svtv_table.specs.Drives.{phase_drive};
 ghost use Rattle.svtv_table.specs.Faults.{Stops, at_each};
-ghost use Rattle.svtv_table.specs.Following.{Follows};
+ghost use Rattle.svtv_table.specs.Following.{Follows, Gathers};
 ghost use Rattle.svtv_table.specs.Indexing.{listed};
 ghost use Rattle.svtv_table.specs.Names as names;
 ghost use Rattle.svtv_table.specs.Reading.{IsWellFormed};
-ghost use Rattle.svtv_table.specs.Stimuli.{Means};
+ghost use Rattle.svtv_table.specs.Stimuli.{Means, Sets};
 ghost use Rattle.svtv_table.specs.declared.bound.VarDecl.{VarDecl};
 
 use crate::bound::{Bound, Drive, VarDecl};
 use crate::drives::drives_of;
 use crate::faults::refused;
 use crate::names::{Target, Variables, Wires, add_rows, declarations, wire_of, wires_of};
+use crate::overs::overs_of;
 use crate::samples::{Samples, sample_cells};
 use indexmap::IndexMap;
 use items::Items;
@@ -26,10 +28,41 @@ use std::alloc::{AllocError, Global};
 use sv_outside::{Signal, TextErr};
 use table_cells::{Row, RowKind, Table};
 
-/// What rows drive and sample, and which wires have an `in` row.
+/// Rows of one kind, each with the number of its wire, and a mark for each wire that has one.
+pub struct Marked<T> {
+    pub rows: Items<(usize, Items<T>)>,
+    pub marks: Vec<bool>,
+}
+
+impl<T: Drop> Drop for Marked<T> {
+    fn drop(self) {
+        let Marked { rows: _, marks: _ } = self;
+    }
+}
+
+impl<T: Drop> Marked<T> {
+    // Puts in the row of a wire, and marks the wire.
+    fn put(&mut self, wire: usize, row: Items<T>) -> Result<(), AllocError>
+        requires { wire < length self.old.marks.items }
+        ensures rows { OnOk result (self.new.rows ≡ self.old.rows ++ (wire, row) ∷ []) }
+        ensures marks { OnOk result (self.new.marks.items ≡ slice_set self.old.marks.items wire true) }
+    {
+        self.marks[wire] = true;
+        self.rows.push((wire, row))
+    }
+
+    fn into_rows(self) -> Items<(usize, Items<T>)>
+        ensures { result ≡ self.rows }
+    {
+        let Marked { rows, marks: _ } = self;
+        rows
+    }
+}
+
+/// What rows drive, override and sample.
 pub struct Work {
-    pub drives: Items<(usize, Items<Drive>)>,
-    pub driven: Vec<bool>,
+    pub drives: Marked<Drive>,
+    pub overs: Marked<Option<Drive>>,
     pub samples: Samples,
 }
 
@@ -37,7 +70,7 @@ impl Drop for Work {
     fn drop(self) {
         let Work {
             drives: _,
-            driven: _,
+            overs: _,
             samples: _,
         } = self;
     }
@@ -45,17 +78,18 @@ impl Drop for Work {
 
 impl Work {
     fn finished(self, phases: usize, declared: Items<VarDecl>) -> Bound
-        ensures { result ≡ record { phases = phases; vars = declared; drives = self.drives; samples = self.samples.list } }
+        ensures { result ≡ record { phases = phases; vars = declared; drives = self.drives.rows; overs = self.overs.rows; samples = self.samples.list } }
     {
         let Work {
             drives,
-            driven: _,
+            overs,
             samples,
         } = self;
         Bound {
             phases,
             vars: declared,
-            drives,
+            drives: drives.into_rows(),
+            overs: overs.into_rows(),
             samples: samples.list,
         }
     }
@@ -101,21 +135,41 @@ fn bind_in(
     variables: &Variables<'_>,
     target: &Target,
     row: &Row,
-    work: &mut Work,
+    drives: &mut Marked<Drive>,
 ) -> Result<(), TextErr>
-    requires { target.now.wire < length work.old.driven.items }
-    ensures drives { OnOk result (work.new.drives ≡ work.old.drives ++ (target.now.wire, at_each (phase_drive target.now.width (listed variables.now) row.now.cells) 0 row.now.cells) ∷ []) }
-    ensures driven { OnOk result (work.new.driven.items ≡ slice_set work.old.driven.items target.now.wire true) }
-    ensures samples { OnOk result (work.new.samples ≡ work.old.samples) }
-    ensures fine { OnOk result (spec.in_faults (slice_index_or work.old.driven.items target.now.wire false) target.now.width (listed variables.now) target.now.line row.now.cells ≡ []) }
-    ensures err { IfErr result (Stops (spec.in_faults (slice_index_or work.old.driven.items target.now.wire false) target.now.width (listed variables.now) target.now.line row.now.cells)) }
+    requires { target.now.wire < length drives.old.marks.items }
+    ensures rows { OnOk result (drives.new.rows ≡ drives.old.rows ++ (target.now.wire, at_each (phase_drive target.now.width (listed variables.now) row.now.cells) 0 row.now.cells) ∷ []) }
+    ensures marks { OnOk result (drives.new.marks.items ≡ slice_set drives.old.marks.items target.now.wire true) }
+    ensures fine { OnOk result (spec.in_faults (slice_index_or drives.old.marks.items target.now.wire false) target.now.width (listed variables.now) target.now.line row.now.cells ≡ []) }
+    ensures err { IfErr result (Stops (spec.in_faults (slice_index_or drives.old.marks.items target.now.wire false) target.now.width (listed variables.now) target.now.line row.now.cells)) }
 {
-    if work.driven[target.wire] {
+    if drives.marks[target.wire] {
         return Err(refused(30, target.line, 2));
     }
-    let drives = drives_of(alloc, variables, target, row.cells.as_slice())?;
-    work.driven[target.wire] = true;
-    work.drives.push((target.wire, drives))?;
+    let driven = drives_of(alloc, variables, target, row.cells.as_slice())?;
+    drives.put(target.wire, driven)?;
+    Ok(())
+}
+
+#[tactic(auto, unfolding(crate::specs::Binding::set_faults, crate::specs::Faults::Stops))]
+fn bind_over(
+    alloc: Global,
+    variables: &Variables<'_>,
+    target: &Target,
+    row: &Row,
+    overs: &mut Marked<Option<Drive>>,
+) -> Result<(), TextErr>
+    requires { target.now.wire < length overs.old.marks.items }
+    ensures rows { OnOk result (overs.new.rows ≡ overs.old.rows ++ (target.now.wire, at_each (phase_over target.now.width (listed variables.now)) 0 row.now.cells) ∷ []) }
+    ensures marks { OnOk result (overs.new.marks.items ≡ slice_set overs.old.marks.items target.now.wire true) }
+    ensures fine { OnOk result (spec.set_faults (slice_index_or overs.old.marks.items target.now.wire false) target.now.width (listed variables.now) target.now.line row.now.cells ≡ []) }
+    ensures err { IfErr result (Stops (spec.set_faults (slice_index_or overs.old.marks.items target.now.wire false) target.now.width (listed variables.now) target.now.line row.now.cells)) }
+{
+    if overs.marks[target.wire] {
+        return Err(refused(30, target.line, 2));
+    }
+    let set = overs_of(alloc, variables, target, row.cells.as_slice())?;
+    overs.put(target.wire, set)?;
     Ok(())
 }
 
@@ -138,19 +192,32 @@ fn bind_row(
 {
     let target = target_of(wires, row, before.len() + 1)?;
     match row.kind {
-        RowKind::In => bind_in(alloc, variables, &target, row, work),
+        RowKind::In => bind_in(alloc, variables, &target, row, &mut work.drives),
+        RowKind::Over => bind_over(alloc, variables, &target, row, &mut work.overs),
         RowKind::Out => sample_cells(&mut work.samples, variables, &target, row.cells.as_slice()),
     }
+}
+
+// No rows of a kind, and no wire marked.
+fn no_rows<T: Drop>(alloc: Global, wires: &Wires) -> Result<Marked<T>, AllocError>
+    ensures { IfOk result (Gathers wires.now.list.now [] (λ path. false)) }
+{
+    let marks = vec![in alloc; false; wires.list.len()]?;
+    Ok(Marked {
+        rows: Items::new(alloc),
+        marks,
+    })
 }
 
 // The work before any row.
 fn no_work(alloc: Global, wires: &Wires) -> Result<Work, AllocError>
     ensures { IfOk result (λ work. (vars : List VarDecl) → Follows wires.now.list.now vars [] work) }
 {
-    let driven = vec![in alloc; false; wires.list.len()]?;
+    let drives = no_rows(alloc, wires)?;
+    let overs = no_rows(alloc, wires)?;
     Ok(Work {
-        drives: Items::new(alloc),
-        driven,
+        drives,
+        overs,
         samples: Samples {
             list: Items::new(alloc),
             taken: NameIndex::new(alloc),
@@ -238,10 +305,11 @@ fn bind_table(alloc: Global, table: &Table, wires: &[Signal]) -> Result<Bound, T
     bind_wires(alloc, table, &wires)
 }
 
-/// What a table drives and samples in a design. E29 is a path that no wire has, or an `in` row of what is no input; E30 a
-/// second `in` row of a path; E28 a literal that does not fit, or `~` where the phase before has no complement; E31 a variable
-/// on signals of two widths; E32 a sample under a name that another one or a variable has. Of wires with one path the first
-/// counts. The first fault in the order of the rows is told, at its record and field.
+/// What a table drives, overrides and samples in a design. E29 is a path that no wire has, or an `in` row of what is no input;
+/// E30 a second `in` row of a path, or a second `over` row; E28 a literal that does not fit, `~` in an `in` row where the phase
+/// before has no complement, or any `~` in an `over` row; E31 a variable on signals of two widths, driven or overridden; E32 a
+/// sample under a name that another one or a variable has. Of wires with one path the first counts. The first fault in the order
+/// of the rows is told, at its record and field.
 pub fn bind(alloc: Global, table: &Table, wires: &[Signal]) -> Result<Bound, TextErr>
     requires formed { IsWellFormed table.now }
     requires widths { All (λ wire. spec.HasWidth wire.width) wires.now }
@@ -249,6 +317,7 @@ pub fn bind(alloc: Global, table: &Table, wires: &[Signal]) -> Result<Bound, Tex
     ensures fine { OnOk result (spec.bind_faults wires.now table.now ≡ []) }
     ensures err { IfErr result (Stops (spec.bind_faults wires.now table.now)) }
     ensures means { IfOk result (Means wires.now table.now.rows) }
+    ensures sets { IfOk result (Sets wires.now table.now.rows) }
     ensures is_bound { IfOk result (spec.IsBound wires.now) }
     ensures distinct { IfOk result (λ bound. IsDistinct bytes_eq (map names.name_of bound.vars)) }
     ensures var_widths { IfOk result (λ bound. All (λ var. spec.HasWidth var.width) bound.vars) }

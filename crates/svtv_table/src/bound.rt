@@ -3,7 +3,7 @@ use fourvec::Four;
 use items::Items;
 use sv_outside::Name;
 
-/// A variable of a table, as wide as the first input that it drives.
+/// A variable of a table, as wide as the first signal that it drives or sets.
 pub struct VarDecl {
     pub name: Name,
     /// In bits, 1 to 128.
@@ -16,10 +16,10 @@ impl Drop for VarDecl {
     }
 }
 
-/// What drives an input in one phase.
+/// What drives an input in one phase, or what a signal is set to.
 #[derive(Clone, Copy)]
 pub enum Drive {
-    /// This vector, as wide as the input.
+    /// This vector, as wide as the signal.
     Fixed(Four),
     /// The variable of that number, from 0, or its complement.
     Chosen { number: usize, flipped: bool },
@@ -56,6 +56,8 @@ pub struct Bound {
     pub vars: Items<VarDecl>,
     /// The number of the wire of each `in` row, and its drive in each phase. Any other input is free.
     pub drives: Items<(usize, Items<Drive>)>,
+    /// The number of the wire of each `over` row, and what it is set to in each phase, if to anything.
+    pub overs: Items<(usize, Items<Option<Drive>>)>,
     /// By row and then by phase.
     pub samples: Items<Sample>,
 }
@@ -66,6 +68,7 @@ impl Drop for Bound {
             phases: _,
             vars: _,
             drives: _,
+            overs: _,
             samples: _,
         } = self;
     }

@@ -18,15 +18,17 @@ use sv_literal::Literal;
 use sv_outside::{Name, TextErr};
 use table_cells::{Cell, constant, fits};
 
+/// A vector of Z.
 #[tactic(auto, using(table_cells::proofs::Constants::filled), unfolding(fourvec::specs::Bits::planes))]
-fn floating(width: u8) -> Four
+pub fn floating(width: u8) -> Four
     requires { HasWidth width }
     ensures { result ≡ replicate width Floating }
 {
     Four::new(1, 0, 1).sext(width)
 }
 
-fn fixed(literal: &Literal, width: u8) -> Option<Drive>
+/// The constant of a literal, where it fits.
+pub fn fixed(literal: &Literal, width: u8) -> Option<Drive>
     requires { HasWidth width }
     ensures { result ≡ spec.fixed_drive literal.now width }
 {
@@ -69,8 +71,8 @@ fn flipped_before(before: &Option<Drive>) -> Option<Drive>
     }
 }
 
-// Every name of an `in` row is that of a variable.
-fn chosen(variables: &Variables<'_>, name: &Name) -> Drive
+/// A variable by its name, which every name of an `in` or `over` row is.
+pub fn chosen(variables: &Variables<'_>, name: &Name) -> Drive
     ensures { result ≡ spec.chosen (listed variables.now) name.now }
 {
     Drive::Chosen {
@@ -107,8 +109,8 @@ fn unless_empty<'a>(cell: &'a Cell, before: &'a Cell) -> &'a Cell
     }
 }
 
-// Whether a cell names a variable of another width.
-fn differs(variables: &Variables<'_>, width: u8, cell: &Cell) -> bool
+/// Whether a cell names a variable of another width.
+pub fn differs(variables: &Variables<'_>, width: u8, cell: &Cell) -> bool
     ensures { result ≡ cell_differs width (listed variables.now) cell.now }
 {
     match cell {

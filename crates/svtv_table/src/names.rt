@@ -1,7 +1,7 @@
 // The wires of a design and the variables of a table, by name. Wires are found by a hash index, in which the first of a path
 // counts, and variables are kept in one map from their names to their widths, in the order in which they appear, so that binding
-// takes linear time. A variable stands where an `in` row names it first and gets the width of that row's wire; whether other rows
-// fit is judged when they are bound. The map borrows the names from the rows; they are copied once, into the list of the bound table.
+// takes linear time. A variable stands where an `in` or `over` row names it first and gets the width of that row's wire; whether
+// other rows fit is judged when they are bound. The map borrows the names from the rows; they are copied once, into the list of the bound table.
 ghost use Rattle.std.specs.Prelude.{◌≡◌, ◌≤◌, ◌<◌, [], map, length, All, IfOk, IfSome, OnOk};
 ghost use Rattle.svtv_table.specs.Binding.{HasWidth, declared_in, variables_of};
 ghost use Rattle.svtv_table.specs.Indexing.{Indexes, listed, wide, with_var, with_vars};
@@ -149,7 +149,7 @@ fn add_row<'a>(variables: &mut Variables<'a>, wires: &Wires, row: &'a Row) -> Re
     ensures { OnOk result (listed variables.new ≡ with_vars (listed variables.old) (declared_in wires.now.list.now row.now)) }
 {
     match row.kind {
-        RowKind::In => {
+        RowKind::In | RowKind::Over => {
             let width = width_of(wires, &row.path);
             add_cells(variables, row.cells.as_slice(), width)
         }

@@ -21,6 +21,8 @@ fn kind_of(text: &[u8]) -> Option<RowKind>
 {
     if text == b"in".as_slice() {
         Some(RowKind::In)
+    } else if text == b"over".as_slice() {
+        Some(RowKind::Over)
     } else if text == b"out".as_slice() {
         Some(RowKind::Out)
     } else {
@@ -118,7 +120,7 @@ fn table_of(alloc: Global, records: &[ByteRecord]) -> Result<Table, TextErr>
 }
 
 /// The table that a text stands for. E26 is a text without records, a first record of fewer than three fields, another one
-/// of another number of fields, or a kind that is neither `in` nor `out`. E27 is a table of over 64 phases, and E28 a cell
+/// of another number of fields, or a kind that is none of `in`, `over` and `out`. E27 is a table of over 64 phases, and E28 a cell
 /// that has none of its row's forms. The first fault in the order of the text is told.
 pub fn read_table(alloc: Global, text: &[u8]) -> Result<Table, TextErr>
     ensures table { IfOk result (λ table. (rows : List (List (List ℕ))) × IsRecords text.now rows × (spec.table_faults rows ≡ []) × (table ≡ spec.table_of rows)) }

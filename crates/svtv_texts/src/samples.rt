@@ -6,9 +6,8 @@ ghost use Rattle.sv_meaning.specs.Designs.{Design};
 ghost use Rattle.svtv_least.specs.Running.{AreAsWide};
 ghost use Rattle.svtv_report.specs.Shown.{sample_texts};
 ghost use Rattle.svtv_report.specs.Texts.{value_lines};
-ghost use Rattle.svtv_runs.specs.Runs.{IsLeastRun, Run};
+ghost use Rattle.svtv_runs.specs.Runs.{IsLeastRun, Run, asks_of};
 ghost use Rattle.svtv_table.specs.Binding.{IsBound};
-ghost use Rattle.svtv_table.specs.Stimuli.{values_of};
 ghost use Rattle.svtv_verdicts.specs.Benches.{sampled_in};
 
 use flat_net::Flat;
@@ -28,7 +27,7 @@ pub fn sampled(
     requires flat { IsFlat flat.now }
     requires bound { IsBound flat.now.wires bound.now }
     requires choice { AreAsWide bound.now.vars choice.now }
-    ensures { (d : Design) → IsElaborated d flat.now → (r : Run) → IsLeastRun d (values_of choice.now bound.now.drives) bound.now.phases r
+    ensures { (d : Design) → IsElaborated d flat.now → (r : Run) → IsLeastRun d (asks_of choice.now bound.now) bound.now.phases r
         → IfOk result (λ text. text.items ≡ value_lines [] (sample_texts bound.now.samples) (sampled_in bound.now.samples r)) }
 {
     let mut runner = Runner::new(alloc, flat, bound)?;

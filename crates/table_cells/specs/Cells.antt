@@ -9,7 +9,7 @@ use Rattle.sv_literal.specs.declared.meaning.Literal.{Literal}
 use Rattle.table_cells.specs.declared.table.Cell.{Cell}
 use Rattle.table_cells.specs.declared.table.Cell.TheVariants as cell
 use Rattle.table_cells.specs.declared.table.RowKind.{RowKind}
-use Rattle.table_cells.specs.declared.table.RowKind.TheVariants.{In, Out}
+use Rattle.table_cells.specs.declared.table.RowKind.TheVariants.{In, Over, Out}
 
 -- a literal that has a value (5.7.1)
 abbrev pub has_value : List ℕ → Bool
@@ -39,6 +39,10 @@ in_cell text =
     else (if is_cell_name text then Some (cell.Named text)
     else constant_cell text))))
 
+-- what a signal is set to: as a stimulus, but for `~`
+unfoldable pub over_cell : List ℕ → Option Cell
+over_cell text = if bytes_eq text (codes "~") then None else in_cell text
+
 -- a sample: nothing or a name
 unfoldable pub out_cell : List ℕ → Option Cell
 out_cell text = if is_empty text then Some cell.Empty else (if is_cell_name text then Some (cell.Named text) else None)
@@ -46,4 +50,5 @@ out_cell text = if is_empty text then Some cell.Empty else (if is_cell_name text
 -- the cell that a field spells, in a row of that kind
 abbrev pub cell_of : RowKind → List ℕ → Option Cell
 cell_of In text = in_cell text
+cell_of Over text = over_cell text
 cell_of Out text = out_cell text

@@ -54,6 +54,17 @@ fn in_cell(alloc: Global, text: &[u8]) -> Result<Option<Cell>, AllocError>
     }
 }
 
+#[tactic(auto, unfolding(crate::specs::Cells::over_cell))]
+fn over_cell(alloc: Global, text: &[u8]) -> Result<Option<Cell>, AllocError>
+    ensures { IfOk result (λ cell. cell ≡ spec.over_cell text.now) }
+{
+    if text == b"~".as_slice() {
+        Ok(None)
+    } else {
+        in_cell(alloc, text)
+    }
+}
+
 #[tactic(auto, unfolding(crate::specs::Cells::out_cell))]
 fn out_cell(alloc: Global, text: &[u8]) -> Result<Option<Cell>, AllocError>
     ensures { IfOk result (λ cell. cell ≡ spec.out_cell text.now) }
@@ -73,6 +84,7 @@ pub fn cell_of(alloc: Global, kind: RowKind, text: &[u8]) -> Result<Option<Cell>
 {
     match kind {
         RowKind::In => in_cell(alloc, text),
+        RowKind::Over => over_cell(alloc, text),
         RowKind::Out => out_cell(alloc, text),
     }
 }

@@ -5,7 +5,7 @@ use sv_outside::Name;
 
 /// What a cell says of one signal in one phase.
 pub enum Cell {
-    /// Nothing of its own: a stimulus is that of the cell before, read once more, and free in the first phase.
+    /// Nothing of its own: a stimulus is that of the cell before, read once more, and free in the first phase; no signal is set.
     Empty,
     /// A constant, each bit 0 or 1.
     Literal(Literal),
@@ -37,6 +37,8 @@ impl Drop for Cell {
 pub enum RowKind {
     /// Stimuli of an input.
     In,
+    /// What a signal is set to, whatever drives it, in the phases whose cells are not empty.
+    Over,
     /// Samples of a signal.
     Out,
 }

@@ -21,13 +21,13 @@ loop-wire-preserved c = λ links s.
     let old = c.args.gifts.now.items in
     let home = home_of links (widths_of c.args.joins.now) in
     let here = cond w.input (gifts_to home (Stimulus i) 0 (wire_bits i w.width)) [] in
-    c.in_ok-give_input.ensures links s
+    c.in_ok-give_wire.ensures links s
     ∙ ap (λ l. l ++ here) (c.loop-wire.invariant links s)
     ∙ append_assoc old (stimulus_gifts home 0 (take i wires)) here
     ∙ ap (λ l. old ++ l) (sym (stimuli-more home wires i w (omega arith) (sym c.index-wires-wire.is)))
 
-pub returns-in_err-give_input : goal.returns-in_err-give_input
-returns-in_err-give_input c = IfOk-from_err _ _ c.from_residual.ensures.0
+pub returns-in_err-give_wire : goal.returns-in_err-give_wire
+returns-in_err-give_wire c = IfOk-from_err _ _ c.from_residual.ensures.0
 
 pub bounds-wires-wire : goal.bounds-wires-wire
 bounds-wires-wire c = c.loop-wire-test.true
@@ -37,8 +37,8 @@ returns c = λ links s.
     c.loop-wire.invariant links s
     ∙ ap (λ ws. c.args.gifts.now.items ++ stimulus_gifts (home_of links (widths_of c.args.joins.now)) 0 ws) (take_all c.loop-wire.wire c.args.wires.now c.loop-wire-test.false)
 
-pub give_input-requires-clause-fits : goal.give_input-requires-clause-fits
-give_input-requires-clause-fits c = c.requires.fits
+pub give_wire-requires-clause-fits : goal.give_wire-requires-clause-fits
+give_wire-requires-clause-fits c = c.requires.fits
 
-pub give_input-requires-clause-starts : goal.give_input-requires-clause-starts
-give_input-requires-clause-starts c = c.requires.starts
+pub give_wire-requires-clause-starts : goal.give_wire-requires-clause-starts
+give_wire-requires-clause-starts c = c.requires.starts

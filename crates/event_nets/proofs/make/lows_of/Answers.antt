@@ -1,25 +1,15 @@
 use Rattle.std.proofs.lemmas.Result.{IfOk-from_err}
-use Rattle.std.proofs.Common.{◌≡◌, ℕ, ◌<◌, List, length, sym, ap, ◌∙◌, subst, sum, arith}
-use Rattle.std.specs.Prelude.{All, Option, IfOk}
+use Rattle.std.proofs.Common.{◌≡◌, ℕ, List, length, sym, ap, ◌∙◌, subst, sum, arith}
+use Rattle.std.specs.Prelude.{Option, IfOk}
 use Rattle.std.proofs.lemmas.List.{length-map}
 use Rattle.lhs_alias.specs.Joined.{all_bits}
 use Rattle.lhs_alias.proofs.Row.{length-all_bits}
 use Rattle.driver_resolve.specs.Drivers.{widths_of}
 use Rattle.flat_net.specs.Flats.{links_of}
-use Rattle.event_nets.specs.declared.gift.Gift.{Gift}
 use Rattle.event_nets.specs.Runs.{net_test, lows_in}
-use Rattle.event_nets.specs.Tables.{home_of, gifts_of, lows_of}
+use Rattle.event_nets.specs.Tables.{home_of, lows_of}
 use Rattle.event_nets.proofs.FlatNets.{AreNetTables, lows-are}
-use Rattle.event_nets.proofs.Making.{all-below}
 use Rattle.event_nets.proofs.make.lows_of.Goals as goal
-
-pub driven_places-requires : goal.driven_places-requires
-driven_places-requires c =
-    let flat = c.args.flat.now in
-    let widths = widths_of flat.wires in
-    let long : length (all_bits widths) ≡ length c.args.homes.now = sym (ap (λ l. length l) c.requires.homes ∙ length-map (all_bits widths) (home_of (links_of flat.joins) widths)) in
-    subst (λ l. All (λ (g : Gift). g.to < length c.args.homes.now) l) (sym c.requires.gifts)
-    (subst (λ n. All (λ (g : Gift). g.to < n) (gifts_of flat)) long (all-below flat c.requires.flat))
 
 pub all_lows-requires-clause-homes : goal.all_lows-requires-clause-homes
 all_lows-requires-clause-homes c =
@@ -35,20 +25,20 @@ all_lows-requires-clause-driven c =
     ∙ ap (λ l. length l) c.requires.homes ∙ length-map (all_bits widths) (home_of (links_of flat.joins) widths) ∙ length-all_bits widths ∙ ap (λ ws. sum ws) (sym c.requires.widths)
 
 pub returns : goal.returns
-returns c =
+returns c = λ over gifts.
     let flat = c.args.flat.now in
     let widths = widths_of flat.wires in
     let long : length c.args.homes.now ≡ length (all_bits widths) = ap (λ l. length l) c.requires.homes ∙ length-map (all_bits widths) (home_of (links_of flat.joins) widths) in
-    let told : AreNetTables flat c.args.homes.now c.in_ok-driven.driven.items c.args.gifts.now = record {
+    let told : AreNetTables flat over c.args.homes.now c.in_ok-driven.driven.items c.args.gifts.now = record {
       homes_are = c.requires.homes;
-      gifts_are = c.requires.gifts;
+      gifts_are = gifts;
       driven_are = λ place lt. c.in_ok-driven.ensures.driven place (omega (arith, lt, long));
     } in
-    let same : lows_in (net_test c.args.homes.now c.deref.result.now) c.args.widths.now ≡ lows_of flat =
+    let same : lows_in (net_test c.args.homes.now c.deref.result.now) c.args.widths.now ≡ lows_of flat over =
     ap (λ l. lows_in (net_test c.args.homes.now l) c.args.widths.now) c.deref.ensures.value
     ∙ ap (λ ws. lows_in (net_test c.args.homes.now c.in_ok-driven.driven.items) ws) c.requires.widths
-    ∙ lows-are flat c.requires.flat c.args.homes.now c.in_ok-driven.driven.items c.args.gifts.now told in
+    ∙ lows-are flat c.requires.flat over c.args.homes.now c.in_ok-driven.driven.items c.args.gifts.now told in
     subst (λ (l : List (Option ℕ)). IfOk c.all_lows.result (λ lows. lows.items ≡ l)) same c.all_lows.ensures
 
 pub returns-in_err-driven : goal.returns-in_err-driven
-returns-in_err-driven c = IfOk-from_err _ _ c.from_residual.ensures.0
+returns-in_err-driven c = λ over gifts. IfOk-from_err _ _ c.from_residual.ensures.0

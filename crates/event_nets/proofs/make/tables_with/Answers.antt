@@ -21,16 +21,16 @@ pub given_by_net-requires-clause-lows : goal.given_by_net-requires-clause-lows
 given_by_net-requires-clause-lows c = λ k. subst (λ (l : List (Option ℕ)). IfSome (slice_index_or l k None) (λ low. low < length l)) (sym c.deref-2.ensures.value) (c.requires.lows k)
 
 pub returns : goal.returns
-returns c = λ flat starts homes lows gifts.
+returns c = λ flat over starts homes lows gifts.
     let bits = all_bits (widths_of flat.wires) in
-    let long : length c.deref-2.result.now ≡ length bits = ap (λ l. length l) (c.deref-2.ensures.value ∙ lows) ∙ length-map bits (low_of (place_of (widths_of flat.wires)) flat) in
+    let long : length c.deref-2.result.now ≡ length bits = ap (λ l. length l) (c.deref-2.ensures.value ∙ lows) ∙ length-map bits (low_of (place_of (widths_of flat.wires)) flat over) in
     let given_each : length c.in_ok-given.given.items ≡ length bits = c.in_ok-given.ensures.len ∙ long in
     record {
       starts = starts;
       homes = homes;
       gifts = gifts;
       lows = lows;
-      nets = c.in_ok-nets.ensures ∙ ap (λ l. filter (begins l) (range_with_len 0 (length l))) c.deref.ensures.value ∙ nets-are flat c.args.lows.items lows;
+      nets = c.in_ok-nets.ensures ∙ ap (λ l. filter (begins l) (range_with_len 0 (length l))) c.deref.ensures.value ∙ nets-are flat over c.args.lows.items lows;
       given_each = given_each;
       given = λ low lt. c.in_ok-given.ensures.given low (omega (arith, lt, long))
           ∙ ap (λ l. given_to l c.deref-3.result.now low) c.deref-2.ensures.value
@@ -38,7 +38,7 @@ returns c = λ flat starts homes lows gifts.
     }
 
 pub returns-in_err-nets : goal.returns-in_err-nets
-returns-in_err-nets c = λ flat starts homes lows gifts. IfOk-from_err _ _ c.from_residual.ensures.0
+returns-in_err-nets c = λ flat over starts homes lows gifts. IfOk-from_err _ _ c.from_residual.ensures.0
 
 pub returns-in_err-given : goal.returns-in_err-given
-returns-in_err-given c = λ flat starts homes lows gifts. IfOk-from_err _ _ c.from_residual-in_err-given.ensures.0
+returns-in_err-given c = λ flat over starts homes lows gifts. IfOk-from_err _ _ c.from_residual-in_err-given.ensures.0

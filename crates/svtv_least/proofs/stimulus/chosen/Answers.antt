@@ -1,4 +1,4 @@
-use Rattle.std.proofs.Common.{List, [], length, ap, ◌∙◌}
+use Rattle.std.proofs.Common.{[], length, ap, ◌∙◌}
 use Rattle.std.proofs.lemmas.List.{get_or_default}
 use Rattle.fourvec.specs.Bits.{not_bit}
 use Rattle.svex_shape.specs.Values.{Vector}

@@ -4,9 +4,9 @@ use Rattle.std.specs.List.{IsDistinct}
 use Rattle.std.specs.Str.{bytes_eq}
 use Rattle.svtv_table.specs.Binding.{HasWidth, IsBound, bind_faults, bound_of}
 use Rattle.svtv_table.specs.Names.{name_of}
-use Rattle.svtv_table.specs.Stimuli.{Means}
+use Rattle.svtv_table.specs.Stimuli.{Means, Sets}
 use Rattle.svtv_table.proofs.Bounds.{if_ok_bound, if_ok_fine, vars_distinct, vars_wide}
-use Rattle.svtv_table.proofs.Meaning.{means}
+use Rattle.svtv_table.proofs.Meaning.{means, sets}
 use Rattle.svtv_table.proofs.Shape.{is_bound}
 use Rattle.svtv_table.proofs.binding.bind.Goals as goal
 
@@ -14,6 +14,11 @@ pub returns-clause-means : goal.returns-clause-means
 returns-clause-means c =
     if_ok_fine (bind_faults c.args.wires.now c.args.table.now ≡ []) (Means c.args.wires.now c.args.table.now.rows) c.bind_table.result (bound_of c.args.wires.now c.args.table.now)
     c.bind_table.ensures.bound c.bind_table.ensures.fine (means c.args.wires.now c.args.table.now)
+
+pub returns-clause-sets : goal.returns-clause-sets
+returns-clause-sets c =
+    if_ok_fine (bind_faults c.args.wires.now c.args.table.now ≡ []) (Sets c.args.wires.now c.args.table.now.rows) c.bind_table.result (bound_of c.args.wires.now c.args.table.now)
+    c.bind_table.ensures.bound c.bind_table.ensures.fine (sets c.args.wires.now c.args.table.now)
 
 pub returns-clause-is_bound : goal.returns-clause-is_bound
 returns-clause-is_bound c =

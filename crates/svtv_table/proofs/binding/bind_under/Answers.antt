@@ -19,7 +19,7 @@ returns-in_err-work-clause-err c =
 
 pub returns-clause-bound : goal.returns-clause-bound
 returns-clause-bound c =
-    c.finished.ensures ∙ ap (λ (vars : List VarDecl). made c.args.table.now.phases vars c.in_ok-work.work.drives c.in_ok-work.work.samples.list) c.in_ok-vars.ensures
+    c.finished.ensures ∙ ap (λ (vars : List VarDecl). made c.args.table.now.phases vars c.in_ok-work.work.drives.rows c.in_ok-work.work.overs.rows c.in_ok-work.work.samples.list) c.in_ok-vars.ensures
     ∙ bound_is c.args.wires.now.list.now c.args.wires.now.list.now c.args.table.now c.as_slice-rows.result.now (listed c.args.variables.now) c.in_ok-work.work
     refl c.as_slice-rows.ensures (c.requires.declared ∙ ap (variables_of c.args.wires.now.list.now) (sym c.as_slice-rows.ensures)) c.in_ok-work.ensures.follows
 

@@ -15,18 +15,18 @@ use Rattle.event_sim.proofs.Passing.{passed-widths}
 use Rattle.event_sim.proofs.sim.Sim.pass_net.Goals as goal
 
 pub given_to-gifts-requires : goal.given_to-gifts-requires
-given_to-gifts-requires c = omega (arith, c.requires.low, c.requires.fits.tables.given_each)
+given_to-gifts-requires c = omega (arith, c.requires.low, c.requires.fits.1.tables.given_each)
 
 pub evaluate_net-requires-clause-len : goal.evaluate_net-requires-clause-len
-evaluate_net-requires-clause-len c = c.requires.fits.values
+evaluate_net-requires-clause-len c = c.requires.fits.1.values
 
 pub evaluate_net-requires-clause-room : goal.evaluate_net-requires-clause-room
-evaluate_net-requires-clause-room c = c.requires.fits.room
+evaluate_net-requires-clause-room c = c.requires.fits.1.room
 
 pub evaluate_net-requires-clause-roots : goal.evaluate_net-requires-clause-roots
 evaluate_net-requires-clause-roots c =
     let flat = c.args.flat.now in
-    subst (λ (l : List Gift). All (IsRoot (length flat.arena)) l) (sym c.given_to-gifts.ensures) (net-roots flat c.args.self.now.tables c.requires.flat c.requires.fits.tables c.args.low c.requires.low)
+    subst (λ (l : List Gift). All (IsRoot (length flat.arena)) l) (sym c.given_to-gifts.ensures) (net-roots flat c.requires.fits.0 c.args.self.now.tables c.requires.flat c.requires.fits.1.tables c.args.low c.requires.low)
 
 pub tell_net-requires : goal.tell_net-requires
 tell_net-requires c =
@@ -36,26 +36,25 @@ tell_net-requires c =
     let nodes = c.evaluate_net.new.self.walk.nodes.items in
     let need = subst (λ (l : List Gift). IsNeeded flat.arena l nodes) c.given_to-gifts.ensures c.evaluate_net.ensures.needed in
     subst (λ (l : List Gift). All (IsGift values sim.env.stim (length c.evaluate_net.new.self.told.items)) l) (sym c.given_to-gifts.ensures)
-    (net-gifts-fit flat sim c.evaluate_net.ensures.arena c.requires.flat c.requires.fits c.args.low c.requires.low nodes need values c.evaluate_net.ensures.values c.evaluate_net.new.self.told.items c.evaluate_net.ensures.told)
+    (net-gifts-fit flat c.requires.fits.0 sim c.evaluate_net.ensures.arena c.requires.flat c.requires.fits.1 c.args.low c.requires.low nodes need values c.evaluate_net.ensures.values c.evaluate_net.new.self.told.items c.evaluate_net.ensures.told)
 
 pub take-requires-clause-starts : goal.take-requires-clause-starts
-take-requires-clause-starts c = starts-fit c.args.flat.now c.args.self.now c.requires.fits
+take-requires-clause-starts c = starts-fit c.args.flat.now c.requires.fits.0 c.args.self.now c.requires.fits.1
 
 pub take-requires-clause-places : goal.take-requires-clause-places
-take-requires-clause-places c = rows-fit c.args.flat.now c.args.self.now c.requires.fits
+take-requires-clause-places c = rows-fit c.args.flat.now c.requires.fits.0 c.args.self.now c.requires.fits.1
 
 pub take-requires-clause-homes : goal.take-requires-clause-homes
 take-requires-clause-homes c =
-    homes-fit c.args.flat.now c.args.self.now c.requires.flat c.requires.fits c.tell_net.new.self.told.items (c.tell_net.ensures.len ∙ ap (λ l. length l) c.evaluate_net.ensures.told)
+    homes-fit c.args.flat.now c.requires.fits.0 c.args.self.now c.requires.flat c.requires.fits.1 c.tell_net.new.self.told.items (c.tell_net.ensures.len ∙ ap (λ l. length l) c.evaluate_net.ensures.told)
 
 pub take-requires-clause-lows : goal.take-requires-clause-lows
 take-requires-clause-lows c =
-    lows-fit c.args.flat.now c.args.self.now c.requires.fits c.tell_net.new.self.told.items (c.tell_net.ensures.len ∙ ap (λ l. length l) c.evaluate_net.ensures.told)
+    lows-fit c.args.flat.now c.requires.fits.0 c.args.self.now c.requires.fits.1 c.tell_net.new.self.told.items (c.tell_net.ensures.len ∙ ap (λ l. length l) c.evaluate_net.ensures.told)
 
 pub returns-clause-fits : goal.returns-clause-fits
-returns-clause-fits c =
+returns-clause-fits c = λ over fits.
     let widths = widths_of c.args.flat.now.wires in
-    let fits = c.requires.fits in
     let valued : List Vector → Type 0 = IsValuation widths in
     record {
       present = passed-widths widths _ _ _ _ _ c.args.self.now.env.present c.take.new.env.present c.take.ensures.rows fits.present;
@@ -68,13 +67,13 @@ returns-clause-fits c =
     }
 
 pub returns-clause-now : goal.returns-clause-now
-returns-clause-now c =
+returns-clause-now c = λ over fits.
     let flat = c.args.flat.now in
     let sim = c.args.self.now in
     let values = c.evaluate_net.new.self.values.items in
     let nodes = c.evaluate_net.new.self.walk.nodes.items in
     let need = subst (λ (l : List Gift). IsNeeded flat.arena l nodes) c.given_to-gifts.ensures c.evaluate_net.ensures.needed in
-    net-now flat sim c.evaluate_net.ensures.arena c.requires.flat c.requires.fits c.args.low c.requires.low nodes need values c.evaluate_net.ensures.values
+    net-now flat over sim c.evaluate_net.ensures.arena c.requires.flat fits c.args.low c.requires.low nodes need values c.evaluate_net.ensures.values
     c.tell_net.new.self.told.items (c.tell_net.ensures.len ∙ ap (λ l. length l) c.evaluate_net.ensures.told)
     (subst (λ (l : List Gift). IsTold values sim.env.stim l c.tell_net.new.self.told.items) c.given_to-gifts.ensures c.tell_net.ensures.told)
     c.take.new.env.present c.take.ensures.rows

@@ -1,45 +1,58 @@
-use Rattle.std.proofs.Common.{ℕ, ◌<◌, length, get_or, sym, ap, ◌∙◌, subst}
+use Rattle.std.proofs.Common.{ℕ, ◌<◌, length, get_or, sym, ap, ◌∙◌, subst, arith}
+use Rattle.std.proofs.lemmas.List.{length-map}
 use Rattle.lhs_alias.specs.Segs.{bit}
-use Rattle.lhs_alias.specs.Joined.{all_bits}
+use Rattle.lhs_alias.specs.Joined.{all_bits, place_of}
 use Rattle.lhs_alias.proofs.Row.{place-below}
 use Rattle.driver_resolve.specs.Drivers.{widths_of}
 use Rattle.flat_net.specs.Flats.{given_in}
 use Rattle.event_nets.specs.Nets.{nets_of}
 use Rattle.event_sim.specs.Sims.{prev_of, stim_of, now_values}
 use Rattle.event_sim.proofs.After.{after-more}
-use Rattle.event_sim.proofs.Stepping.{step-event, net-inside, net-low}
+use Rattle.event_sim.proofs.Stepping.{step-event, net-inside, net-low, net-there}
 use Rattle.event_sim.proofs.sim.Sim.step.Goals as goal
+
+pub low_of-low-requires : goal.low_of-low-requires
+low_of-low-requires c =
+    let flat = c.args.flat.now in
+    let nets = nets_of flat c.requires.net.0 in
+    let long = ap (λ l. length l) (c.deref.ensures.value ∙ c.requires.net.1.tables.nets) ∙ length-map nets (place_of (widths_of flat.wires)) in
+    omega (arith, c.requires.net.2, long)
+
+pub pass_net-requires-clause-fits : goal.pass_net-requires-clause-fits
+pass_net-requires-clause-fits c = (c.requires.net.0, c.requires.net.1)
 
 pub pass_net-requires-clause-low : goal.pass_net-requires-clause-low
 pass_net-requires-clause-low c =
     let flat = c.args.flat.now in
+    let over = c.requires.net.0 in
+    let there = c.requires.net.2 in
     let widths = widths_of flat.wires in
     let sim = c.args.self.now in
-    let net = get_or (nets_of flat) c.args.net (bit 0 0) in
+    let net = get_or (nets_of flat over) c.args.net (bit 0 0) in
     subst (λ (p : ℕ). p < length (all_bits widths))
-    (sym (c.low_of-low.ensures ∙ ap (λ l. get_or l c.args.net 0) c.deref.ensures.value ∙ net-low flat sim.tables.nets.items c.requires.fits.tables.nets c.args.net (bit 0 0) c.requires.net))
-    (place-below widths net (net-inside flat c.args.net (bit 0 0) c.requires.net))
+    (sym (c.low_of-low.ensures ∙ ap (λ l. get_or l c.args.net 0) c.deref.ensures.value ∙ net-low flat over sim.tables.nets.items c.requires.net.1.tables.nets c.args.net (bit 0 0) there))
+    (place-below widths net (net-inside flat over c.args.net (bit 0 0) there))
 
 pub returns-clause-now : goal.returns-clause-now
-returns-clause-now c =
+returns-clause-now c = λ over fits.
     let flat = c.args.flat.now in
     let sim = c.args.self.now in
-    let fits = c.requires.fits in
-    let net = get_or (nets_of flat) c.args.net (bit 0 0) in
-    step-event flat c.requires.flat (now_values sim) (now_values c.pass_net.new.self) fits.present c.pass_net.ensures.fits.present sim.tables.lows.items fits.tables.lows
-    net (net-inside flat c.args.net (bit 0 0) c.requires.net) c.low_of-low.result
-    (c.low_of-low.ensures ∙ ap (λ l. get_or l c.args.net 0) c.deref.ensures.value ∙ net-low flat sim.tables.nets.items fits.tables.nets c.args.net (bit 0 0) c.requires.net)
-    (given_in flat (stim_of sim) (prev_of sim)) c.pass_net.ensures.now
+    let there = net-there flat c.requires.net.0 over sim c.requires.net.1 fits c.args.net c.requires.net.2 in
+    let net = get_or (nets_of flat over) c.args.net (bit 0 0) in
+    step-event flat c.requires.flat over (now_values sim) (now_values c.pass_net.new.self) fits.present (c.pass_net.ensures.fits over fits).present sim.tables.lows.items fits.tables.lows
+    net (net-inside flat over c.args.net (bit 0 0) there) c.low_of-low.result
+    (c.low_of-low.ensures ∙ ap (λ l. get_or l c.args.net 0) c.deref.ensures.value ∙ net-low flat over sim.tables.nets.items fits.tables.nets c.args.net (bit 0 0) there)
+    (given_in flat over (stim_of sim) (prev_of sim)) (c.pass_net.ensures.now over fits)
 
 pub returns-clause-after : goal.returns-clause-after
-returns-clause-after c = λ steps h.
+returns-clause-after c = λ over steps fits h.
     let flat = c.args.flat.now in
     let sim = c.args.self.now in
-    let fits = c.requires.fits in
-    let net = get_or (nets_of flat) c.args.net (bit 0 0) in
-    after-more flat sim c.pass_net.new.self c.args.net steps c.pass_net.ensures.stim c.pass_net.ensures.previous
-    (step-event flat c.requires.flat (now_values sim) (now_values c.pass_net.new.self) fits.present c.pass_net.ensures.fits.present sim.tables.lows.items fits.tables.lows
-    net (net-inside flat c.args.net (bit 0 0) c.requires.net) c.low_of-low.result
-    (c.low_of-low.ensures ∙ ap (λ l. get_or l c.args.net 0) c.deref.ensures.value ∙ net-low flat sim.tables.nets.items fits.tables.nets c.args.net (bit 0 0) c.requires.net)
-    (given_in flat (stim_of sim) (prev_of sim)) c.pass_net.ensures.now)
+    let there = net-there flat c.requires.net.0 over sim c.requires.net.1 fits c.args.net c.requires.net.2 in
+    let net = get_or (nets_of flat over) c.args.net (bit 0 0) in
+    after-more flat over sim c.pass_net.new.self c.args.net steps c.pass_net.ensures.stim c.pass_net.ensures.previous
+    (step-event flat c.requires.flat over (now_values sim) (now_values c.pass_net.new.self) fits.present (c.pass_net.ensures.fits over fits).present sim.tables.lows.items fits.tables.lows
+    net (net-inside flat over c.args.net (bit 0 0) there) c.low_of-low.result
+    (c.low_of-low.ensures ∙ ap (λ l. get_or l c.args.net 0) c.deref.ensures.value ∙ net-low flat over sim.tables.nets.items fits.tables.nets c.args.net (bit 0 0) there)
+    (given_in flat over (stim_of sim) (prev_of sim)) (c.pass_net.ensures.now over fits))
     h

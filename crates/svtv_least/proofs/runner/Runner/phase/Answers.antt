@@ -1,23 +1,50 @@
-use Rattle.std.proofs.Common.{◌≡◌, ◌∙◌, List, length, map, ap, sym, subst}
-use Rattle.std.specs.Prelude.{All}
-use Rattle.settling.specs.Settling.{Store}
+use Rattle.std.proofs.Common.{◌≡◌, ◌∙◌, ℕ, List, length, map, ap, sym, subst}
+use Rattle.std.specs.Prelude.{All, Option}
 use Rattle.svex_shape.specs.Values.{Vector}
 use Rattle.driver_resolve.specs.Drivers.{widths_of}
+use Rattle.svtv_table.specs.declared.bound.Drive.{Drive}
+use Rattle.fourvec.specs.declared.Bit.TheVariants.{Unknown}
+use Rattle.settling.specs.Settling.{Store}
 use Rattle.flat_net.specs.Flats.{IsLeastSettling}
-use Rattle.event_sim.specs.Sims.{store_of, now_of}
-use Rattle.svtv_table.specs.Stimuli.{values_of}
-use Rattle.svtv_runs.specs.Leasts.{least_stimulus}
-use Rattle.svtv_least.specs.Running.{IsGiven}
+use Rattle.event_sim.specs.Sims.{store_of}
+use Rattle.svtv_table.specs.Stimuli.{settings_in, values_of}
+use Rattle.svtv_runs.specs.Runs.{Asked, asks_of, driven_rows, overrides_in, set_rows, stimuli_in}
+use Rattle.svtv_runs.specs.Leasts.{least_overriding, set_over}
+use Rattle.svtv_least.proofs.Planning.{rows_set}
+use Rattle.svtv_least.proofs.Setting.{IsOver, outside_set}
+use Rattle.svtv_least.specs.Running.{Gives, IsGiven, Sets}
+use Rattle.svtv_least.proofs.Fitting.{drives_given, overs_given}
 use Rattle.svtv_least.proofs.runner.Runner.phase.Goals as goal
+
+pub drive-requires : goal.drive-requires
+drive-requires c =
+    let widths : map (λ (v : Vector). length v) c.copy.new.into ≡ widths_of c.args.flat.now.wires = ap (map (λ (v : Vector). length v)) (c.copy.ensures ∙ c.as_slice.ensures) ∙ c.requires.blank in
+    subst (λ ws. All (IsGiven (Gives c.args.choice.now) ws c.args.phase) c.as_slice-2.result.now) (sym widths)
+    (drives_given c.args.flat.now.wires c.args.bound.now c.args.choice.now c.args.phase c.as_slice-2.result.now c.requires.bound c.requires.choice c.requires.phase c.as_slice-2.ensures)
+
+pub override_wires-requires : goal.override_wires-requires
+override_wires-requires c =
+    let widths : map (λ (v : Vector). length v) c.drive.new.stim ≡ widths_of c.args.flat.now.wires = c.drive.ensures.widths ∙ ap (map (λ (v : Vector). length v)) (c.copy.ensures ∙ c.as_slice.ensures) ∙ c.requires.blank in
+    subst (λ ws. All (IsGiven (Sets c.args.choice.now) ws c.args.phase) c.as_slice-3.result.now) (sym widths)
+    (overs_given c.args.flat.now.wires c.args.bound.now c.args.choice.now c.args.phase c.as_slice-3.result.now c.requires.bound c.requires.choice c.requires.phase c.as_slice-3.ensures)
+
+pub returns-clause-plan : goal.returns-clause-plan
+returns-clause-plan c = c.settle.ensures.plan c.args.bound.now.overs c.args.bound.now.phases c.requires.plan
 
 pub returns-clause-least : goal.returns-clause-least
 returns-clause-least c =
-    let stim : Store = least_stimulus (values_of c.args.choice.now c.args.rows.now) c.args.phase in
-    let prev : Store = store_of c.args.self.now.prev.values in
-    subst (λ (z : List Vector). IsLeastSettling c.args.flat.now stim prev (store_of z)) (sym c.save.ensures)
-    (subst (λ (z : Store). IsLeastSettling c.args.flat.now z prev (now_of c.settle.new.self)) (λ i n k. c.drive.ensures.stim n k i) c.settle.ensures.least)
-
-pub drive-requires-clause-given : goal.drive-requires-clause-given
-drive-requires-clause-given c =
-    let widths : map (λ (v : Vector). length v) c.copy.new.into ≡ widths_of c.args.flat.now.wires = ap (map (λ (v : Vector). length v)) (c.copy.ensures ∙ c.as_slice.ensures) ∙ c.requires.blank in
-    subst (λ ws. All (IsGiven c.args.choice.now ws c.args.phase) c.args.rows.now) (sym widths) c.requires.given
+    let flat = c.args.flat.now in
+    let phase = c.args.phase in
+    let choice = c.args.choice.now in
+    let bound = c.args.bound.now in
+    let asked : Asked = asks_of choice bound in
+    let before : Store = store_of c.args.self.now.prev.values in
+    let now : Store = store_of c.settle.new.prev.values in
+    let wires : List ℕ = (least_overriding asked phase).wires in
+    let blank : (n k : ℕ) → store_of c.copy.new.into n k ≡ Unknown = λ n k. ap (λ (z : List Vector). store_of z n k) (c.copy.ensures ∙ c.as_slice.ensures) ∙ c.requires.unknown n k in
+    let stimuli : IsOver c.drive.new.stim (stimuli_in asked phase) (store_of c.copy.new.into) = λ n k.
+    c.drive.ensures.stim n k ∙ ap (λ (rows : List (ℕ × List Drive)). set_over (driven_rows (values_of choice rows) phase) (store_of c.copy.new.into) n k) c.as_slice-2.ensures in
+    let settings : IsOver c.override_wires.new.stim (overrides_in asked phase) (store_of c.drive.new.stim) = λ n k.
+    c.override_wires.ensures.stim n k ∙ ap (λ (rows : List (ℕ × List (Option Drive))). set_over (set_rows (settings_in choice rows) phase) (store_of c.drive.new.stim) n k) c.as_slice-3.ensures in
+    subst (λ (stim : Store). IsLeastSettling flat wires stim before now) (outside_set asked phase c.copy.new.into c.drive.new.stim c.override_wires.new.stim blank stimuli settings)
+    (c.settle.ensures.least bound.overs bound.phases wires c.requires.plan c.requires.phase (rows_set choice bound.overs phase))

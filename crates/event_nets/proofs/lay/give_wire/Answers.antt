@@ -7,7 +7,7 @@ use Rattle.event_nets.specs.declared.gift.Source.TheVariants.{Stimulus}
 use Rattle.event_nets.specs.Gifts.{gifts_to}
 use Rattle.event_nets.specs.Tables.{home_of}
 use Rattle.event_nets.proofs.Laying.{whole-bits, length-whole, whole-narrow}
-use Rattle.event_nets.proofs.lay.give_input.Goals as goal
+use Rattle.event_nets.proofs.lay.give_wire.Goals as goal
 
 pub give-requires-clause-narrow : goal.give-requires-clause-narrow
 give-requires-clause-narrow c =
