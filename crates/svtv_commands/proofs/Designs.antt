@@ -17,7 +17,8 @@ use Rattle.sv_preproc.specs.Laws.{Possible}
 use Rattle.sv_tree.specs.declared.design.Source.{Source}
 use Rattle.svtv_files.specs.Files.{Text, Told, IsDesignFile}
 use Rattle.svtv_files.specs.Refusals.{RefusesDesign, UnreadDesign}
-use Rattle.svtv_files.specs.Stopping.{Stops, StopsText, IsInFile}
+use Rattle.svtv_files.specs.Stopping.{Stops, StopsText, IsInOneOf, IsInFile}
+use Rattle.svtv_files.proofs.Filed.{unparsed_lies, faulty_lies}
 use Rattle.svtv_files.specs.declared.stop.Stop.{Stop}
 use Rattle.svtv_files.specs.declared.stop.Stop.TheVariants.{Refused, Unread, Memory}
 
@@ -27,7 +28,7 @@ text_stops told name top (Unread file place) h = h
 text_stops told name top Memory h = tt
 
 pub parse_stops : (told : Told) (name : Text) (top : Option Text) (tokens : TokenList) (error : TextErr) (stop : Stop) → IsWholeText (Possible told) name tokens
-    → IsParsed tokens.list tokens.end (Err error) → IsInFile name tokens error stop → Stops (RefusesDesign told name top) (UnreadDesign told name) stop
+    → IsParsed tokens.list tokens.end (Err error) → IsInFile tokens error stop → Stops (RefusesDesign told name top) (UnreadDesign told name) stop
 parse_stops told name top tokens (e.No r) (Refused file own) text p h =
     subst (λ (x : Refusal). RefusesDesign told name top file x) (sym h.0) (inr (inl (record { tokens = tokens; text = text; why = p; place = h.1 })))
 parse_stops told name top tokens (e.No r) (Unread file place) text p h = absurd h
@@ -44,8 +45,18 @@ judged_no : (j : Judged Design) (r : Refusal) → Answers {B = Flat} (λ d f. Is
 judged_no (Ok d) r h = absurd h
 judged_no (Err all) r h = (all, refl, h)
 
+-- what is refused stands in one of the files
+pub parse_lies : (told : Told) (name : Text) (tokens : TokenList) (error : TextErr) → IsWholeText (Possible told) name tokens → IsParsed tokens.list tokens.end (Err error) → IsInOneOf tokens error
+parse_lies told name tokens (e.No r) text p = unparsed_lies told name tokens r text p
+parse_lies told name tokens e.Memory text p = tt
+
+pub elaborate_lies : (told : Told) (name : Text) (top : Option Text) (tokens : TokenList) (tree : Source) (error : TextErr) → IsWholeText (Possible told) name tokens
+    → IsSpelled tree tokens.list → Answers {B = Flat} (λ d f. IsElaborated d f) (sound_design tree top) (Err error) → IsInOneOf tokens error
+elaborate_lies told name top tokens tree (e.No r) text s a = let j = judged_no (sound_design tree top) r a in faulty_lies told name tokens tree top j.0 r text s j.1 j.2
+elaborate_lies told name top tokens tree e.Memory text s a = tt
+
 pub elaborate_stops : (told : Told) (name : Text) (top : Option Text) (tokens : TokenList) (tree : Source) (error : TextErr) (stop : Stop) → IsWholeText (Possible told) name tokens
-    → IsSpelled tree tokens.list → Answers {B = Flat} (λ d f. IsElaborated d f) (sound_design tree top) (Err error) → IsInFile name tokens error stop → Stops (RefusesDesign told name top) (UnreadDesign told name) stop
+    → IsSpelled tree tokens.list → Answers {B = Flat} (λ d f. IsElaborated d f) (sound_design tree top) (Err error) → IsInFile tokens error stop → Stops (RefusesDesign told name top) (UnreadDesign told name) stop
 elaborate_stops told name top tokens tree (e.No r) (Refused file own) text s a h =
     let j = judged_no (sound_design tree top) r a in
     subst (λ (x : Refusal). RefusesDesign told name top file x) (sym h.0)

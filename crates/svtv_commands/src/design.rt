@@ -8,13 +8,13 @@ ghost use Rattle.sv_outside.specs.Outside.{Rose};
 ghost use Rattle.sv_preproc.specs.Directives.{IsWholeText};
 ghost use Rattle.sv_preproc.specs.Laws.{Possible};
 ghost use Rattle.svtv_files.specs.Files.{IsDesignFile};
-ghost use Rattle.svtv_files.specs.Refusals.{RefusesDesign, UnreadDesign, file_of};
-ghost use Rattle.svtv_files.specs.Stopping.{IfUnread, IsInFile, Stops, StopsText};
+ghost use Rattle.svtv_files.specs.Refusals.{RefusesDesign, UnreadDesign};
+ghost use Rattle.svtv_files.specs.Stopping.{IfUnread, IsInFile, IsInOneOf, Stops, StopsText};
 
 use flat_net::Flat;
 use std::alloc::Global;
 use sv_elab::elaborate;
-use sv_outside::{Files, Name, Place, TextErr, Tokens};
+use sv_outside::{Files, Name, TextErr, Tokens};
 use sv_parser::parse;
 use sv_text::{PreErr, preprocess};
 use svtv_files::Stop;
@@ -35,24 +35,15 @@ fn tokens_of<F: Files>(alloc: Global, files: &mut F, name: &Name) -> Result<Toke
     }
 }
 
-// The name of the file that a place lies in, among those that were read for the file of that name.
-fn file_of<'a>(name: &'a Name, tokens: &'a Tokens, place: Place) -> &'a Name
-    ensures { result.now ≡ file_of name.now tokens.now place }
-{
-    match tokens.files.get(place.file) {
-        Some(own) => own,
-        None => name,
-    }
-}
-
-// The refusal of the text of the file of that name, with the name of the file of its place.
-fn in_file(name: &Name, tokens: &Tokens, error: TextErr) -> Stop
-    ensures { IsInFile name.now tokens.now error result }
+// The refusal of a text, with the name of the file of its place.
+fn in_file(tokens: &Tokens, error: TextErr) -> Stop
+    requires { IsInOneOf tokens.now error }
+    ensures { IsInFile tokens.now error result }
 {
     let TextErr::No(refusal) = error else {
         return Stop::Memory;
     };
-    match file_of(name, tokens, refusal.place).copy() {
+    match tokens.files[refusal.place.file].copy() {
         Ok(file) => Stop::Refused(file, refusal),
         Err(_) => Stop::Memory,
     }
@@ -78,10 +69,10 @@ pub fn load_design<F: Files>(
     };
     let tree = match parse(alloc, &tokens) {
         Ok(tree) => tree,
-        Err(error) => return Err(in_file(name, &tokens, error)),
+        Err(error) => return Err(in_file(&tokens, error)),
     };
     match elaborate(alloc, &tree, top) {
         Ok(flat) => Ok(flat),
-        Err(error) => Err(in_file(name, &tokens, error)),
+        Err(error) => Err(in_file(&tokens, error)),
     }
 }

@@ -1,7 +1,6 @@
 -- The count of failed reads after one read.
 use Rattle.std.proofs.Common.{◌≡◌, ℕ, inl, inr}
 use Rattle.sv_outside.specs.Outside.{AtMostOneMore, one_more}
-use Rattle.sv_outside.specs.declared.refusal.Place.{Place}
 use Rattle.sv_outside.specs.declared.refusal.TextErr.{TextErr}
 use Rattle.sv_outside.specs.declared.refusal.TextErr.TheVariants as e
 use Rattle.svtv_files.specs.Files.{Text}

@@ -1,5 +1,5 @@
 -- Why a file is refused, or is not read, when its turn comes: the files before it are legal.
-use Rattle.std.specs.Prelude.{◌≡◌, ◌⊎◌, ◌<◌, ◌≤◌, ◌^◌, List, length, slice_index_or, Option, Some, Err, IfSome}
+use Rattle.std.specs.Prelude.{◌≡◌, ◌⊎◌, ◌<◌, ◌≤◌, ◌^◌, List, length, slice_get, Option, Some, Err, IfSome}
 use Rattle.std.specs.List.{Contains}
 use Rattle.goal_text.specs.Goals.{HasCause}
 use Rattle.sv_elab.specs.Elaborated.{sound_design}
@@ -31,20 +31,16 @@ use Rattle.svtv_files.specs.Files.{Text, Told, IsDesignFile, IsTableText, IsTabl
 
 -- ---- designs
 
--- The name of the file that a place lies in, among those that were read for the file of that name; where it lies in none, that one's.
-abbrev pub file_of : Text → TokenList → Place → Text
-file_of name tokens p = slice_index_or tokens.files p.file name
-
--- the place is one of the file
-abbrev pub IsIn : Text → TokenList → Refusal → Text → Type 0
-IsIn name tokens r file = file ≡ file_of name tokens r.place
+-- the place lies in the file of that name, among those that were read
+abbrev pub IsIn : TokenList → Refusal → Text → Type 0
+IsIn tokens r file = slice_get tokens.files r.place.file ≡ Some file
 
 -- No tree spells the tokens of the text, or each is nested too deep: why and where.
 pub record IsUnparsed (told : Told) (name : Text) (file : Text) (r : Refusal) : Type 0 where
   pub tokens : TokenList
   pub text : IsWholeText (Possible told) name tokens
   pub why : IsSyntax tokens.list tokens.end (No r) ⊎ IsDeep tokens.list tokens.end (No r)
-  pub place : IsIn name tokens r file
+  pub place : IsIn tokens r file
 
 -- This stands against what the tree means.
 pub record IsFaulty (told : Told) (name : Text) (top : Option Text) (file : Text) (r : Refusal) : Type 0 where
@@ -55,7 +51,7 @@ pub record IsFaulty (told : Told) (name : Text) (top : Option Text) (file : Text
   pub faults : Faults
   pub means : sound_design tree top ≡ Err faults
   pub stands : Contains faults r
-  pub place : IsIn name tokens r file
+  pub place : IsIn tokens r file
 
 -- The design is refused for this, in the file of that name.
 abbrev pub RefusesDesign : Told → Text → Option Text → Text → Refusal → Type 0

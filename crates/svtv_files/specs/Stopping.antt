@@ -1,5 +1,5 @@
 -- Words of the inner functions: why the work stops.
-use Rattle.std.specs.Prelude.{◌≡◌, ℕ}
+use Rattle.std.specs.Prelude.{◌≡◌, ◌<◌, ℕ, length}
 use Rattle.sv_outside.specs.Outside.{AtMostOneMore, one_more}
 use Rattle.sv_outside.specs.Text.{TokenList}
 use Rattle.sv_outside.specs.declared.refusal.Place.{Place}
@@ -39,14 +39,19 @@ StopsText told name stop = Stops (λ file r. StopsIn (Possible told) name (no r)
 abbrev pub StopsAt : Told → Text → Stop → Type 0
 StopsAt told name stop = Stops (λ file r. (file ≡ name) × TooLong told name r) (λ file place. (file ≡ name) × (place ≡ at_first)) stop
 
--- an error of the text of a file, with the name of the file of its place
-abbrev pub IsInFile : Text → TokenList → TextErr → Stop → Type 0
-IsInFile name tokens (e.No r) (Refused file own) = (own ≡ r) × IsIn name tokens r file
-IsInFile name tokens (e.No r) (Unread file place) = ⊥
-IsInFile name tokens (e.No r) Memory = Unit {0}
-IsInFile name tokens e.Memory (Refused file own) = ⊥
-IsInFile name tokens e.Memory (Unread file place) = ⊥
-IsInFile name tokens e.Memory Memory = Unit {0}
+-- an error of a text stands in one of the files that were read for it
+abbrev pub IsInOneOf : TokenList → TextErr → Type 0
+IsInOneOf tokens (e.No r) = r.place.file < length tokens.files
+IsInOneOf tokens e.Memory = Unit {0}
+
+-- it is told with the name of the file of its place
+abbrev pub IsInFile : TokenList → TextErr → Stop → Type 0
+IsInFile tokens (e.No r) (Refused file own) = (own ≡ r) × IsIn tokens r file
+IsInFile tokens (e.No r) (Unread file place) = ⊥
+IsInFile tokens (e.No r) Memory = Unit {0}
+IsInFile tokens e.Memory (Refused file own) = ⊥
+IsInFile tokens e.Memory (Unread file place) = ⊥
+IsInFile tokens e.Memory Memory = Unit {0}
 
 -- an error of the one file of that name
 abbrev pub IsOf : Text → TextErr → Stop → Type 0

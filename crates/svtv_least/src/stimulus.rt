@@ -21,6 +21,14 @@ use std::alloc::{AllocError, Global};
 use sv_outside::Signal;
 use svtv_table::Drive;
 
+/// X alone.
+#[tactic(auto, using(event_nets::proofs::Reading::ones))]
+fn unknown_bit() -> Four
+    ensures { result ≡ Unknown ∷ [] }
+{
+    Four::new(1, 1, 0)
+}
+
 /// X at every bit.
 #[tactic(auto, using(svex_shape::proofs::Readings::x_widened))]
 pub(crate) fn unknown(width: u8) -> Four
@@ -28,7 +36,7 @@ pub(crate) fn unknown(width: u8) -> Four
     requires most { width ≤ 128 }
     ensures { result ≡ all_x width }
 {
-    Four::new(1, 1, 0).sext(width)
+    unknown_bit().sext(width)
 }
 
 /// X at every bit of all wires.

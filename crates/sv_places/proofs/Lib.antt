@@ -1,0 +1,10 @@
+pub mod SpelledExprs
+pub mod SpelledForms
+pub mod SpelledStmts
+pub mod SpelledDesign
+pub mod Told
+pub mod Meant
+pub mod Formed
+pub mod Stated
+pub mod Walked
+pub mod Filed
