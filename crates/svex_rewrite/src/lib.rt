@@ -36,4 +36,5 @@ mod rules;
 mod simple;
 mod unfloating;
 
+pub use rules::make;
 pub use simple::simplify;

@@ -1,0 +1,9 @@
+pub mod Found
+pub mod Rounding
+pub mod Making
+pub mod Systems
+pub mod Standing
+pub mod Placing
+pub mod Linking
+pub mod Holding
+pub mod Turning

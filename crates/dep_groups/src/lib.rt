@@ -1,0 +1,6 @@
+//! Groups of places that depend on each other, in an order of dependence, for any lists of what each place depends on.
+#![tactic(auto)]
+
+mod finder;
+
+pub use finder::grouping;

@@ -1,0 +1,11 @@
+//! Groups of equations in an order of dependence: those that depend on each other are one group, and each group stands behind those
+//! on which it depends.
+#![tactic(auto)]
+
+mod groups;
+mod ordering;
+mod rows;
+mod tellers;
+mod used;
+
+pub use ordering::order;

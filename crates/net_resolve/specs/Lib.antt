@@ -1,0 +1,4 @@
+pub mod Pieces
+pub mod Runs
+pub mod Resolving
+pub mod Laid

@@ -1,0 +1,4 @@
+pub mod Growing
+pub mod Setting
+pub mod Backs
+pub mod Steps

@@ -1,0 +1,7 @@
+//! The machine of one phase of a flat design: for each set of wires that are overridden a node for each wire, over the phase
+//! before and what comes from outside.
+#![tactic(auto)]
+
+mod machine;
+
+pub use machine::{Fsm, make_fsm};

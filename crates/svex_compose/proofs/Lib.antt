@@ -1,0 +1,6 @@
+pub mod Reaching
+pub mod Composing
+pub mod Depending
+mod Weighing
+mod Settling
+mod Wiring
