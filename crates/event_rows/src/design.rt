@@ -3,9 +3,11 @@
 //! - `in a 4` is an input of the top of four bits, `wire a 4` another wire; wires are numbered in their order;
 //! - `join 2.0.1 0.3.1` joins bit 0 of wire 2 to bit 3 of wire 0 above it: a wire, its lowest bit, and how many;
 //! - `drive 1.0.2,1.3.1 = not now0.3` drives such parts, the highest first.
+//!
+//! Sets of wires are numbers, with a comma between two sets: `none, 1 3`.
 
 use case_exprs::{built, read_vectors};
-use case_rows::{Fault, first_named, part, rows_of, small, small_at, word, words_from};
+use case_rows::{Fault, first_named, part, rows_of, size, small, small_at, word, words_from};
 use driver_resolve::Driver;
 use flat_net::{Flat, Join};
 use fourvec::Four;
@@ -104,4 +106,36 @@ pub fn values(alloc: Global, words: &[u8]) -> Result<Items<Four>, Fault> {
     let mut list = Vec::new(alloc);
     read_vectors(&mut list, words)?;
     Ok(Items::from_vec(list))
+}
+
+fn put_wires(wires: &mut Vec<usize>, text: &[u8]) -> Result<(), Fault> {
+    for word in text.split(|c| *c == b' ') {
+        if !word.is_empty() && word != b"none".as_slice() {
+            let wire = size(word)?;
+            wires.push(wire)?;
+        }
+    }
+    Ok(())
+}
+
+/// The wires that a text names.
+pub fn set_of(alloc: Global, text: &[u8]) -> Result<Items<usize>, Fault> {
+    let mut wires = Vec::new(alloc);
+    put_wires(&mut wires, text)?;
+    Ok(Items::from_vec(wires))
+}
+
+fn put_sets(alloc: Global, sets: &mut Items<Items<usize>>, text: &[u8]) -> Result<(), Fault> {
+    for part in text.split(|c| *c == b',') {
+        let set = set_of(alloc, part)?;
+        sets.push(set)?;
+    }
+    Ok(())
+}
+
+/// The sets of wires that a text names.
+pub fn sets_of(alloc: Global, text: &[u8]) -> Result<Items<Items<usize>>, Fault> {
+    let mut sets = Items::new(alloc);
+    put_sets(alloc, &mut sets, text)?;
+    Ok(sets)
 }

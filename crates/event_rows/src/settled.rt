@@ -1,20 +1,24 @@
-//! Settlings of a flat design. `settle` has a row for each phase: what each wire is driven with from outside (where it is no input, that
-//! does not count), and what the wires have in the least settling: `0 1 x => 0 1 x`. What the first row is driven with is also what the wires
-//! had in the phase before. Each phase is settled by steps and by sweeps.
+//! Settlings of a flat design. `over` names sets of wires that are overridden, `none, 1 3` two of them, and `settle 1` is over the set
+//! of number 1, `settle` over the first. `settle` has a row for each phase: what each wire is driven with from outside (where it is neither
+//! an input nor overridden, that does not count), and what the wires have in the least settling: `0 1 x => 0 1 x`. What the first row is
+//! driven with is also what the wires had in the phase before. Each phase is settled by steps, by sweeps, and by the machine of all the
+//! sets, which takes what it has found for the phase before.
 
-ghost use Rattle.std.specs.Prelude.{◌≡◌, ◌≤◌, [], length};
+ghost use Rattle.std.specs.Prelude.{◌≤◌, length, IfOk};
 ghost use Rattle.driver_resolve.specs.Drivers.{widths_of};
 ghost use Rattle.flat_net.specs.Flats.{IsFlat};
-ghost use Rattle.event_sim.specs.Sims.{IsValuation, now_values, Fits};
+ghost use Rattle.event_sim.specs.Sims.{IsValuation, now_values};
+ghost use Rattle.event_rows.specs.Settled.{IsMadeFor};
 
-use crate::design::{empty, put_design, values};
+use crate::design::{empty, put_design, set_of, values};
+use crate::machines::by_machine;
 use crate::sound::{is_sound, is_valuation};
-use case_exprs::put_digits;
-use case_rows::{Fault, Report, put, rows_of, sides};
+use case_exprs::put_vectors;
+use case_rows::{Fault, Report, part, rows_of, sides};
 use event_sim::Sim;
 use flat_net::{Flat, Valuation};
 use fourvec::Four;
-use items::both;
+use items::{Items, both};
 use std::alloc::Global;
 
 // Whether the wires have these vectors now.
@@ -29,52 +33,78 @@ fn shows(sim: &Sim, wanted: &[Four]) -> bool
     true
 }
 
-// Puts what the wires have now, as many as are wanted.
-fn put_now(sim: &Sim, wanted: &[Four], said: &mut Vec<u8>) -> Result<(), Fault>
-    requires { length wanted.now ≤ length (now_values sim.now) }
-{
-    for wire in 0..wanted.len() {
-        put_digits(said, &sim.now(wire))?;
-        put(said, b" ")?;
+/// A simulation, and the wires that are overridden in it.
+struct Settler {
+    over: Items<usize>,
+    sim: Sim,
+}
+
+impl Drop for Settler {
+    fn drop(self) {
+        let Settler { over: _, sim: _ } = self;
     }
-    Ok(())
 }
 
 // Takes each net by turns, from the last one down, as often as there are bits.
-fn step_all(sim: &mut Sim, flat: &Flat)
+fn step_all(settler: &mut Settler, flat: &Flat)
     requires flat { IsFlat flat.now }
-    requires fits { Fits flat.now [] sim.old }
-    ensures { Fits flat.now [] sim.new }
+    requires made { IsMadeFor flat.now settler.old }
+    ensures { IsMadeFor flat.now settler.new }
 {
     'turns: for _turn in 0..16 {
-        step_each(sim, flat);
+        step_each(settler, flat);
     }
 }
 
-fn step_each(sim: &mut Sim, flat: &Flat)
+fn step_each(settler: &mut Settler, flat: &Flat)
     requires flat { IsFlat flat.now }
-    requires fits { Fits flat.now [] sim.old }
-    ensures { Fits flat.now [] sim.new }
+    requires made { IsMadeFor flat.now settler.old }
+    ensures { IsMadeFor flat.now settler.new }
 {
-    let nets = sim.nets();
+    let nets = settler.sim.nets();
     'nets: for net in 0..nets {
-        sim.step(flat, nets - 1 - net);
+        settler.sim.step(flat, nets - 1 - net);
     }
 }
 
 // Whether a phase settles as it should, by steps and by sweeps; then it is the previous one.
+fn settles(
+    flat: &Flat,
+    settler: &mut Settler,
+    prev: &mut Valuation,
+    stim: &Valuation,
+    wanted: &[Four],
+) -> bool
+    requires flat { IsFlat flat.now }
+    requires made { IsMadeFor flat.now settler.old }
+    requires prev { IsValuation (widths_of flat.now.wires) prev.old.values }
+    requires stim { IsValuation (widths_of flat.now.wires) stim.now.values }
+    requires wanted { IsValuation (widths_of flat.now.wires) wanted.now }
+    ensures made { IsMadeFor flat.now settler.new }
+    ensures prev { IsValuation (widths_of flat.now.wires) prev.new.values }
+{
+    settler.sim.start(flat, prev, stim);
+    step_all(settler, flat);
+    let stepped = shows(&settler.sim, wanted);
+    settler.sim.settle(flat, prev, stim);
+    let settled = shows(&settler.sim, wanted);
+    settler.sim.save(prev);
+    stepped && settled
+}
+
+// Judges a phase, where a row has a value for each wire on either side.
 fn phase(
     flat: &Flat,
-    sim: &mut Sim,
+    settler: &mut Settler,
     prev: &mut Valuation,
     stim: &Valuation,
     wanted: &[Four],
     said: &mut Vec<u8>,
 ) -> Result<bool, Fault>
     requires flat { IsFlat flat.now }
-    requires fits { Fits flat.now [] sim.old }
+    requires made { IsMadeFor flat.now settler.old }
     requires prev { IsValuation (widths_of flat.now.wires) prev.old.values }
-    ensures fits { Fits flat.now [] sim.new }
+    ensures made { IsMadeFor flat.now settler.new }
     ensures prev { IsValuation (widths_of flat.now.wires) prev.new.values }
 {
     if !is_valuation(flat.wires.as_slice(), stim.values.as_slice()) {
@@ -83,35 +113,30 @@ fn phase(
     if !is_valuation(flat.wires.as_slice(), wanted) {
         return Err(Fault::Form);
     }
-    sim.start(flat, prev, stim);
-    step_all(sim, flat);
-    let stepped = shows(sim, wanted);
-    sim.settle(flat, prev, stim);
-    let settled = shows(sim, wanted);
-    put_now(sim, wanted, said)?;
-    sim.save(prev);
-    Ok(stepped && settled)
+    let right = settles(flat, settler, prev, stim, wanted);
+    put_vectors(said, prev.values.as_slice())?;
+    Ok(right)
 }
 
 fn phase_of_row(
     alloc: Global,
     flat: &Flat,
-    sim: &mut Sim,
+    settler: &mut Settler,
     prev: &mut Valuation,
     row: &[u8],
     said: &mut Vec<u8>,
 ) -> Result<bool, Fault>
     requires flat { IsFlat flat.now }
-    requires fits { Fits flat.now [] sim.old }
+    requires made { IsMadeFor flat.now settler.old }
     requires prev { IsValuation (widths_of flat.now.wires) prev.old.values }
-    ensures fits { Fits flat.now [] sim.new }
+    ensures made { IsMadeFor flat.now settler.new }
     ensures prev { IsValuation (widths_of flat.now.wires) prev.new.values }
 {
     let (question, wanted) = sides(row);
     let stim = values(alloc, question)?;
     let (stim, wanted) = both(stim, values(alloc, wanted))?;
     let stim = Valuation { values: stim };
-    phase(flat, sim, prev, &stim, wanted.as_slice(), said)
+    phase(flat, settler, prev, &stim, wanted.as_slice(), said)
 }
 
 // What the first row of a block is driven with.
@@ -128,47 +153,77 @@ fn first_question(block: &[u8]) -> &[u8] {
 fn run(
     alloc: Global,
     flat: &Flat,
-    sim: &mut Sim,
+    settler: &mut Settler,
     prev: &mut Valuation,
     block: &[u8],
     report: &mut Report,
 ) -> Result<(), Fault>
     requires flat { IsFlat flat.now }
-    requires fits { Fits flat.now [] sim.old }
+    requires made { IsMadeFor flat.now settler.old }
 {
     if !is_valuation(flat.wires.as_slice(), prev.values.as_slice()) {
         return Err(Fault::Form);
     }
     'lines: for line in block.split(|c| *c == b'\n') {
         if let Some(row) = rows_of(line) {
-            let answer = phase_of_row(alloc, flat, sim, prev, row, report.said());
+            let answer = phase_of_row(alloc, flat, settler, prev, row, report.said());
             report.take(row, answer)?;
         }
     }
     Ok(())
 }
 
-fn settle(alloc: Global, flat: &Flat, block: &[u8], report: &mut Report) -> Result<(), Fault>
+fn settler_of(alloc: Global, flat: &Flat, over: &[u8]) -> Result<Settler, Fault>
     requires { IsFlat flat.now }
+    ensures { IfOk result (IsMadeFor flat.now) }
 {
-    let sim = Sim::new(alloc, flat, &[])?;
-    let (mut sim, prev) = both(sim, values(alloc, first_question(block)))?;
-    let mut prev = Valuation { values: prev };
-    run(alloc, flat, &mut sim, &mut prev, block, report)
+    let over = set_of(alloc, over)?;
+    let sim = Sim::new(alloc, flat, over.as_slice())?;
+    Ok(Settler { over, sim })
 }
 
+fn settle(
+    alloc: Global,
+    flat: &Flat,
+    over: &[u8],
+    block: &[u8],
+    report: &mut Report,
+) -> Result<(), Fault>
+    requires { IsFlat flat.now }
+{
+    let settler = settler_of(alloc, flat, over)?;
+    let (mut settler, prev) = both(settler, values(alloc, first_question(block)))?;
+    let mut prev = Valuation { values: prev };
+    run(alloc, flat, &mut settler, &mut prev, block, report)
+}
+
+// By steps and by sweeps.
 fn settle_sound(
     alloc: Global,
     flat: &mut Flat,
-    design: &[u8],
+    asked: &Asked,
     block: &[u8],
     report: &mut Report,
 ) -> Result<(), Fault> {
-    put_design(alloc, flat, design)?;
+    put_design(alloc, flat, asked.design)?;
     if !is_sound(alloc, flat)? {
         return Err(Fault::Form);
     }
-    settle(alloc, flat, block, report)
+    settle(
+        alloc,
+        flat,
+        part(asked.sets, b',', asked.set),
+        block,
+        report,
+    )
+}
+
+/// What a settling stands on: the design and the sets of overridden wires, as text, and the number of the set.
+#[derive(Clone, Copy)]
+pub struct Asked<'a> {
+    pub design: &'a [u8],
+    pub sets: &'a [u8],
+    pub set: usize,
 }
 
 /// Tells of a block that could not be judged.
@@ -182,11 +237,13 @@ pub fn told(block: &[u8], judged: Result<(), Fault>, report: &mut Report) -> Res
 /// Judges the settlings of a design.
 pub fn judge_settling(
     alloc: Global,
-    design: &[u8],
+    asked: &Asked,
     block: &[u8],
     report: &mut Report,
 ) -> Result<(), Fault> {
     let mut flat = empty(alloc);
-    let judged = settle_sound(alloc, &mut flat, design, block, report);
+    let judged = settle_sound(alloc, &mut flat, asked, block, report);
+    told(block, judged, report)?;
+    let judged = by_machine(alloc, asked, first_question(block), block, report);
     told(block, judged, report)
 }
