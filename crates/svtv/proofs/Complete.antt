@@ -1,7 +1,7 @@
 -- A command with legal files is done, but for faults and want of memory.
 use Rattle.std.proofs.Common.{◌≡◌, ◌⊎◌, List, true, false, refl, subst, inl, inr}
 use Rattle.sv_outside.specs.declared.refusal.Refusal.{Refusal}
-use Rattle.svtv_words.specs.Commands.{Command, IsCommand, prove, sim}
+use Rattle.svtv_words.specs.Commands.{Command, IsCommand, prove, sim, dump}
 use Rattle.svtv_words.proofs.Commands.{one_command}
 use Rattle.svtv.specs.Answers.{Answers, PrintsIf, Prints}
 use Rattle.svtv_files.specs.Files.{Text, Told}
@@ -12,17 +12,19 @@ use Rattle.svtv.specs.declared.status.Status.{Status}
 use Rattle.svtv.specs.declared.status.Status.TheVariants.{AllProved, Done, NotAll, Usage, Refused, ReadFault, WriteFault, Memory}
 use Rattle.svtv.specs.declared.work.Outcome.{Outcome}
 use Rattle.svtv.specs.declared.work.Outcome.TheVariants as outcome
-use Rattle.svtv.proofs.Legal.{proof_stands, simulation_stands}
+use Rattle.svtv.proofs.Legal.{design_stands, proof_stands, simulation_stands}
 
 legal_stands : (told : Told) (c : Command) (file : Text) (r : Refusal) → AreLegal told c → Refuses told c file r → ⊥
 legal_stands told (prove d t g top budget) file r l h = proof_stands told d t g top l.0 l.1 l.4 l.2 l.3 l.5 file r h
 legal_stands told (sim d t v top) file r l h = simulation_stands told d t v top l.0 l.1 l.3 l.2 l.4 file r h
+legal_stands told (dump d top) file r l h = design_stands told d top l.0 l.1 file r h
 
 -- what a command prints, it is done with
 printed : (told : Told) (c : Command) (status : Status) (text : Text) → Prints told c status text → IsDone c status
 printed told (prove d t g top budget) AllProved text h = tt
 printed told (prove d t g top budget) NotAll text h = tt
 printed told (sim d t v top) Done text h = tt
+printed told (dump d top) Done text h = tt
 printed told (prove d t g top budget) Done text h = absurd h
 printed told (prove d t g top budget) Usage text h = absurd h
 printed told (prove d t g top budget) Refused text h = absurd h
@@ -36,6 +38,13 @@ printed told (sim d t v top) Refused text h = absurd h
 printed told (sim d t v top) ReadFault text h = absurd h
 printed told (sim d t v top) WriteFault text h = absurd h
 printed told (sim d t v top) Memory text h = absurd h
+printed told (dump d top) AllProved text h = absurd h
+printed told (dump d top) NotAll text h = absurd h
+printed told (dump d top) Usage text h = absurd h
+printed told (dump d top) Refused text h = absurd h
+printed told (dump d top) ReadFault text h = absurd h
+printed told (dump d top) WriteFault text h = absurd h
+printed told (dump d top) Memory text h = absurd h
 
 done : (told : Told) (words : List Text) (status : Status) (text : Text) (c : Command) → IsCommand words c → PrintsIf told words status text → IsDone c status
 done told words status text c is h = subst (λ (x : Command). IsDone x status) (one_command words h.0 c h.1 is) (printed told h.0 status text h.2)
@@ -59,6 +68,7 @@ pub left : (P : Type 0) (outcome : Outcome) → IfLeft P outcome → status_of o
 left P (outcome.Proved true text) h e = cc
 left P (outcome.Proved false text) h e = cc
 left P (outcome.Simulated text) h e = cc
+left P (outcome.Dumped text) h e = cc
 left P (outcome.Refused message) h e = cc
 left P (outcome.Unread message) h e = h
 left P outcome.Misused h e = cc

@@ -89,7 +89,7 @@ unparsed : (tokens : TokenList) (r : Refusal) (tree : Source) → IsSpelled tree
 unparsed tokens r tree spelled s (inl h) = h.none tree spelled
 unparsed tokens r tree spelled s (inr h) = too_deep IsSpelled source_depths tokens.list h.number tree spelled s h.deep
 
-design_stands : (told : Told) (name : Text) (top : Option Text) (design : Design) → IsLegalDesign told name top design → (file : Text) (r : Refusal) → RefusesDesign told name top file r → ⊥
+pub design_stands : (told : Told) (name : Text) (top : Option Text) (design : Design) → IsLegalDesign told name top design → (file : Text) (r : Refusal) → RefusesDesign told name top file r → ⊥
 design_stands told name top design l file r (inl h) = none_stops (possible_told told) h r refl l.file.tokens l.text.last l.text.whole l.text.within
 design_stands told name top design l file r (inr (inl u)) =
     let e = same_tokens told name u.tokens l.file.tokens u.text l.text in

@@ -12,7 +12,7 @@ use Rattle.sv_tree.specs.NestingDesign.{source_depths}
 use Rattle.svtv_table.specs.declared.bound.Sample.{Sample}
 use Rattle.svtv_table.specs.declared.bound.VarDecl.{VarDecl}
 use Rattle.table_cells.specs.declared.table.Table.{Table}
-use Rattle.svtv_words.specs.Commands.{Command, prove, sim}
+use Rattle.svtv_words.specs.Commands.{Command, prove, sim, dump}
 use Rattle.svtv_files.specs.Files.{Text, Told, IsDesignFile, IsTableFile, AreGoalsFile, IsValuesFile, samples_in, vars_of}
 use Rattle.svtv_files.specs.Refusals.{HasRoom}
 use Rattle.svtv.specs.declared.status.Status.{Status}
@@ -56,10 +56,12 @@ AreLegal told (prove d t g top budget) = (design : Design) × (table : Table) ×
     × (trees : List GoalTree) × AreLegalGoals told g (vars_of design table) (samples_in design table) trees
 AreLegal told (sim d t v top) = (design : Design) × (table : Table) × IsLegalSetup told d t top design table
     × (choice : List (List Bit)) × AreLegalValues told v (vars_of design table) choice
+AreLegal told (dump d top) = (design : Design) × IsLegalDesign told d top design
 
 -- the answers of a command that is done
 abbrev pub IsDone : Command → Status → Type 0
 IsDone (prove d t g top budget) AllProved = ⊤
 IsDone (prove d t g top budget) NotAll = ⊤
 IsDone (sim d t v top) Done = ⊤
+IsDone (dump d top) Done = ⊤
 IsDone command status = ⊥

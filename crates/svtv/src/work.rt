@@ -5,7 +5,7 @@ ghost use Rattle.std.specs.Prelude.{◌≡◌, ◌≤◌, ℕ, List, map, string
 ghost use Rattle.std.specs.Option.{option_copied};
 ghost use Rattle.sv_outside.specs.Outside.{Rose};
 ghost use Rattle.svtv.specs.Answers.{Answers};
-ghost use Rattle.svtv.specs.Outcomes.{status_of, text_of, message_of, IfLeft, IsProof, IsSimulation, IsStopped, IsWork};
+ghost use Rattle.svtv.specs.Outcomes.{status_of, text_of, message_of, IfLeft, IsDump, IsProof, IsSimulation, IsStopped, IsWork};
 ghost use Rattle.svtv_words.specs.Commands as m;
 ghost use Rattle.svtv_words.specs.Commands.{IsCommand, command_is};
 ghost use Rattle.svtv.specs.declared.status.Status.TheVariants as status;
@@ -13,7 +13,7 @@ ghost use Rattle.svtv.specs.declared.status.Status.TheVariants as status;
 use crate::status::Status;
 use std::alloc::{AllocError, Global};
 use sv_outside::{Files, Name};
-use svtv_commands::{prove, simulate};
+use svtv_commands::{dump, prove, simulate};
 use svtv_files::Stop;
 use svtv_report::{memory_text, read_fault_text, refusal_text, usage_text};
 use svtv_words::{Command, Verb, command_of};
@@ -23,6 +23,7 @@ use svtv_words::{Command, Verb, command_of};
 pub enum Outcome {
     Proved(bool, Vec<u8>),
     Simulated(Vec<u8>),
+    Dumped(Vec<u8>),
     Refused(Vec<u8>),
     Unread(Vec<u8>),
     Misused,
@@ -36,7 +37,7 @@ impl Outcome {
         match self {
             Outcome::Proved(true, _) => Status::AllProved,
             Outcome::Proved(false, _) => Status::NotAll,
-            Outcome::Simulated(_) => Status::Done,
+            Outcome::Simulated(_) | Outcome::Dumped(_) => Status::Done,
             Outcome::Refused(_) => Status::Refused,
             Outcome::Unread(_) => Status::ReadFault,
             Outcome::Misused => Status::Usage,
@@ -48,7 +49,7 @@ impl Outcome {
         ensures { result.now ≡ text_of self.now }
     {
         match self {
-            Outcome::Proved(_, text) | Outcome::Simulated(text) => text,
+            Outcome::Proved(_, text) | Outcome::Simulated(text) | Outcome::Dumped(text) => text,
             _ => &[],
         }
     }
@@ -57,7 +58,7 @@ impl Outcome {
         ensures { result.now ≡ message_of self.now }
     {
         match self {
-            Outcome::Proved(_, _) | Outcome::Simulated(_) => &[],
+            Outcome::Proved(_, _) | Outcome::Simulated(_) | Outcome::Dumped(_) => &[],
             Outcome::Refused(message) | Outcome::Unread(message) => message,
             Outcome::Misused => usage_text(),
             Outcome::Memory => memory_text(),
@@ -120,6 +121,18 @@ fn simulated<F: Files>(
     }
 }
 
+fn dumped<F: Files>(alloc: Global, files: &mut F, design: &Name, top: Option<&Name>) -> Outcome
+    ensures is { IsDump (F.contents files.old) design.now (option_copied top.entry) result }
+    ensures rose { IfLeft (Rose (F.faults files.old) (F.faults files.new)) result }
+    ensures unchanged { (other : List ℕ) → F.contents files.new other ≡ F.contents files.old other }
+    ensures counts_up { F.faults files.old ≤ F.faults files.new }
+{
+    match dump(alloc, files, design, top) {
+        Ok(text) => Outcome::Dumped(text),
+        Err(stop) => stopped(alloc, stop),
+    }
+}
+
 // The name of the module that is to be the top, if one is given.
 fn top_name(alloc: Global, top: Option<&[u8]>) -> Result<Option<Name>, AllocError>
     ensures { IfOk result (λ name. name ≡ option_copied top.entry) }
@@ -151,6 +164,7 @@ fn worked<F: Files>(
     match command.verb {
         Verb::Prove => Ok(proved(alloc, files, &design, &table, &last, top.as_ref())),
         Verb::Sim => Ok(simulated(alloc, files, &design, &table, &last, top.as_ref())),
+        Verb::Dump => Ok(dumped(alloc, files, &design, top.as_ref())),
     }
 }
 

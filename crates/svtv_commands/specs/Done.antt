@@ -1,10 +1,14 @@
 -- What a command that is done prints.
 use Rattle.std.specs.Prelude.{◌≡◌, ℕ, Bool, List, [], Option}
 use Rattle.std.specs.List.{list_all}
+use Rattle.flat_net.specs.declared.flat.Flat.{Flat}
+use Rattle.flat_print.specs.Printed as print
+use Rattle.flat_text.specs.FlatTexts.{FlatText}
 use Rattle.fourvec.specs.declared.Bit.{Bit}
 use Rattle.goal_tree.specs.declared.tree.GoalTree.{GoalTree}
+use Rattle.sv_elab.specs.Elaborated.{IsElaborated}
 use Rattle.sv_meaning.specs.Designs.{Design}
-use Rattle.svtv_files.specs.Files.{Text, Told, AreGoalsFile, IsValuesFile, bench_of, samples_in, vars_of}
+use Rattle.svtv_files.specs.Files.{Text, Told, AreGoalsFile, IsDesignFile, IsValuesFile, bench_of, samples_in, vars_of}
 use Rattle.svtv_files.specs.Refusals.{IsSetup}
 use Rattle.svtv_report.specs.Shown.{sample_texts, var_texts}
 use Rattle.svtv_report.specs.Texts.{report, value_lines}
@@ -38,3 +42,13 @@ pub record Simulates (told : Told) (d t v : Text) (top : Option Text) (text : Te
   pub run : Run
   pub least : IsLeastUnder (bench_of design table) choice run
   pub printed : text ≡ value_lines [] (sample_texts (samples_in design table)) (sampled_in (samples_in design table) run)
+
+-- The text stands for a flat design that has the wires, the contributions and so the settlings of the design that the file is, and it is what is
+-- printed of that one: with the nodes that a driver reaches, each once.
+pub record Dumps (told : Told) (d : Text) (top : Option Text) (text : Text) : Type 0 where
+  pub design : Design
+  pub is_design : IsDesignFile told d top design
+  pub flat : Flat
+  pub elaborated : IsElaborated design flat
+  pub stands : FlatText text flat
+  pub printed : text ≡ print.printed flat

@@ -1,8 +1,9 @@
 //! The commands over files: the design, the table and the goals or values are read in their turn, and then the proof is done,
-//! or the simulation.
+//! or the simulation; of a dump, the design alone, which is printed.
 #![tactic(auto)]
 
 mod design;
+mod dumping;
 mod goals;
 mod proving;
 mod setup;
@@ -10,5 +11,6 @@ mod simulation;
 mod table;
 mod values;
 
+pub use dumping::dump;
 pub use proving::prove;
 pub use simulation::simulate;

@@ -26,7 +26,7 @@ use Rattle.svtv_table.specs.Valuing.{values_faults}
 use Rattle.svtv_table.specs.declared.bound.Sample.{Sample}
 use Rattle.svtv_table.specs.declared.bound.VarDecl.{VarDecl}
 use Rattle.table_cells.specs.declared.table.Table.{Table}
-use Rattle.svtv_words.specs.Commands.{Command, prove, sim}
+use Rattle.svtv_words.specs.Commands.{Command, prove, sim, dump}
 use Rattle.svtv_files.specs.Files.{Text, Told, IsDesignFile, IsTableText, IsTableFile, vars_of, samples_in}
 
 -- ---- designs
@@ -142,7 +142,9 @@ LeavesSimulation told d t v top file place = LeavesSetup told d t top file place
 abbrev pub Refuses : Told → Command → Text → Refusal → Type 0
 Refuses told (prove d t g top budget) file r = RefusesProof told d t g top file r
 Refuses told (sim d t v top) file r = RefusesSimulation told d t v top file r
+Refuses told (dump d top) file r = RefusesDesign told d top file r
 
 abbrev pub LeavesUnread : Told → Command → Text → Place → Type 0
 LeavesUnread told (prove d t g top budget) file place = LeavesProof told d t g top file place
 LeavesUnread told (sim d t v top) file place = LeavesSimulation told d t v top file place
+LeavesUnread told (dump d top) file place = UnreadDesign told d file place

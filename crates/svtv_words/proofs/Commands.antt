@@ -6,8 +6,8 @@ use Rattle.std.proofs.lemmas.Bool.{true≢false, eqb-true, eq-eqb}
 use Rattle.std.proofs.lemmas.Slice.Eq.{bytes_eq-Decides}
 use Rattle.svtv_words.specs.declared.command.Command.{Command as Told}
 use Rattle.svtv_words.specs.declared.verbs.Verb.{Verb}
-use Rattle.svtv_words.specs.declared.verbs.Verb.TheVariants.{Prove, Sim}
-use Rattle.svtv_words.specs.Commands.{Text, Option', top, budget, is_among, Setting, Reads, given, AreOnce, AreNames, number_behind, Form, IsAllowed, Verb', proves, sims, form_of, Command, command_from, IsCommand, command_by, command_is, MayHave}
+use Rattle.svtv_words.specs.declared.verbs.Verb.TheVariants.{Prove, Sim, Dump}
+use Rattle.svtv_words.specs.Commands.{Text, Option', top, budget, is_among, Setting, Reads, given, AreOnce, AreNames, number_behind, Form, IsAllowed, Verb', proves, sims, dumps, form_of, Command, command_from, IsCommand, command_by, command_is, MayHave}
 use Rattle.svtv_words.specs.Reading.{Texts, nothing_given, text_at, budget_of, budget_at, Next, anything, text_of, a_positional, Found, found, nothing_found, most_positionals, found_in, every_verb, verb_among, Parts, parts, parts_named, command_found, is_waiting, command_in}
 use Rattle.svtv_words.specs.Seen.{verb_is, parts_are}
 use Rattle.svtv_words.proofs.OneWord.{on_if}
@@ -20,10 +20,12 @@ use Rattle.svtv_words.proofs.Complete.{complete}
 verb_found : (v : Verb') → verb_among every_verb (form_of v).word ≡ Some v
 verb_found proves = refl
 verb_found sims = refl
+verb_found dumps = refl
 
 has_room : (v : Verb') → (form_of v).positionals ≤ most_positionals
 has_room proves = omega arith
 has_room sims = omega arith
+has_room dumps = omega arith
 
 verb_has_word : (w : Text) (all : List Verb') → IfSome (verb_among all w) (λ v. w ≡ (form_of v).word)
 verb_has_word w [] = tt
@@ -38,10 +40,12 @@ command_with (parts v a b c t n) = command_from v (a ∷ b ∷ c ∷ []) t n
 first_three : (v : Verb') (names : List Text) (t : Option Text) (n : Option ℕ) → command_from v (get_or names 0 [] ∷ get_or names 1 [] ∷ get_or names 2 [] ∷ []) t n ≡ command_from v names t n
 first_three proves names t n = refl
 first_three sims names t n = refl
+first_three dumps names t n = refl
 
 command_told : (v : Verb) (d a l : Text) (t : Option Text) (n : Option ℕ) → command_by v d a l t n ≡ command_from (verb_is v) (d ∷ a ∷ l ∷ []) t n
 command_told Prove d a l t n = refl
 command_told Sim d a l t n = refl
+command_told Dump d a l t n = refl
 
 told_is : (c : Told) → command_is c ≡ command_with (parts_are c)
 told_is c = command_told c.verb c.design.now c.table.now c.last.now (option_copied c.top) c.budget
@@ -175,6 +179,7 @@ none_is words (Some c) e = tt
 may_have : (v : Verb) (n : Option ℕ) → (is_among budget (form_of (verb_is v)).options ≡ false → n ≡ None) → MayHave v n
 may_have Prove n h = tt
 may_have Sim n h = h refl
+may_have Dump n h = h refl
 
 pub alone_is : (words : List Text) (r : Option Told) → option_map parts_are r ≡ command_in words → IfSome r (λ c. MayHave c.verb c.budget)
 alone_is words None e = tt

@@ -3,7 +3,7 @@ use Rattle.std.specs.Prelude.{◌≡◌, ℕ, ◌+◌, ◌-◌, ◌*◌, ◌≤�
 use Rattle.std.specs.List.{All}
 use Rattle.svtv_words.specs.declared.command.Command.{Command as Told}
 use Rattle.svtv_words.specs.declared.verbs.Verb.{Verb}
-use Rattle.svtv_words.specs.declared.verbs.Verb.TheVariants.{Prove, Sim}
+use Rattle.svtv_words.specs.declared.verbs.Verb.TheVariants.{Prove, Sim, Dump}
 
 abbrev pub Text : Type 0
 Text = List ℕ
@@ -112,15 +112,17 @@ pub record Form : Type 0 where
   pub positionals : ℕ
   pub options : List Option'
 
--- a verb, of which the words of a command know two
+-- a verb, of which the words of a command know three
 pub data Verb' : Type 0 where
   proves : Verb'
   sims : Verb'
+  dumps : Verb'
 
--- `prove DESIGN TABLE GOALS [--top M] [--budget N]` and `sim DESIGN TABLE VALUES [--top M]`
+-- `prove DESIGN TABLE GOALS [--top M] [--budget N]`, `sim DESIGN TABLE VALUES [--top M]` and `dump DESIGN [--top M]`
 abbrev pub form_of : Verb' → Form
 form_of proves = record { word = codes "prove"; positionals = 3; options = top ∷ budget ∷ [] }
 form_of sims = record { word = codes "sim"; positionals = 3; options = top ∷ [] }
+form_of dumps = record { word = codes "dump"; positionals = 1; options = top ∷ [] }
 
 -- The form has the option, and the text is good for it.
 pub record IsAllowed (form : Form) (s : Setting) : Type 0 where
@@ -136,15 +138,17 @@ pub record Allows (form : Form) (positionals : List Text) (settings : List Setti
 
 -- ---- commands
 
--- `prove DESIGN TABLE GOALS` and `sim DESIGN TABLE VALUES`, with their options
+-- `prove DESIGN TABLE GOALS`, `sim DESIGN TABLE VALUES` and `dump DESIGN`, with their options
 pub data Command : Type 0 where
   prove : (design table goals : Text) → (top : Option Text) → (budget : Option ℕ) → Command
   sim : (design table values : Text) → (top : Option Text) → Command
+  dump : (design : Text) → (top : Option Text) → Command
 
 -- the command of a verb, its positionals in order, and what its options are given
 abbrev pub command_from : Verb' → List Text → Option Text → Option ℕ → Command
 command_from proves names t n = prove (get_or names 0 []) (get_or names 1 []) (get_or names 2 []) t n
 command_from sims names t n = sim (get_or names 0 []) (get_or names 1 []) (get_or names 2 []) t
+command_from dumps names t n = dump (get_or names 0 []) t
 
 -- The words are this command: the word of a verb, and behind it what the verb's form allows.
 pub record IsCommand (words : List Text) (command : Command) : Type 0 where
@@ -161,6 +165,7 @@ pub record IsCommand (words : List Text) (command : Command) : Type 0 where
 abbrev pub command_by : Verb → Text → Text → Text → Option Text → Option ℕ → Command
 command_by Prove d a g t n = prove d a g t n
 command_by Sim d a v t n = sim d a v t
+command_by Dump d a l t n = dump d t
 
 abbrev pub command_is : Told → Command
 command_is c = command_by c.verb c.design.now c.table.now c.last.now (option_copied c.top) c.budget
@@ -169,3 +174,4 @@ command_is c = command_by c.verb c.design.now c.table.now c.last.now (option_cop
 abbrev pub MayHave : Verb → Option ℕ → Type 0
 MayHave Prove n = Unit {0}
 MayHave Sim n = n ≡ None
+MayHave Dump n = n ≡ None

@@ -11,8 +11,8 @@ use Rattle.svtv_words.specs.declared.scan.Texts.{Texts as Given}
 use Rattle.svtv_words.specs.declared.scan.Found.{Found as Held}
 use Rattle.svtv_words.specs.declared.command.Command.{Command as Told}
 use Rattle.svtv_words.specs.declared.verbs.Verb.{Verb}
-use Rattle.svtv_words.specs.declared.verbs.Verb.TheVariants.{Prove, Sim}
-use Rattle.svtv_words.specs.Commands.{Text, Option', top, budget, Verb', proves, sims}
+use Rattle.svtv_words.specs.declared.verbs.Verb.TheVariants.{Prove, Sim, Dump}
+use Rattle.svtv_words.specs.Commands.{Text, Option', top, budget, Verb', proves, sims, dumps}
 use Rattle.svtv_words.specs.Reading.{Kind, a_name, with_text, before_text, on_its_own, the_rest, unknown, Texts, texts, Next, anything, text_of, a_positional, Found, found, Parts, parts}
 
 abbrev pub option_is : OptionName → Option'
@@ -22,6 +22,7 @@ option_is Budget = budget
 abbrev pub verb_is : Verb → Verb'
 verb_is Prove = proves
 verb_is Sim = sims
+verb_is Dump = dumps
 
 abbrev pub kind_is : Known → Kind
 kind_is known.Name = a_name

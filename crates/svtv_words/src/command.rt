@@ -8,7 +8,7 @@ ghost use Rattle.svtv_words.specs.Seen.{found_is, parts_are, verb_is};
 use crate::scan::{Found, Next, found_in};
 use crate::verbs::{Verb, verb_of};
 
-/// A command: its three files, and its options.
+/// A command: its files, and its options. A file that its verb does not have is an empty name.
 #[derive(Clone, Copy)]
 pub struct Command<'a> {
     pub verb: Verb,

@@ -1,4 +1,5 @@
-//! The words of a command: `prove DESIGN TABLE GOALS [--top M] [--budget N]` or `sim DESIGN TABLE VALUES [--top M]`.
+//! The words of a command: `prove DESIGN TABLE GOALS [--top M] [--budget N]`, `sim DESIGN TABLE VALUES [--top M]` or
+//! `dump DESIGN [--top M]`.
 #![tactic(auto)]
 
 mod command;

@@ -11,6 +11,7 @@ use crate::settings::OptionName;
 pub enum Verb {
     Prove,
     Sim,
+    Dump,
 }
 
 impl Verb {
@@ -21,6 +22,7 @@ impl Verb {
         match self {
             Verb::Prove => 3,
             Verb::Sim => 3,
+            Verb::Dump => 1,
         }
     }
 
@@ -37,6 +39,10 @@ impl Verb {
                 OptionName::Top => true,
                 OptionName::Budget => false,
             },
+            Verb::Dump => match option {
+                OptionName::Top => true,
+                OptionName::Budget => false,
+            },
         }
     }
 }
@@ -49,6 +55,8 @@ pub(crate) fn verb_of(word: &[u8]) -> Option<Verb>
         Some(Verb::Prove)
     } else if word == b"sim".as_slice() {
         Some(Verb::Sim)
+    } else if word == b"dump".as_slice() {
+        Some(Verb::Dump)
     } else {
         None
     }

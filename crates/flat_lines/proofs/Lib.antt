@@ -1,0 +1,4 @@
+pub mod Names
+pub mod ShapeForms
+pub mod Targets
+pub mod WholeLines

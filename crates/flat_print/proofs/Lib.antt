@@ -1,0 +1,5 @@
+pub mod Stacks
+pub mod Walking
+pub mod Pushing
+pub mod Ordering
+pub mod Standing

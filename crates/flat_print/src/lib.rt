@@ -1,0 +1,7 @@
+//! Prints a flat design as text: its wires and joins, the nodes that its drivers reach, and its drivers.
+#![tactic(auto)]
+
+mod print;
+mod visits;
+
+pub use print::print_flat;

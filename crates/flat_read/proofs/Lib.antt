@@ -1,0 +1,12 @@
+pub mod Spans
+pub mod Refusing
+pub mod Uniting
+pub mod Adding
+pub mod Telling
+pub mod LineJudging
+pub mod Going
+pub mod Breaking
+pub mod ReadSoFar
+pub mod Shorter
+pub mod Unbroken
+pub mod Unique

@@ -1,0 +1,4 @@
+pub mod Values
+pub mod Onto
+pub mod Forms
+pub mod Written
