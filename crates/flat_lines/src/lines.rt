@@ -1,7 +1,7 @@
 //! What stands in a line behind the word that says its kind. Each call reads to the end of the line, and answers `None` exactly where
 //! no wire, join, node or driver of numbers that fit words has this text.
 
-ghost use Rattle.std.specs.Prelude.{◌≡◌, ℕ, ◌++◌, ◌∷◌, [], length, codes, IfOk};
+ghost use Rattle.std.specs.Prelude.{◌≡◌, length, codes, IfOk};
 ghost use Rattle.flat_words.specs.Readers as w;
 ghost use Rattle.flat_words.specs.Readers.{joined};
 ghost use Rattle.flat_lines.specs.Items as spec;

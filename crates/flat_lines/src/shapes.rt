@@ -1,9 +1,8 @@
 //! Shapes of nodes. The name of an operator is looked for among the names that are printed, so that there is one list of names; and
 //! what an operator takes are numbers behind blanks.
 
-ghost use Rattle.std.specs.Prelude.{◌≡◌, codes, find, bytes_eq};
-ghost use Rattle.flat_text.specs.Lines as t;
-ghost use Rattle.flat_words.specs.Readers.{joined, passed, before, both, made};
+ghost use Rattle.std.specs.Prelude.{◌≡◌};
+ghost use Rattle.flat_words.specs.Readers.{joined, before, both, made};
 ghost use Rattle.flat_words.specs.Readers as w;
 ghost use Rattle.flat_lines.specs.Shapes as spec;
 

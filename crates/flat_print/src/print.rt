@@ -3,10 +3,9 @@
 //! Nodes have numbers of their own in a text, since only those are printed that a driver reaches. So their order is found first, and
 //! each shape is printed over the numbers of its children.
 
-ghost use Rattle.std.specs.Prelude.{◌≡◌, ◌++◌, ◌∷◌, ◌<◌, [], true, length, map, codes, slice_index, IfOk, OnOk, All, IsTrue};
+ghost use Rattle.std.specs.Prelude.{◌≡◌, ◌++◌, ◌<◌, length, slice_index, IfOk, OnOk, All, IsTrue};
 ghost use Rattle.std.specs.List.{flat_map};
-ghost use Rattle.svex_shape.specs.Shapes.{ChildrenBelow, shape_at};
-ghost use Rattle.svex_arena.specs.Arenas.{IsArena};
+ghost use Rattle.svex_shape.specs.Shapes.{shape_at};
 ghost use Rattle.svex_arena.specs.Substs.{renamed};
 ghost use Rattle.driver_resolve.specs.declared.driver.Driver.{Driver};
 ghost use Rattle.flat_net.specs.Flats.{IsFlat};

@@ -6,7 +6,7 @@
 ghost use Rattle.std.specs.Prelude.{◌≡◌, ℕ, ◌++◌, ◌∷◌, ◌≤◌, ◌<◌, [], false, true, length, map, reverse, slice_index, slice_index_or, slice_set, IfOk, OnOk, All};
 ghost use Rattle.svex_shape.specs.Shapes.{ChildrenBelow, shape_at};
 ghost use Rattle.flat_print.specs.Printed.{below_node, children_of, order_of, has, place_in};
-ghost use Rattle.flat_print.specs.Walks.{IsWalk, finish, node_of, work_left};
+ghost use Rattle.flat_print.specs.Walks.{IsWalk, finish, work_left};
 ghost use Rattle.flat_print.specs.declared.visits.Visit.TheVariants.{Enter, Leave};
 
 use driver_resolve::Driver;

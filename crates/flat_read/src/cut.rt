@@ -1,7 +1,6 @@
 //! Lines of a text.
 
-ghost use Rattle.std.specs.Prelude.{◌≡◌, codes, MatchOption, IfSome, IfNone};
-ghost use Rattle.flat_text.specs.Lines.{ended};
+ghost use Rattle.std.specs.Prelude.{MatchOption};
 ghost use Rattle.flat_text.specs.FlatTexts.{IsUnbroken};
 ghost use Rattle.flat_read.specs.States.{IsCut};
 

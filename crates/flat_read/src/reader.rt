@@ -3,25 +3,21 @@
 //! Nodes of a text may be repeated, and those of a graph may not, so each node of the text has a number in the graph, and shapes are
 //! put in over these numbers. Bits are joined one join after the other, since a bit may not be joined twice.
 
-ghost use Rattle.std.specs.Prelude.{◌≡◌, ◌↔◌, ℕ, ◌+◌, ◌^◌, Err, ◌<◌, ◌≤◌, ◌++◌, ◌∷◌, List, [], None, Some, length, codes, All, IfOk, IfSome, IfNone, OnOk, OnErr, IsTrue, MatchOption, slice_index};
+ghost use Rattle.std.specs.Prelude.{◌≡◌, ◌↔◌, ℕ, ◌+◌, ◌^◌, Err, ◌<◌, ◌≤◌, ◌++◌, ◌∷◌, List, [], None, Some, length, codes, All, IfOk, IfSome, IfNone, OnOk, IsTrue, slice_index};
 ghost use Rattle.lhs_alias.specs.Joined.{Stands, widths_of};
 ghost use Rattle.svex_shape.specs.Shapes.{ChildrenBelow, FitsWidths, width_at};
 ghost use Rattle.svex_arena.specs.Arenas.{IsArena, Interned, Extends};
 ghost use Rattle.svex_arena.specs.Substs.{renamed};
-ghost use Rattle.settling.specs.Settling.{Link};
 ghost use Rattle.sv_outside.specs.declared.text.Signal.{Signal};
 ghost use Rattle.svex_shape.specs.declared.shape.Shape.{Shape as AShape};
 ghost use Rattle.driver_resolve.specs.declared.driver.Driver.{Driver as ADriver};
 ghost use Rattle.flat_net.specs.declared.flat.Flat.{Flat as Design};
 ghost use Rattle.flat_net.specs.declared.flat.Join.{Join as AJoin};
-ghost use Rattle.flat_net.specs.Flats.{IsFlat, IsSignal, links_of};
-ghost use Rattle.flat_text.specs.Lines.{Text, ended, shape_text};
-ghost use Rattle.flat_text.specs.FlatTexts.{IsTold, HasSpot, BreaksAt};
+ghost use Rattle.flat_net.specs.Flats.{IsSignal, IsJoin, links_of};
+ghost use Rattle.flat_text.specs.Lines.{ended, shape_text};
+ghost use Rattle.flat_text.specs.FlatTexts.{HasSpot, BreaksAt};
 ghost use Rattle.flat_lines.specs.Items.{a_wire, a_join, a_node, a_drive};
-ghost use Rattle.std.specs.List.{zip};
-ghost use Rattle.lhs_alias.specs.Segs.{lhs_bits};
 ghost use Rattle.lhs_alias.specs.Pairs.{HaveOwnChildren};
-ghost use Rattle.flat_net.specs.Flats.{IsJoin};
 ghost use Rattle.flat_lines.specs.Fits.{FitsJoin, FitsShape, FitsDrive, wire_words, join_words, drive_words};
 ghost use Rattle.flat_read.specs.States.{HasMade, IsLaidFor, IsReader, Holds, Judged, Added, CannotCome, Took, Refused, TookLine, RefusedLine, HasReadAll, nothing_shown};
 

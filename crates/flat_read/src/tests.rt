@@ -1,7 +1,7 @@
 //! Tests of what a line says against the design so far: whether a design that is well formed can go on with it.
 
-ghost use Rattle.std.specs.Prelude.{◌≡◌, ◌↔◌, ℕ, ◌<◌, ◌≤◌, ◌+◌, ◌^◌, [], length, take, All, IsTrue, slice_index};
-ghost use Rattle.lhs_alias.specs.Segs.{lhs_bits, AreSegs};
+ghost use Rattle.std.specs.Prelude.{◌≡◌, ◌↔◌, ◌<◌, length, All, IsTrue, slice_index};
+ghost use Rattle.lhs_alias.specs.Segs.{lhs_bits};
 ghost use Rattle.lhs_alias.specs.Lies.{LieIn};
 ghost use Rattle.svex_shape.specs.Shapes.{ChildrenBelow, width_at};
 ghost use Rattle.driver_resolve.specs.Drivers.{is_of_wires, is_wire};

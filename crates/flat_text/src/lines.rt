@@ -1,7 +1,7 @@
 //! What puts each word and each line of a flat design's text behind a text. Each clause says the text exactly, so that whole
 //! texts are equations of lists; no line is made anywhere else.
 
-ghost use Rattle.std.specs.Prelude.{◌≡◌, ◌++◌, ◌<◌, IsTrue, OnOk, decimal, codes, ◌∷◌};
+ghost use Rattle.std.specs.Prelude.{◌≡◌, ◌++◌, ◌<◌, IsTrue, OnOk, ◌∷◌, codes};
 ghost use Rattle.flat_text.specs.Lines as t;
 ghost use Rattle.std.specs.List.{flat_map};
 ghost use Rattle.flat_text.specs.FlatTexts.{FitsSpot, HasSpot, is_long};
@@ -192,6 +192,91 @@ fn push_more(text: &mut Vec<u8>, segs: &[Seg]) -> Result<(), AllocError>
     Ok(())
 }
 
+// `const VALUE`
+fn push_const(text: &mut Vec<u8>, value: &Four) -> Result<(), AllocError>
+    ensures { OnOk result (text.new.items ≡ text.old.items ++ (codes "const " ++ value_text value.now)) }
+{
+    text.extend_from_slice(b"const ")?;
+    push_value(text, value)
+}
+
+// `var now WIRE W` or `var prev WIRE W`
+fn push_var(text: &mut Vec<u8>, name: VarName, width: u8) -> Result<(), AllocError>
+    requires { IsTrue (name_has_form name) }
+    ensures { OnOk result (text.new.items ≡ text.old.items ++ (codes "var " ++ (name_text name ++ next width))) }
+{
+    text.extend_from_slice(b"var ")?;
+    push_name(text, name)?;
+    push_width(text, width)
+}
+
+// A word and a node.
+fn push_one(text: &mut Vec<u8>, word: &[u8], a: Node) -> Result<(), AllocError>
+    ensures { OnOk result (text.new.items ≡ text.old.items ++ (word.now ++ next a)) }
+{
+    text.extend_from_slice(word)?;
+    push_node(text, a)
+}
+
+// A word and two nodes.
+fn push_two(text: &mut Vec<u8>, word: &[u8], a: Node, b: Node) -> Result<(), AllocError>
+    ensures { OnOk result (text.new.items ≡ text.old.items ++ (word.now ++ (next a ++ next b))) }
+{
+    push_one(text, word, a)?;
+    push_node(text, b)
+}
+
+// A word and three nodes.
+fn push_three(text: &mut Vec<u8>, word: &[u8], c: Node, a: Node, b: Node) -> Result<(), AllocError>
+    ensures { OnOk result (text.new.items ≡ text.old.items ++ (word.now ++ (next c ++ (next a ++ next b)))) }
+{
+    push_two(text, word, c, a)?;
+    push_node(text, b)
+}
+
+// A word, a node and a width.
+fn push_sized(text: &mut Vec<u8>, word: &[u8], a: Node, width: u8) -> Result<(), AllocError>
+    ensures { OnOk result (text.new.items ≡ text.old.items ++ (word.now ++ (next a ++ next width))) }
+{
+    push_one(text, word, a)?;
+    push_width(text, width)
+}
+
+// `slice A LO W`
+fn push_slice(text: &mut Vec<u8>, of: Node, lo: u8, width: u8) -> Result<(), AllocError>
+    ensures { OnOk result (text.new.items ≡ text.old.items ++ (codes "slice" ++ (next of ++ (next lo ++ next width)))) }
+{
+    push_sized(text, b"slice", of, lo)?;
+    push_width(text, width)
+}
+
+// `A B S N EACH ADD W` behind a word.
+fn push_spotted(
+    text: &mut Vec<u8>,
+    word: &[u8],
+    of: Node,
+    at: Node,
+    spot: Spot,
+) -> Result<(), AllocError>
+    ensures text { OnOk result (text.new.items
+        ≡ text.old.items ++ (word.now ++ (next of ++ (next at ++ (codes " " ++ spot_text spot))))) }
+    ensures fits { OnOk result (FitsSpot spot) }
+{
+    push_two(text, word, of, at)?;
+    text.push(b' ')?;
+    push_spot(text, spot)
+}
+
+// `dyn_put A B S N EACH ADD W C`
+fn push_put(text: &mut Vec<u8>, of: Node, at: Node, spot: Spot, put: Node) -> Result<(), AllocError>
+    ensures text { OnOk result (text.new.items
+        ≡ text.old.items ++ (codes "dyn_put" ++ (next of ++ (next at ++ (codes " " ++ (spot_text spot ++ next put)))))) }
+    ensures fits { OnOk result (FitsSpot spot) }
+{
+    push_spotted(text, b"dyn_put", of, at, spot)?;
+    push_node(text, put)
+}
+
 // SHAPE, of a node whose children have these numbers in the text.
 #[tactic(auto, unfolding(crate::specs::Lines::shape_text))]
 fn push_shape(text: &mut Vec<u8>, shape: &Shape) -> Result<(), AllocError>
@@ -200,67 +285,17 @@ fn push_shape(text: &mut Vec<u8>, shape: &Shape) -> Result<(), AllocError>
     ensures fits { OnOk result (HasSpot shape.now) }
 {
     match shape {
-        Shape::Const(value) => {
-            text.extend_from_slice(b"const ")?;
-            push_value(text, value)
-        }
-        Shape::Var(name, width) => {
-            text.extend_from_slice(b"var ")?;
-            push_name(text, *name)?;
-            push_width(text, *width)
-        }
-        Shape::Unary(op, a) => {
-            text.extend_from_slice(unary_name(*op))?;
-            push_node(text, *a)
-        }
-        Shape::Binary(op, a, b) => {
-            text.extend_from_slice(binary_name(*op))?;
-            push_node(text, *a)?;
-            push_node(text, *b)
-        }
-        Shape::Cond(c, a, b) => {
-            text.extend_from_slice(b"cond")?;
-            push_node(text, *c)?;
-            push_node(text, *a)?;
-            push_node(text, *b)
-        }
-        Shape::Pick(c, a, b) => {
-            text.extend_from_slice(b"pick")?;
-            push_node(text, *c)?;
-            push_node(text, *a)?;
-            push_node(text, *b)
-        }
-        Shape::Slice { of, lo, width } => {
-            text.extend_from_slice(b"slice")?;
-            push_node(text, *of)?;
-            push_width(text, *lo)?;
-            push_width(text, *width)
-        }
-        Shape::Zext(a, width) => {
-            text.extend_from_slice(b"zext")?;
-            push_node(text, *a)?;
-            push_width(text, *width)
-        }
-        Shape::Sext(a, width) => {
-            text.extend_from_slice(b"sext")?;
-            push_node(text, *a)?;
-            push_width(text, *width)
-        }
-        Shape::DynSlice { of, at, spot } => {
-            text.extend_from_slice(b"dyn_slice")?;
-            push_node(text, *of)?;
-            push_node(text, *at)?;
-            text.push(b' ')?;
-            push_spot(text, *spot)
-        }
-        Shape::DynPut { of, at, spot, put } => {
-            text.extend_from_slice(b"dyn_put")?;
-            push_node(text, *of)?;
-            push_node(text, *at)?;
-            text.push(b' ')?;
-            push_spot(text, *spot)?;
-            push_node(text, *put)
-        }
+        Shape::Const(value) => push_const(text, value),
+        Shape::Var(name, width) => push_var(text, *name, *width),
+        Shape::Unary(op, a) => push_one(text, unary_name(*op), *a),
+        Shape::Binary(op, a, b) => push_two(text, binary_name(*op), *a, *b),
+        Shape::Cond(c, a, b) => push_three(text, b"cond", *c, *a, *b),
+        Shape::Pick(c, a, b) => push_three(text, b"pick", *c, *a, *b),
+        Shape::Slice { of, lo, width } => push_slice(text, *of, *lo, *width),
+        Shape::Zext(a, width) => push_sized(text, b"zext", *a, *width),
+        Shape::Sext(a, width) => push_sized(text, b"sext", *a, *width),
+        Shape::DynSlice { of, at, spot } => push_spotted(text, b"dyn_slice", *of, *at, *spot),
+        Shape::DynPut { of, at, spot, put } => push_put(text, *of, *at, *spot, *put),
     }
 }
 

@@ -1,0 +1,47 @@
+use Rattle.std.proofs.lemmas.Result.{IfOk-from_err}
+use Rattle.std.proofs.Common.{◌+◌, ◌*◌, List, map, cond, refl, ap, ◌∙◌, arith}
+use Rattle.std.proofs.lemmas.List.{take_all}
+use Rattle.aig.specs.declared.gate.Lit.{Lit}
+use Rattle.aig.specs.Graph.{holds}
+use Rattle.aig.proofs.Growth.{Obeys-older}
+use Rattle.aig_words.proofs.Grown.{Grew-refl, Grew-then}
+use Rattle.fourvec.specs.declared.Bit.TheVariants.{Unknown}
+use Rattle.fourvec.specs.Bits.{truth_bit}
+use Rattle.pair_words.proofs.Growing.{IsVector-nil, IsVector-push}
+use Rattle.pair_words.proofs.Truths.{guarded_word, guarded_more}
+use Rattle.pair_words.proofs.numbers.guarded.Goals as goal
+
+pub loop-i-init : goal.loop-i-init
+loop-i-init c = rw c.new-vector.ensures.items (record {
+  grew = Grew-refl 0 c.args.aig.now;
+  word = IsVector-nil c.args.aig.now;
+  value = λ v o. refl;
+})
+
+pub loop-i-preserved : goal.loop-i-preserved
+loop-i-preserved c =
+    let i = c.loop-i.i in
+    let grew = c.in_ok-next.ensures.grew in
+    rw c.in_ok-push.ensures.items (record {
+      grew = Grew-then (2 * i) 2 (2 * (i + 1)) c.args.aig.now c.loop-i.aig _ (omega arith) c.loop-i.invariant.grew grew;
+      word = IsVector-push c.loop-i.aig _ i c.loop-i.vector.items _ grew.grows c.loop-i.invariant.word c.in_ok-next.ensures.within;
+      value = λ v o. guarded_more v (holds v c.args.c) c.args.word.now c.loop-i.vector.items i _ _ c.loop-i-test.true
+          (c.loop-i.invariant.value v (Obeys-older v _ _ grew.grows o)) (c.in_ok-next.ensures.value v o);
+    })
+
+pub returns-clause-value : goal.returns-clause-value
+returns-clause-value c = λ v o.
+    c.loop-i.invariant.value v o ∙ ap (λ (xs : List Lit). map (λ m. cond (holds v c.args.c) (truth_bit (holds v m)) Unknown) xs) (take_all c.loop-i.i c.args.word.now (omega arith)) ∙
+    guarded_word v (holds v c.args.c) c.args.word.now
+
+pub returns-in_err-next-clause-value : goal.returns-in_err-next-clause-value
+returns-in_err-next-clause-value c = IfOk-from_err _ _ c.from_residual.ensures.0
+
+pub returns-in_err-next-clause-word : goal.returns-in_err-next-clause-word
+returns-in_err-next-clause-word c = IfOk-from_err _ _ c.from_residual.ensures.0
+
+pub returns-in_err-push-clause-value : goal.returns-in_err-push-clause-value
+returns-in_err-push-clause-value c = IfOk-from_err _ _ c.from_residual-in_err-push.ensures.0
+
+pub returns-in_err-push-clause-word : goal.returns-in_err-push-clause-word
+returns-in_err-push-clause-word c = IfOk-from_err _ _ c.from_residual-in_err-push.ensures.0

@@ -1,0 +1,14 @@
+use Rattle.std.proofs.lemmas.Result.{IfOk-from_err}
+use Rattle.pair_words.proofs.places.laid_part.Goals as goal
+
+pub returns-in_err-extend_from_slice : goal.returns-in_err-extend_from_slice
+returns-in_err-extend_from_slice c = IfOk-from_err _ _ c.from_residual-in_err-extend_from_slice.ensures.0
+
+pub returns-in_err-extend_from_slice-2 : goal.returns-in_err-extend_from_slice-2
+returns-in_err-extend_from_slice-2 c = IfOk-from_err _ _ c.from_residual-in_err-extend_from_slice-2.ensures.0
+
+pub returns-in_err-part : goal.returns-in_err-part
+returns-in_err-part c = IfOk-from_err _ _ c.from_residual-in_err-part.ensures.0
+
+pub returns-in_err-word : goal.returns-in_err-word
+returns-in_err-word c = IfOk-from_err _ _ c.from_residual.ensures.0

@@ -1,0 +1,15 @@
+use Rattle.std.proofs.Common.{◌≡◌, ℕ, ◌-◌, ltb, List, [], ◌∷◌, ◌++◌, length, take, drop, ap, ◌∙◌, arith}
+use Rattle.std.proofs.lemmas.List.{length-drop, take_all}
+use Rattle.aig.specs.declared.gate.Lit.{Lit}
+use Rattle.aig_words.specs.Words.{number}
+use Rattle.pair_words.proofs.Moving.{capped_by}
+use Rattle.pair_words.proofs.shifts.capped.Goals as goal
+
+pub returns-clause-value : goal.returns-clause-value
+returns-clause-value c = λ v o most le.
+    let b = c.args.b.now in
+    let n : ℕ = c.args.n in
+    let high : take (length b - n) (drop n b) ≡ drop n b = take_all (length b - n) (drop n b) (omega (arith, length-drop n b)) in
+    capped_by v b c.push.new.self.items n c.in_ok-far.far most c.requires.more le
+    (c.in_ok-push.ensures.items ∙ ap (λ (t : List Lit). t ++ c.in_ok-far.far ∷ []) c.in_ok-word.ensures.items)
+    (c.in_ok-far.ensures.value v o ∙ ap (λ (t : List Lit). ltb 0 (number v t)) high)

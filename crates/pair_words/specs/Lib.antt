@@ -1,0 +1,4 @@
+pub mod Rails
+pub mod Truths
+pub mod Ways
+pub mod Starts

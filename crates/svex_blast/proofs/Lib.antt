@@ -1,0 +1,5 @@
+pub mod Fitting
+pub mod Noding
+pub mod Knowing
+pub mod Walking
+pub mod Choosing

@@ -1,0 +1,29 @@
+use Rattle.std.proofs.lemmas.Result.{IfOk-from_err}
+use Rattle.std.proofs.Common.{List, ap, ◌∙◌}
+use Rattle.aig_words.proofs.Grown.{Grew-refl}
+use Rattle.svex_shape.specs.Shapes.{width_of}
+use Rattle.svex_shape.specs.Values.{value_of}
+use Rattle.pair_words.specs.declared.pairs.Pair.{Pair}
+use Rattle.pair_words.specs.Rails.{bits}
+use Rattle.svex_blast.proofs.Noding.{constants_are, constants_in}
+use Rattle.svex_blast.proofs.nodes.on_constant.Goals as goal
+
+pub returns-clause-grew : goal.returns-clause-grew
+returns-clause-grew c = Grew-refl 0 _
+
+pub returns-in_err-word-clause-grew : goal.returns-in_err-word-clause-grew
+returns-in_err-word-clause-grew c = Grew-refl 0 _
+
+pub returns-clause-word : goal.returns-clause-word
+unfolding width_of
+returns-clause-word c = rw c.in_ok-word.ensures (constants_in c.args.aig.now c.args.value.now c.requires.node)
+
+pub returns-clause-value : goal.returns-clause-value
+unfolding value_of
+returns-clause-value c = λ v o. ap (λ (t : List Pair). bits v t) c.in_ok-word.ensures ∙ constants_are v c.args.value.now o.bottom
+
+pub returns-in_err-word-clause-value : goal.returns-in_err-word-clause-value
+returns-in_err-word-clause-value c = IfOk-from_err _ _ c.from_residual.ensures.0
+
+pub returns-in_err-word-clause-word : goal.returns-in_err-word-clause-word
+returns-in_err-word-clause-word c = IfOk-from_err _ _ c.from_residual.ensures.0
