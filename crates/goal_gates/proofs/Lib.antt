@@ -1,0 +1,5 @@
+pub mod Tops
+pub mod Told
+pub mod Sums
+pub mod Copies
+pub mod Fitting

@@ -1,0 +1,3 @@
+pub mod Goals
+pub mod Rooms
+pub mod Gating

@@ -1,0 +1,45 @@
+// Verdicts, and what shows that they are right.
+use aig::{Aig, Lit};
+use cnf::Cnf;
+use fourvec::Four;
+use items::Items;
+use refute_check::Log;
+
+/// Clauses, and a log of steps that follow from them.
+pub struct Cert {
+    pub cnf: Cnf,
+    pub log: Log,
+}
+
+impl Drop for Cert {
+    fn drop(self) {
+        let Cert { cnf: _, log: _ } = self;
+    }
+}
+
+/// A question that was left: its graph and literal, the clauses of these, and the new clauses that were learned.
+pub struct Left {
+    pub aig: Aig,
+    pub root: Lit,
+    pub cert: Cert,
+}
+
+impl Drop for Left {
+    fn drop(self) {
+        let Left {
+            aig: _,
+            root: _,
+            cert: _,
+        } = self;
+    }
+}
+
+/// What is said of a goal. The certificate of the first two refutes the clauses of the question that has no answer, and a failure
+/// has a vector for each variable.
+#[derive(Drop)]
+pub enum Verdict {
+    Proved(Cert),
+    Vacuous(Cert),
+    Failed(Items<Four>),
+    Undecided(Left),
+}
