@@ -1,12 +1,15 @@
-//! Judges the gates of expressions, by the values of the expressions. The cases stand in data/; what they mean stands at the head of
+//! Judges the gates of expressions, by the values of the expressions, and verdicts of goals. The cases stand in data/; what they mean stands at the head of
 //! each module.
 #![tactic(auto)]
 
 mod choices;
+mod goals;
+mod nodes;
 mod rails;
 mod vars;
 
-use case_rows::{Bench, Fault, Report, each_row, judge_files, named, word};
+use case_rows::{Bench, Fault, Report, each_row, judge_files, named, word, words_from};
+use goals::{Goal, Role, Verdicts};
 use rails::{Agreement, Counts};
 use std::alloc::Global;
 use std::io;
@@ -18,19 +21,26 @@ enum Key {
     Vars,
     Agree,
     Nodes,
+    Part(Role),
+    Goal,
 }
 
-static KEYS: [(&[u8], Key); 3] = [
+static KEYS: [(&[u8], Key); 7] = [
     (b"vars", Key::Vars),
     (b"agree", Key::Agree),
     (b"nodes", Key::Nodes),
+    (b"samples", Key::Part(Role::Sample)),
+    (b"hyps", Key::Part(Role::Hyp)),
+    (b"claims", Key::Part(Role::Claim)),
+    (b"goal", Key::Goal),
 ];
 
-/// The variables of the expressions below.
+/// The variables of the expressions below, and the goal over them.
 #[derive(Drop)]
 struct Keys {
     alloc: Global,
     vars: Vec<VarDecl>,
+    goal: Goal,
 }
 
 impl Keys {
@@ -42,9 +52,18 @@ impl Keys {
         report: &mut Report,
     ) -> Result<(), Fault> {
         match key {
-            Key::Vars => declare(self.alloc, &mut self.vars, line),
+            Key::Vars => {
+                self.goal.clear();
+                declare(self.alloc, &mut self.vars, line)
+            }
             Key::Agree => each_row(&mut Agreement::new(self.alloc, &self.vars), block, report),
             Key::Nodes => each_row(&mut Counts::new(self.alloc, &self.vars), block, report),
+            Key::Part(role) => self.goal.read(role, words_from(line, 1)),
+            Key::Goal => each_row(
+                &mut Verdicts::new(&self.vars, &mut self.goal),
+                block,
+                report,
+            ),
         }
     }
 }
@@ -54,6 +73,7 @@ impl Bench for Keys {
         Keys {
             alloc,
             vars: Vec::new(alloc),
+            goal: Goal::new(alloc),
         }
     }
 

@@ -1,8 +1,9 @@
 -- What the literals of a goal tell, by the values of the nodes that the goal has.
-use Rattle.std.proofs.Common.{◌≡◌, ℕ, zero, suc, ◌+◌, ◌<◌, ◌⊎◌, Bool, true, false, not, ◌&&◌, cond, eqb, List, [], ◌∷◌, ◌++◌, map, length, get_or, take, drop, Some, None, refl, sym, ap, ◌∙◌, subst, arith, inl, inr, ⊎_elim, All, IsTrue, get_or-take, get_or-drop, length-take-le, length-drop, length-append, slice_index, slice_index_or, get_or-append-add, lt-ltb, ne_eqb, drop_at}
+use Rattle.std.proofs.Common.{◌≡◌, ℕ, zero, suc, ◌+◌, ◌<◌, ◌≤◌, ◌⊎◌, Bool, true, false, not, ◌&&◌, cond, eqb, List, [], ◌∷◌, ◌++◌, map, length, get_or, take, drop, Some, None, refl, sym, ap, ◌∙◌, subst, arith, inl, inr, ⊎_elim, All, IsTrue, get_or-take, get_or-drop, length-take-le, length-drop, length-append, slice_index, slice_index_or, get_or-append-add, lt-ltb, ne_eqb, drop_at}
 use Rattle.std.specs.List.{list_all}
 use lib.Seq.{take_at}
 use Rattle.std.proofs.lemmas.Bool.{cases_lt, false≢true}
+use Rattle.std.proofs.lemmas.List.Elements.{All-append}
 use Rattle.std.proofs.lemmas.List.{get_or-map, get_or_past, length-map, get_or_append_left, get_or_default}
 use Rattle.aig.specs.declared.gate.Gate.{Gate}
 use Rattle.aig.specs.declared.gate.Lit.{Lit}
@@ -291,3 +292,20 @@ ones_or_not g choice nodes a l w = by_test (list_all (truth_under g choice) node
     by_test : (b : Bool) → list_all (truth_under g choice) nodes ≡ b → All (IsOne g choice) nodes ⊎ (All (IsOne g choice) nodes → ⊥)
     by_test true e = inl (all_ones g choice nodes a l w e)
     by_test false e = inr (λ h. false≢true (sym e ∙ ones_all g choice nodes h))
+
+pub extends_itself : (shapes : List Shape) → Extends shapes shapes
+extends_itself shapes = record { longer = omega arith; same = λ k l. refl }
+
+pub roots_within : (len : ℕ) (hyps claims samples roots passed : List ℕ) → passed ≡ roots → roots ≡ (hyps ++ claims) ++ samples → All (λ n. n < len) hyps → All (λ n. n < len) claims → All (λ n. n < len) samples → (i : ℕ) → i < length passed → slice_index passed i < len
+roots_within len hyps claims samples roots passed ep er h c s i l =
+    subst (All (λ n. n < len)) (sym (ep ∙ er)) (All-append (λ n. n < len) (hyps ++ claims) samples (All-append (λ n. n < len) hyps claims h c) s) i 0 l
+
+pub part_fits : (hyps claims samples roots passed answers now : List ℕ) → passed ≡ roots → roots ≡ (hyps ++ claims) ++ samples → length answers ≡ length passed → now ≡ answers → length hyps + length claims ≤ length now
+part_fits hyps claims samples roots passed answers now ep er size en =
+    omega (arith, ap length ep, ap length er, size, ap length en, length-append (hyps ++ claims) samples, length-append hyps claims)
+
+pub part_within : (len n : ℕ) (passed answers now : List ℕ) → now ≡ answers → length answers ≡ length passed → n ≤ length now → ((i : ℕ) → i < length passed → slice_index answers i < len) → All (λ k. k < len) (take n now)
+part_within len n passed answers now en size le w k d l =
+    let lt : k < n = omega (arith, l, length-take-le n now le) in
+    let there : k < length answers = omega (arith, lt, le, ap length en) in
+    subst (λ x. x < len) (sym (get_or-take n now k d lt ∙ (ap (λ xs. get_or xs k d) en ∙ get_or_default answers k d 0 there))) (w k (omega (arith, there, size)))
