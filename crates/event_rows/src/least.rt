@@ -1,5 +1,6 @@
 //! Least runs of a table over a flat design. `table` has the records of a table of one variable, as the tool reads them. `run` has in each
-//! row the choice of the variable and the samples, by record and then by phase: `01 => 10 xx 01`.
+//! row the choice of the variable and the samples, by record and then by phase: `01 => 10 xx 01`. Each row is judged twice, by a runner and by
+//! the unrolled table.
 
 ghost use Rattle.std.specs.Prelude.{All, IfOk, IfSome};
 ghost use Rattle.flat_net.specs.Flats.{IsFlat};
@@ -9,14 +10,17 @@ ghost use Rattle.svtv_table.specs.Binding.{HasWidth, IsBound};
 use crate::design::{empty, put_design};
 use crate::settled::told;
 use crate::sound::is_sound;
+use crate::unrolled::{put_samples, unrolled};
 use case_exprs::{digits, put_vectors};
 use case_rows::{Fault, Report, put, rows_of, sides};
+use flat_copy::copy_flat;
 use flat_net::Flat;
 use fourvec::Four;
 use std::alloc::Global;
 use sv_outside::{Signal, TextErr};
 use svtv_least::Runner;
 use svtv_table::{Bound, bind, read_table};
+use svtv_unroll::Svtv;
 
 fn fault_of(error: TextErr) -> Fault {
     match error {
@@ -61,11 +65,31 @@ fn choice_of(bound: &Bound, question: &[u8]) -> Option<[Four; 1]>
     }
 }
 
-// Whether the samples of a choice are those that are wanted.
+// Whether the unrolled table has the samples too; what else it has is told.
+fn says_it_too(
+    alloc: Global,
+    svtv: &Svtv,
+    choice: &[Four],
+    wanted: &[u8],
+    said: &mut Vec<u8>,
+) -> Result<bool, Fault> {
+    let mut own = Vec::new(alloc);
+    put_samples(alloc, svtv, choice, &mut own)?;
+    if own.as_slice() == wanted {
+        return Ok(true);
+    }
+    put(said, b" by events, unrolled ")?;
+    put(said, &own)?;
+    Ok(false)
+}
+
+// Whether the samples of a choice are those that are wanted, and those of the unrolled table too.
 fn run_of_row(
+    alloc: Global,
     flat: &Flat,
     bound: &Bound,
     runner: &mut Runner,
+    svtv: &Svtv,
     row: &[u8],
     said: &mut Vec<u8>,
 ) -> Result<bool, Fault>
@@ -78,7 +102,7 @@ fn run_of_row(
     let choice = choice_of(bound, question).ok_or(Fault::Form)?;
     runner.run(flat, bound, &choice);
     put_vectors(said, runner.samples())?;
-    Ok(said.as_slice() == wanted)
+    Ok(said.as_slice() == wanted && says_it_too(alloc, svtv, &choice, wanted, said)?)
 }
 
 fn run_all(
@@ -91,10 +115,11 @@ fn run_all(
     requires { IsFlat flat.now }
 {
     let bound = bound_of(alloc, text, flat.wires.as_slice())?;
+    let svtv = unrolled(alloc, copy_flat(alloc, flat)?, &bound)?;
     let mut runner = Runner::new(alloc, flat, &bound)?;
     'lines: for line in block.split(|c| *c == b'\n') {
         if let Some(row) = rows_of(line) {
-            let answer = run_of_row(flat, &bound, &mut runner, row, report.said());
+            let answer = run_of_row(alloc, flat, &bound, &mut runner, &svtv, row, report.said());
             report.take(row, answer)?;
         }
     }

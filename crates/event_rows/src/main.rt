@@ -9,6 +9,7 @@ mod machines;
 mod settled;
 mod sizes;
 mod sound;
+mod unrolled;
 
 use case_rows::{Bench, Fault, Report, judge_files, named, put, size, word, words_from};
 use equations::judge_equations;
