@@ -1,22 +1,19 @@
 //! Least runs once more, by unrolling: a table over the machine of a flat design becomes a node for each sample, and the node's value
 //! under a choice has to be what the run has.
 
-ghost use Rattle.std.specs.Prelude.{ℕ, ◌<◌, IfOk, length};
 ghost use Rattle.flat_net.specs.Flats.{IsFlat};
 ghost use Rattle.svtv_table.specs.Binding.{IsBound};
-ghost use Rattle.svtv_unroll.specs.Unrolled.{HasSet};
 
 use case_exprs::put_vectors;
 use case_rows::Fault;
 use flat_net::Flat;
 use fourvec::Four;
-use items::Items;
 use net_equations::ComposeErr;
-use phase_fsm::make_fsm;
 use std::alloc::{AllocError, Global};
 use svex_arena::Env;
-use svtv_table::{Bound, over_at};
-use svtv_unroll::{Svtv, unroll};
+use svtv_machine::sample_nodes;
+use svtv_table::Bound;
+use svtv_unroll::Svtv;
 
 fn fault_of(error: ComposeErr) -> Fault {
     match error {
@@ -25,29 +22,15 @@ fn fault_of(error: ComposeErr) -> Fault {
     }
 }
 
-// The wires that are overridden in each phase.
-fn sets_of(alloc: Global, bound: &Bound) -> Result<Items<Items<usize>>, AllocError>
-    ensures { IfOk result (λ sets. (phase : ℕ) → phase < bound.now.phases → HasSet sets bound.now.overs phase) }
-{
-    let mut sets = Items::new(alloc);
-    'phases: for phase in 0..bound.phases {
-        let over = over_at(alloc, bound, phase)?;
-        sets.push(over)?;
-    }
-    Ok(sets)
-}
-
 /// The table over the machine of the design, unrolled.
 pub fn unrolled(alloc: Global, flat: Flat, bound: &Bound) -> Result<Svtv, Fault>
     requires flat { IsFlat flat }
     requires bound { IsBound flat.wires bound.now }
 {
-    let sets = sets_of(alloc, bound)?;
-    let fsm = match make_fsm(alloc, flat, sets) {
-        Ok(fsm) => fsm,
-        Err(error) => return Err(fault_of(error)),
-    };
-    Ok(unroll(alloc, fsm, bound)?)
+    match sample_nodes(alloc, flat, bound) {
+        Ok(svtv) => Ok(svtv),
+        Err(error) => Err(fault_of(error)),
+    }
 }
 
 fn samples_of(alloc: Global, svtv: &Svtv, env: &Env) -> Result<Vec<Four>, Fault> {

@@ -1,23 +1,24 @@
--- A command with legal files is done, but for faults and want of memory.
+-- A command with legal files is done, but for faults and want of memory, and but for proofs of designs with wide loops.
 use Rattle.std.proofs.Common.{◌≡◌, ◌⊎◌, List, true, false, refl, subst, inl, inr}
 use Rattle.sv_outside.specs.declared.refusal.Refusal.{Refusal}
 use Rattle.svtv_words.specs.Commands.{Command, IsCommand, prove, sim, dump}
 use Rattle.svtv_words.proofs.Commands.{one_command}
 use Rattle.svtv.specs.Answers.{Answers, PrintsIf, Prints}
 use Rattle.svtv_files.specs.Files.{Text, Told}
-use Rattle.svtv.specs.Legal.{AreLegal, IsDone}
+use Rattle.svtv.specs.Legal.{AreLegal, IsDone, IsLooped}
 use Rattle.svtv.specs.Outcomes.{IfLeft, status_of}
 use Rattle.svtv_files.specs.Refusals.{Refuses}
 use Rattle.svtv.specs.declared.status.Status.{Status}
 use Rattle.svtv.specs.declared.status.Status.TheVariants.{AllProved, Done, NotAll, Usage, Refused, ReadFault, WriteFault, Memory}
 use Rattle.svtv.specs.declared.work.Outcome.{Outcome}
 use Rattle.svtv.specs.declared.work.Outcome.TheVariants as outcome
-use Rattle.svtv.proofs.Legal.{design_stands, proof_stands, simulation_stands}
+use Rattle.svtv.proofs.Legal.{design_stands, proof_loops, simulation_stands}
 
-legal_stands : (told : Told) (c : Command) (file : Text) (r : Refusal) → AreLegal told c → Refuses told c file r → ⊥
-legal_stands told (prove d t g top budget) file r l h = proof_stands told d t g top l.0 l.1 l.4 l.2 l.3 l.5 file r h
-legal_stands told (sim d t v top) file r l h = simulation_stands told d t v top l.0 l.1 l.3 l.2 l.4 file r h
-legal_stands told (dump d top) file r l h = design_stands told d top l.0 l.1 file r h
+-- legal files are refused for loops alone
+legal_loops : (told : Told) (c : Command) (file : Text) (r : Refusal) → AreLegal told c → Refuses told c file r → IsLooped told c Refused
+legal_loops told (prove d t g top budget) file r l h = (l.0, l.2.is_design.file, r.count, proof_loops told d t g top l.0 l.1 l.3 l.2 l.4 file r h)
+legal_loops told (sim d t v top) file r l h = absurd (simulation_stands told d t v top l.0 l.1 l.3 l.2 l.4 file r h)
+legal_loops told (dump d top) file r l h = absurd (design_stands told d top l.0 l.1 file r h)
 
 -- what a command prints, it is done with
 printed : (told : Told) (c : Command) (status : Status) (text : Text) → Prints told c status text → IsDone c status
@@ -51,17 +52,17 @@ done told words status text c is h = subst (λ (x : Command). IsDone x status) (
 
 -- how a command with legal files ends
 pub ends : (told : Told) (words : List Text) (status : Status) (text message : Text) (c : Command) → IsCommand words c → AreLegal told c → Answers told words status text message
-    → (status ≡ ReadFault → ⊥) → IsDone c status ⊎ (status ≡ Memory)
+    → (status ≡ ReadFault → ⊥) → IsDone c status ⊎ (status ≡ Memory) ⊎ IsLooped told c status
 ends told words AllProved text message c is l h n = inl (done told words AllProved text c is h.1)
 ends told words NotAll text message c is l h n = inl (done told words NotAll text c is h.1)
 ends told words Done text message c is l h n = inl (done told words Done text c is h.1)
 ends told words Usage text message c is l h n = absurd (h.2 c is)
 ends told words Refused text message c is l h n =
     let why = h.1 in
-    absurd (legal_stands told c why.2 why.3 l (subst (λ (x : Command). Refuses told x why.2 why.3) (one_command words why.0 c why.1 is) why.4))
+    inr (inr (legal_loops told c why.2 why.3 l (subst (λ (x : Command). Refuses told x why.2 why.3) (one_command words why.0 c why.1 is) why.4)))
 ends told words ReadFault text message c is l h n = absurd (n refl)
 ends told words WriteFault text message c is l h n = absurd h
-ends told words Memory text message c is l h n = inr refl
+ends told words Memory text message c is l h n = inr (inl refl)
 
 -- only a file that was not read ends in a read fault
 pub left : (P : Type 0) (outcome : Outcome) → IfLeft P outcome → status_of outcome ≡ ReadFault → P

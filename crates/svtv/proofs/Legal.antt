@@ -1,7 +1,7 @@
--- Legal files are not refused.
-use Rattle.std.proofs.Common.{◌≡◌, ◌⊎◌, ℕ, ◌+◌, ◌-◌, ◌≤◌, ◌<◌, ◌^◌, List, [], ◌∷◌, length, Bool, cond, Option, Some, None, Ok, Err, refl, sym, ◌∙◌, ap, subst, inl, inr, arith}
+-- Legal files are not refused, but for wide loops of the design where it is to be proved something.
+use Rattle.std.proofs.Common.{◌≡◌, ◌⊎◌, ℕ, ◌-◌, ◌<◌, ◌^◌, List, [], length, Option, Some, None, Ok, Err, refl, sym, ◌∙◌, ap, subst, inl, inr, arith}
 use Rattle.std.specs.Prelude.{IfSome, Contains}
-use Rattle.std.proofs.lemmas.Bool.{le-ltb}
+use Rattle.design_loops.specs.Loops.{HasWideLoop}
 use Rattle.fourvec.specs.declared.Bit.{Bit}
 use Rattle.goal_text.specs.Faults.{goal_faults}
 use Rattle.goal_text.specs.Goals.{HasCause, IsCut}
@@ -33,8 +33,6 @@ use Rattle.sv_token.proofs.Cutting.{lines_within, none_refused, one_list_of}
 use Rattle.sv_tree.specs.Nesting.{Depths, IsTooDeep}
 use Rattle.sv_tree.specs.NestingDesign.{source_depths}
 use Rattle.sv_tree.specs.declared.design.Source.{Source}
-use Rattle.svtv_choices.specs.Choices.{bits_of}
-use Rattle.svtv_choices.specs.Rooms.{exceeding, exceeding_faults, room_faults}
 use Rattle.svtv_table.specs.Binding.{bind_faults}
 use Rattle.svtv_table.specs.Faults.{first_of}
 use Rattle.svtv_table.specs.Fields.{IsRecords}
@@ -45,7 +43,7 @@ use Rattle.svtv_table.specs.declared.bound.VarDecl.{VarDecl}
 use Rattle.table_cells.specs.declared.table.Table.{Table}
 use Rattle.svtv_files.specs.Files.{Text, Told, IsDesignFile, IsTableText, samples_in, vars_of}
 use Rattle.svtv.specs.Legal.{IsShallow, IsShort, IsLegalDesign, IsLegalTable, IsLegalSetup, AreLegalGoals, AreLegalValues}
-use Rattle.svtv_files.specs.Refusals.{BehindSetup, HasNoRoom, HasRoom, IsFirstFault, RefusesDesign, RefusesGoals, RefusesProof, RefusesSetup, RefusesSimulation, RefusesTable, RefusesValues, TooLong}
+use Rattle.svtv_files.specs.Refusals.{BehindSetup, HasNoMachine, IsFirstFault, RefusesDesign, RefusesGoals, RefusesProof, RefusesSetup, RefusesSimulation, RefusesTable, RefusesValues, TooLong}
 use Rattle.svtv.proofs.Records.{one_records}
 
 -- ---- texts
@@ -157,20 +155,6 @@ goals_stand told name vars samples trees l r (inr b) =
     let e = one_text told name b.text l.file.text l.text b.stands in
     no_cause l.file.text vars samples trees l.file.spell.tokens l.file.spell.cut l.file.spell.spelled l.shallow l.file.clear r (subst (λ (x : Text). HasCause 0 x vars samples r) e b.cause)
 
--- ---- room
-
-abbrev exceeding_at : VarDecl → ℕ → List VarDecl → Bool → Option (List ℕ)
-exceeding_at x sum more b = cond b (Some x.name) (exceeding (sum + x.width) more)
-
-none_exceeds : (before : ℕ) (vars : List VarDecl) → before + bits_of vars ≤ 16 → exceeding before vars ≡ None
-unfolding exceeding bits_of
-none_exceeds before [] h = refl
-none_exceeds before (v ∷ more) h = ap (exceeding_at v before more) (le-ltb 16 (before + v.width) (omega (arith, h))) ∙ none_exceeds (before + v.width) more (omega (arith, h))
-
-room_stands : (design : Design) (table : Table) (r : Refusal) → HasRoom design table → HasNoRoom design table r → ⊥
-unfolding room_faults
-room_stands design table r h n = none_first (exceeding_faults table.rows (exceeding 0 (vars_of design table))) r (ap (exceeding_faults table.rows) (none_exceeds 0 (vars_of design table) (omega (arith, h)))) n
-
 -- ---- turns
 
 setup_stands : (told : Told) (d t : Text) (top : Option Text) (design : Design) (table : Table) → IsLegalSetup told d t top design table → (file : Text) (r : Refusal) → RefusesSetup told d t top file r → ⊥
@@ -186,16 +170,16 @@ behind told d t top design table Then l b =
     let f = one_table told t design.wires table b.1 l.is_table b.2.is_table.read in
     subst (λ (y : Table). Then design y) f (subst (λ (x : Design). Then x b.1) e b.3)
 
-pub proof_stands : (told : Told) (d t g : Text) (top : Option Text) (design : Design) (table : Table) (trees : List GoalTree) → IsLegalSetup told d t top design table → HasRoom design table
-    → AreLegalGoals told g (vars_of design table) (samples_in design table) trees → (file : Text) (r : Refusal) → RefusesProof told d t g top file r → ⊥
-proof_stands told d t g top design table trees l room goals file r (inl h) = setup_stands told d t top design table l file r h
-proof_stands told d t g top design table trees l room goals file r (inr b) =
-    after (behind told d t top design table
-    (λ design table. ((file ≡ t) × HasNoRoom design table r) ⊎ ((file ≡ g) × HasRoom design table × RefusesGoals told g (vars_of design table) (samples_in design table) r)) l b)
+-- where a proof is refused, bits of the design feed each other
+pub proof_loops : (told : Told) (d t g : Text) (top : Option Text) (design : Design) (table : Table) (trees : List GoalTree) → IsLegalSetup told d t top design table
+    → AreLegalGoals told g (vars_of design table) (samples_in design table) trees → (file : Text) (r : Refusal) → RefusesProof told d t g top file r → HasWideLoop design r.count
+proof_loops told d t g top design table trees l goals file r (inl h) = absurd (setup_stands told d t top design table l file r h)
+proof_loops told d t g top design table trees l goals file r (inr b) =
+    after (behind told d t top design table (λ design table. ((file ≡ g) × RefusesGoals told g (vars_of design table) (samples_in design table) r) ⊎ ((file ≡ d) × HasNoMachine told g design table r)) l b)
   where
-    after : ((file ≡ t) × HasNoRoom design table r) ⊎ ((file ≡ g) × HasRoom design table × RefusesGoals told g (vars_of design table) (samples_in design table) r) → ⊥
-    after (inl h) = room_stands design table r room h.1
-    after (inr h) = goals_stand told g (vars_of design table) (samples_in design table) trees goals r h.2
+    after : ((file ≡ g) × RefusesGoals told g (vars_of design table) (samples_in design table) r) ⊎ ((file ≡ d) × HasNoMachine told g design table r) → HasWideLoop design r.count
+    after (inl h) = absurd (goals_stand told g (vars_of design table) (samples_in design table) trees goals r h.1)
+    after (inr h) = h.1.1.wide
 
 pub simulation_stands : (told : Told) (d t v : Text) (top : Option Text) (design : Design) (table : Table) (choice : List (List Bit)) → IsLegalSetup told d t top design table
     → AreLegalValues told v (vars_of design table) choice → (file : Text) (r : Refusal) → RefusesSimulation told d t v top file r → ⊥

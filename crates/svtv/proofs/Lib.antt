@@ -1,3 +1,4 @@
+pub mod Budgets
 pub mod Complete
 pub mod Ends
 pub mod Legal

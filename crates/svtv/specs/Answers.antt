@@ -26,10 +26,10 @@ HaveRuns = (design : Design) (table : Table) → bind_faults design.wires table 
 
 -- ---- answers
 
--- what a command that is done prints; the verdicts of a proof are right by its budget, as by every other
+-- what a command that is done prints; the verdicts of a proof are right by its budget
 abbrev pub Prints : Told → Command → Status → Text → Type 0
-Prints told (prove d t g top budget) AllProved text = Proves told d t g top true text
-Prints told (prove d t g top budget) NotAll text = Proves told d t g top false text
+Prints told (prove d t g top budget) AllProved text = Proves told d t g top budget true text
+Prints told (prove d t g top budget) NotAll text = Proves told d t g top budget false text
 Prints told (sim d t v top) Done text = Simulates told d t v top text
 Prints told (dump d top) Done text = Dumps told d top text
 Prints told command status text = ⊥

@@ -1,5 +1,6 @@
 -- Files that are legal by what is told of their contents, and the answer that a command then has.
 use Rattle.std.specs.Prelude.{◌≡◌, ◌≤◌, ◌^◌, ⊤, ℕ, List, length, Option, Some}
+use Rattle.design_loops.specs.Loops.{HasWideLoop}
 use Rattle.fourvec.specs.declared.Bit.{Bit}
 use Rattle.goal_tree.specs.Goals.{goals_depths}
 use Rattle.goal_tree.specs.declared.tree.GoalTree.{GoalTree}
@@ -14,9 +15,8 @@ use Rattle.svtv_table.specs.declared.bound.VarDecl.{VarDecl}
 use Rattle.table_cells.specs.declared.table.Table.{Table}
 use Rattle.svtv_words.specs.Commands.{Command, prove, sim, dump}
 use Rattle.svtv_files.specs.Files.{Text, Told, IsDesignFile, IsTableFile, AreGoalsFile, IsValuesFile, samples_in, vars_of}
-use Rattle.svtv_files.specs.Refusals.{HasRoom}
 use Rattle.svtv.specs.declared.status.Status.{Status}
-use Rattle.svtv.specs.declared.status.Status.TheVariants.{AllProved, Done, NotAll}
+use Rattle.svtv.specs.declared.status.Status.TheVariants.{AllProved, Done, NotAll, Refused}
 
 -- no token lies in over 200 parts of one kind
 abbrev pub IsShallow : Depths → Type 0
@@ -50,9 +50,9 @@ pub record AreLegalValues (told : Told) (name : Text) (vars : List VarDecl) (cho
   pub file : IsValuesFile told name vars choice
   pub text : IsShort told name file.text
 
--- The files of a command are legal. Those of a proof have at most 16 variable bits.
+-- the files of a command are legal
 abbrev pub AreLegal : Told → Command → Type 0
-AreLegal told (prove d t g top budget) = (design : Design) × (table : Table) × IsLegalSetup told d t top design table × HasRoom design table
+AreLegal told (prove d t g top budget) = (design : Design) × (table : Table) × IsLegalSetup told d t top design table
     × (trees : List GoalTree) × AreLegalGoals told g (vars_of design table) (samples_in design table) trees
 AreLegal told (sim d t v top) = (design : Design) × (table : Table) × IsLegalSetup told d t top design table
     × (choice : List (List Bit)) × AreLegalValues told v (vars_of design table) choice
@@ -65,3 +65,8 @@ IsDone (prove d t g top budget) NotAll = ⊤
 IsDone (sim d t v top) Done = ⊤
 IsDone (dump d top) Done = ⊤
 IsDone command status = ⊥
+
+-- a proof may be refused though its files are legal: over 1,024 bits of the design's wires feed each other
+abbrev pub IsLooped : Told → Command → Status → Type 0
+IsLooped told (prove d t g top budget) Refused = (design : Design) × IsDesignFile told d top design × (count : ℕ) × HasWideLoop design count
+IsLooped told command status = ⊥

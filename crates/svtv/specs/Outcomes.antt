@@ -1,5 +1,5 @@
 -- Words of the inner functions: how the work ends.
-use Rattle.std.specs.Prelude.{◌≡◌, [], true, false, Option}
+use Rattle.std.specs.Prelude.{◌≡◌, ℕ, [], true, false, Option}
 use Rattle.svtv_report.specs.Refusals.{memory_text, read_fault_text, refusal_text, usage_text}
 use Rattle.sv_outside.specs.declared.refusal.Place.{Place}
 use Rattle.sv_outside.specs.declared.refusal.Refusal.{Refusal}
@@ -65,14 +65,14 @@ abbrev pub IsUnread : (Text → Place → Type 0) → Text → Type 0
 IsUnread Why message = (file : Text) × (place : Place) × Why file place × (message ≡ read_fault_text file place)
 
 -- how a proof ends
-abbrev pub IsProof : Told → Text → Text → Text → Option Text → Outcome → Type 0
-IsProof told d t g top (Proved all text) = Proves told d t g top all text.items
-IsProof told d t g top (Simulated text) = ⊥
-IsProof told d t g top (Dumped text) = ⊥
-IsProof told d t g top (Refused message) = IsRefused (RefusesProof told d t g top) message.items
-IsProof told d t g top (Unread message) = IsUnread (LeavesProof told d t g top) message.items
-IsProof told d t g top Misused = ⊥
-IsProof told d t g top Memory = Unit {0}
+abbrev pub IsProof : Told → Text → Text → Text → Option Text → Option ℕ → Outcome → Type 0
+IsProof told d t g top budget (Proved all text) = Proves told d t g top budget all text.items
+IsProof told d t g top budget (Simulated text) = ⊥
+IsProof told d t g top budget (Dumped text) = ⊥
+IsProof told d t g top budget (Refused message) = IsRefused (RefusesProof told d t g top) message.items
+IsProof told d t g top budget (Unread message) = IsUnread (LeavesProof told d t g top) message.items
+IsProof told d t g top budget Misused = ⊥
+IsProof told d t g top budget Memory = Unit {0}
 
 -- how a simulation ends
 abbrev pub IsSimulation : Told → Text → Text → Text → Option Text → Outcome → Type 0
@@ -96,7 +96,7 @@ IsDump told d top Memory = Unit {0}
 
 -- how the work of a command ends
 abbrev pub IsWork : Told → Command → Outcome → Type 0
-IsWork told (prove d t g top budget) outcome = IsProof told d t g top outcome
+IsWork told (prove d t g top budget) outcome = IsProof told d t g top budget outcome
 IsWork told (sim d t v top) outcome = IsSimulation told d t v top outcome
 IsWork told (dump d top) outcome = IsDump told d top outcome
 

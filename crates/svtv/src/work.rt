@@ -1,7 +1,7 @@
 // Does the work of the words: a command, its work, and the text or the message that it ends with. How the work ends is one
 // value, from which status, text and message follow, so that the three can not contradict each other. Where a message can not
 // be made for want of memory, that is how the work ends, and its own message stands ready.
-ghost use Rattle.std.specs.Prelude.{◌≡◌, ◌≤◌, ℕ, List, map, string_bytes, IfOk};
+ghost use Rattle.std.specs.Prelude.{◌≡◌, ◌≤◌, ◌<◌, ℕ, List, map, string_bytes, IfOk, IfSome};
 ghost use Rattle.std.specs.Option.{option_copied};
 ghost use Rattle.sv_outside.specs.Outside.{Rose};
 ghost use Rattle.svtv.specs.Answers.{Answers};
@@ -90,13 +90,15 @@ fn proved<F: Files>(
     table: &Name,
     goals: &Name,
     top: Option<&Name>,
+    budget: Option<u64>,
 ) -> Outcome
-    ensures is { IsProof (F.contents files.old) design.now table.now goals.now (option_copied top.entry) result }
+    requires budget { IfSome budget (λ n. 0 < n) }
+    ensures is { IsProof (F.contents files.old) design.now table.now goals.now (option_copied top.entry) budget result }
     ensures rose { IfLeft (Rose (F.faults files.old) (F.faults files.new)) result }
     ensures unchanged { (other : List ℕ) → F.contents files.new other ≡ F.contents files.old other }
     ensures counts_up { F.faults files.old ≤ F.faults files.new }
 {
-    match prove(alloc, files, design, table, goals, top) {
+    match prove(alloc, files, design, table, goals, top, budget) {
         Ok((all, text)) => Outcome::Proved(all, text),
         Err(stop) => stopped(alloc, stop),
     }
@@ -152,6 +154,7 @@ fn worked<F: Files>(
     files: &mut F,
     command: &Command<'_>,
 ) -> Result<Outcome, AllocError>
+    requires budget { IfSome command.now.budget (λ n. 0 < n) }
     ensures is { IfOk result (IsWork (F.contents files.old) (command_is command.now)) }
     ensures rose { IfOk result (IfLeft (Rose (F.faults files.old) (F.faults files.new))) }
     ensures unchanged { (other : List ℕ) → F.contents files.new other ≡ F.contents files.old other }
@@ -162,7 +165,15 @@ fn worked<F: Files>(
     let last = Name::new(alloc, command.last)?;
     let top = top_name(alloc, command.top)?;
     match command.verb {
-        Verb::Prove => Ok(proved(alloc, files, &design, &table, &last, top.as_ref())),
+        Verb::Prove => Ok(proved(
+            alloc,
+            files,
+            &design,
+            &table,
+            &last,
+            top.as_ref(),
+            command.budget,
+        )),
         Verb::Sim => Ok(simulated(alloc, files, &design, &table, &last, top.as_ref())),
         Verb::Dump => Ok(dumped(alloc, files, &design, top.as_ref())),
     }

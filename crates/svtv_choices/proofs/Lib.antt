@@ -1,4 +1,3 @@
-pub mod Named
 pub mod Numbers
 pub mod Turns
 pub mod Values

@@ -2,7 +2,5 @@
 #![tactic(auto)]
 
 mod choice;
-mod rooms;
 
 pub use choice::{all_numbered, choice_of};
-pub use rooms::room;

@@ -1,4 +1,5 @@
 pub mod Benches
 pub mod Designs
+pub mod Growing
 pub mod Tables
 pub mod Turns

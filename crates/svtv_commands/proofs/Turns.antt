@@ -1,5 +1,7 @@
 -- Files in their turn: those before them are legal.
-use Rattle.std.proofs.Common.{◌≡◌, ℕ, ◌≤◌, List, [], map, Option, Some, Bool, sym, ◌∙◌, ap, subst, inl, inr}
+use Rattle.std.proofs.Common.{◌≡◌, ℕ, List, [], map, Option, Result, Bool, sym, ◌∙◌, ap, subst, inl, inr}
+use Rattle.std.specs.Prelude.{IfOk}
+use Rattle.std.proofs.lemmas.Result.{IfOk-weaker}
 use Rattle.std.specs.List.{All, AllZip, IsDistinct}
 use Rattle.std.specs.Str.{bytes_eq}
 use Rattle.flat_net.specs.declared.flat.Flat.{Flat}
@@ -9,23 +11,16 @@ use Rattle.goal_text.specs.Nodes.{IsGoal}
 use Rattle.goal_tree.specs.declared.tree.GoalTree.{GoalTree}
 use Rattle.sv_elab.specs.Elaborated.{IsElaborated}
 use Rattle.sv_meaning.specs.Designs.{Design}
-use Rattle.sv_outside.specs.declared.refusal.TextErr.{TextErr}
-use Rattle.sv_outside.specs.declared.refusal.Refusal.{Refusal}
-use Rattle.sv_outside.specs.declared.refusal.TextErr.TheVariants as e
 use Rattle.sv_outside.specs.declared.text.Signal.{Signal}
 use Rattle.svex_shape.specs.declared.shape.Shape.{Shape}
-use Rattle.svtv_choices.specs.Choices.{bits_of}
-use Rattle.svtv_choices.specs.Rooms.{AreNamed, room_faults}
-use Rattle.svtv_choices.proofs.Named.{bound_named}
 use Rattle.svtv_choices.proofs.Values.{values_choice}
-use Rattle.svtv_decide.specs.Trials.{Poses, bench}
+use Rattle.svtv_decide.specs.Posing.{Poses, bench}
 use Rattle.svtv_report.specs.Shown.{sample_texts, var_texts}
 use Rattle.svtv_report.specs.Texts.{value_lines, report}
 use Rattle.svtv_least.specs.Running.{AreAsWide}
 use Rattle.svtv_runs.specs.Runs.{Asked, Run, IsLeastRun, asks_of}
 use Rattle.svtv_runs.proofs.Runs.{least_run_stands}
 use Rattle.svtv_table.specs.Binding.{HasWidth, IsBound, bound_of}
-use Rattle.svtv_table.specs.Faults as faults
 use Rattle.svtv_table.specs.Names.{name_of}
 use Rattle.svtv_table.specs.Stimuli.{IsChoice}
 use Rattle.svtv_table.specs.declared.bound.Bound.{Bound}
@@ -37,11 +32,12 @@ use Rattle.svtv_table.proofs.Shape.{is_bound}
 use Rattle.svtv_table.specs.Reading.{IsWellFormed}
 use Rattle.svtv_verdicts.specs.Benches.{sampled_in}
 use Rattle.svtv_commands.specs.Done.{Proves, Simulates}
-use Rattle.svtv_files.specs.Files.{Text, Told, IsDesignFile, IsValuesFile, bench_of, samples_in, vars_of}
+use Rattle.svtv_files.specs.Files.{Text, Told, AreGoalsFile, IsDesignFile, IsValuesFile, bench_of, samples_in, vars_of}
 use Rattle.svtv_commands.specs.Inputs.{AreGoalsIn, Stands}
+use Rattle.svtv_commands.specs.Machines.{StopsWide}
 use Rattle.svtv_texts.specs.Rights.{IsReport, names_of}
-use Rattle.svtv_files.specs.Refusals.{HasNoRoom, HasRoom, LeavesProof, LeavesSetup, LeavesSimulation, RefusesGoals, RefusesProof, RefusesSetup, RefusesSimulation, RefusesTable, RefusesValues}
-use Rattle.svtv_files.specs.Stopping.{IsOf, Stops}
+use Rattle.svtv_files.specs.Refusals.{LeavesProof, LeavesSetup, LeavesSimulation, RefusesGoals, RefusesProof, RefusesSetup, RefusesSimulation, RefusesTable, RefusesValues}
+use Rattle.svtv_files.specs.Stopping.{Stops}
 use Rattle.svtv_commands.specs.declared.setup.Setup.{Setup}
 use Rattle.svtv_files.specs.declared.stop.Stop.{Stop}
 use Rattle.svtv_files.specs.declared.stop.Stop.TheVariants.{Refused, Unread, Memory}
@@ -89,10 +85,6 @@ module _ (told : Told) (d t : Text) (top : Option Text) (x : Setup) (s : Stands 
   pub vars_distinct : (vars : List VarDecl) → vars ≡ x.bound.vars → IsDistinct bytes_eq (map name_of vars)
   vars_distinct vars h = subst (λ vs. IsDistinct bytes_eq (map name_of vs)) (sym (h ∙ vars_are)) (bounds.vars_distinct s.design.wires x.table.rows)
 
-  -- each variable is named by a cell of the table
-  pub vars_named : (vars : List VarDecl) → vars ≡ x.bound.vars → AreNamed x.table.rows vars
-  vars_named vars h = subst (λ vs. AreNamed x.table.rows vs) (sym (h ∙ ap (λ (b : Bound). b.vars) s.bound)) (bound_named s.design.wires x.table)
-
   -- the table fits the wires
   pub fits : IsBound x.flat.wires x.bound
   fits =
@@ -103,61 +95,67 @@ module _ (told : Told) (d t : Text) (top : Option Text) (x : Setup) (s : Stands 
 
   -- ---- proofs
 
-  room_stop : (g : Text) (error : TextErr) (stop : Stop) → faults.Stops (room_faults x.table.rows (vars_of s.design x.table)) error → IsOf t error stop → Stops (RefusesProof told d t g top) (LeavesProof told d t g top) stop
-  unfolding faults.Stops
-  room_stop g (e.No r) (Refused file own) h i = inr (s.design, x.table, s.setup, inl (i.1, subst (HasNoRoom s.design x.table) (sym i.0) h))
-  room_stop g (e.No r) (Unread file place) h i = absurd i
-  room_stop g (e.No r) Memory h i = tt
-  room_stop g e.Memory (Refused file own) h i = absurd i
-  room_stop g e.Memory (Unread file place) h i = absurd i
-  room_stop g e.Memory Memory h i = tt
+  goals_stop : (g : Text) (stop : Stop) → StopsAs g (RefusesGoals told g (vars_of s.design x.table) (samples_in s.design x.table)) stop → Stops (RefusesProof told d t g top) (LeavesProof told d t g top) stop
+  goals_stop g (Refused file r) h = inr (s.design, x.table, s.setup, inl (h.0, h.1))
+  goals_stop g (Unread file place) h = inr (s.design, x.table, s.setup, (h.0, h.1))
+  goals_stop g Memory h = tt
 
-  pub room_turn : (g : Text) (vars : List VarDecl) (r : Refusal) (stop : Stop) → vars ≡ x.bound.vars → faults.first_of (room_faults x.table.rows vars) ≡ Some r → IsOf t (e.No r) stop
-      → Stops (RefusesProof told d t g top) (LeavesProof told d t g top) stop
-  unfolding faults.Stops
-  room_turn g vars r stop v h i = room_stop g (e.No r) stop (subst (λ vs. faults.first_of (room_faults x.table.rows vs) ≡ Some r) (v ∙ vars_are) h) i
-
-  goals_stop : (g : Text) (stop : Stop) → HasRoom s.design x.table → StopsAs g (RefusesGoals told g (vars_of s.design x.table) (samples_in s.design x.table)) stop
-      → Stops (RefusesProof told d t g top) (LeavesProof told d t g top) stop
-  goals_stop g (Refused file r) room h = inr (s.design, x.table, s.setup, inr (h.0, room, h.1))
-  goals_stop g (Unread file place) room h = inr (s.design, x.table, s.setup, (h.0, h.1, room))
-  goals_stop g Memory room h = tt
-
-  pub goals_turn : (new : Told) (g : Text) (vars : List VarDecl) (samples : List Sample) (own : List VarDecl) (bits : ℕ) (stop : Stop) → new ≡ told → vars ≡ x.bound.vars → samples ≡ x.bound.samples → own ≡ x.bound.vars
-      → bits ≡ bits_of own → bits ≤ 16 → StopsAs g (RefusesGoals new g vars samples) stop → Stops (RefusesProof told d t g top) (LeavesProof told d t g top) stop
-  goals_turn new g vars samples own bits stop n v m o b few h =
-      let room : bits_of (vars_of s.design x.table) ≤ 16 = subst (λ k. k ≤ 16) (b ∙ ap bits_of (o ∙ vars_are)) few in
-      goals_stop g stop room
+  pub goals_turn : (new : Told) (g : Text) (vars : List VarDecl) (samples : List Sample) (stop : Stop) → new ≡ told → vars ≡ x.bound.vars → samples ≡ x.bound.samples
+      → StopsAs g (RefusesGoals new g vars samples) stop → Stops (RefusesProof told d t g top) (LeavesProof told d t g top) stop
+  goals_turn new g vars samples stop n v m h =
+      goals_stop g stop
       (subst (λ ss. StopsAs g (RefusesGoals told g (vars_of s.design x.table) ss) stop) (m ∙ samples_are)
       (subst (λ vs. StopsAs g (RefusesGoals told g vs samples) stop) (v ∙ vars_are) (subst (λ (y : Told). StopsAs g (RefusesGoals y g vars samples) stop) n h)))
 
-  -- what the report is a report of
-  abbrev Reports : Bound → List Shape → List Goal → Bool → Text → Type 0
-  Reports b shapes goals all text = (design : Design) (asked : List (List Bit) → Asked) (trees : List GoalTree) → Poses design asked x.flat b → AllZip (IsGoal b.vars b.samples shapes) trees goals
-      → IsReport (bench design asked b) trees (names_of goals) all text
-
-  pub is_proof : (new : Told) (g : Text) (vars : List VarDecl) (samples : List Sample) (shapes : List Shape) (goals : List Goal) (all : Bool) (text : Text) → new ≡ told → vars ≡ x.bound.vars → samples ≡ x.bound.samples
-      → AreGoalsIn new g vars samples shapes goals → Reports x.bound shapes goals all text → Proves told d t g top all text
-  unfolding bound_of
-  is_proof new g vars samples shapes goals all text n v m are h =
-      let own : AreGoalsIn told g (vars_of s.design x.table) (samples_in s.design x.table) shapes goals =
+  -- the goals, over the variables and samples of the table
+  goals_in : (new : Told) (g : Text) (vars : List VarDecl) (samples : List Sample) (shapes : List Shape) (goals : List Goal) → new ≡ told → vars ≡ x.bound.vars → samples ≡ x.bound.samples
+      → AreGoalsIn new g vars samples shapes goals → AreGoalsIn told g (vars_of s.design x.table) (samples_in s.design x.table) shapes goals
+  goals_in new g vars samples shapes goals n v m are =
       subst (λ ss. AreGoalsIn told g (vars_of s.design x.table) ss shapes goals) (m ∙ samples_are)
-      (subst (λ vs. AreGoalsIn told g vs samples shapes goals) (v ∙ vars_are) (subst (λ (y : Told). AreGoalsIn y g vars samples shapes goals) n are)) in
-      let reports : Reports (bound_of s.design.wires x.table) shapes goals all text = subst (λ (b : Bound). Reports b shapes goals all text) s.bound h in
-      let r : IsReport (bench_of s.design x.table) own.trees (names_of goals) all text =
-      reports s.design (bench_of s.design x.table).asked own.trees (poses s.design x.flat x.table s.elaborated s.setup.is_table.clear) own.each in
-      record {
-        design = s.design;
-        table = x.table;
-        setup = s.setup;
-        goals = own.trees;
-        are_goals = own.file;
-        verdicts = r.verdicts;
-        shown = r.shown;
-        right = r.right;
-        printed = r.printed ∙ ap (λ names. report (var_texts (vars_of s.design x.table)) (sample_texts (samples_in s.design x.table)) names r.verdicts r.shown) (names_same (vars_of s.design x.table) (samples_in s.design x.table) shapes own.trees goals own.each);
-        whole = r.whole;
-      }
+      (subst (λ vs. AreGoalsIn told g vs samples shapes goals) (v ∙ vars_are) (subst (λ (y : Told). AreGoalsIn y g vars samples shapes goals) n are))
+
+  wide_stop : (g : Text) (trees : List GoalTree) (stop : Stop) → AreGoalsFile told g (vars_of s.design x.table) (samples_in s.design x.table) trees → StopsWide d s.design stop
+      → Stops (RefusesProof told d t g top) (LeavesProof told d t g top) stop
+  wide_stop g trees (Refused file r) file_is h = inr (s.design, x.table, s.setup, inr (h.0, ((trees, file_is), h.1)))
+  wide_stop g trees (Unread file place) file_is h = absurd h
+  wide_stop g trees Memory file_is h = tt
+
+  -- behind legal goals the design alone may still be refused
+  pub wide_turn : (new : Told) (g : Text) (vars : List VarDecl) (samples : List Sample) (shapes : List Shape) (goals : List Goal) (stop : Stop) → new ≡ told → vars ≡ x.bound.vars → samples ≡ x.bound.samples
+      → AreGoalsIn new g vars samples shapes goals → StopsWide d s.design stop → Stops (RefusesProof told d t g top) (LeavesProof told d t g top) stop
+  wide_turn new g vars samples shapes goals stop n v m are h =
+      let own = goals_in new g vars samples shapes goals n v m are in wide_stop g own.trees stop own.file h
+
+  -- what the report is a report of
+  of_report : (g : Text) (flat : Flat) (goals : List Goal) (budget : Option ℕ) (all : Bool) (text : Text) (own : AreGoalsIn told g (vars_of s.design x.table) (samples_in s.design x.table) flat.arena goals)
+      → IsReport (bench_of s.design x.table) own.trees budget (names_of goals) all text → Proves told d t g top budget all text
+  of_report g flat goals budget all text own r = record {
+    design = s.design;
+    table = x.table;
+    setup = s.setup;
+    goals = own.trees;
+    are_goals = own.file;
+    verdicts = r.verdicts;
+    shown = r.shown;
+    right = r.right;
+    printed = r.printed ∙ ap (λ names. report (var_texts (vars_of s.design x.table)) (sample_texts (samples_in s.design x.table)) names r.verdicts r.shown) (names_same (vars_of s.design x.table) (samples_in s.design x.table) flat.arena own.trees goals own.each);
+    whole = r.whole;
+  }
+
+  module _ {A : Type 0} (result : Result A Stop) (all : A → Bool) (text : A → Text) where
+    abbrev Reports : Bound → Flat → List Goal → Option ℕ → Type 0
+    Reports b flat goals budget = (design : Design) (asked : List (List Bit) → Asked) (trees : List GoalTree) → Poses design asked flat b → AllZip (IsGoal b.vars b.samples flat.arena) trees goals
+        → IfOk result (λ y. IsReport (bench design asked b) trees budget (names_of goals) (all y) (text y))
+
+    pub is_proof : (new : Told) (g : Text) (vars : List VarDecl) (samples : List Sample) (flat : Flat) (goals : List Goal) (budget : Option ℕ) → new ≡ told → vars ≡ x.bound.vars
+        → samples ≡ x.bound.samples → IsElaborated s.design flat → AreGoalsIn new g vars samples flat.arena goals → Reports x.bound flat goals budget → IfOk result (λ y. Proves told d t g top budget (all y) (text y))
+    unfolding bound_of
+    is_proof new g vars samples flat goals budget n v m elaborated are h =
+        let own : AreGoalsIn told g (vars_of s.design x.table) (samples_in s.design x.table) flat.arena goals = goals_in new g vars samples flat.arena goals n v m are in
+        let reports : Reports (bound_of s.design.wires x.table) flat goals budget = subst (λ (b : Bound). Reports b flat goals budget) s.bound h in
+        IfOk-weaker result (λ y. IsReport (bench_of s.design x.table) own.trees budget (names_of goals) (all y) (text y)) (λ y. Proves told d t g top budget (all y) (text y))
+        (λ y r. of_report g flat goals budget (all y) (text y) own r)
+        (reports s.design (bench_of s.design x.table).asked own.trees (poses s.design flat x.table elaborated s.setup.is_table.clear) own.each)
 
   -- ---- simulations
 

@@ -18,9 +18,9 @@ use Rattle.svtv_verdicts.specs.Benches.{IsLeastUnder, sampled_in}
 use Rattle.svtv_verdicts.specs.Verdicts.{Verdict}
 use Rattle.table_cells.specs.declared.table.Table.{Table}
 
--- The headline: the text is the report of verdicts, one for each goal in order, that are right on what the three files stand for. They are so whatever
--- budget is given, and where none is: no goal is left undecided.
-pub record Proves (told : Told) (d t g : Text) (top : Option Text) (all : Bool) (text : Text) : Type 0 where
+-- The headline: the text is the report of verdicts, one for each goal in order, that are right on what the three files stand for, where this
+-- budget is given, or none. So where none is, no goal is left undecided.
+pub record Proves (told : Told) (d t g : Text) (top : Option Text) (budget : Option ℕ) (all : Bool) (text : Text) : Type 0 where
   pub design : Design
   pub table : Table
   pub setup : IsSetup told d t top design table
@@ -28,7 +28,7 @@ pub record Proves (told : Told) (d t g : Text) (top : Option Text) (all : Bool) 
   pub are_goals : AreGoalsFile told g (vars_of design table) (samples_in design table) goals
   pub verdicts : List Verdict
   pub shown : List (List (List Bit))
-  pub right : (budget : Option ℕ) → AreRight (bench_of design table) goals budget verdicts shown
+  pub right : AreRight (bench_of design table) goals budget verdicts shown
   pub printed : text ≡ report (var_texts (vars_of design table)) (sample_texts (samples_in design table)) (goal_names goals) verdicts shown
   pub whole : all ≡ list_all is_proved verdicts
 

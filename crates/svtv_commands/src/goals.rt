@@ -1,6 +1,7 @@
 // The goals.
 ghost use Rattle.std.specs.Prelude.{◌≡◌, ◌≤◌, ℕ, List, All, IfOk, IfErr};
 ghost use Rattle.sv_outside.specs.Outside.{Rose};
+ghost use Rattle.svex_arena.specs.Arenas.{Extends};
 ghost use Rattle.svtv_table.specs.Binding.{HasWidth};
 ghost use Rattle.svtv_commands.specs.Inputs.{AreGoalsIn};
 ghost use Rattle.svtv_files.specs.Refusals.{RefusesGoals, at_first};
@@ -14,7 +15,7 @@ use svex_arena::Arena;
 use svtv_files::{Stop, read, refused};
 use svtv_table::{Sample, VarDecl};
 
-/// The goals of the file of that name, over variables and samples.
+/// The goals of the file of that name, over variables and samples. Nodes that are there keep their numbers and shapes.
 pub fn load_goals<F: Files>(
     alloc: Global,
     files: &mut F,
@@ -25,6 +26,7 @@ pub fn load_goals<F: Files>(
 ) -> Result<Items<Goal>, Stop>
     requires vars { All (λ var. HasWidth var.width) vars.now }
     requires samples { All (λ sample. HasWidth sample.width) samples.now }
+    ensures stays { Extends arena.old arena.new }
     ensures goals { IfOk result (AreGoalsIn (F.contents files.old) name.now vars.now samples.now arena.new) }
     ensures stop { IfErr result (Stops (λ file r. (file ≡ name.now) × RefusesGoals (F.contents files.old) name.now vars.now samples.now r) (λ file place. (file ≡ name.now) × (place ≡ at_first))) }
     ensures rose { IfErr result (IfUnread (Rose (F.faults files.old) (F.faults files.new))) }

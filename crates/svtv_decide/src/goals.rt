@@ -1,105 +1,128 @@
-// All choices of a table's variables are tried for a goal, by number, and the first that breaks it ends the search. All can be
-// tried, since a table of a proof has at most 16 variable bits. Whether some choice met the hypotheses is kept on the way: a
-// goal that none meets is vacuous, and not proved.
-ghost use Rattle.std.specs.Prelude.{◌≡◌, ◌<◌, ◌≤◌, ℕ, All, IfOk, List, Option, length};
+// A goal is decided over nodes, by gates, clauses, the solver and the judge, and what is said of nodes is said of the design: its
+// hypotheses and claims have the truths of their expressions, and the samples those of the least run under each choice. What is true in
+// the least run is true in every run. A failure shows the samples of its choice, which a simulation of the flat design gives, and not
+// the nodes: so what is printed beside a choice rests on nothing that the verdict rests on.
+ghost use Rattle.std.specs.Prelude.{◌≡◌, ◌<◌, ℕ, All, IfOk, IfSome, List};
 ghost use Rattle.flat_net.specs.Flats.{IsFlat};
 ghost use Rattle.fourvec.specs.declared.Bit.{Bit};
-ghost use Rattle.sv_meaning.specs.Designs.{Design};
-ghost use Rattle.svex_arena.specs.Arenas.{IsArena};
-ghost use Rattle.svtv_runs.specs.Runs.{Asked};
 ghost use Rattle.goal_text.specs.Nodes.{IsGoal};
 ghost use Rattle.goal_tree.specs.declared.tree.GoalTree.{GoalTree};
-ghost use Rattle.svtv_choices.specs.Choices.{bits_of};
-ghost use Rattle.svtv_decide.specs.Trials.{IsDecided, Poses, bench, verdict_where};
-ghost use Rattle.svtv_least.specs.Running.{Serves};
+ghost use Rattle.sv_meaning.specs.Designs.{Design};
+ghost use Rattle.svtv_decide.specs.Posing.{AreShown, IfFails, IsThere, Poses, bench, said_of};
+ghost use Rattle.svtv_least.specs.Running.{AreAsWide};
+ghost use Rattle.svtv_machine.specs.Least.{AreLeastNodes};
 ghost use Rattle.svtv_report.specs.Seen.{verdict_is};
+ghost use Rattle.svtv_runs.specs.Runs.{Asked};
 ghost use Rattle.svtv_table.specs.Binding.{HasWidth, IsBound};
+ghost use Rattle.svtv_unroll.specs.Unrolled.{AreSampleNodes};
 ghost use Rattle.svtv_verdicts.specs.Verdicts.{IsRight};
 
-use crate::tries::{Question, Trial, try_choice};
+use crate::least::least_samples;
+use flat_net::Flat;
 use fourvec::Four;
-use items::Items;
+use goal_prove::{Verdict as Found, prove_goal};
+use goal_text::Goal;
+use items::{Items, both};
 use std::alloc::{AllocError, Global};
-use svtv_least::Runner;
+use svex_arena::{Arena, Node};
 use svtv_report::Verdict;
+use svtv_table::Bound;
 
-/// What is decided of a goal, and the samples to show where it failed.
+/// A flat design under a table that is bound to its wires, a node for each sample, and the budget of each question of a goal.
+#[derive(Clone, Copy)]
+pub struct Problem<'a> {
+    pub flat: &'a Flat,
+    pub bound: &'a Bound,
+    pub samples: &'a [Node],
+    pub budget: Option<u64>,
+}
+
+/// What is said of a goal, and the samples to show where it failed.
 #[derive(Drop)]
 pub struct Decided {
     pub verdict: Verdict,
     pub shown: Items<Four>,
 }
 
-// The verdict of a goal that no choice breaks.
-fn unbroken(met: bool) -> Verdict
-    ensures { result ≡ verdict_where met }
+// A verdict that shows no samples.
+fn without_samples(alloc: Global, verdict: Verdict) -> Decided
+    ensures verdict { result.verdict ≡ verdict }
 {
-    if met {
-        Verdict::Proved
-    } else {
-        Verdict::Vacuous
+    Decided {
+        verdict,
+        shown: Items::new(alloc),
     }
 }
 
-// Tries the choices of so many numbers.
-fn tried(
-    alloc: Global,
-    question: &Question<'_>,
-    runner: &mut Runner,
-    count: u64,
-) -> Result<Decided, AllocError>
-    requires flat { IsFlat question.now.flat.now }
-    requires bound { IsBound question.now.flat.now.wires question.now.bound.now }
-    requires serves { Serves question.now.flat.now question.now.bound.now runner.old }
-    requires widths { All (λ var. HasWidth var.width) question.now.bound.now.vars }
-    requires few { bits_of question.now.bound.now.vars ≤ 16 }
-    requires hyps { All (λ node. node < length question.now.arena.now) question.now.goal.now.hyps }
-    requires claims { All (λ node. node < length question.now.arena.now) question.now.goal.now.claims }
-    ensures serves { Serves question.now.flat.now question.now.bound.now runner.new }
-    ensures decided { IfOk result (λ x. IsDecided question.now.flat.now question.now.bound.now question.now.arena.now question.now.goal.now count x.verdict x.shown) }
+// A failure under this choice, with its samples.
+fn failed(alloc: Global, problem: &Problem<'_>, choice: Items<Four>) -> Result<Decided, AllocError>
+    requires flat { IsFlat problem.now.flat.now }
+    requires bound { IsBound problem.now.flat.now.wires problem.now.bound.now }
+    requires choice { AreAsWide problem.now.bound.now.vars choice }
+    ensures verdict { IfOk result (λ x. x.verdict ≡ Verdict.Failed choice) }
+    ensures shown { IfOk result (λ x. AreShown problem.now.flat.now problem.now.bound.now choice x.shown) }
 {
-    let mut met = false;
-    'numbers: for number in 0..count {
-        match try_choice(alloc, question, runner, number)? {
-            Trial::Unmet => {}
-            Trial::Kept => met = true,
-            Trial::Broken(choice, shown) => {
-                return Ok(Decided {
-                    verdict: Verdict::Failed(choice),
-                    shown,
-                });
-            }
-        }
-    }
+    let shown = least_samples(alloc, problem.flat, problem.bound, choice.as_slice());
+    let (choice, shown) = both(choice, shown)?;
     Ok(Decided {
-        verdict: unbroken(met),
-        shown: Items::new(alloc),
+        verdict: Verdict::Failed(choice),
+        shown,
     })
 }
 
-/// Decides a goal of a flat design under a table that is bound to it, by trying each choice of its variables, which have so many bits,
-/// 16 at the most. A choice of which some claim fails is the first by number.
+// What is said of the goal for what was found of its nodes.
+fn said(alloc: Global, problem: &Problem<'_>, found: Found) -> Result<Decided, AllocError>
+    requires flat { IsFlat problem.now.flat.now }
+    requires bound { IsBound problem.now.flat.now.wires problem.now.bound.now }
+    requires choice { IfFails found (AreAsWide problem.now.bound.now.vars) }
+    ensures verdict { IfOk result (λ x. x.verdict ≡ said_of found) }
+    ensures shown { IfOk result (λ x. IfFails found (λ choice. AreShown problem.now.flat.now problem.now.bound.now choice x.shown)) }
+{
+    match found {
+        Found::Proved(_) => Ok(without_samples(alloc, Verdict::Proved)),
+        Found::Vacuous(_) => Ok(without_samples(alloc, Verdict::Vacuous)),
+        Found::Failed(choice) => failed(alloc, problem, choice),
+        Found::Undecided(left) => {
+            let steps = left.cert.log.steps.len() as u64;
+            Ok(without_samples(alloc, Verdict::Undecided(steps)))
+        }
+    }
+}
+
+/// Decides a goal whose nodes stand in a graph, for all choices of the variables and all runs. Each of its two questions has the whole
+/// budget, where there is one.
 pub fn decide(
     alloc: Global,
-    question: &Question<'_>,
-    runner: &mut Runner,
-    bits: u32,
+    problem: &Problem<'_>,
+    arena: &mut Arena,
+    goal: &Goal,
 ) -> Result<Decided, AllocError>
-    requires flat { IsFlat question.now.flat.now }
-    requires bound { IsBound question.now.flat.now.wires question.now.bound.now }
-    requires serves { Serves question.now.flat.now question.now.bound.now runner.old }
-    requires widths { All (λ var. HasWidth var.width) question.now.bound.now.vars }
-    requires bits { bits ≡ bits_of question.now.bound.now.vars }
-    requires few { bits ≤ 16 }
-    requires arena { IsArena question.now.arena.now }
-    requires hyps { All (λ node. node < length question.now.arena.now) question.now.goal.now.hyps }
-    requires claims { All (λ node. node < length question.now.arena.now) question.now.goal.now.claims }
-    ensures serves { Serves question.now.flat.now question.now.bound.now runner.new }
+    requires flat { IsFlat problem.now.flat.now }
+    requires bound { IsBound problem.now.flat.now.wires problem.now.bound.now }
+    requires widths { All (λ var. HasWidth var.width) problem.now.bound.now.vars }
+    requires samples { AreSampleNodes problem.now.bound.now.vars problem.now.bound.now.samples arena.old problem.now.samples.now }
+    requires there { IsThere arena.old goal.now }
+    requires budget { IfSome problem.now.budget (λ n. 0 < n) }
 
-    // The verdict is right, whatever budget is given, whatever design the flat one was made of, and whatever the nodes of the goal were made of.
-    ensures right { (budget : Option ℕ) (d : Design) (asked : List (List Bit) → Asked) (tree : GoalTree) → Poses d asked question.now.flat.now question.now.bound.now
-        → IsGoal question.now.bound.now.vars question.now.bound.now.samples question.now.arena.now tree question.now.goal.now
-        → IfOk result (λ x. IsRight (bench d asked question.now.bound.now) tree budget (verdict_is x.verdict) x.shown) }
+    // The verdict is right of the design that the flat one stems from, where the samples have nodes of its least runs, and of the goal whose nodes
+    // these are.
+    ensures right { (d : Design) (asked : List (List Bit) → Asked) (tree : GoalTree) → Poses d asked problem.now.flat.now problem.now.bound.now
+        → AreLeastNodes d problem.now.bound.now arena.old problem.now.samples.now
+        → IsGoal problem.now.bound.now.vars problem.now.bound.now.samples arena.old tree goal.now
+        → IfOk result (λ x. IsRight (bench d asked problem.now.bound.now) tree problem.now.budget (verdict_is x.verdict) x.shown) }
+
+    // The graph is as it was, whatever is answered.
+    ensures same { arena.new ≡ arena.old }
 {
-    tried(alloc, question, runner, 1 << bits)
+    let _ = arena.len();
+    let found = prove_goal(
+        alloc,
+        arena,
+        problem.bound.vars.as_slice(),
+        problem.samples,
+        goal.hyps.as_slice(),
+        goal.claims.as_slice(),
+        problem.budget,
+    )?;
+    said(alloc, problem, found)
 }

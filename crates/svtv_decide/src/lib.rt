@@ -1,8 +1,7 @@
-//! Decides goals over all choices of a table's variables, for tables of few variable bits.
+//! Goals decided for all choices of a table's variables, with the samples of those that fail.
 #![tactic(auto)]
 
 mod goals;
-mod tries;
+mod least;
 
-pub use goals::{Decided, decide};
-pub use tries::Question;
+pub use goals::{Decided, Problem, decide};

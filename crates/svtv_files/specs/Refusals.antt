@@ -1,7 +1,9 @@
 -- Why a file is refused, or is not read, when its turn comes: the files before it are legal.
-use Rattle.std.specs.Prelude.{◌≡◌, ◌⊎◌, ◌<◌, ◌≤◌, ◌^◌, List, length, slice_get, Option, Some, Err, IfSome}
+use Rattle.std.specs.Prelude.{◌≡◌, ◌⊎◌, ◌<◌, ◌^◌, List, length, slice_get, Option, Some, Err, IfSome}
 use Rattle.std.specs.List.{Contains}
+use Rattle.design_loops.specs.Loops.{HasWideLoop}
 use Rattle.goal_text.specs.Goals.{HasCause}
+use Rattle.goal_tree.specs.declared.tree.GoalTree.{GoalTree}
 use Rattle.sv_elab.specs.Elaborated.{sound_design}
 use Rattle.sv_meaning.specs.Designs.{Design}
 use Rattle.sv_meaning.specs.Faults.{Faults}
@@ -16,8 +18,6 @@ use Rattle.sv_preproc.specs.Directives.{IsWholeText}
 use Rattle.sv_preproc.specs.Laws.{Possible}
 use Rattle.sv_preproc.specs.Reached.{StopsIn, no, unread}
 use Rattle.sv_tree.specs.declared.design.Source.{Source}
-use Rattle.svtv_choices.specs.Choices.{bits_of}
-use Rattle.svtv_choices.specs.Rooms.{room_faults}
 use Rattle.svtv_table.specs.Binding.{bind_faults}
 use Rattle.svtv_table.specs.Faults.{first_of}
 use Rattle.svtv_table.specs.Fields.{IsRecords}
@@ -27,7 +27,7 @@ use Rattle.svtv_table.specs.declared.bound.Sample.{Sample}
 use Rattle.svtv_table.specs.declared.bound.VarDecl.{VarDecl}
 use Rattle.table_cells.specs.declared.table.Table.{Table}
 use Rattle.svtv_words.specs.Commands.{Command, prove, sim, dump}
-use Rattle.svtv_files.specs.Files.{Text, Told, IsDesignFile, IsTableText, IsTableFile, vars_of, samples_in}
+use Rattle.svtv_files.specs.Files.{Text, Told, AreGoalsFile, IsDesignFile, IsTableText, IsTableFile, vars_of, samples_in}
 
 -- ---- designs
 
@@ -116,21 +116,23 @@ LeavesSetup told d t top file place = UnreadDesign told d file place ⊎ ((file 
 abbrev pub BehindSetup : Told → Text → Text → Option Text → (Design → Table → Type 0) → Type 0
 BehindSetup told d t top Then = (design : Design) × (table : Table) × IsSetup told d t top design table × Then design table
 
--- E40 where a proof would try too many choices
-abbrev pub HasNoRoom : Design → Table → Refusal → Type 0
-HasNoRoom design table r = first_of (room_faults table.rows (vars_of design table)) ≡ Some r
+-- E39, told of the design as a whole: so many bits of its wires, over 1,024, feed each other round about.
+pub record IsTooWide (design : Design) (r : Refusal) : Type 0 where
+  pub is : r ≡ record { number = 39; place = at_first; count = r.count }
+  pub wide : HasWideLoop design r.count
 
-abbrev pub HasRoom : Design → Table → Type 0
-HasRoom design table = bits_of (vars_of design table) ≤ 16
+-- the goals are legal, and still the design has no machine
+abbrev pub HasNoMachine : Told → Text → Design → Table → Refusal → Type 0
+HasNoMachine told g design table r = ((trees : List GoalTree) × AreGoalsFile told g (vars_of design table) (samples_in design table) trees) × IsTooWide design r
 
 -- which file of a proof is refused, and for what
 abbrev pub RefusesProof : Told → Text → Text → Text → Option Text → Text → Refusal → Type 0
 RefusesProof told d t g top file r = RefusesSetup told d t top file r ⊎ BehindSetup told d t top (λ design table.
-    ((file ≡ t) × HasNoRoom design table r) ⊎ ((file ≡ g) × HasRoom design table × RefusesGoals told g (vars_of design table) (samples_in design table) r))
+    ((file ≡ g) × RefusesGoals told g (vars_of design table) (samples_in design table) r) ⊎ ((file ≡ d) × HasNoMachine told g design table r))
 
 -- which is not read: for a design's file at the directive that asks for it
 abbrev pub LeavesProof : Told → Text → Text → Text → Option Text → Text → Place → Type 0
-LeavesProof told d t g top file place = LeavesSetup told d t top file place ⊎ BehindSetup told d t top (λ design table. (file ≡ g) × (place ≡ at_first) × HasRoom design table)
+LeavesProof told d t g top file place = LeavesSetup told d t top file place ⊎ BehindSetup told d t top (λ design table. (file ≡ g) × (place ≡ at_first))
 
 -- the same of a simulation
 abbrev pub RefusesSimulation : Told → Text → Text → Text → Option Text → Text → Refusal → Type 0

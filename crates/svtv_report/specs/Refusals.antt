@@ -10,7 +10,7 @@ words =
     codes "BadByte" ∷ codes "BadToken" ∷ codes "IncludeDeep" ∷ codes "TooLong" ∷ codes "Unbalanced" ∷ codes "MacroUnknown" ∷ codes "MacroDeep" ∷ codes "Syntax" ∷ codes "TooDeep" ∷ codes "TopUnclear"
     ∷ codes "UnknownModule" ∷ codes "UnknownName" ∷ codes "Twice" ∷ codes "Width" ∷ codes "ConstUnknown" ∷ codes "LiteralRange" ∷ codes "PortUnknown" ∷ codes "PortTwice" ∷ codes "BadTarget" ∷ codes "LoopLong"
     ∷ codes "InstanceDeep" ∷ codes "TooManyBits" ∷ codes "BadSelect" ∷ codes "WrongAssign" ∷ codes "OutOfScope" ∷ codes "Shape" ∷ codes "Phases" ∷ codes "CellBad" ∷ codes "SignalUnknown" ∷ codes "SignalTwice"
-    ∷ codes "VarWidth" ∷ codes "SampleTwice" ∷ codes "GoalSyntax" ∷ codes "GoalTwice" ∷ codes "VarMissing" ∷ codes "VarUnknown" ∷ codes "VarTwice" ∷ codes "ValueBad" ∷ codes "LoopTooWide" ∷ codes "Unbuilt" ∷ []
+    ∷ codes "VarWidth" ∷ codes "SampleTwice" ∷ codes "GoalSyntax" ∷ codes "GoalTwice" ∷ codes "VarMissing" ∷ codes "VarUnknown" ∷ codes "VarTwice" ∷ codes "ValueBad" ∷ codes "LoopTooWide" ∷ []
 
 abbrev pub word_of : ℕ → Text
 word_of number = slice_index_or ([] ∷ words) number []

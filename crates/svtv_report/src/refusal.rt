@@ -46,7 +46,6 @@ pub(crate) fn word_of(number: u8) -> &'static [u8]
         37 => b"VarTwice",
         38 => b"ValueBad",
         39 => b"LoopTooWide",
-        40 => b"Unbuilt",
         _ => b"",
     }
 }

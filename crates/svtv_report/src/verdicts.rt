@@ -1,25 +1,27 @@
 // The report of verdicts, and the text of samples. A goal has a line, and where it failed one for each variable of the choice
 // and each sample of its run, so that the failure can be seen. The texts are put behind one another in one vector, and only
 // want of memory can end it. The samples of a simulation are the same lines without what stands before them there.
-ghost use Rattle.std.specs.Prelude.{◌≡◌, ◌++◌, [], IfOk, OnOk, codes, length, map};
+ghost use Rattle.std.specs.Prelude.{◌≡◌, ◌++◌, [], IfOk, OnOk, codes, decimal, length, map};
 ghost use Rattle.svtv_report.specs.Seen.{verdict_is};
 ghost use Rattle.svtv_report.specs.Texts as t;
-ghost use Rattle.svtv_report.specs.Texts.{value_lines, verdict_text};
+ghost use Rattle.svtv_report.specs.Texts.{line_feed, value_lines, verdict_text};
 ghost use Rattle.svtv_report.specs.Shown.{sample_texts, var_texts};
 
 use crate::value::push_line;
 use fourvec::Four;
 use items::Items;
+use itoa::Buffer;
 use std::alloc::{AllocError, Global};
 use sv_outside::Name;
 use svtv_table::{Sample, VarDecl};
 
-/// What is decided of a goal: each claim holds in every run under every choice that meets the hypotheses, and some choice does; no
-/// choice meets them; or this choice meets them and some claim fails in its least run.
+/// What is said of a goal: each claim holds in every run under every choice that meets the hypotheses, and some choice does; no
+/// choice meets them; this choice meets them and some claim fails in its least run; or a question was left behind so many steps.
 pub enum Verdict {
     Proved,
     Vacuous,
     Failed(Items<Four>),
+    Undecided(u64),
 }
 
 impl Drop for Verdict {
@@ -28,6 +30,7 @@ impl Drop for Verdict {
             Verdict::Proved => {}
             Verdict::Vacuous => {}
             Verdict::Failed(_) => {}
+            Verdict::Undecided(_) => {}
         }
     }
 }
@@ -57,6 +60,17 @@ fn push_samples(
     Ok(())
 }
 
+// The end of a line of a goal that was left behind so many steps.
+fn push_undecided(text: &mut Vec<u8>, steps: u64) -> Result<(), AllocError>
+    ensures { OnOk result (text.new.items ≡ text.old.items ++ (codes ": undecided after " ++ (decimal steps ++ line_feed))) }
+{
+    let mut buffer = Buffer::new();
+    text.extend_from_slice(b": undecided after ")?;
+    text.extend_from_slice(buffer.format(steps).as_bytes())?;
+    text.push(b'\n')?;
+    Ok(())
+}
+
 // The lines of one goal.
 fn push_verdict(
     text: &mut Vec<u8>,
@@ -77,6 +91,7 @@ fn push_verdict(
             push_vars(text, vars, choice.as_slice())?;
             push_samples(text, b"  sample ", samples, shown)
         }
+        Verdict::Undecided(steps) => push_undecided(text, *steps),
     }
 }
 

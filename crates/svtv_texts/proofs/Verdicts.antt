@@ -11,8 +11,8 @@ use Rattle.svtv_table.specs.declared.bound.Sample.{Sample}
 use Rattle.svtv_table.specs.declared.bound.VarDecl.{VarDecl}
 use Rattle.svtv_verdicts.specs.Benches.{Bench}
 use Rattle.svtv_verdicts.specs.Verdicts.{Verdict, IsRight}
-use Rattle.svtv_texts.specs.Rights.{AreRight, goal_names}
-use Rattle.svtv_texts.specs.Rights.{IsThere, names_of}
+use Rattle.svtv_decide.specs.Posing.{IsOneBit, IsThere}
+use Rattle.svtv_texts.specs.Rights.{AreRight, goal_names, names_of}
 
 -- ---- lists side by side
 
@@ -59,8 +59,8 @@ map_more f (y ∷ ys) x = ap (λ zs. f y ∷ zs) (map_more f ys x)
 module _ (vars : List VarDecl) (samples : List Sample) (shapes : List Shape) where
   goal_there : (tree : GoalTree) (goal : Goal) → IsGoal vars samples shapes tree goal → IsThere shapes goal
   goal_there tree goal g = record {
-    hyps = right_all (IsTruth (variables_of vars) (is_of_vars vars) shapes) (λ n. n < length shapes) (λ x n t. t.within) tree.hyps goal.hyps g.hyps;
-    claims = right_all (IsTruth (claims_scope vars samples) (is_of_table vars samples) shapes) (λ n. n < length shapes) (λ x n t. t.within) tree.claims goal.claims g.claims;
+    hyps = right_all (IsTruth (variables_of vars) (is_of_vars vars) shapes) (IsOneBit shapes) (λ x n t. record { there = t.within; wide = t.width }) tree.hyps goal.hyps g.hyps;
+    claims = right_all (IsTruth (claims_scope vars samples) (is_of_table vars samples) shapes) (IsOneBit shapes) (λ x n t. record { there = t.within; wide = t.width }) tree.claims goal.claims g.claims;
   }
 
   pub all_there : (trees : List GoalTree) (goals : List Goal) → AllZip (IsGoal vars samples shapes) trees goals → All (IsThere shapes) goals

@@ -1,10 +1,9 @@
 -- Right verdicts of goals, one for each, and the report of them.
-use Rattle.std.specs.Prelude.{◌≡◌, ◌<◌, ⊤, ℕ, Bool, true, false, List, [], ◌∷◌, length, map, Option}
-use Rattle.std.specs.List.{All, list_all}
+use Rattle.std.specs.Prelude.{◌≡◌, ⊤, ℕ, Bool, true, false, List, [], ◌∷◌, map, Option}
+use Rattle.std.specs.List.{list_all}
 use Rattle.fourvec.specs.declared.Bit.{Bit}
 use Rattle.goal_text.specs.declared.goal.Goal.{Goal}
 use Rattle.goal_tree.specs.declared.tree.GoalTree.{GoalTree}
-use Rattle.svex_shape.specs.declared.shape.Shape.{Shape}
 use Rattle.svtv_report.specs.Shown.{sample_texts, var_texts}
 use Rattle.svtv_report.specs.Texts.{report}
 use Rattle.svtv_verdicts.specs.Benches.{Bench}
@@ -29,20 +28,15 @@ AreRight b goals budget verdicts shown = ⊥
 abbrev pub goal_names : List GoalTree → List (List ℕ)
 goal_names goals = map (λ g. g.name.text) goals
 
--- the nodes of goals are there
-pub record IsThere (shapes : List Shape) (goal : Goal) : Type 0 where
-  pub hyps : All (λ n. n < length shapes) goal.hyps
-  pub claims : All (λ n. n < length shapes) goal.claims
-
 abbrev pub names_of : List Goal → List (List ℕ)
 names_of goals = map (λ g. g.name) goals
 
 -- ---- the report
 
--- The text is the report of verdicts that are right whatever budget is given, and whether all goals are proved.
-pub record IsReport (b : Bench) (trees : List GoalTree) (names : List (List ℕ)) (all : Bool) (text : List ℕ) : Type 0 where
+-- The text is the report of verdicts that are right where this budget is given, or none, and whether all goals are proved.
+pub record IsReport (b : Bench) (trees : List GoalTree) (budget : Option ℕ) (names : List (List ℕ)) (all : Bool) (text : List ℕ) : Type 0 where
   pub verdicts : List Verdict
   pub shown : List (List (List Bit))
-  pub right : (budget : Option ℕ) → AreRight b trees budget verdicts shown
+  pub right : AreRight b trees budget verdicts shown
   pub printed : text ≡ report (var_texts b.vars) (sample_texts b.samples) names verdicts shown
   pub whole : all ≡ list_all is_proved verdicts

@@ -1,7 +1,7 @@
 use Rattle.std.proofs.Common.{◌≡◌, ◌⊎◌, [], inl, inr, refl, subst, sym}
 use Rattle.std.proofs.lemmas.List.{append-nil}
 use Rattle.svtv.specs.Outcomes.{status_of, text_of, message_of}
-use Rattle.svtv.specs.Legal.{IsDone}
+use Rattle.svtv.specs.Legal.{IsDone, IsLooped}
 use Rattle.svtv.specs.declared.status.Status.{Status}
 use Rattle.svtv.specs.declared.status.Status.TheVariants.{Memory}
 use Rattle.svtv.proofs.Runs.{have_runs}
@@ -41,7 +41,7 @@ returns-in-Err-put_all-clause-complete g c command is legal no_file no_out no_er
 pub returns-clause-complete : goal.returns-clause-complete
 returns-clause-complete g c command is legal no_file no_out no_err =
     let outcome = c.answer-outcome.result in
-    subst (λ (s : Status). IsDone command s ⊎ (s ≡ Memory)) (sym c.status.ensures)
+    subst (λ (s : Status). IsDone command s ⊎ (s ≡ Memory) ⊎ IsLooped (g.F.Files.contents c.args.files.now) command s) (sym c.status.ensures)
     (ends (g.F.Files.contents c.args.files.now) _ (status_of outcome) (text_of outcome) (message_of outcome) command is legal c.answer-outcome.ensures.answers (λ e. no_file (left _ outcome c.answer-outcome.ensures.fault e)))
 
 pub returns-in-Err-clause-runs : goal.returns-in-Err-clause-runs

@@ -9,12 +9,12 @@ use Rattle.svtv_texts.specs.Rights.{is_proved}
 use Rattle.svtv_texts.proofs.judging.reported.Goals as goal
 
 pub returns : goal.returns
-returns c d asked trees p z =
+returns c d asked trees p least z =
     let found = c.in_ok-names.field-0 in
     record {
       verdicts = map verdict_is found.verdicts;
       shown = found.shown;
-      right = λ budget. c.in_ok-names.ensures.right budget d asked trees p z;
+      right = c.in_ok-names.ensures.right d asked trees p least z;
       printed = c.in_ok-text.ensures
           ∙ λ i. report (var_texts (c.as_slice-3.ensures i)) (sample_texts (c.as_slice-4.ensures i)) ((c.as_slice.ensures ∙ c.in_ok-names.ensures.names) i) (map verdict_is (c.as_slice-2.ensures i)) (c.as_slice-5.ensures i);
       whole = c.all_proved.ensures

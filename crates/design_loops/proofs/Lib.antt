@@ -1,0 +1,6 @@
+mod Lists
+mod Giving
+mod Stemming
+mod Segments
+mod Feeding
+pub mod Wide
