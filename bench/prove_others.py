@@ -156,11 +156,21 @@ def instance(run, wires):
 
 
 def gates_of(folder, module, files):
-    """A module of some files in AIGER form, by yosys."""
+    """A module of some files as gates, by yosys."""
     reads = "; ".join("read_verilog -sv %s" % file for file in files)
     script = "%s; %s; %s; write_aiger -ascii -symbols %s.aag" % (reads, READ % module, GATES, module)
     subprocess.run(["yosys", "-q", "-p", script], cwd=folder, check=True, capture_output=True)
     return Machine((folder / (module + ".aag")).read_text())
+
+
+def design_gates(folder, run):
+    """The design of a run as gates, which all its goals share."""
+    if (folder / "frame.aag").exists():
+        return Machine((folder / "frame.aag").read_text())
+    wires = {name: name for name in {**run.inputs, **run.outputs}}
+    frame = "module frame(%s);\n%sendmodule\n" % (ports(run.inputs, run.outputs), instance(run, wires))
+    (folder / "frame.sv").write_text(frame)
+    return gates_of(folder, "frame", ["d.sv", "frame.sv"])
 
 
 def drive(graph, variables, width, cell, before):
@@ -201,16 +211,11 @@ def unrolled(run, machine, graph, variables):
 def write_gates(folder, run, goal):
     """Writes the question of a goal as `goal.aig` and `goal.cnf`."""
     variables, samples = widths(run)
-    frame = "module frame(%s);\n%sendmodule\n" % (
-        ports(run.inputs, run.outputs),
-        instance(run, {name: name for name in {**run.inputs, **run.outputs}}),
-    )
     told = "module told(%s);\n%sendmodule\n" % (ports({**variables, **samples}, {"met": 1, "bad": 1}), question(goal))
-    (folder / "frame.sv").write_text(frame)
     (folder / "told.sv").write_text(told)
     graph = Graph()
     vectors = {name: [graph.fresh() for _ in range(width)] for name, width in variables.items()}
-    vectors.update(unrolled(run, gates_of(folder, "frame", ["d.sv", "frame.sv"]), graph, vectors))
+    vectors.update(unrolled(run, design_gates(folder, run), graph, vectors))
     machine = gates_of(folder, "told", ["told.sv"])
     root = machine.told(machine.values(graph, vectors, []))[asked(goal)][0]
     (folder / "goal.aig").write_bytes(graph.aiger(root))
