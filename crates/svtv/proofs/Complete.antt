@@ -1,7 +1,8 @@
 -- A command with legal files is done, but for faults and want of memory, and but for proofs of designs with wide loops.
-use Rattle.std.proofs.Common.{◌≡◌, ◌⊎◌, List, true, false, refl, subst, inl, inr}
+use Rattle.std.proofs.Common.{◌≡◌, ◌⊎◌, List, None, true, false, refl, subst, inl, inr}
 use Rattle.sv_outside.specs.declared.refusal.Refusal.{Refusal}
-use Rattle.svtv_words.specs.Commands.{Command, IsCommand, prove, sim, dump}
+use Rattle.svtv_words.specs.Commands.{Command, IsCommand, prove, sim, dump, selftest}
+use Rattle.svtv_selftest.specs.Texts as test
 use Rattle.svtv_words.proofs.Commands.{one_command}
 use Rattle.svtv.specs.Answers.{Answers, PrintsIf, Prints}
 use Rattle.svtv_files.specs.Files.{Text, Told}
@@ -19,6 +20,8 @@ legal_loops : (told : Told) (c : Command) (file : Text) (r : Refusal) → AreLeg
 legal_loops told (prove d t g top budget) file r l h = (l.0, l.2.is_design.file, r.count, proof_loops told d t g top l.0 l.1 l.3 l.2 l.4 file r h)
 legal_loops told (sim d t v top) file r l h = absurd (simulation_stands told d t v top l.0 l.1 l.3 l.2 l.4 file r h)
 legal_loops told (dump d top) file r l h = absurd (design_stands told d top l.0 l.1 file r h)
+legal_loops told (selftest n) file r l h =
+    (l.0, l.2.is_design.file, r.count, proof_loops (test.told n) test.design_name test.table_name test.goals_name None l.0 l.1 l.3 l.2 l.4 file r h)
 
 -- what a command prints, it is done with
 printed : (told : Told) (c : Command) (status : Status) (text : Text) → Prints told c status text → IsDone c status
@@ -26,6 +29,7 @@ printed told (prove d t g top budget) AllProved text h = tt
 printed told (prove d t g top budget) NotAll text h = tt
 printed told (sim d t v top) Done text h = tt
 printed told (dump d top) Done text h = tt
+printed told (selftest n) Done text h = tt
 printed told (prove d t g top budget) Done text h = absurd h
 printed told (prove d t g top budget) Usage text h = absurd h
 printed told (prove d t g top budget) Refused text h = absurd h
@@ -46,6 +50,13 @@ printed told (dump d top) Refused text h = absurd h
 printed told (dump d top) ReadFault text h = absurd h
 printed told (dump d top) WriteFault text h = absurd h
 printed told (dump d top) Memory text h = absurd h
+printed told (selftest n) AllProved text h = absurd h
+printed told (selftest n) NotAll text h = absurd h
+printed told (selftest n) Usage text h = absurd h
+printed told (selftest n) Refused text h = absurd h
+printed told (selftest n) ReadFault text h = absurd h
+printed told (selftest n) WriteFault text h = absurd h
+printed told (selftest n) Memory text h = absurd h
 
 done : (told : Told) (words : List Text) (status : Status) (text : Text) (c : Command) → IsCommand words c → PrintsIf told words status text → IsDone c status
 done told words status text c is h = subst (λ (x : Command). IsDone x status) (one_command words h.0 c h.1 is) (printed told h.0 status text h.2)
@@ -70,6 +81,7 @@ left P (outcome.Proved true text) h e = cc
 left P (outcome.Proved false text) h e = cc
 left P (outcome.Simulated text) h e = cc
 left P (outcome.Dumped text) h e = cc
+left P (outcome.Tested text) h e = cc
 left P (outcome.Refused message) h e = cc
 left P (outcome.Unread message) h e = h
 left P outcome.Misused h e = cc

@@ -1,5 +1,5 @@
 -- Files that are legal by what is told of their contents, and the answer that a command then has.
-use Rattle.std.specs.Prelude.{◌≡◌, ◌≤◌, ◌^◌, ⊤, ℕ, List, length, Option, Some}
+use Rattle.std.specs.Prelude.{◌≡◌, ◌≤◌, ◌^◌, ⊤, ℕ, List, length, Option, Some, None}
 use Rattle.design_loops.specs.Loops.{HasWideLoop}
 use Rattle.fourvec.specs.declared.Bit.{Bit}
 use Rattle.goal_tree.specs.Goals.{goals_depths}
@@ -13,7 +13,8 @@ use Rattle.sv_tree.specs.NestingDesign.{source_depths}
 use Rattle.svtv_table.specs.declared.bound.Sample.{Sample}
 use Rattle.svtv_table.specs.declared.bound.VarDecl.{VarDecl}
 use Rattle.table_cells.specs.declared.table.Table.{Table}
-use Rattle.svtv_words.specs.Commands.{Command, prove, sim, dump}
+use Rattle.svtv_selftest.specs.Texts as test
+use Rattle.svtv_words.specs.Commands.{Command, prove, sim, dump, selftest}
 use Rattle.svtv_files.specs.Files.{Text, Told, IsDesignFile, IsTableFile, AreGoalsFile, IsValuesFile, samples_in, vars_of}
 use Rattle.svtv.specs.declared.status.Status.{Status}
 use Rattle.svtv.specs.declared.status.Status.TheVariants.{AllProved, Done, NotAll, Refused}
@@ -50,13 +51,18 @@ pub record AreLegalValues (told : Told) (name : Text) (vars : List VarDecl) (cho
   pub file : IsValuesFile told name vars choice
   pub text : IsShort told name file.text
 
--- the files of a command are legal
-abbrev pub AreLegal : Told → Command → Type 0
-AreLegal told (prove d t g top budget) = (design : Design) × (table : Table) × IsLegalSetup told d t top design table
+-- the files of a proof are legal
+abbrev pub IsLegalProof : Told → Text → Text → Text → Option Text → Type 0
+IsLegalProof told d t g top = (design : Design) × (table : Table) × IsLegalSetup told d t top design table
     × (trees : List GoalTree) × AreLegalGoals told g (vars_of design table) (samples_in design table) trees
+
+-- the files of a command are legal; those of a self test are its own
+abbrev pub AreLegal : Told → Command → Type 0
+AreLegal told (prove d t g top budget) = IsLegalProof told d t g top
 AreLegal told (sim d t v top) = (design : Design) × (table : Table) × IsLegalSetup told d t top design table
     × (choice : List (List Bit)) × AreLegalValues told v (vars_of design table) choice
 AreLegal told (dump d top) = (design : Design) × IsLegalDesign told d top design
+AreLegal told (selftest n) = IsLegalProof (test.told n) test.design_name test.table_name test.goals_name None
 
 -- the answers of a command that is done
 abbrev pub IsDone : Command → Status → Type 0
@@ -64,9 +70,14 @@ IsDone (prove d t g top budget) AllProved = ⊤
 IsDone (prove d t g top budget) NotAll = ⊤
 IsDone (sim d t v top) Done = ⊤
 IsDone (dump d top) Done = ⊤
+IsDone (selftest n) Done = ⊤
 IsDone command status = ⊥
 
 -- a proof may be refused though its files are legal: over 1,024 bits of the design's wires feed each other
+abbrev pub HasLoops : Told → Text → Option Text → Type 0
+HasLoops told d top = (design : Design) × IsDesignFile told d top design × (count : ℕ) × HasWideLoop design count
+
 abbrev pub IsLooped : Told → Command → Status → Type 0
-IsLooped told (prove d t g top budget) Refused = (design : Design) × IsDesignFile told d top design × (count : ℕ) × HasWideLoop design count
+IsLooped told (prove d t g top budget) Refused = HasLoops told d top
+IsLooped told (selftest n) Refused = HasLoops (test.told n) test.design_name None
 IsLooped told command status = ⊥

@@ -3,22 +3,23 @@ use Rattle.std.specs.Prelude.{◌≡◌, ℕ, [], true, false, Option}
 use Rattle.svtv_report.specs.Refusals.{memory_text, read_fault_text, refusal_text, usage_text}
 use Rattle.sv_outside.specs.declared.refusal.Place.{Place}
 use Rattle.sv_outside.specs.declared.refusal.Refusal.{Refusal}
-use Rattle.svtv_words.specs.Commands.{Command, prove, sim, dump}
-use Rattle.svtv_commands.specs.Done.{Dumps, Proves, Simulates}
-use Rattle.svtv_files.specs.Refusals.{LeavesProof, LeavesSimulation, RefusesDesign, RefusesProof, RefusesSimulation, UnreadDesign}
+use Rattle.svtv_words.specs.Commands.{Command, prove, sim, dump, selftest}
+use Rattle.svtv_commands.specs.Done.{Dumps, Proves, SelfTests, Simulates}
+use Rattle.svtv_files.specs.Refusals.{LeavesProof, LeavesSimulation, RefusesDesign, RefusesProof, RefusesSimulation, RefusesTest, UnreadDesign}
 use Rattle.svtv_files.specs.declared.stop.Stop.{Stop}
 use Rattle.svtv_files.specs.declared.stop.Stop.TheVariants as stop
 use Rattle.svtv_files.specs.Files.{Text, Told}
 use Rattle.svtv.specs.declared.status.Status.{Status}
 use Rattle.svtv.specs.declared.status.Status.TheVariants as status
 use Rattle.svtv.specs.declared.work.Outcome.{Outcome}
-use Rattle.svtv.specs.declared.work.Outcome.TheVariants.{Proved, Simulated, Dumped, Refused, Unread, Misused, Memory}
+use Rattle.svtv.specs.declared.work.Outcome.TheVariants.{Proved, Simulated, Dumped, Tested, Refused, Unread, Misused, Memory}
 
 abbrev pub status_of : Outcome → Status
 status_of (Proved true text) = status.AllProved
 status_of (Proved false text) = status.NotAll
 status_of (Simulated text) = status.Done
 status_of (Dumped text) = status.Done
+status_of (Tested text) = status.Done
 status_of (Refused message) = status.Refused
 status_of (Unread message) = status.ReadFault
 status_of Misused = status.Usage
@@ -28,6 +29,7 @@ abbrev pub text_of : Outcome → Text
 text_of (Proved all text) = text.items
 text_of (Simulated text) = text.items
 text_of (Dumped text) = text.items
+text_of (Tested text) = text.items
 text_of (Refused message) = []
 text_of (Unread message) = []
 text_of Misused = []
@@ -37,6 +39,7 @@ abbrev pub message_of : Outcome → Text
 message_of (Proved all text) = []
 message_of (Simulated text) = []
 message_of (Dumped text) = []
+message_of (Tested text) = []
 message_of (Refused message) = message.items
 message_of (Unread message) = message.items
 message_of Misused = usage_text
@@ -52,6 +55,7 @@ IsStopped why Memory = Unit {0}
 IsStopped why (Proved all text) = ⊥
 IsStopped why (Simulated text) = ⊥
 IsStopped why (Dumped text) = ⊥
+IsStopped why (Tested text) = ⊥
 IsStopped why Misused = ⊥
 IsStopped (stop.Refused file r) (Unread message) = ⊥
 IsStopped (stop.Unread file place) (Refused message) = ⊥
@@ -69,6 +73,7 @@ abbrev pub IsProof : Told → Text → Text → Text → Option Text → Option 
 IsProof told d t g top budget (Proved all text) = Proves told d t g top budget all text.items
 IsProof told d t g top budget (Simulated text) = ⊥
 IsProof told d t g top budget (Dumped text) = ⊥
+IsProof told d t g top budget (Tested text) = ⊥
 IsProof told d t g top budget (Refused message) = IsRefused (RefusesProof told d t g top) message.items
 IsProof told d t g top budget (Unread message) = IsUnread (LeavesProof told d t g top) message.items
 IsProof told d t g top budget Misused = ⊥
@@ -79,6 +84,7 @@ abbrev pub IsSimulation : Told → Text → Text → Text → Option Text → Ou
 IsSimulation told d t v top (Proved all text) = ⊥
 IsSimulation told d t v top (Simulated text) = Simulates told d t v top text.items
 IsSimulation told d t v top (Dumped text) = ⊥
+IsSimulation told d t v top (Tested text) = ⊥
 IsSimulation told d t v top (Refused message) = IsRefused (RefusesSimulation told d t v top) message.items
 IsSimulation told d t v top (Unread message) = IsUnread (LeavesSimulation told d t v top) message.items
 IsSimulation told d t v top Misused = ⊥
@@ -89,22 +95,36 @@ abbrev pub IsDump : Told → Text → Option Text → Outcome → Type 0
 IsDump told d top (Proved all text) = ⊥
 IsDump told d top (Simulated text) = ⊥
 IsDump told d top (Dumped text) = Dumps told d top text.items
+IsDump told d top (Tested text) = ⊥
 IsDump told d top (Refused message) = IsRefused (RefusesDesign told d top) message.items
 IsDump told d top (Unread message) = IsUnread (UnreadDesign told d) message.items
 IsDump told d top Misused = ⊥
 IsDump told d top Memory = Unit {0}
+
+-- how a self test ends
+abbrev pub IsSelfTest : ℕ → Outcome → Type 0
+IsSelfTest n (Proved all text) = ⊥
+IsSelfTest n (Simulated text) = ⊥
+IsSelfTest n (Dumped text) = ⊥
+IsSelfTest n (Tested text) = SelfTests n text.items
+IsSelfTest n (Refused message) = IsRefused (RefusesTest n) message.items
+IsSelfTest n (Unread message) = ⊥
+IsSelfTest n Misused = ⊥
+IsSelfTest n Memory = Unit {0}
 
 -- how the work of a command ends
 abbrev pub IsWork : Told → Command → Outcome → Type 0
 IsWork told (prove d t g top budget) outcome = IsProof told d t g top budget outcome
 IsWork told (sim d t v top) outcome = IsSimulation told d t v top outcome
 IsWork told (dump d top) outcome = IsDump told d top outcome
+IsWork told (selftest n) outcome = IsSelfTest n outcome
 
 -- a file was not read only where this holds
 abbrev pub IfLeft : Type 0 → Outcome → Type 0
 IfLeft P (Proved all text) = Unit {0}
 IfLeft P (Simulated text) = Unit {0}
 IfLeft P (Dumped text) = Unit {0}
+IfLeft P (Tested text) = Unit {0}
 IfLeft P (Refused message) = Unit {0}
 IfLeft P (Unread message) = P
 IfLeft P Misused = Unit {0}

@@ -5,15 +5,16 @@ ghost use Rattle.std.specs.Prelude.{◌≡◌, ◌≤◌, ◌<◌, ℕ, List, ma
 ghost use Rattle.std.specs.Option.{option_copied};
 ghost use Rattle.sv_outside.specs.Outside.{Rose};
 ghost use Rattle.svtv.specs.Answers.{Answers};
-ghost use Rattle.svtv.specs.Outcomes.{status_of, text_of, message_of, IfLeft, IsDump, IsProof, IsSimulation, IsStopped, IsWork};
+ghost use Rattle.svtv.specs.Outcomes.{status_of, text_of, message_of, IfLeft, IsDump, IsProof, IsSelfTest, IsSimulation, IsStopped, IsWork};
 ghost use Rattle.svtv_words.specs.Commands as m;
-ghost use Rattle.svtv_words.specs.Commands.{IsCommand, command_is};
+ghost use Rattle.svtv_selftest.specs.Texts as test;
+ghost use Rattle.svtv_words.specs.Commands.{HasCount, IsCommand, command_is};
 ghost use Rattle.svtv.specs.declared.status.Status.TheVariants as status;
 
 use crate::status::Status;
 use std::alloc::{AllocError, Global};
 use sv_outside::{Files, Name};
-use svtv_commands::{dump, prove, simulate};
+use svtv_commands::{dump, prove, selftest, simulate};
 use svtv_files::Stop;
 use svtv_report::{memory_text, read_fault_text, refusal_text, usage_text};
 use svtv_words::{Command, Verb, command_of};
@@ -24,6 +25,7 @@ pub enum Outcome {
     Proved(bool, Vec<u8>),
     Simulated(Vec<u8>),
     Dumped(Vec<u8>),
+    Tested(Vec<u8>),
     Refused(Vec<u8>),
     Unread(Vec<u8>),
     Misused,
@@ -37,7 +39,7 @@ impl Outcome {
         match self {
             Outcome::Proved(true, _) => Status::AllProved,
             Outcome::Proved(false, _) => Status::NotAll,
-            Outcome::Simulated(_) | Outcome::Dumped(_) => Status::Done,
+            Outcome::Simulated(_) | Outcome::Dumped(_) | Outcome::Tested(_) => Status::Done,
             Outcome::Refused(_) => Status::Refused,
             Outcome::Unread(_) => Status::ReadFault,
             Outcome::Misused => Status::Usage,
@@ -49,7 +51,10 @@ impl Outcome {
         ensures { result.now ≡ text_of self.now }
     {
         match self {
-            Outcome::Proved(_, text) | Outcome::Simulated(text) | Outcome::Dumped(text) => text,
+            Outcome::Proved(_, text)
+            | Outcome::Simulated(text)
+            | Outcome::Dumped(text)
+            | Outcome::Tested(text) => text,
             _ => &[],
         }
     }
@@ -58,7 +63,10 @@ impl Outcome {
         ensures { result.now ≡ message_of self.now }
     {
         match self {
-            Outcome::Proved(_, _) | Outcome::Simulated(_) | Outcome::Dumped(_) => &[],
+            Outcome::Proved(_, _)
+            | Outcome::Simulated(_)
+            | Outcome::Dumped(_)
+            | Outcome::Tested(_) => &[],
             Outcome::Refused(message) | Outcome::Unread(message) => message,
             Outcome::Misused => usage_text(),
             Outcome::Memory => memory_text(),
@@ -135,6 +143,17 @@ fn dumped<F: Files>(alloc: Global, files: &mut F, design: &Name, top: Option<&Na
     }
 }
 
+fn tested(alloc: Global, count: u64) -> Outcome
+    requires low { 1 ≤ count }
+    requires high { count ≤ test.most }
+    ensures { IsSelfTest count result }
+{
+    match selftest(alloc, count) {
+        Ok(text) => Outcome::Tested(text),
+        Err(stop) => stopped(alloc, stop),
+    }
+}
+
 // The name of the module that is to be the top, if one is given.
 fn top_name(alloc: Global, top: Option<&[u8]>) -> Result<Option<Name>, AllocError>
     ensures { IfOk result (λ name. name ≡ option_copied top.entry) }
@@ -155,6 +174,7 @@ fn worked<F: Files>(
     command: &Command<'_>,
 ) -> Result<Outcome, AllocError>
     requires budget { IfSome command.now.budget (λ n. 0 < n) }
+    requires count { HasCount command.now.verb command.now.count }
     ensures is { IfOk result (IsWork (F.contents files.old) (command_is command.now)) }
     ensures rose { IfOk result (IfLeft (Rose (F.faults files.old) (F.faults files.new))) }
     ensures unchanged { (other : List ℕ) → F.contents files.new other ≡ F.contents files.old other }
@@ -176,6 +196,7 @@ fn worked<F: Files>(
         )),
         Verb::Sim => Ok(simulated(alloc, files, &design, &table, &last, top.as_ref())),
         Verb::Dump => Ok(dumped(alloc, files, &design, top.as_ref())),
+        Verb::Selftest => Ok(tested(alloc, command.count)),
     }
 }
 

@@ -1,7 +1,5 @@
 -- Files in their turn: those before them are legal.
-use Rattle.std.proofs.Common.{◌≡◌, ℕ, List, [], map, Option, Result, Bool, sym, ◌∙◌, ap, subst, inl, inr}
-use Rattle.std.specs.Prelude.{IfOk}
-use Rattle.std.proofs.lemmas.Result.{IfOk-weaker}
+use Rattle.std.proofs.Common.{◌≡◌, ℕ, List, [], map, Option, sym, ◌∙◌, ap, subst, inl, inr}
 use Rattle.std.specs.List.{All, AllZip, IsDistinct}
 use Rattle.std.specs.Str.{bytes_eq}
 use Rattle.flat_net.specs.declared.flat.Flat.{Flat}
@@ -15,8 +13,8 @@ use Rattle.sv_outside.specs.declared.text.Signal.{Signal}
 use Rattle.svex_shape.specs.declared.shape.Shape.{Shape}
 use Rattle.svtv_choices.proofs.Values.{values_choice}
 use Rattle.svtv_decide.specs.Posing.{Poses, bench}
-use Rattle.svtv_report.specs.Shown.{sample_texts, var_texts}
-use Rattle.svtv_report.specs.Texts.{value_lines, report}
+use Rattle.svtv_report.specs.Shown.{sample_texts}
+use Rattle.svtv_report.specs.Texts.{value_lines}
 use Rattle.svtv_least.specs.Running.{AreAsWide}
 use Rattle.svtv_runs.specs.Runs.{Asked, Run, IsLeastRun, asks_of}
 use Rattle.svtv_runs.proofs.Runs.{least_run_stands}
@@ -31,11 +29,14 @@ use Rattle.svtv_table.proofs.Formed.{is_formed}
 use Rattle.svtv_table.proofs.Shape.{is_bound}
 use Rattle.svtv_table.specs.Reading.{IsWellFormed}
 use Rattle.svtv_verdicts.specs.Benches.{sampled_in}
-use Rattle.svtv_commands.specs.Done.{Proves, Simulates}
+use Rattle.svtv_commands.specs.Done.{Simulates}
 use Rattle.svtv_files.specs.Files.{Text, Told, AreGoalsFile, IsDesignFile, IsValuesFile, bench_of, samples_in, vars_of}
 use Rattle.svtv_commands.specs.Inputs.{AreGoalsIn, Stands}
+use Rattle.svtv_commands.specs.Judged.{IsJudgement}
 use Rattle.svtv_commands.specs.Machines.{StopsWide}
-use Rattle.svtv_texts.specs.Rights.{IsReport, names_of}
+use Rattle.svtv_texts.specs.Rights.{AreRight, names_of}
+use Rattle.svtv_texts.specs.declared.judging.Decisions.{Decisions}
+use Rattle.svtv_report.specs.Seen.{verdict_is}
 use Rattle.svtv_files.specs.Refusals.{LeavesProof, LeavesSetup, LeavesSimulation, RefusesGoals, RefusesProof, RefusesSetup, RefusesSimulation, RefusesTable, RefusesValues}
 use Rattle.svtv_files.specs.Stopping.{Stops}
 use Rattle.svtv_commands.specs.declared.setup.Setup.{Setup}
@@ -126,36 +127,28 @@ module _ (told : Told) (d t : Text) (top : Option Text) (x : Setup) (s : Stands 
   wide_turn new g vars samples shapes goals stop n v m are h =
       let own = goals_in new g vars samples shapes goals n v m are in wide_stop g own.trees stop own.file h
 
-  -- what the report is a report of
-  of_report : (g : Text) (flat : Flat) (goals : List Goal) (budget : Option ℕ) (all : Bool) (text : Text) (own : AreGoalsIn told g (vars_of s.design x.table) (samples_in s.design x.table) flat.arena goals)
-      → IsReport (bench_of s.design x.table) own.trees budget (names_of goals) all text → Proves told d t g top budget all text
-  of_report g flat goals budget all text own r = record {
-    design = s.design;
-    table = x.table;
-    setup = s.setup;
-    goals = own.trees;
-    are_goals = own.file;
-    verdicts = r.verdicts;
-    shown = r.shown;
-    right = r.right;
-    printed = r.printed ∙ ap (λ names. report (var_texts (vars_of s.design x.table)) (sample_texts (samples_in s.design x.table)) names r.verdicts r.shown) (names_same (vars_of s.design x.table) (samples_in s.design x.table) flat.arena own.trees goals own.each);
-    whole = r.whole;
-  }
+  -- verdicts that are right of whatever the flat design and the bound table pose
+  abbrev Rights : Bound → Flat → List Goal → Option ℕ → Decisions → Type 0
+  Rights b flat goals budget y = (design : Design) (asked : List (List Bit) → Asked) (trees : List GoalTree) → Poses design asked flat b → AllZip (IsGoal b.vars b.samples flat.arena) trees goals
+      → AreRight (bench design asked b) trees budget (map verdict_is y.verdicts) y.shown
 
-  module _ {A : Type 0} (result : Result A Stop) (all : A → Bool) (text : A → Text) where
-    abbrev Reports : Bound → Flat → List Goal → Option ℕ → Type 0
-    Reports b flat goals budget = (design : Design) (asked : List (List Bit) → Asked) (trees : List GoalTree) → Poses design asked flat b → AllZip (IsGoal b.vars b.samples flat.arena) trees goals
-        → IfOk result (λ y. IsReport (bench design asked b) trees budget (names_of goals) (all y) (text y))
-
-    pub is_proof : (new : Told) (g : Text) (vars : List VarDecl) (samples : List Sample) (flat : Flat) (goals : List Goal) (budget : Option ℕ) → new ≡ told → vars ≡ x.bound.vars
-        → samples ≡ x.bound.samples → IsElaborated s.design flat → AreGoalsIn new g vars samples flat.arena goals → Reports x.bound flat goals budget → IfOk result (λ y. Proves told d t g top budget (all y) (text y))
-    unfolding bound_of
-    is_proof new g vars samples flat goals budget n v m elaborated are h =
-        let own : AreGoalsIn told g (vars_of s.design x.table) (samples_in s.design x.table) flat.arena goals = goals_in new g vars samples flat.arena goals n v m are in
-        let reports : Reports (bound_of s.design.wires x.table) flat goals budget = subst (λ (b : Bound). Reports b flat goals budget) s.bound h in
-        IfOk-weaker result (λ y. IsReport (bench_of s.design x.table) own.trees budget (names_of goals) (all y) (text y)) (λ y. Proves told d t g top budget (all y) (text y))
-        (λ y r. of_report g flat goals budget (all y) (text y) own r)
-        (reports s.design (bench_of s.design x.table).asked own.trees (poses s.design flat x.table elaborated s.setup.is_table.clear) own.each)
+  pub judged : (new : Told) (g : Text) (vars : List VarDecl) (samples : List Sample) (flat : Flat) (goals : List Goal) (budget : Option ℕ) (y : Decisions) → new ≡ told → vars ≡ x.bound.vars
+      → samples ≡ x.bound.samples → IsElaborated s.design flat → AreGoalsIn new g vars samples flat.arena goals → y.names ≡ names_of goals → Rights x.bound flat goals budget y
+      → IsJudgement told d t g top budget (record { bound = x.bound; decisions = y })
+  unfolding bound_of
+  judged new g vars samples flat goals budget y n v m elaborated are names right =
+      let own : AreGoalsIn told g (vars_of s.design x.table) (samples_in s.design x.table) flat.arena goals = goals_in new g vars samples flat.arena goals n v m are in
+      let rights : Rights (bound_of s.design.wires x.table) flat goals budget y = subst (λ (b : Bound). Rights b flat goals budget y) s.bound right in
+      record {
+        design = s.design;
+        table = x.table;
+        setup = s.setup;
+        bound = s.bound;
+        goals = own.trees;
+        are_goals = own.file;
+        names = names ∙ names_same (vars_of s.design x.table) (samples_in s.design x.table) flat.arena own.trees goals own.each;
+        right = rights s.design (bench_of s.design x.table).asked own.trees (poses s.design flat x.table elaborated s.setup.is_table.clear) own.each;
+      }
 
   -- ---- simulations
 

@@ -1,5 +1,5 @@
 -- What a command that is done prints.
-use Rattle.std.specs.Prelude.{◌≡◌, ℕ, Bool, List, [], Option}
+use Rattle.std.specs.Prelude.{◌≡◌, ℕ, Bool, List, [], Option, None}
 use Rattle.std.specs.List.{list_all}
 use Rattle.flat_net.specs.declared.flat.Flat.{Flat}
 use Rattle.flat_print.specs.Printed as print
@@ -13,6 +13,8 @@ use Rattle.svtv_files.specs.Refusals.{IsSetup}
 use Rattle.svtv_report.specs.Shown.{sample_texts, var_texts}
 use Rattle.svtv_report.specs.Texts.{report, value_lines}
 use Rattle.svtv_runs.specs.Runs.{Run}
+use Rattle.svtv_selftest.specs.Line.{line_text}
+use Rattle.svtv_selftest.specs.Texts as test
 use Rattle.svtv_texts.specs.Rights.{AreRight, goal_names, is_proved}
 use Rattle.svtv_verdicts.specs.Benches.{IsLeastUnder, sampled_in}
 use Rattle.svtv_verdicts.specs.Verdicts.{Verdict}
@@ -31,6 +33,19 @@ pub record Proves (told : Told) (d t g : Text) (top : Option Text) (budget : Opt
   pub right : AreRight (bench_of design table) goals budget verdicts shown
   pub printed : text ≡ report (var_texts (vars_of design table)) (sample_texts (samples_in design table)) (goal_names goals) verdicts shown
   pub whole : all ≡ list_all is_proved verdicts
+
+-- The text is the line of a self test with so many registers: it counts verdicts, one for each goal in order, that are right on what its texts stand
+-- for, where no budget is given.
+pub record SelfTests (n : ℕ) (text : Text) : Type 0 where
+  pub design : Design
+  pub table : Table
+  pub setup : IsSetup (test.told n) test.design_name test.table_name None design table
+  pub goals : List GoalTree
+  pub are_goals : AreGoalsFile (test.told n) test.goals_name (vars_of design table) (samples_in design table) goals
+  pub verdicts : List Verdict
+  pub shown : List (List (List Bit))
+  pub right : AreRight (bench_of design table) goals None verdicts shown
+  pub printed : text ≡ line_text n verdicts
 
 -- The text has the samples of the least run under the values of a file.
 pub record Simulates (told : Told) (d t v : Text) (top : Option Text) (text : Text) : Type 0 where

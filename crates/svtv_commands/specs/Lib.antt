@@ -1,3 +1,4 @@
 pub mod Done
 pub mod Inputs
+pub mod Judged
 pub mod Machines

@@ -1,16 +1,19 @@
 //! The commands over files: the design, the table and the goals or values are read in their turn, and then the proof is done,
-//! or the simulation; of a dump, the design alone, which is printed.
+//! or the simulation; of a dump, the design alone, which is printed. A self test proves goals over texts of its own.
 #![tactic(auto)]
 
 mod design;
 mod dumping;
 mod goals;
+mod judging;
 mod proving;
 mod setup;
 mod simulation;
 mod table;
+mod testing;
 mod values;
 
 pub use dumping::dump;
 pub use proving::prove;
 pub use simulation::simulate;
+pub use testing::selftest;

@@ -1,97 +1,16 @@
-// Proofs. The goals are read before the design's machine is made, so their refusals come first, and their nodes stand in the graph of the
-// flat design, behind its own and before those of the machine. The machine takes the flat design; failures are simulated on a copy.
-ghost use Rattle.std.specs.Prelude.{◌≡◌, ◌≤◌, ◌<◌, ℕ, All, List, IfOk, IfErr, IfSome};
-ghost use Rattle.std.specs.List.{AllZip};
+// Proofs.
+ghost use Rattle.std.specs.Prelude.{◌≡◌, ◌≤◌, ◌<◌, ℕ, List, IfOk, IfErr, IfSome};
 ghost use Rattle.std.specs.Option.{option_copied};
-ghost use Rattle.fourvec.specs.declared.Bit.{Bit};
-ghost use Rattle.goal_text.specs.Nodes.{IsGoal};
-ghost use Rattle.goal_tree.specs.declared.tree.GoalTree.{GoalTree};
-ghost use Rattle.net_equations.specs.declared.group.ComposeErr.{ComposeErr};
-ghost use Rattle.sv_elab.specs.Elaborated.{IsElaborated};
-ghost use Rattle.sv_meaning.specs.Designs.{Design};
 ghost use Rattle.sv_outside.specs.Outside.{Rose};
 ghost use Rattle.svtv_commands.specs.Done.{Proves};
-ghost use Rattle.svtv_commands.specs.Machines.{IsWideStop, StopsWide};
-ghost use Rattle.svtv_decide.specs.Posing.{IsThere, Poses, bench};
 ghost use Rattle.svtv_files.specs.Refusals.{LeavesProof, RefusesProof};
 ghost use Rattle.svtv_files.specs.Stopping.{IfUnread, Stops};
-ghost use Rattle.svtv_runs.specs.Runs.{Asked};
-ghost use Rattle.svtv_table.specs.Binding.{HasWidth, IsBound};
-ghost use Rattle.svtv_texts.specs.Rights.{IsReport, names_of};
 
-use crate::goals::load_goals;
-use crate::setup::{Setup, load_setup};
-use flat_copy::copy_flat;
-use flat_net::Flat;
-use goal_text::Goal;
-use net_equations::ComposeErr;
+use crate::judging::judge;
 use std::alloc::Global;
-use sv_outside::{Files, Name, Place, Refusal, TextErr};
-use svtv_decide::Problem;
-use svtv_files::{Stop, refused};
-use svtv_machine::sample_nodes;
-use svtv_table::Bound;
+use sv_outside::{Files, Name};
+use svtv_files::Stop;
 use svtv_texts::reported;
-
-// E39 of the design, or want of memory.
-fn too_wide(design: &Name, error: ComposeErr) -> Stop
-    ensures { IsWideStop design.now error result }
-{
-    let ComposeErr::LoopTooWide(bits) = error else {
-        return Stop::Memory;
-    };
-    refused(
-        design,
-        TextErr::No(Refusal {
-            number: 39,
-            place: Place {
-                file: 0,
-                line: 1,
-                column: 1,
-            },
-            count: bits,
-        }),
-    )
-}
-
-// The report of goals whose nodes stand in the graph of the flat design.
-fn proved(
-    alloc: Global,
-    design: &Name,
-    flat: Flat,
-    bound: &Bound,
-    goals: &[Goal],
-    budget: Option<u64>,
-) -> Result<(bool, Vec<u8>), Stop>
-    requires elaborated { (d : Design) × IsElaborated d flat }
-    requires bound { IsBound flat.wires bound.now }
-    requires widths { All (λ var. HasWidth var.width) bound.now.vars }
-    requires there { All (IsThere flat.arena) goals.now }
-    requires budget { IfSome budget (λ n. 0 < n) }
-    ensures report { (d : Design) (asked : List (List Bit) → Asked) (trees : List GoalTree) → Poses d asked flat bound.now
-        → AllZip (IsGoal bound.now.vars bound.now.samples flat.arena) trees goals.now
-        → IfOk result (λ x. IsReport (bench d asked bound.now) trees budget (names_of goals.now) x.0 x.1.items) }
-    ensures stop { IfErr result (λ stop. (d : Design) → IsElaborated d flat → StopsWide design.now d stop) }
-{
-    let copy = match copy_flat(alloc, &flat) {
-        Ok(copy) => copy,
-        Err(_) => return Err(Stop::Memory),
-    };
-    let mut svtv = match sample_nodes(alloc, flat, bound) {
-        Ok(svtv) => svtv,
-        Err(error) => return Err(too_wide(design, error)),
-    };
-    let problem = Problem {
-        flat: &copy,
-        bound,
-        samples: svtv.samples.as_slice(),
-        budget,
-    };
-    match reported(alloc, &problem, &mut svtv.fsm.flat.arena, goals) {
-        Ok(pair) => Ok(pair),
-        Err(_) => Err(Stop::Memory),
-    }
-}
 
 /// Whether all goals are proved, and the report, or why there is none.
 pub fn prove<F: Files>(
@@ -110,22 +29,12 @@ pub fn prove<F: Files>(
     ensures unchanged { (other : List ℕ) → F.contents files.new other ≡ F.contents files.old other }
     ensures counts_up { F.faults files.old ≤ F.faults files.new }
 {
-    let Setup { flat, bound, .. } = match load_setup(alloc, files, design, table, top) {
-        Ok(setup) => setup,
+    let judgement = match judge(alloc, files, design, table, goals, top, budget) {
+        Ok(judgement) => judgement,
         Err(stop) => return Err(stop),
     };
-    let mut flat = flat;
-    let found = match load_goals(
-        alloc,
-        files,
-        goals,
-        bound.vars.as_slice(),
-        bound.samples.as_slice(),
-        &mut flat.arena,
-    ) {
-        Ok(found) => found,
-        Err(stop) => return Err(stop),
-    };
-    let _ = flat.arena.len();
-    proved(alloc, design, flat, &bound, found.as_slice(), budget)
+    match reported(alloc, &judgement.bound, &judgement.decisions) {
+        Ok(pair) => Ok(pair),
+        Err(_) => Err(Stop::Memory),
+    }
 }

@@ -1,11 +1,11 @@
 -- What is right of nodes is right of the design.
-use Rattle.std.proofs.Common.{◌≡◌, ℕ, ◌<◌, List, [], ◌∷◌, get_or, length, refl, sym, ap, ◌∙◌, subst, Option, Some, Result, Ok, Err, IfOk}
+use Rattle.std.proofs.Common.{◌≡◌, ℕ, List, [], ◌∷◌, get_or, length, sym, ap, ◌∙◌, subst, Option, Some, Result, Ok, Err, IfOk}
 use Rattle.std.specs.List.{All}
 use Rattle.aig.specs.declared.gate.Gate.{Gate}
 use Rattle.aig.specs.declared.gate.Lit.{Lit}
 use Rattle.choice_inputs.specs.Questions.{Tells}
 use Rattle.fourvec.specs.declared.Bit.{Bit}
-use Rattle.fourvec.specs.declared.Bit.TheVariants.{One, Unknown}
+use Rattle.fourvec.specs.declared.Bit.TheVariants.{Unknown}
 use Rattle.flat_net.specs.declared.flat.Flat.{Flat}
 use Rattle.goal_gates.specs.Goals as nodes
 use Rattle.goal_gates.specs.Goals.{IsOne, goal_of, rows_of, sampled_under}
@@ -27,9 +27,8 @@ use Rattle.svex_shape.specs.declared.shape.Shape.{Shape}
 use Rattle.svex_shape.specs.Values.{read, value_at}
 use Rattle.svex_arena.specs.Arenas.{IsArena}
 use Rattle.svtv_report.specs.Seen.{verdict_is}
-use Rattle.svtv_report.specs.declared.verdicts.Verdict.{Verdict}
 use Rattle.svtv_runs.specs.Runs.{Asked, Run, IsRun, IsLeastRun, asks_of}
-use Rattle.svtv_runs.specs.Truths.{Holds, IsMet, IsTrueIn, Meets, no_run, table_values}
+use Rattle.svtv_runs.specs.Truths.{Holds, IsMet, IsTrueIn, table_values}
 use Rattle.svtv_runs.proofs.Runs.{least_run_stands}
 use Rattle.svtv_runs.proofs.Truths.{truths_last}
 use Rattle.svtv_least.specs.Running.{AreAsWide}

@@ -9,13 +9,13 @@ use Rattle.std.proofs.lemmas.List.FromFn.{get_or-map-range_with_len, length-map-
 use Rattle.driver_resolve.specs.Drivers.{bitwise, is_wire}
 use Rattle.event_nets.specs.Tables.{store_of}
 use Rattle.fourvec.specs.declared.Bit.{Bit}
-use Rattle.fourvec.specs.declared.Bit.TheVariants.{One, Unknown}
+use Rattle.fourvec.specs.declared.Bit.TheVariants.{Unknown}
 use Rattle.fourvec.specs.Bits.{all_x}
 use Rattle.fourvec.proofs.Tables.{left_of, right_of}
 use Rattle.goal_gates.specs.Goals.{rows_of, is_chosen}
 use Rattle.goal_text.specs.Nodes.{IsTruth}
 use Rattle.goal_text.specs.Scopes.{table_read, is_of_vars, is_of_table, widths_in, vars_of, sampled_of, variables_of, claims_scope}
-use Rattle.sv_meaning.specs.Layouts.{Read, Scope, Origin, of_wires, of_choice, of_samples}
+use Rattle.sv_meaning.specs.Layouts.{Scope, Origin, of_wires, of_choice, of_samples}
 use Rattle.sv_meaning.specs.Meanings.{truth}
 use Rattle.sv_meaning.specs.Values.{mean}
 use Rattle.sv_tree.specs.declared.exprs.Expr.{Expr}

@@ -1,5 +1,5 @@
 -- Nodes in the order of what they stand for: what holds of all of the ones holds of all of the others.
-use Rattle.std.proofs.Common.{zero, suc, ◌<◌, List, [], ◌∷◌, arith}
+use Rattle.std.proofs.Common.{List, [], ◌∷◌}
 use Rattle.std.specs.List.{All, AllZip}
 use Rattle.std.proofs.lemmas.List.Elements.{All-head, All-tail, All-cons, All-nil}
 

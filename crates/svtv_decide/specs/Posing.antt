@@ -1,5 +1,5 @@
 -- Goals over the nodes of a flat design that stems from a design, under a table that is bound to its wires.
-use Rattle.std.specs.Prelude.{◌≡◌, ◌<◌, ℕ, List, length, map}
+use Rattle.std.specs.Prelude.{◌≡◌, ◌<◌, ℕ, List, length}
 use Rattle.std.specs.List.{All}
 use Rattle.fourvec.specs.declared.Bit.{Bit}
 use Rattle.goal_prove.specs.declared.certs.Verdict.{Verdict as Found}

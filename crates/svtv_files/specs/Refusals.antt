@@ -1,5 +1,5 @@
 -- Why a file is refused, or is not read, when its turn comes: the files before it are legal.
-use Rattle.std.specs.Prelude.{◌≡◌, ◌⊎◌, ◌<◌, ◌^◌, List, length, slice_get, Option, Some, Err, IfSome}
+use Rattle.std.specs.Prelude.{◌≡◌, ◌⊎◌, ◌<◌, ◌^◌, ℕ, List, length, slice_get, Option, Some, None, Err, IfSome}
 use Rattle.std.specs.List.{Contains}
 use Rattle.design_loops.specs.Loops.{HasWideLoop}
 use Rattle.goal_text.specs.Goals.{HasCause}
@@ -18,6 +18,7 @@ use Rattle.sv_preproc.specs.Directives.{IsWholeText}
 use Rattle.sv_preproc.specs.Laws.{Possible}
 use Rattle.sv_preproc.specs.Reached.{StopsIn, no, unread}
 use Rattle.sv_tree.specs.declared.design.Source.{Source}
+use Rattle.svtv_selftest.specs.Texts as test
 use Rattle.svtv_table.specs.Binding.{bind_faults}
 use Rattle.svtv_table.specs.Faults.{first_of}
 use Rattle.svtv_table.specs.Fields.{IsRecords}
@@ -26,7 +27,7 @@ use Rattle.svtv_table.specs.Valuing.{values_faults}
 use Rattle.svtv_table.specs.declared.bound.Sample.{Sample}
 use Rattle.svtv_table.specs.declared.bound.VarDecl.{VarDecl}
 use Rattle.table_cells.specs.declared.table.Table.{Table}
-use Rattle.svtv_words.specs.Commands.{Command, prove, sim, dump}
+use Rattle.svtv_words.specs.Commands.{Command, prove, sim, dump, selftest}
 use Rattle.svtv_files.specs.Files.{Text, Told, AreGoalsFile, IsDesignFile, IsTableText, IsTableFile, vars_of, samples_in}
 
 -- ---- designs
@@ -134,6 +135,10 @@ RefusesProof told d t g top file r = RefusesSetup told d t top file r ⊎ Behind
 abbrev pub LeavesProof : Told → Text → Text → Text → Option Text → Text → Place → Type 0
 LeavesProof told d t g top file place = LeavesSetup told d t top file place ⊎ BehindSetup told d t top (λ design table. (file ≡ g) × (place ≡ at_first))
 
+-- which text of a self test is refused; none of them is left unread
+abbrev pub RefusesTest : ℕ → Text → Refusal → Type 0
+RefusesTest n file r = RefusesProof (test.told n) test.design_name test.table_name test.goals_name None file r
+
 -- the same of a simulation
 abbrev pub RefusesSimulation : Told → Text → Text → Text → Option Text → Text → Refusal → Type 0
 RefusesSimulation told d t v top file r = RefusesSetup told d t top file r ⊎ BehindSetup told d t top (λ design table. (file ≡ v) × RefusesValues told v (vars_of design table) r)
@@ -145,8 +150,10 @@ abbrev pub Refuses : Told → Command → Text → Refusal → Type 0
 Refuses told (prove d t g top budget) file r = RefusesProof told d t g top file r
 Refuses told (sim d t v top) file r = RefusesSimulation told d t v top file r
 Refuses told (dump d top) file r = RefusesDesign told d top file r
+Refuses told (selftest n) file r = RefusesTest n file r
 
 abbrev pub LeavesUnread : Told → Command → Text → Place → Type 0
 LeavesUnread told (prove d t g top budget) file place = LeavesProof told d t g top file place
 LeavesUnread told (sim d t v top) file place = LeavesSimulation told d t v top file place
 LeavesUnread told (dump d top) file place = UnreadDesign told d file place
+LeavesUnread told (selftest n) file place = ⊥

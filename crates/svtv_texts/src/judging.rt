@@ -11,10 +11,12 @@ ghost use Rattle.sv_meaning.specs.Designs.{Design};
 ghost use Rattle.svtv_decide.specs.Posing.{IsThere, Poses, bench};
 ghost use Rattle.svtv_machine.specs.Least.{AreLeastNodes};
 ghost use Rattle.svtv_report.specs.Seen.{verdict_is};
+ghost use Rattle.svtv_report.specs.Shown.{sample_texts, var_texts};
+ghost use Rattle.svtv_report.specs.Texts as t;
 ghost use Rattle.svtv_runs.specs.Runs.{Asked};
 ghost use Rattle.svtv_table.specs.Binding.{HasWidth, IsBound};
 ghost use Rattle.svtv_texts.specs.Rights as a;
-ghost use Rattle.svtv_texts.specs.Rights.{AreRight, IsReport, names_of};
+ghost use Rattle.svtv_texts.specs.Rights.{AreRight, names_of};
 ghost use Rattle.svtv_unroll.specs.Unrolled.{AreSampleNodes};
 
 use fourvec::Four;
@@ -25,13 +27,14 @@ use sv_outside::Name;
 use svex_arena::Arena;
 use svtv_decide::{Decided, Problem, decide};
 use svtv_report::{Verdict, report};
+use svtv_table::Bound;
 
 /// The verdicts of goals, each with its goal's name and the samples to show.
 #[derive(Drop)]
-struct Decisions {
-    names: Items<Name>,
-    verdicts: Items<Verdict>,
-    shown: Items<Items<Four>>,
+pub struct Decisions {
+    pub names: Items<Name>,
+    pub verdicts: Items<Verdict>,
+    pub shown: Items<Items<Four>>,
 }
 
 // Whether a goal is proved.
@@ -50,8 +53,8 @@ fn all_proved(verdicts: &[Verdict]) -> bool
     verdicts.iter().all(|verdict| is_proved(verdict))
 }
 
-// Decides goals, in order.
-fn decide_all(
+/// Decides goals, in order.
+pub fn decide_all(
     alloc: Global,
     problem: &Problem<'_>,
     arena: &mut Arena,
@@ -85,36 +88,25 @@ fn decide_all(
     Ok(found)
 }
 
-/// Whether all goals are proved, and the report of their verdicts.
+/// Whether all goals are proved, and the report of their verdicts, of goals over a table that is bound.
 pub fn reported(
     alloc: Global,
-    problem: &Problem<'_>,
-    arena: &mut Arena,
-    goals: &[Goal],
+    bound: &Bound,
+    decisions: &Decisions,
 ) -> Result<(bool, Vec<u8>), AllocError>
-    requires flat { IsFlat problem.now.flat.now }
-    requires bound { IsBound problem.now.flat.now.wires problem.now.bound.now }
-    requires widths { All (λ var. HasWidth var.width) problem.now.bound.now.vars }
-    requires samples { AreSampleNodes problem.now.bound.now.vars problem.now.bound.now.samples arena.old problem.now.samples.now }
-    requires there { All (IsThere arena.old) goals.now }
-    requires budget { IfSome problem.now.budget (λ n. 0 < n) }
-    ensures { (d : Design) (asked : List (List Bit) → Asked) (trees : List GoalTree) → Poses d asked problem.now.flat.now problem.now.bound.now
-        → AreLeastNodes d problem.now.bound.now arena.old problem.now.samples.now
-        → AllZip (IsGoal problem.now.bound.now.vars problem.now.bound.now.samples arena.old) trees goals.now
-        → IfOk result (λ x. IsReport (bench d asked problem.now.bound.now) trees problem.now.budget (names_of goals.now) x.0 x.1.items) }
+    requires verdicts { length decisions.now.verdicts ≡ length decisions.now.names }
+    requires shown { length decisions.now.shown ≡ length decisions.now.names }
+    ensures printed { IfOk result (λ x. x.1.items
+        ≡ t.report (var_texts bound.now.vars) (sample_texts bound.now.samples) decisions.now.names (map verdict_is decisions.now.verdicts) decisions.now.shown) }
+    ensures whole { IfOk result (λ x. x.0 ≡ list_all a.is_proved (map verdict_is decisions.now.verdicts)) }
 {
-    let Decisions {
-        names,
-        verdicts,
-        shown,
-    } = decide_all(alloc, problem, arena, goals)?;
     let text = report(
         alloc,
-        names.as_slice(),
-        verdicts.as_slice(),
-        problem.bound.vars.as_slice(),
-        problem.bound.samples.as_slice(),
-        shown.as_slice(),
+        decisions.names.as_slice(),
+        decisions.verdicts.as_slice(),
+        bound.vars.as_slice(),
+        bound.samples.as_slice(),
+        decisions.shown.as_slice(),
     )?;
-    Ok((all_proved(verdicts.as_slice()), text))
+    Ok((all_proved(decisions.verdicts.as_slice()), text))
 }

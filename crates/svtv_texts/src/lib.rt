@@ -4,5 +4,5 @@
 mod judging;
 mod samples;
 
-pub use judging::reported;
+pub use judging::{Decisions, decide_all, reported};
 pub use samples::sampled;

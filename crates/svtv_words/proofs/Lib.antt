@@ -1,5 +1,5 @@
 pub mod OneWord
-pub mod Budgets
+pub mod Numbers
 pub mod Options
 pub mod Names
 pub mod Sound

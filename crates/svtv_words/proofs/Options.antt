@@ -7,7 +7,7 @@ use Rattle.std.proofs.lemmas.List.Elements.{All-head, All-tail}
 use Rattle.svtv_words.specs.Commands.{Text, Option', top, budget, is_option, is_among, Setting, IsBudget, IsGood, given, number_behind, Form, IsAllowed}
 use Rattle.svtv_words.specs.Reading.{budget_of, Texts, texts, nothing_given, text_at, put, is_good, may_give}
 use Rattle.svtv_words.proofs.OneWord.{on_if}
-use Rattle.svtv_words.proofs.Budgets.{budget_is, budget_found}
+use Rattle.svtv_words.proofs.Numbers.{budget_is, budget_found}
 
 -- ---- the table of options
 

@@ -3,7 +3,7 @@ use Rattle.std.specs.Prelude.{◌≡◌, ℕ, ◌+◌, ◌-◌, ◌*◌, ◌≤�
 use Rattle.std.specs.List.{All}
 use Rattle.svtv_words.specs.declared.command.Command.{Command as Told}
 use Rattle.svtv_words.specs.declared.verbs.Verb.{Verb}
-use Rattle.svtv_words.specs.declared.verbs.Verb.TheVariants.{Prove, Sim, Dump}
+use Rattle.svtv_words.specs.declared.verbs.Verb.TheVariants.{Prove, Sim, Dump, Selftest}
 
 abbrev pub Text : Type 0
 Text = List ℕ
@@ -71,17 +71,33 @@ unfoldable pub number_behind : ℕ → Text → ℕ
 number_behind n [] = n
 number_behind n (b ∷ more) = number_behind (n * 10 + (b - 48)) more
 
+-- a number: 1 to so many decimal digits, of a number from 1 to the greatest
+pub record IsNumber (digits_at_most greatest : ℕ) (text : Text) (n : ℕ) : Type 0 where
+  pub digits : All (λ b. IsTrue (is_digit b)) text
+  pub some : 1 ≤ length text
+  pub most : length text ≤ digits_at_most
+  pub is : n ≡ number_behind 0 text
+  pub low : 1 ≤ n
+  pub high : n ≤ greatest
+
 abbrev pub most_budget : ℕ
 most_budget = 10000000
 
 -- a budget: 1 to 8 decimal digits, of a number from 1 to 10,000,000
-pub record IsBudget (text : Text) (n : ℕ) : Type 0 where
-  pub digits : All (λ b. IsTrue (is_digit b)) text
-  pub some : 1 ≤ length text
-  pub most : length text ≤ 8
-  pub is : n ≡ number_behind 0 text
-  pub low : 1 ≤ n
-  pub high : n ≤ most_budget
+abbrev pub IsBudget : Text → ℕ → Type 0
+IsBudget text n = IsNumber 8 most_budget text n
+
+abbrev pub most_count : ℕ
+most_count = 30
+
+-- a count: 1 or 2 decimal digits, of a number from 1 to 30
+abbrev pub IsCount : Text → ℕ → Type 0
+IsCount text n = IsNumber 2 most_count text n
+
+-- the text is this count, where one is asked for
+abbrev pub IsCounted : Bool → Text → ℕ → Type 0
+IsCounted true text n = IsCount text n
+IsCounted false text n = n ≡ 0
 
 -- ---- settings
 
@@ -106,49 +122,55 @@ AreNames all = All (λ w. 1 ≤ length w) all
 
 -- ---- verbs
 
--- the form of a verb: its word, how many positionals it has, and the options that it may be given
+-- the form of a verb: its word, how many positionals it has, whether the first of them is a count, and the options that it may be given
 pub record Form : Type 0 where
   pub word : Text
   pub positionals : ℕ
+  pub counted : Bool
   pub options : List Option'
 
--- a verb, of which the words of a command know three
+-- a verb, of which the words of a command know four
 pub data Verb' : Type 0 where
   proves : Verb'
   sims : Verb'
   dumps : Verb'
+  selftests : Verb'
 
--- `prove DESIGN TABLE GOALS [--top M] [--budget N]`, `sim DESIGN TABLE VALUES [--top M]` and `dump DESIGN [--top M]`
+-- `prove DESIGN TABLE GOALS [--top M] [--budget N]`, `sim DESIGN TABLE VALUES [--top M]`, `dump DESIGN [--top M]` and `selftest N`
 abbrev pub form_of : Verb' → Form
-form_of proves = record { word = codes "prove"; positionals = 3; options = top ∷ budget ∷ [] }
-form_of sims = record { word = codes "sim"; positionals = 3; options = top ∷ [] }
-form_of dumps = record { word = codes "dump"; positionals = 1; options = top ∷ [] }
+form_of proves = record { word = codes "prove"; positionals = 3; counted = false; options = top ∷ budget ∷ [] }
+form_of sims = record { word = codes "sim"; positionals = 3; counted = false; options = top ∷ [] }
+form_of dumps = record { word = codes "dump"; positionals = 1; counted = false; options = top ∷ [] }
+form_of selftests = record { word = codes "selftest"; positionals = 1; counted = true; options = [] }
 
 -- The form has the option, and the text is good for it.
 pub record IsAllowed (form : Form) (s : Setting) : Type 0 where
   pub among : IsTrue (is_among s.option form.options)
   pub good : IsGood s.option s.text
 
--- The form allows these: as many names as it has, none of them empty, and no option twice, each as it may be given.
+-- The form allows these: as many names as it has, none of them empty, the first a count where it asks for one, and no option twice, each as it may be given.
 pub record Allows (form : Form) (positionals : List Text) (settings : List Setting) : Type 0 where
   pub count : length positionals ≡ form.positionals
   pub names : AreNames positionals
+  pub counted : (n : ℕ) × IsCounted form.counted (get_or positionals 0 []) n
   pub once : AreOnce settings
   pub options : All (IsAllowed form) settings
 
 -- ---- commands
 
--- `prove DESIGN TABLE GOALS`, `sim DESIGN TABLE VALUES` and `dump DESIGN`, with their options
+-- `prove DESIGN TABLE GOALS`, `sim DESIGN TABLE VALUES`, `dump DESIGN` and `selftest N`, with their options
 pub data Command : Type 0 where
   prove : (design table goals : Text) → (top : Option Text) → (budget : Option ℕ) → Command
   sim : (design table values : Text) → (top : Option Text) → Command
   dump : (design : Text) → (top : Option Text) → Command
+  selftest : (n : ℕ) → Command
 
 -- the command of a verb, its positionals in order, and what its options are given
 abbrev pub command_from : Verb' → List Text → Option Text → Option ℕ → Command
 command_from proves names t n = prove (get_or names 0 []) (get_or names 1 []) (get_or names 2 []) t n
 command_from sims names t n = sim (get_or names 0 []) (get_or names 1 []) (get_or names 2 []) t
 command_from dumps names t n = dump (get_or names 0 []) t
+command_from selftests names t n = selftest (number_behind 0 (get_or names 0 []))
 
 -- The words are this command: the word of a verb, and behind it what the verb's form allows.
 pub record IsCommand (words : List Text) (command : Command) : Type 0 where
@@ -162,16 +184,25 @@ pub record IsCommand (words : List Text) (command : Command) : Type 0 where
   pub is : command ≡ command_from verb positionals (given top settings) (option_map (number_behind 0) (given budget settings))
 
 -- the command that the program's own says
-abbrev pub command_by : Verb → Text → Text → Text → Option Text → Option ℕ → Command
-command_by Prove d a g t n = prove d a g t n
-command_by Sim d a v t n = sim d a v t
-command_by Dump d a l t n = dump d t
+abbrev pub command_by : Verb → Text → Text → Text → Option Text → Option ℕ → ℕ → Command
+command_by Prove d a g t n k = prove d a g t n
+command_by Sim d a v t n k = sim d a v t
+command_by Dump d a l t n k = dump d t
+command_by Selftest d a l t n k = selftest k
 
 abbrev pub command_is : Told → Command
-command_is c = command_by c.verb c.design.now c.table.now c.last.now (option_copied c.top) c.budget
+command_is c = command_by c.verb c.design.now c.table.now c.last.now (option_copied c.top) c.budget c.count
 
 -- a budget goes with `prove` alone
 abbrev pub MayHave : Verb → Option ℕ → Type 0
 MayHave Prove n = Unit {0}
 MayHave Sim n = n ≡ None
 MayHave Dump n = n ≡ None
+MayHave Selftest n = n ≡ None
+
+-- a count goes with `selftest` alone
+abbrev pub HasCount : Verb → ℕ → Type 0
+HasCount Prove k = k ≡ 0
+HasCount Sim k = k ≡ 0
+HasCount Dump k = k ≡ 0
+HasCount Selftest k = (1 ≤ k) × (k ≤ most_count)

@@ -1,7 +1,7 @@
 -- What reading the words of a command from the left finds, a word at a time.
 use Rattle.std.specs.Prelude.{ℕ, Bool, true, false, not, ◌&&◌, ◌==◌, nat_le, nat_lt, List, [], ◌∷◌, ◌++◌, length, get_or, take, drop, Option, Some, None, is_some, option_map, option_and_then, unwrap_or, bytes_eq, codes, if◌then◌else◌}
 use Rattle.std.specs.List.{list_all}
-use Rattle.svtv_words.specs.Commands.{Text, Option', top, budget, option_text, takes_text, is_among, is_digit, number_behind, most_budget, Form, Verb', proves, sims, dumps, form_of}
+use Rattle.svtv_words.specs.Commands.{Text, Option', top, budget, option_text, takes_text, is_among, is_digit, number_behind, most_budget, most_count, Form, Verb', proves, sims, dumps, selftests, form_of}
 
 -- ---- one word
 
@@ -54,13 +54,25 @@ kind_by true false k = k
 unfoldable pub kind_of : Text → Kind
 kind_of w = kind_by (is_dashed w) (bytes_eq w (codes "--")) (kind_among every_option w)
 
--- ---- budgets
+-- ---- numbers
 
-abbrev pub in_bounds : ℕ → Option ℕ
-in_bounds n = if nat_le 1 n && nat_le n most_budget then Some n else None
+abbrev pub in_bounds : ℕ → ℕ → Option ℕ
+in_bounds greatest n = if nat_le 1 n && nat_le n greatest then Some n else None
 
-unfoldable pub budget_of : Text → Option ℕ
-budget_of text = if nat_le 1 (length text) && nat_le (length text) 8 && list_all is_digit text then in_bounds (number_behind 0 text) else None
+-- the number of a text of at most so many digits, up to the greatest
+unfoldable pub number_in : ℕ → ℕ → Text → Option ℕ
+number_in digits greatest text = if nat_le 1 (length text) && nat_le (length text) digits && list_all is_digit text then in_bounds greatest (number_behind 0 text) else None
+
+abbrev pub budget_of : Text → Option ℕ
+budget_of text = number_in 8 most_budget text
+
+abbrev pub count_of : Text → Option ℕ
+count_of text = number_in 2 most_count text
+
+-- the count that a text is where one is asked for, else 0
+abbrev pub count_if : Bool → Text → Option ℕ
+count_if true text = count_of text
+count_if false text = Some 0
 
 -- ---- what the options were given so far
 
@@ -154,19 +166,23 @@ found_in form (w ∷ more) f = option_and_then (found_in form more) (with_word f
 -- ---- the whole
 
 abbrev pub every_verb : List Verb'
-every_verb = proves ∷ sims ∷ dumps ∷ []
+every_verb = proves ∷ sims ∷ dumps ∷ selftests ∷ []
 
 -- the first of these verbs with this word
 abbrev pub verb_among : List Verb' → Text → Option Verb'
 verb_among [] w = None
 verb_among (v ∷ more) w = if bytes_eq w (form_of v).word then Some v else verb_among more w
 
--- a command's parts: its verb, its names, and what its options are given
+-- a command's parts: its verb, its names, what its options are given, and its count
 pub data Parts : Type 0 where
-  parts : Verb' → (first second third : Text) → Option Text → Option ℕ → Parts
+  parts : Verb' → (first second third : Text) → Option Text → Option ℕ → ℕ → Parts
+
+-- with this count, if it is one
+abbrev pub parts_counted : Verb' → List Text → Texts → Option ℕ → Option Parts
+parts_counted v names t count = option_map (λ k. parts v (get_or names 0 []) (get_or names 1 []) (get_or names 2 []) (text_at top t) (budget_at t) k) count
 
 abbrev pub parts_named : Verb' → List Text → Texts → Option Parts
-parts_named v names t = if length names == (form_of v).positionals then Some (parts v (get_or names 0 []) (get_or names 1 []) (get_or names 2 []) (text_at top t) (budget_at t)) else None
+parts_named v names t = if length names == (form_of v).positionals then parts_counted v names t (count_if (form_of v).counted (get_or names 0 [])) else None
 
 -- an option still waits for its text
 abbrev pub is_waiting : Next → Bool

@@ -11,8 +11,8 @@ use Rattle.svtv_words.specs.declared.scan.Texts.{Texts as Given}
 use Rattle.svtv_words.specs.declared.scan.Found.{Found as Held}
 use Rattle.svtv_words.specs.declared.command.Command.{Command as Told}
 use Rattle.svtv_words.specs.declared.verbs.Verb.{Verb}
-use Rattle.svtv_words.specs.declared.verbs.Verb.TheVariants.{Prove, Sim, Dump}
-use Rattle.svtv_words.specs.Commands.{Text, Option', top, budget, Verb', proves, sims, dumps}
+use Rattle.svtv_words.specs.declared.verbs.Verb.TheVariants.{Prove, Sim, Dump, Selftest}
+use Rattle.svtv_words.specs.Commands.{Text, Option', top, budget, Verb', proves, sims, dumps, selftests}
 use Rattle.svtv_words.specs.Reading.{Kind, a_name, with_text, before_text, on_its_own, the_rest, unknown, Texts, texts, Next, anything, text_of, a_positional, Found, found, Parts, parts}
 
 abbrev pub option_is : OptionName → Option'
@@ -23,6 +23,7 @@ abbrev pub verb_is : Verb → Verb'
 verb_is Prove = proves
 verb_is Sim = sims
 verb_is Dump = dumps
+verb_is Selftest = selftests
 
 abbrev pub kind_is : Known → Kind
 kind_is known.Name = a_name
@@ -47,4 +48,4 @@ abbrev pub found_is : Held → Found
 found_is f = found (next_is f.next) (names_are f.names) (texts_are f.texts)
 
 abbrev pub parts_are : Told → Parts
-parts_are c = parts (verb_is c.verb) c.design.now c.table.now c.last.now (option_copied c.top) c.budget
+parts_are c = parts (verb_is c.verb) c.design.now c.table.now c.last.now (option_copied c.top) c.budget c.count

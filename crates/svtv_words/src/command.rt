@@ -1,14 +1,16 @@
 // The whole command.
 ghost use Rattle.std.specs.Prelude.{◌≡◌, map, string_bytes, option_map, IfSome, IfNone};
 ghost use Rattle.svtv_words.specs.Commands as m;
-ghost use Rattle.svtv_words.specs.Commands.{IsCommand, MayHave, command_is};
+ghost use Rattle.svtv_words.specs.Commands.{HasCount, IsCommand, MayHave, command_is};
 ghost use Rattle.svtv_words.specs.Reading as spec;
 ghost use Rattle.svtv_words.specs.Seen.{found_is, parts_are, verb_is};
 
 use crate::scan::{Found, Next, found_in};
+use crate::settings::count_if;
 use crate::verbs::{Verb, verb_of};
 
-/// A command: its files, and its options. A file that its verb does not have is an empty name.
+/// A command: its files, its options, and its count. A file that its verb does not have is an empty name, and a count that it
+/// does not have is 0.
 #[derive(Clone, Copy)]
 pub struct Command<'a> {
     pub verb: Verb,
@@ -18,6 +20,7 @@ pub struct Command<'a> {
     pub last: &'a [u8],
     pub top: Option<&'a [u8]>,
     pub budget: Option<u64>,
+    pub count: u64,
 }
 
 // The command of as many names as its verb has.
@@ -30,6 +33,7 @@ fn command_found(verb: Verb, found: Found<'_>) -> Option<Command<'_>>
     if found.names.count() != verb.positionals() {
         return None;
     }
+    let count = count_if(verb.is_counted(), found.names.at(0))?;
     Some(Command {
         verb,
         design: found.names.at(0),
@@ -37,6 +41,7 @@ fn command_found(verb: Verb, found: Found<'_>) -> Option<Command<'_>>
         last: found.names.at(2),
         top: found.texts.top,
         budget: found.texts.number(),
+        count,
     })
 }
 
@@ -52,11 +57,12 @@ fn command_in(words: &[String]) -> Option<Command<'_>>
 }
 
 /// The command that words are, if they are one.
-#[tactic(auto, using(crate::proofs::Commands::some_is, crate::proofs::Commands::none_is, crate::proofs::Commands::alone_is))]
+#[tactic(auto, using(crate::proofs::Commands::some_is, crate::proofs::Commands::none_is, crate::proofs::Commands::alone_is, crate::proofs::Commands::counted_is))]
 pub fn command_of(words: &[String]) -> Option<Command<'_>>
     ensures some { IfSome result (λ c. IsCommand (map string_bytes words.now) (command_is c)) }
     ensures none { IfNone result ((c : m.Command) → IsCommand (map string_bytes words.now) c → ⊥) }
     ensures alone { IfSome result (λ c. MayHave c.verb c.budget) }
+    ensures counted { IfSome result (λ c. HasCount c.verb c.count) }
 
     // They are one command at most.
     ensures one { (c d : m.Command) → IsCommand (map string_bytes words.now) c → IsCommand (map string_bytes words.now) d → c ≡ d }

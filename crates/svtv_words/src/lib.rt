@@ -1,5 +1,5 @@
-//! The words of a command: `prove DESIGN TABLE GOALS [--top M] [--budget N]`, `sim DESIGN TABLE VALUES [--top M]` or
-//! `dump DESIGN [--top M]`.
+//! The words of a command: `prove DESIGN TABLE GOALS [--top M] [--budget N]`, `sim DESIGN TABLE VALUES [--top M]`,
+//! `dump DESIGN [--top M]` or `selftest N`.
 #![tactic(auto)]
 
 mod command;

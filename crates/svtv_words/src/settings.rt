@@ -135,7 +135,13 @@ pub(crate) fn kind_of(word: &[u8]) -> Kind<'_>
     }
 }
 
+const BUDGET_DIGITS: usize = 8;
+
 const MOST_BUDGET: u64 = 10_000_000;
+
+const COUNT_DIGITS: usize = 2;
+
+const MOST_COUNT: u64 = 30;
 
 fn are_digits(text: &[u8]) -> bool
     ensures { result ≡ list_all is_digit text.now }
@@ -156,26 +162,45 @@ fn number_of(text: &[u8]) -> u64
     number
 }
 
-fn in_bounds(number: u64) -> Option<u64>
-    ensures { result ≡ spec.in_bounds number }
+fn in_bounds(number: u64, greatest: u64) -> Option<u64>
+    ensures { result ≡ spec.in_bounds greatest number }
 {
-    if 1 <= number && number <= MOST_BUDGET {
+    if 1 <= number && number <= greatest {
         Some(number)
     } else {
         None
     }
 }
 
-/// The budget that a text is: 1 to 8 decimal digits, of a number from 1 to 10,000,000.
-#[tactic(auto, unfolding(crate::specs::Reading::budget_of))]
-pub(crate) fn budget_of(text: &[u8]) -> Option<u64>
-    ensures { result ≡ spec.budget_of text.now }
+// The number from 1 to the greatest that a text of at most so many digits is.
+#[tactic(auto, unfolding(crate::specs::Reading::number_in))]
+fn number_in(text: &[u8], digits: usize, greatest: u64) -> Option<u64>
+    requires { digits ≤ 8 }
+    ensures { result ≡ spec.number_in digits greatest text.now }
 {
-    if text.is_empty() || text.len() > 8 {
+    if text.is_empty() || text.len() > digits {
         return None;
     }
     if !are_digits(text) {
         return None;
     }
-    in_bounds(number_of(text))
+    in_bounds(number_of(text), greatest)
+}
+
+/// The budget that a text is: 1 to 8 decimal digits, of a number from 1 to 10,000,000.
+pub(crate) fn budget_of(text: &[u8]) -> Option<u64>
+    ensures { result ≡ spec.budget_of text.now }
+{
+    number_in(text, BUDGET_DIGITS, MOST_BUDGET)
+}
+
+/// The count that a text is where one is asked for: 1 or 2 decimal digits, of a number from 1 to 30. Else it is 0.
+pub(crate) fn count_if(asked: bool, text: &[u8]) -> Option<u64>
+    ensures { result ≡ spec.count_if asked text.now }
+{
+    if asked {
+        number_in(text, COUNT_DIGITS, MOST_COUNT)
+    } else {
+        Some(0)
+    }
 }

@@ -12,6 +12,7 @@ pub enum Verb {
     Prove,
     Sim,
     Dump,
+    Selftest,
 }
 
 impl Verb {
@@ -23,6 +24,19 @@ impl Verb {
             Verb::Prove => 3,
             Verb::Sim => 3,
             Verb::Dump => 1,
+            Verb::Selftest => 1,
+        }
+    }
+
+    /// Whether the first of them is a count.
+    pub(crate) fn is_counted(self) -> bool
+        ensures { result ≡ (form_of (verb_is self)).counted }
+    {
+        match self {
+            Verb::Prove => false,
+            Verb::Sim => false,
+            Verb::Dump => false,
+            Verb::Selftest => true,
         }
     }
 
@@ -43,6 +57,10 @@ impl Verb {
                 OptionName::Top => true,
                 OptionName::Budget => false,
             },
+            Verb::Selftest => match option {
+                OptionName::Top => false,
+                OptionName::Budget => false,
+            },
         }
     }
 }
@@ -57,6 +75,8 @@ pub(crate) fn verb_of(word: &[u8]) -> Option<Verb>
         Some(Verb::Sim)
     } else if word == b"dump".as_slice() {
         Some(Verb::Dump)
+    } else if word == b"selftest".as_slice() {
+        Some(Verb::Selftest)
     } else {
         None
     }

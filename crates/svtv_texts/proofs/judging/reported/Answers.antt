@@ -8,16 +8,13 @@ use Rattle.svtv_report.specs.declared.verdicts.Verdict.{Verdict}
 use Rattle.svtv_texts.specs.Rights.{is_proved}
 use Rattle.svtv_texts.proofs.judging.reported.Goals as goal
 
-pub returns : goal.returns
-returns c d asked trees p least z =
-    let found = c.in_ok-names.field-0 in
-    record {
-      verdicts = map verdict_is found.verdicts;
-      shown = found.shown;
-      right = c.in_ok-names.ensures.right d asked trees p least z;
-      printed = c.in_ok-text.ensures
-          ∙ λ i. report (var_texts (c.as_slice-3.ensures i)) (sample_texts (c.as_slice-4.ensures i)) ((c.as_slice.ensures ∙ c.in_ok-names.ensures.names) i) (map verdict_is (c.as_slice-2.ensures i)) (c.as_slice-5.ensures i);
-      whole = c.all_proved.ensures
-          ∙ ap (λ (vs : List Verdict). list_all (λ v. is_proved (verdict_is v)) vs) c.as_slice-6.ensures
-          ∙ sym (list_all-map is_proved verdict_is found.verdicts);
-    }
+pub returns-clause-printed : goal.returns-clause-printed
+returns-clause-printed c =
+    c.in_ok-text.ensures
+    ∙ λ i. report (var_texts (c.as_slice-3.ensures i)) (sample_texts (c.as_slice-4.ensures i)) (c.as_slice.ensures i) (map verdict_is (c.as_slice-2.ensures i)) (c.as_slice-5.ensures i)
+
+pub returns-clause-whole : goal.returns-clause-whole
+returns-clause-whole c =
+    c.all_proved.ensures
+    ∙ ap (λ (vs : List Verdict). list_all (λ v. is_proved (verdict_is v)) vs) c.as_slice-6.ensures
+    ∙ sym (list_all-map is_proved verdict_is c.args.decisions.now.verdicts)
