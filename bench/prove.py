@@ -6,8 +6,8 @@ others. Behind the table stand the geometric mean of the ratios and the goals th
 the others where that is over a second, and over half a second more where it is less.
 
 Words choose the runs whose name begins with one of them; none: all. From the environment: SVTV is the program, LIMIT the processor
-seconds of one run (60), RUNS how often each is run (3), MEMORY the bytes that one may take (8 GiB), and CLAUSES a program that writes
-svtv's own clauses of a goal (`CLAUSES DESIGN TABLE GOALS`), on which minisat and cadical are then run too.
+seconds of one run (60), RUNS how often each is run (3), MEMORY the bytes that one may take (8 GiB), and CLAUSES the program that
+clauses.sh makes, which writes svtv's own clauses of a goal: minisat and cadical are then run on those of its question too.
 """
 
 import math
@@ -21,6 +21,7 @@ import subprocess
 import sys
 import tempfile
 
+import goal_clauses
 import prove_designs
 import prove_others
 
@@ -127,10 +128,12 @@ def ask_svtv(folder, run, goals):
     return measure(words, folder, verdicts)
 
 
-def ask_ours(folder):
-    """minisat and cadical on the clauses that svtv makes of the goal."""
-    with open(folder / "ours.cnf", "wb") as file:
-        subprocess.run([CLAUSES, "d.sv", "t.csv", "g.txt"], cwd=folder, stdout=file, check=False)
+def ask_ours(folder, goal):
+    """minisat and cadical on the clauses that svtv makes of the goal's question."""
+    told = subprocess.run([CLAUSES, "d.sv", "t.csv", "g.txt"], cwd=folder, stdout=subprocess.PIPE, check=False).stdout.decode()
+    kind = "meets" if goal.verdict == "vacuous" else "breaks"
+    texts = {asked: text for _, asked, text in goal_clauses.questions(told)}
+    (folder / "ours.cnf").write_text(texts.get(kind, ""))
     return {name: ask_solver(name, "ours.cnf")(folder) if tool(name) else (None, "-") for name in ("minisat", "cadical")}
 
 
@@ -161,7 +164,7 @@ def judge(folder, run, goal):
     ratio = "%.2f" % (ours[0] / best) if ours[0] is not None and best else "-"
     cells = [shown(ours, [verdict])] + [shown(others[name], wanted) for name in OTHERS] + [ratio]
     if CLAUSES:
-        cells += [shown(measured, wanted) for measured in ask_ours(folder).values()]
+        cells += [shown(measured, wanted) for measured in ask_ours(folder, goal).values()]
     columns(run.name, run.size, goal.name, verdict, cells)
     return ours[0], best
 

@@ -26,6 +26,10 @@ def cases(path):
         if not line or line[:1] == b"#":
             continue
         word, _, rest = line.decode("latin1").partition(" ")
+        if word == "repeat":
+            times, _, text = rest.partition(" ")
+            texts[key] += text.encode("latin1") * int(times)
+            continue
         if word == "case":
             if begun:
                 yield case
@@ -43,7 +47,7 @@ def cases(path):
             case["status"] = rest
         elif word == "gone":
             case["files"].pop(rest, None)
-        elif word in ("read", "write"):
+        elif word in ("read", "write", "message"):
             case["faults"][word] = int(rest)
         elif word != "most":
             sys.exit(f"{path}:{number}: no line of a case")

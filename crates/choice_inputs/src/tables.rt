@@ -46,10 +46,7 @@ fn step_of(alloc: Global, clause: Vec<Dim>, first: usize) -> Result<Step, AllocE
     requires { first < 2 ^ 32 }
     ensures { IfOk result (λ step. step ≡ entry_of clause.items (first ∷ (first + 1) ∷ [])) }
 {
-    let mut hints = Vec::new(alloc);
-    hints.push(first)?;
-    hints.push(first + 1)?;
-    Ok(Step { clause, hints })
+    Step::of(alloc, clause.as_slice(), &[first, first + 1])
 }
 
 // Puts the steps of a level behind those of the levels before.
@@ -91,12 +88,8 @@ fn levels(alloc: Global, bits: usize) -> Result<Vec<Step>, AllocError>
 fn put_last(alloc: Global, empty: usize, steps: &mut Vec<Step>) -> Result<(), AllocError>
     ensures { IfOk result (λ _. steps.new.items ≡ steps.old.items ++ entry_of [] (empty ∷ []) ∷ []) }
 {
-    let mut hints = Vec::new(alloc);
-    hints.push(empty)?;
-    steps.push(Step {
-        clause: Vec::new(alloc),
-        hints,
-    })?;
+    let step = Step::of(alloc, &[], &[empty])?;
+    steps.push(step)?;
     Ok(())
 }
 

@@ -34,13 +34,11 @@ fn put_hints(hints: &mut Vec<usize>, text: &[u8]) -> Result<(), Fault> {
 }
 
 fn step(alloc: Global, text: &[u8]) -> Result<Step, Fault> {
-    let mut step = Step {
-        clause: Vec::new(alloc),
-        hints: Vec::new(alloc),
-    };
-    put_literals(&mut step.clause, part(text, b':', 0))?;
-    put_hints(&mut step.hints, part(text, b':', 1))?;
-    Ok(step)
+    let mut clause = Vec::new(alloc);
+    let mut hints = Vec::new(alloc);
+    put_literals(&mut clause, part(text, b':', 0))?;
+    put_hints(&mut hints, part(text, b':', 1))?;
+    Ok(Step::of(alloc, clause.as_slice(), hints.as_slice())?)
 }
 
 fn put_steps(alloc: Global, steps: &mut Vec<Step>, text: &[u8]) -> Result<(), Fault> {

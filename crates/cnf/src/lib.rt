@@ -13,10 +13,10 @@ use aig::Lit;
 pub use gates::clauses_of;
 use std::marker::Model;
 use std::ops::Not;
-pub use walk::{ClauseState, state_of};
+pub use walk::{ClauseState, look, looked, state_of};
 
-/// A literal of clauses: a variable, or its negation. Clauses, logs and their judge have it in this form, with variables up to
-/// 2^64. The solver packs it into 8 bytes where it holds many (`PackedDim` of sat_state), and contracts see a `Dim` there too.
+/// A literal of clauses: a variable, or its negation. Clauses and their judge have it in this form, with variables up to 2^64. A
+/// log has it as a number in bytes, the solver packs it into 8 (`PackedDim` of sat_state), and contracts see a `Dim` there too.
 #[derive(Clone, Copy, PartialEq, Eq)]
 pub struct Dim {
     pub var: usize,

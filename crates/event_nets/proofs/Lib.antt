@@ -8,7 +8,6 @@ pub mod NetPlaces
 pub mod FlatNets
 pub mod Making
 pub mod Gathering
-pub mod Walking
 pub mod Needed
 mod Rows
 mod Backs

@@ -2,5 +2,4 @@ pub mod Gifts
 pub mod Nets
 pub mod Runs
 pub mod Needs
-pub mod Walks
 pub mod Tables

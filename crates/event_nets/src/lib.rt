@@ -10,4 +10,3 @@ pub mod nets;
 mod overriding;
 pub mod tables;
 pub mod values;
-pub mod walk;

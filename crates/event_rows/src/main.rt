@@ -16,7 +16,7 @@ use equations::judge_equations;
 use least::{Given, judge_run};
 use machines::judge_machines;
 use settled::{Asked, judge_settling};
-use sizes::judge_sizes;
+use sizes::{judge_chains, judge_sizes};
 use std::alloc::Global;
 use std::io;
 
@@ -29,10 +29,11 @@ enum Key {
     Settle,
     Machine,
     Sizes,
+    Chains,
     Run,
 }
 
-static KEYS: [(&[u8], Key); 8] = [
+static KEYS: [(&[u8], Key); 9] = [
     (b"design", Key::Design),
     (b"table", Key::Table),
     (b"equations", Key::Equations),
@@ -40,6 +41,7 @@ static KEYS: [(&[u8], Key); 8] = [
     (b"settle", Key::Settle),
     (b"machine", Key::Machine),
     (b"sizes", Key::Sizes),
+    (b"chains", Key::Chains),
     (b"run", Key::Run),
 ];
 
@@ -101,6 +103,7 @@ impl Bench for Keys {
             Some(Key::Settle) => self.settle(line, block, report),
             Some(Key::Machine) => judge_machines(self.alloc, &self.design, block, report),
             Some(Key::Sizes) => judge_sizes(self.alloc, block, report),
+            Some(Key::Chains) => judge_chains(self.alloc, block, report),
             Some(Key::Run) => judge_run(self.alloc, &self.given(), block, report),
             None => report.take(line, Err(Fault::Form)),
         }

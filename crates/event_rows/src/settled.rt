@@ -1,10 +1,10 @@
 //! Settlings of a flat design. `over` names sets of wires that are overridden, `none, 1 3` two of them, and `settle 1` is over the set
 //! of number 1, `settle` over the first. `settle` has a row for each phase: what each wire is driven with from outside (where it is neither
 //! an input nor overridden, that does not count), and what the wires have in the least settling: `0 1 x => 0 1 x`. What the first row is
-//! driven with is also what the wires had in the phase before. Each phase is settled by steps, by sweeps, and by the machine of all the
-//! sets, which takes what it has found for the phase before.
+//! driven with is also what the wires had in the phase before. Each phase is settled by steps in ascending and in descending order, by
+//! events, and by the machine of all the sets, which takes what it has found for the phase before.
 
-ghost use Rattle.std.specs.Prelude.{◌≤◌, length, IfOk};
+ghost use Rattle.std.specs.Prelude.{◌<◌, ◌≤◌, length, IfOk};
 ghost use Rattle.driver_resolve.specs.Drivers.{widths_of};
 ghost use Rattle.flat_net.specs.Flats.{IsFlat};
 ghost use Rattle.event_sim.specs.Sims.{IsValuation, now_values};
@@ -45,29 +45,68 @@ impl Drop for Settler {
     }
 }
 
-// Takes each net by turns, from the last one down, as often as there are bits.
-fn step_all(settler: &mut Settler, flat: &Flat)
+/// The order in which nets are taken.
+#[derive(Clone, Copy)]
+enum Order {
+    Up,
+    Down,
+}
+
+// The net that has a turn, of so many.
+fn net_at(order: Order, turn: usize, nets: usize) -> usize
+    requires { turn < nets }
+    ensures { result < nets }
+{
+    match order {
+        Order::Up => turn,
+        Order::Down => nets - 1 - turn,
+    }
+}
+
+// Takes each net by turns, as often as there are bits.
+fn step_all(settler: &mut Settler, flat: &Flat, order: Order)
     requires flat { IsFlat flat.now }
     requires made { IsMadeFor flat.now settler.old }
     ensures { IsMadeFor flat.now settler.new }
 {
     'turns: for _turn in 0..16 {
-        step_each(settler, flat);
+        step_each(settler, flat, order);
     }
 }
 
-fn step_each(settler: &mut Settler, flat: &Flat)
+fn step_each(settler: &mut Settler, flat: &Flat, order: Order)
     requires flat { IsFlat flat.now }
     requires made { IsMadeFor flat.now settler.old }
     ensures { IsMadeFor flat.now settler.new }
 {
     let nets = settler.sim.nets();
-    'nets: for net in 0..nets {
-        settler.sim.step(flat, nets - 1 - net);
+    'nets: for turn in 0..nets {
+        settler.sim.step(flat, net_at(order, turn, nets));
     }
 }
 
-// Whether a phase settles as it should, by steps and by sweeps; then it is the previous one.
+// Whether the wires have these vectors after steps in an order.
+fn steps_to(
+    flat: &Flat,
+    settler: &mut Settler,
+    prev: &Valuation,
+    stim: &Valuation,
+    order: Order,
+    wanted: &[Four],
+) -> bool
+    requires flat { IsFlat flat.now }
+    requires made { IsMadeFor flat.now settler.old }
+    requires prev { IsValuation (widths_of flat.now.wires) prev.now.values }
+    requires stim { IsValuation (widths_of flat.now.wires) stim.now.values }
+    requires wanted { IsValuation (widths_of flat.now.wires) wanted.now }
+    ensures { IsMadeFor flat.now settler.new }
+{
+    settler.sim.start(flat, prev, stim);
+    step_all(settler, flat, order);
+    shows(&settler.sim, wanted)
+}
+
+// Whether a phase settles as it should, by steps in either order and by events; then it is the previous one.
 fn settles(
     flat: &Flat,
     settler: &mut Settler,
@@ -83,13 +122,12 @@ fn settles(
     ensures made { IsMadeFor flat.now settler.new }
     ensures prev { IsValuation (widths_of flat.now.wires) prev.new.values }
 {
-    settler.sim.start(flat, prev, stim);
-    step_all(settler, flat);
-    let stepped = shows(&settler.sim, wanted);
+    let up = steps_to(flat, settler, prev, stim, Order::Up, wanted);
+    let down = steps_to(flat, settler, prev, stim, Order::Down, wanted);
     settler.sim.settle(flat, prev, stim);
     let settled = shows(&settler.sim, wanted);
     settler.sim.save(prev);
-    stepped && settled
+    up && down && settled
 }
 
 // Judges a phase, where a row has a value for each wire on either side.
@@ -197,7 +235,7 @@ fn settle(
     run(alloc, flat, &mut settler, &mut prev, block, report)
 }
 
-// By steps and by sweeps.
+// By steps and by events.
 fn settle_sound(
     alloc: Global,
     flat: &mut Flat,

@@ -8,15 +8,23 @@
 //! - `shift` takes its own bits, one place up, and the highest bit of the wire before below them; where the first wire takes it, there is an
 //!   `and` with the input's lowest bit. In a ring each round so finds one bit of all wires together.
 //!
-//! With the word `nodes` behind, the number of all nodes is said too, for measuring. Where a loop is too wide, that is what comes.
+//! With the word `nodes` behind, the number of all nodes is said too, for measuring. Where a loop is too wide, that is what comes. `chains` has
+//! the same rows, settled by events: `down copy 3000 0001 => 0001 in 6001`, what the wire at the end has, and after how many steps.
+
+ghost use Rattle.driver_resolve.specs.Drivers.{widths_of};
+ghost use Rattle.flat_net.specs.Flats.{IsFlat};
+ghost use Rattle.event_sim.specs.Sims.{IsValuation};
 
 use crate::design::empty;
 use crate::machines::{made, no_values, put_values, value_of};
-use case_exprs::digits;
-use case_rows::{Fault, Judge, Report, each_row, named, put, put_size, size_at, word};
+use crate::sound::{is_sound, is_valuation};
+use case_exprs::{digits, put_vectors};
+use case_rows::{Fault, Judge, Report, each_row, named, put, put_number, put_size, size_at, word};
 use driver_resolve::Driver;
-use flat_net::Flat;
+use event_sim::Sim;
+use flat_net::{Flat, Valuation};
 use fourvec::Four;
+use items::Items;
 use lhs_alias::{Lhs, Seg};
 use phase_fsm::Fsm;
 use std::alloc::Global;
@@ -233,6 +241,84 @@ impl Judge for Sizes {
             Some(fsm) => put_end(self.alloc, &plan, input, &fsm, question, wanted, said),
         }
     }
+}
+
+// ---- by events
+
+// The same vector for each wire.
+fn valuation_of(alloc: Global, plan: &Plan, value: Four) -> Result<Valuation, Fault> {
+    let mut values = Items::new(alloc);
+    for _ in 0..plan.count {
+        values.push(value)?;
+    }
+    values.push(value)?;
+    Ok(Valuation { values })
+}
+
+// Settles a chain that is well formed, where each wire had the input before; then the valuation is the settling. Says after how many steps.
+fn settle_chain(
+    alloc: Global,
+    flat: &Flat,
+    given: &Valuation,
+    into: &mut Valuation,
+) -> Result<u64, Fault>
+    requires flat { IsFlat flat.now }
+    requires given { IsValuation (widths_of flat.now.wires) given.now.values }
+    requires into { IsValuation (widths_of flat.now.wires) into.old.values }
+{
+    let mut sim = Sim::new(alloc, flat, &[])?;
+    sim.settle(flat, given, given);
+    sim.save(into);
+    Ok(sim.steps())
+}
+
+// What the wire at the end of a chain that is well formed has, and after how many steps.
+fn put_settled(
+    alloc: Global,
+    flat: &Flat,
+    plan: &Plan,
+    input: Four,
+    said: &mut Vec<u8>,
+) -> Result<(), Fault>
+    requires { IsFlat flat.now }
+{
+    let given = valuation_of(alloc, plan, input)?;
+    let mut now = valuation_of(alloc, plan, input)?;
+    if !is_valuation(flat.wires.as_slice(), given.values.as_slice()) {
+        return Err(Fault::Form);
+    }
+    if !is_valuation(flat.wires.as_slice(), now.values.as_slice()) {
+        return Err(Fault::Form);
+    }
+    let steps = settle_chain(alloc, flat, &given, &mut now)?;
+    let end = *now.values.as_slice().get(plan.end()).ok_or(Fault::Form)?;
+    put_vectors(said, &[end])?;
+    put(said, b" in ")?;
+    put_number(said, steps)
+}
+
+#[derive(Drop)]
+struct Chains {
+    alloc: Global,
+}
+
+impl Judge for Chains {
+    fn row(&mut self, question: &[u8], _wanted: &[u8], said: &mut Vec<u8>) -> Result<(), Fault> {
+        let input = digits(word(question, 3)).ok_or(Fault::Form)?;
+        let plan = plan_of(question, input.width())?;
+        let mut flat = empty(self.alloc);
+        put_plan(self.alloc, &mut flat, &plan)?;
+        if !is_sound(self.alloc, &flat)? {
+            return Err(Fault::Form);
+        }
+        put_settled(self.alloc, &flat, &plan, input, said)
+    }
+}
+
+/// Judges how large designs settle.
+pub fn judge_chains(alloc: Global, block: &[u8], report: &mut Report) -> Result<(), Fault> {
+    let mut chains = Chains { alloc };
+    each_row(&mut chains, block, report)
 }
 
 /// Judges machines of large designs.

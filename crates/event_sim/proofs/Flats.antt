@@ -37,7 +37,7 @@ use Rattle.event_nets.specs.declared.gift.Gift.{Gift}
 use Rattle.event_nets.specs.declared.gift.Source.{Source}
 use Rattle.event_nets.specs.declared.gift.Source.TheVariants.{Value, Stimulus}
 use Rattle.event_nets.specs.Gifts.{source_in, told_of, told_bit, given_at, IsGift, IsTold, gifts_at, gifts_to, driver_gifts, stimulus_gifts, overriding_gifts, has_gift}
-use Rattle.event_sim.specs.Passes.{HasValues}
+use Rattle.event_sim.proofs.Valued.{HasValues}
 use Rattle.event_nets.specs.Nets.{input_bits}
 use Rattle.event_nets.specs.Tables.{store_of, IsValuation, home_of, own_gifts, gifts_of}
 use Rattle.event_nets.proofs.Homes.{IsInside, links-inside, first-inside}
@@ -49,7 +49,7 @@ use Rattle.event_sim.proofs.Passing.{width-at}
 
 -- ---- what drivers read
 
-row-whole : (v : Vector) (w : ℕ) → length v ≡ w → map (λ k. get_or v k Unknown) (range_with_len 0 w) ≡ v
+pub row-whole : (v : Vector) (w : ℕ) → length v ≡ w → map (λ k. get_or v k Unknown) (range_with_len 0 w) ≡ v
 row-whole v w e =
     let f : ℕ → Bit = λ k. get_or v k Unknown in
     ext_get_or Unknown (map f (range_with_len 0 w)) v (length-map-range_with_len f 0 w ∙ sym e)
@@ -154,7 +154,7 @@ gift-given flat ok over stim b ib =
     ∙ ap (λ l. is_given links l b) (sym (from-as_inputs 0 flat.wires over stim))
 
 -- the gifts to a class are what is given to it
-gifts-give : (flat : Flat) → IsArena flat.arena → IsFlat flat → (over : List ℕ) (rows : Rows) → IsValuation (widths_of flat.wires) rows.present → IsValuation (widths_of flat.wires) rows.previous
+pub gifts-give : (flat : Flat) → IsArena flat.arena → IsFlat flat → (over : List ℕ) (rows : Rows) → IsValuation (widths_of flat.wires) rows.present → IsValuation (widths_of flat.wires) rows.previous
     → (values : List Vector) → HasValues (read rows) flat.arena values (length flat.arena) → (b : WireBit) → IsBitOf (widths_of flat.wires) b
     → given_at values rows.stim (home_of (links_of flat.joins) (widths_of flat.wires) b) (gifts_of flat over) ≡ given_to (links_of flat.joins) b (given flat over (phase_of rows))
 gifts-give flat i ok over rows v u values h b ib =

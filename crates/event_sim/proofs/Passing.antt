@@ -15,7 +15,8 @@ use Rattle.settling.specs.Least.{Giving}
 use Rattle.settling.specs.Events.{resolved, event}
 use Rattle.svex_shape.specs.Values.{Vector}
 use Rattle.event_nets.specs.Gifts.{told_bit}
-use Rattle.event_sim.specs.Rows.{takes, passed_bit, Passed}
+use Rattle.event_nets.specs.Runs.{is_at}
+use Rattle.event_sim.specs.Rows.{passed_bit, Passed}
 use Rattle.event_nets.specs.Tables.{store_of, IsValuation, home_of}
 use Rattle.event_sim.specs.Sims.{picked}
 use Rattle.event_nets.proofs.Homes.{home-at, start-at}
@@ -37,7 +38,7 @@ store-outside widths rows v n k out = elim (cases_lt n (length widths)) [
   | inr past ↦ ap (λ r. get_or r k Unknown) (get_or_past rows n [] (omega (arith, as-many widths rows v, past)))
 ]
 
-pub passed-widths : (widths homes starts : List ℕ) (lows : List (Option ℕ)) (net : Option ℕ) (told : List (Option Bit)) (old new : List Vector)
+pub passed-widths : (widths homes starts : List ℕ) (lows : List (Option ℕ)) (net : ℕ) (told : List (Option Bit)) (old new : List Vector)
     → Passed homes starts lows net told old new → IsValuation widths old → IsValuation widths new
 passed-widths widths homes starts lows net told old new p v =
     let size : Vector → ℕ = λ row. length row in
@@ -52,7 +53,7 @@ passed-widths widths homes starts lows net told old new p v =
     ∙ v
 
 -- a bit of the wires
-passed-bit : (widths homes starts : List ℕ) (lows : List (Option ℕ)) (net : Option ℕ) (told : List (Option Bit)) (old new : List Vector)
+passed-bit : (widths homes starts : List ℕ) (lows : List (Option ℕ)) (net : ℕ) (told : List (Option Bit)) (old new : List Vector)
     → Passed homes starts lows net told old new → IsValuation widths old → (n k : ℕ) → IsBitOf widths (bit n k)
     → store_of new n k ≡ passed_bit homes lows net told (get_or starts n 0 + k) (store_of old n k)
 passed-bit widths homes starts lows net told old new p v n k i =
@@ -65,7 +66,7 @@ always : (t : Bool) (x : Bit) → cond t x x ≡ x
 always true x = refl
 always false x = refl
 
-pub passed-event : (widths homes starts : List ℕ) (lows : List (Option ℕ)) (net : Option ℕ) (told : List (Option Bit)) (old new : List Vector) (links : List Link) (gives : Giving)
+pub passed-event : (widths homes starts : List ℕ) (lows : List (Option ℕ)) (net : ℕ) (told : List (Option Bit)) (old new : List Vector) (links : List Link) (gives : Giving)
     → Passed homes starts lows net told old new → IsValuation widths old
     → starts ≡ starts_of widths → homes ≡ map (home_of links widths) (all_bits widths)
     → ((b : WireBit) → IsBitOf widths b → told_bit (get_or told (home_of links widths b) None) ≡ resolved (given_to links b (gives (store_of old))))
@@ -84,8 +85,8 @@ passed-event widths homes starts lows net told old new links gives p v st hm tel
         let place : get_or starts n 0 + k ≡ place_of widths (bit n k) = ap (λ s. get_or s n 0 + k) st ∙ start-at widths n k i.wire in
         let home : get_or homes (get_or starts n 0 + k) 0 ≡ home_of links widths (bit n k) = ap (λ l. get_or l (get_or starts n 0 + k) 0) hm ∙ ap (λ q. get_or (map (home_of links widths) (all_bits widths)) q 0) place ∙ home-at widths (home_of links widths) (bit n k) i in
         passed-bit widths homes starts lows net told old new p v n k i
-        ∙ ap (λ h. cond (takes net (get_or lows h None)) (told_bit (get_or told h None)) (store_of old n k)) home
-        ∙ ap (λ x. cond (takes net (get_or lows (home_of links widths (bit n k)) None)) x (store_of old n k)) (tells (bit n k) i)
+        ∙ ap (λ h. cond (is_at (get_or lows h None) net) (told_bit (get_or told h None)) (store_of old n k)) home
+        ∙ ap (λ x. cond (is_at (get_or lows (home_of links widths (bit n k)) None) net) x (store_of old n k)) (tells (bit n k) i)
 
     outside : (IsBitOf widths (bit n k) → ⊥) → store_of new n k ≡ event links gives (picked links widths lows net) (store_of old) n k
     outside out =

@@ -118,10 +118,10 @@ undriven-none flat over p b h =
 
 -- ---- a bit of a class that is not driven stays X
 
-undriven-step : (flat : Flat) (over : List ℕ) (stim prev s : Store) (b : WireBit) → is_driven flat over b ≡ false → value_at (step (links_of flat.joins) (given_in flat over stim prev) s) b ≡ Unknown
+pub undriven-step : (flat : Flat) (over : List ℕ) (stim prev s : Store) (b : WireBit) → is_driven flat over b ≡ false → value_at (step (links_of flat.joins) (given_in flat over stim prev) s) b ≡ Unknown
 undriven-step flat over stim prev s b h = ap resolved (undriven-none flat over (record { stim = stim; previous = prev; present = s }) b h)
 
-undriven-stays : (flat : Flat) (over : List ℕ) (stim prev : Store) (b : WireBit) → is_driven flat over b ≡ false → (nets : List Net) → value_at (after_events (links_of flat.joins) (given_in flat over stim prev) nets) b ≡ Unknown
+pub undriven-stays : (flat : Flat) (over : List ℕ) (stim prev : Store) (b : WireBit) → is_driven flat over b ≡ false → (nets : List Net) → value_at (after_events (links_of flat.joins) (given_in flat over stim prev) nets) b ≡ Unknown
 unfolding after_events
 undriven-stays flat over stim prev b h [] = refl
 undriven-stays flat over stim prev b h (net ∷ before) =
@@ -152,7 +152,7 @@ lowest-again p (suc k) = pick (p k) refl (lowest-again p k)
     pick true e next = next
     pick false e next = ap (λ t. cond t (lowest p k) (suc k)) e
 
-filter-at : {X : Type 0} (p : X → Bool) (xs : List X) (x : X) (k : ℕ) → k < length xs → get_or xs k x ≡ x → p x ≡ true → Contains (filter p xs) x
+pub filter-at : {X : Type 0} (p : X → Bool) (xs : List X) (x : X) (k : ℕ) → k < length xs → get_or xs k x ≡ x → p x ≡ true → Contains (filter p xs) x
 filter-at p [] x k lt e h = absurd (omega (arith, lt))
 filter-at p (y ∷ xs) x zero lt e h =
     let on : p y ≡ true = ap p e ∙ h in
@@ -163,7 +163,7 @@ filter-at p (y ∷ xs) x (suc k) lt e h = pick (p y) (filter-at p xs x k (omega 
     pick true c = let l = c.1 in (suc c.0, omega (arith, l), c.2)
     pick false c = c
 
-run-named : (flat : Flat) (over : List ℕ) (b : WireBit) → IsBitOf (widths_of flat.wires) b → is_net_bit flat over b ≡ true → Contains (nets_of flat over) (run_of flat over b)
+pub run-named : (flat : Flat) (over : List ℕ) (b : WireBit) → IsBitOf (widths_of flat.wires) b → is_net_bit flat over b ≡ true → Contains (nets_of flat over) (run_of flat over b)
 run-named flat over b ib h =
     let widths = widths_of flat.wires in
     let p : ℕ → Bool = λ j. is_net_bit flat over (bit b.wire j) in
@@ -175,7 +175,7 @@ run-named flat over b ib h =
     (both _ _ (lowest-holds p b.at h) again)
 
 -- a driven bit is one of the wires
-driven-inside : (flat : Flat) → IsFlat flat → (over : List ℕ) (b : WireBit) → is_driven flat over b ≡ true → IsBitOf (widths_of flat.wires) b
+pub driven-inside : (flat : Flat) → IsFlat flat → (over : List ℕ) (b : WireBit) → is_driven flat over b ≡ true → IsBitOf (widths_of flat.wires) b
 driven-inside flat ok over b h = elim (cases_lt b.wire (length (widths_of flat.wires))) [
   | inl lt ↦ elim (cases_lt b.at (get_or (widths_of flat.wires) b.wire 0)) [
     | inl low ↦ record { wire = lt; place = low }
@@ -191,6 +191,15 @@ net-bit : (flat : Flat) (over : List ℕ) (x : WireBit) → same_bit (first_bit 
 unfolding is_net_bit
 net-bit flat over x e f = both _ _ e f
 
+-- the first bit of a driven class lies in a net
+pub first-in_net : (flat : Flat) (over : List ℕ) (b : WireBit) → is_driven flat over b ≡ true → is_net_bit flat over (first_bit (links_of flat.joins) b) ≡ true
+first-in_net flat over b h =
+    let links = links_of flat.joins in
+    let first = first_bit links b in
+    let own : first_bit links first ≡ first = sym (first-joined links b first (joined-first links b)) in
+    net-bit flat over first (ap (λ x. same_bit x first) own ∙ same-itself first)
+    (ap (λ x. list_any (λ c. same_bit (first_bit links c) x) (target_bits flat.drivers ++ input_bits 0 flat.wires ++ overridden_bits 0 flat.wires over)) own ∙ h)
+
 -- a driven class has its net
 pub net-found : (flat : Flat) → IsFlat flat → (over : List ℕ) (b : WireBit) → is_driven flat over b ≡ true → (k : ℕ) × (k < length (nets_of flat over)) × (net_of flat over k b ≡ true)
 net-found flat ok over b h =
@@ -198,10 +207,8 @@ net-found flat ok over b h =
     let links = links_of flat.joins in
     let inside = links-inside widths flat.joins ok.joins in
     let first = first_bit links b in
-    let own : first_bit links first ≡ first = sym (first-joined links b first (joined-first links b)) in
     let ifirst = first-inside widths links inside b (driven-inside flat ok over b h) in
-    let is : is_net_bit flat over first ≡ true = net-bit flat over first (ap (λ x. same_bit x first) own ∙ same-itself first)
-    (ap (λ x. list_any (λ c. same_bit (first_bit links c) x) (target_bits flat.drivers ++ input_bits 0 flat.wires ++ overridden_bits 0 flat.wires over)) own ∙ h) in
+    let is = first-in_net flat over b h in
     let at = run-named flat over first ifirst is in
     let run = run_of flat over first in (
       at.0,

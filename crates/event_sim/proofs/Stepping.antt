@@ -23,7 +23,7 @@ use Rattle.driver_resolve.specs.Drivers.{wire_bits, widths_of, IsDriver}
 use Rattle.flat_net.specs.declared.flat.Flat.{Flat}
 use Rattle.flat_net.specs.Flats.{IsFlat, links_of}
 use Rattle.event_nets.specs.Nets.{target_bits, input_bits, overridden_bits, is_driven, is_net_bit, run_of, nets_of, net_bits, low_of}
-use Rattle.event_sim.specs.Rows.{takes}
+use Rattle.event_nets.specs.Runs.{is_at}
 use Rattle.event_nets.specs.Tables.{store_of, IsValuation}
 use Rattle.event_sim.specs.declared.sim.Sim.{Sim}
 use Rattle.event_sim.specs.Sims.{picked, Fits}
@@ -90,7 +90,7 @@ no-net-outside flat ok over net b out =
 
 pub net-taken : (flat : Flat) → IsFlat flat → (over : List ℕ) (lows : List (Option ℕ)) → lows ≡ map (low_of (place_of (widths_of flat.wires)) flat over) (all_bits (widths_of flat.wires))
     → (net : WireBit) → IsBitOf (widths_of flat.wires) net → (b : WireBit) → IsBitOf (widths_of flat.wires) b
-    → picked (links_of flat.joins) (widths_of flat.wires) lows (Some (place_of (widths_of flat.wires) net)) b ≡ net_bits flat over net b
+    → picked (links_of flat.joins) (widths_of flat.wires) lows (place_of (widths_of flat.wires) net) b ≡ net_bits flat over net b
 unfolding low_of
 net-taken flat ok over lows e net inet b ib =
     let widths = widths_of flat.wires in
@@ -99,12 +99,12 @@ net-taken flat ok over lows e net inet b ib =
     let place = place_of widths in
     let first = first_bit links b in
     let ifirst = first-inside widths links inside b ib in
-    ap (λ l. takes (Some (place net)) (get_or l (place first) None)) e
-    ∙ ap (λ o. takes (Some (place net)) o) (mapped-at widths (low_of place flat over) first None ifirst)
+    ap (λ l. is_at (get_or l (place first) None) (place net)) e
+    ∙ ap (λ o. is_at o (place net)) (mapped-at widths (low_of place flat over) first None ifirst)
     ∙ pick (is_net_bit flat over first) ifirst
   where
     pick : (t : Bool) → IsBitOf (widths_of flat.wires) (first_bit (links_of flat.joins) b)
-        → takes (Some (place_of (widths_of flat.wires) net)) (cond t (Some (place_of (widths_of flat.wires) (run_of flat over (first_bit (links_of flat.joins) b)))) None)
+        → is_at (cond t (Some (place_of (widths_of flat.wires) (run_of flat over (first_bit (links_of flat.joins) b)))) None) (place_of (widths_of flat.wires) net)
         ≡ (t && same_bit (run_of flat over (first_bit (links_of flat.joins) b)) net)
     pick true i = place-test (widths_of flat.wires) (run_of flat over (first_bit (links_of flat.joins) b)) net (run-inside flat over (first_bit (links_of flat.joins) b) i) inet
     pick false i = refl
@@ -129,7 +129,7 @@ net-there flat over other sim fits again k lt =
 pub step-event : (flat : Flat) → IsFlat flat → (over : List ℕ) (old new : List Vector) → IsValuation (widths_of flat.wires) old → IsValuation (widths_of flat.wires) new
     → (lows : List (Option ℕ)) → lows ≡ map (low_of (place_of (widths_of flat.wires)) flat over) (all_bits (widths_of flat.wires))
     → (net : WireBit) → IsBitOf (widths_of flat.wires) net → (low : ℕ) → low ≡ place_of (widths_of flat.wires) net → (gives : Giving)
-    → ((n k : ℕ) → store_of new n k ≡ event (links_of flat.joins) gives (picked (links_of flat.joins) (widths_of flat.wires) lows (Some low)) (store_of old) n k)
+    → ((n k : ℕ) → store_of new n k ≡ event (links_of flat.joins) gives (picked (links_of flat.joins) (widths_of flat.wires) lows low) (store_of old) n k)
     → (n k : ℕ) → store_of new n k ≡ event (links_of flat.joins) gives (net_bits flat over net) (store_of old) n k
 step-event flat ok over old new v u lows e net inet low l gives h n k = elim (cases_lt n (length (widths_of flat.wires))) [
   | inl lt ↦ elim (cases_lt k (get_or (widths_of flat.wires) n 0)) [
@@ -143,7 +143,7 @@ step-event flat ok over old new v u lows e net inet low l gives h n k = elim (ca
     inside i =
         h n k
         ∙ ap (λ t. cond t (step (links_of flat.joins) gives (store_of old) n k) (store_of old n k))
-        (ap (λ p. picked (links_of flat.joins) (widths_of flat.wires) lows (Some p) (bit n k)) l ∙ net-taken flat ok over lows e net inet (bit n k) i)
+        (ap (λ p. picked (links_of flat.joins) (widths_of flat.wires) lows p (bit n k)) l ∙ net-taken flat ok over lows e net inet (bit n k) i)
 
     outside : (IsBitOf (widths_of flat.wires) (bit n k) → ⊥) → store_of new n k ≡ event (links_of flat.joins) gives (net_bits flat over net) (store_of old) n k
     outside out =

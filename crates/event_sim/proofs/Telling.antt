@@ -1,9 +1,10 @@
 -- What a class is told, one bit after another.
-use Rattle.std.proofs.Common.{◌≡◌, ℕ, ◌+◌, ◌<◌, Bool, true, false, cond, eqb, List, [], ◌∷◌, ◌++◌, length, get_or, set, take, map, refl, sym, ap, ◌∙◌, subst, inl, inr, arith, length-set}
+use Rattle.std.proofs.Common.{◌≡◌, ℕ, ◌+◌, ◌<◌, Bool, true, false, cond, ◌||◌, eqb, List, [], ◌∷◌, ◌++◌, length, get_or, set, take, map, refl, sym, ap, ◌∙◌, subst, inl, inr, arith, length-set}
 use Rattle.std.specs.Prelude.{Option, None, Some, filter}
-use Rattle.std.proofs.lemmas.Bool.{cases_eq, eqb-true, eq-eqb}
+use Rattle.std.proofs.lemmas.Bool.{cases_eq, eqb-true, eq-eqb, ne_eqb}
 use Rattle.std.proofs.lemmas.List.{get_or-set_same, get_or-set_other, take_more, map-append}
 use Rattle.std.proofs.lemmas.List.Elements.{filter-append}
+use Rattle.std.proofs.lemmas.List.Folds.{list_any-append}
 use Rattle.fourvec.specs.declared.Bit.{Bit}
 use Rattle.fourvec.specs.declared.Bit.TheVariants.{Floating}
 use Rattle.fourvec.specs.Bits.{res_bit, over, same_bit}
@@ -11,7 +12,8 @@ use Rattle.fourvec.proofs.Tables.{same_bit-true, every_bit, at_bit}
 use Rattle.settling.specs.Events.{resolved}
 use Rattle.svex_shape.specs.Values.{Vector}
 use Rattle.event_nets.specs.declared.gift.Gift.{Gift}
-use Rattle.event_nets.specs.Gifts.{told_with, told_of, told_bit, gift_bit, given_at, IsTold}
+use Rattle.event_nets.specs.Gifts.{told_with, told_of, told_bit, gift_bit, given_at, has_gift}
+use Rattle.event_sim.specs.Passes.{IsToldOf}
 
 -- ---- one resolution after another
 
@@ -58,13 +60,31 @@ append-none : {X : Type 0} (l : List X) → l ++ [] ≡ l
 append-none [] = refl
 append-none (x ∷ l) = ap (λ m. x ∷ m) (append-none l)
 
-pub told-none : (values stim : List Vector) (told : List (Option Bit)) → ((k : ℕ) → get_or told k None ≡ None) → IsTold values stim [] told
-told-none values stim told h place lt = h place
+-- what was told to the class of one gift more is taken away
+pub cleared-more : (gifts : List Gift) (i : ℕ) (g : Gift) (old : List (Option Bit)) → i < length gifts → get_or gifts i g ≡ g → g.to < length old
+    → ((place : ℕ) → has_gift (take i gifts) place ≡ true → get_or old place None ≡ None)
+    → (place : ℕ) → has_gift (take (i + 1) gifts) place ≡ true → get_or (set old g.to None) place None ≡ None
+cleared-more gifts i g old within is below h place has = elim (cases_eq place g.to) [
+  | inl same ↦ ap (λ p. get_or (set old g.to None) p None) same ∙ get_or-set_same old g.to None None below
+  | inr other ↦ get_or-set_other old g.to place None None other ∙ h place (before other (has_gift (take i gifts) place) refl (sym all ∙ has))
+]
+  where
+    all : has_gift (take (i + 1) gifts) place ≡ (has_gift (take i gifts) place || (eqb g.to place || false))
+    all = ap (λ l. has_gift l place) (take_more gifts i g within ∙ ap (λ x. take i gifts ++ x ∷ []) is) ∙ list_any-append (λ x. eqb x.to place) (take i gifts) (g ∷ [])
 
-pub told-more : (values stim : List Vector) (gifts : List Gift) (i : ℕ) (g : Gift) (old new : List (Option Bit)) → i < length gifts → get_or gifts i g ≡ g
+    before : (place ≡ g.to → ⊥) → (t : Bool) → has_gift (take i gifts) place ≡ t → (has_gift (take i gifts) place || (eqb g.to place || false)) ≡ true → has_gift (take i gifts) place ≡ true
+    before other true e k = e
+    before other false e k =
+        let off : eqb g.to place ≡ false = ne_eqb g.to place (λ s. other (sym s)) in
+        let no : false ≡ true = sym (ap (λ t. t || (eqb g.to place || false)) e ∙ ap (λ t. t || false) off) ∙ k in cc
+
+pub told-none : (own : List Gift) (values stim : List Vector) (told : List (Option Bit)) → ((place : ℕ) → has_gift own place ≡ true → get_or told place None ≡ None) → IsToldOf own values stim [] told
+told-none own values stim told h place lt has = h place has
+
+pub told-more : (own : List Gift) (values stim : List Vector) (gifts : List Gift) (i : ℕ) (g : Gift) (old new : List (Option Bit)) → i < length gifts → get_or gifts i g ≡ g
     → g.to < length old → new ≡ set old g.to (told_with (get_or old g.to None) (gift_bit values stim g))
-    → IsTold values stim (take i gifts) old → IsTold values stim (take (i + 1) gifts) new
-told-more values stim gifts i g old new within is below e h place lt =
+    → IsToldOf own values stim (take i gifts) old → IsToldOf own values stim (take (i + 1) gifts) new
+told-more own values stim gifts i g old new within is below e h place lt has =
     let long : length new ≡ length old = ap length e ∙ length-set old g.to _ in
     let more : take (i + 1) gifts ≡ take i gifts ++ g ∷ [] = take_more gifts i g within ∙ ap (λ x. take i gifts ++ x ∷ []) is in
     ap (λ l. get_or l place None) e
@@ -82,12 +102,12 @@ told-more values stim gifts i g old new within is below e h place lt =
           ap (λ p. get_or (set old g.to (told_with (get_or old g.to None) (gift_bit values stim g))) p None) same
           ∙ get_or-set_same old g.to (told_with (get_or old g.to None) (gift_bit values stim g)) None below
           ∙ ap (λ p. told_with (get_or old p None) (gift_bit values stim g)) (sym same)
-          ∙ ap (λ o. told_with o (gift_bit values stim g)) (h place lt)
+          ∙ ap (λ o. told_with o (gift_bit values stim g)) (h place lt has)
           ∙ told-push (given_at values stim place (take i gifts)) (gift_bit values stim g)
           ∙ ap told_of (sym (given-push values stim place (take i gifts) g true on))
       | inr other ↦
           let off : eqb g.to place ≡ false = unequal (eqb g.to place) refl (λ s. other (sym s)) in
           get_or-set_other old g.to place (told_with (get_or old g.to None) (gift_bit values stim g)) None other
-          ∙ h place lt
+          ∙ h place lt has
           ∙ ap told_of (sym (given-push values stim place (take i gifts) g false off ∙ append-none (given_at values stim place (take i gifts))))
     ]

@@ -1,14 +1,11 @@
--- The values of nodes that are computed so far in a pass.
-use Rattle.std.specs.Prelude.{◌≡◌, ℕ, ◌<◌, List}
-use Rattle.std.specs.List.{Contains}
-use Rattle.svex_shape.specs.declared.shape.Shape.{Shape}
-use Rattle.svex_shape.specs.Values.{Vector, Reading, value_at}
-use Rattle.svex_arena.specs.Evaluated.{value_in}
+-- What classes are told in a pass.
+use Rattle.std.specs.Prelude.{◌≡◌, ℕ, ◌<◌, true, List, length, Option, None, slice_index_or}
+use Rattle.fourvec.specs.declared.Bit.{Bit}
+use Rattle.svex_shape.specs.Values.{Vector}
+use Rattle.event_nets.specs.declared.gift.Gift.{Gift}
+use Rattle.event_nets.specs.Gifts.{told_of, given_at, has_gift}
 
--- the list has the values of the first n nodes
-pub record HasValues (r : Reading) (shapes : List Shape) (done : List Vector) (n : ℕ) : Type 0 where
-  pub is : (k : ℕ) → k < n → value_in done k ≡ value_at r shapes k
-
--- the list has the values of these nodes
-pub record HasValuesOf (r : Reading) (shapes : List Shape) (done : List Vector) (nodes : List ℕ) : Type 0 where
-  pub is : (k : ℕ) → Contains nodes k → value_in done k ≡ value_at r shapes k
+-- each class to which some of the gifts go is told what these give to it
+abbrev pub IsToldOf : List Gift → List Vector → List Vector → List Gift → List (Option Bit) → Type 0
+IsToldOf own values stim gifts told =
+    (place : ℕ) → place < length told → has_gift own place ≡ true → slice_index_or told place None ≡ told_of (given_at values stim place gifts)

@@ -28,6 +28,15 @@ after_steps flat over stim prev steps = after_events (links_of flat.joins) (give
 abbrev pub IsAfter : Flat → List ℕ → Sim → List ℕ → Type 0
 IsAfter flat over sim steps = (n at : ℕ) → now_of sim n at ≡ after_steps flat over (stim_of sim) (prev_of sim) steps n at
 
+-- events lead to the valuation from X at every bit
+pub record IsReached (flat : Flat) (over : List ℕ) (stim prev now : Store) : Type 0 where
+  pub nets : List Net
+  pub is : now ≡ after_events (links_of flat.joins) (given_in flat over stim prev) nets
+
+-- the simulation has a valuation to which events lead over the stimulus and the previous valuation that it holds
+abbrev pub IsOnTheWay : Flat → List ℕ → Sim → Type 0
+IsOnTheWay flat over sim = IsReached flat over (stim_of sim) (prev_of sim) (now_of sim)
+
 -- it stays below every settling
 abbrev pub StepsStayBelow : Flat → List ℕ → Type 0
 StepsStayBelow flat over = (stim prev : Store) (steps : List ℕ) (t : Store) → Settles flat over stim prev t → Under (after_steps flat over stim prev steps) t

@@ -3,7 +3,9 @@
 #![tactic(auto)]
 
 mod laws;
+mod links;
 mod pass;
+mod queue;
 mod sim;
 
 pub use laws::steps_reach_the_least_settling;

@@ -1,139 +1,138 @@
-//! One pass over the present values: all nodes are evaluated, each class of joined bits is told what is given to it, and the wires
-//! take what their classes are told. A pass over one net evaluates what the net needs, and tells its own classes alone.
+//! One pass over the present values: the nodes that are given to a net are evaluated where they are not fresh, its classes of joined bits
+//! are told what is given to them, and the wires in which they lie take that. Nothing is looked at but what the net has and what changes,
+//! so that a pass costs as much.
 
-ghost use Rattle.std.specs.Prelude.{◌≡◌, ◌≢◌, ◌↔◌, ℕ, ◌+◌, ◌<◌, ◌≤◌, false, true, [], ◌∷◌, length, slice_index_or, All, IsTrue, if◌then◌else◌};
+ghost use Rattle.std.specs.Prelude.{◌≡◌, ◌≢◌, ◌↔◌, ℕ, ◌+◌, ◌<◌, ◌≤◌, false, true, [], ◌∷◌, length, map, slice_index_or, slice_set, None, All, IfSome, IsTrue};
 ghost use Rattle.fourvec.specs.declared.Bit.TheVariants.{Unknown};
 ghost use Rattle.svex_arena.specs.Arenas.{IsArena};
-ghost use Rattle.svex_shape.specs.Values.{value_at, read};
-ghost use Rattle.event_nets.specs.Gifts.{IsGift, source_in, gift_bit, told_bit, IsTold};
-ghost use Rattle.event_sim.specs.Rows.{takes, taken, passed_bit, passed_row, Passed};
-ghost use Rattle.event_sim.specs.Passes.{HasValues, HasValuesOf};
-ghost use Rattle.event_nets.specs.Needs.{IsInOrder, IsNeeded, IsRoot};
-ghost use Rattle.event_nets.specs.Walks.{HasRoom};
+ghost use Rattle.svex_shape.specs.Values.{read};
+ghost use Rattle.node_memo.specs.Memos.{IsMemo, HasFresh, StayFresh, is_fresh};
+ghost use Rattle.event_nets.specs.Gifts.{IsGift, source_in, gift_bit, told_bit, has_gift};
+ghost use Rattle.event_nets.specs.Needs.{IsRoot, node_of};
+ghost use Rattle.event_nets.specs.Runs.{is_at};
+ghost use Rattle.node_memo.specs.Memos.{rows_in};
+ghost use Rattle.event_sim.specs.Rows.{passed_bit, passed_row, Passed};
+ghost use Rattle.event_sim.specs.Passes.{IsToldOf};
+ghost use Rattle.event_sim.specs.Queues.{IsGivenFresh, AreForgotten, AreUnread, FitsNet};
 
+use crate::links::Links;
+use crate::queue::forget_wire;
 use event_nets::gift::{Gift, Source, told_more};
 use event_nets::tables::Tables;
-use event_nets::walk::Walk;
 use fourvec::{Bit, Four};
-use svex_arena::{Arena, Env, Node, shape_value};
+use idx_list::IdxList;
+use node_memo::Memo;
+use svex_arena::{Arena, Env};
 
-/// What a pass computes: a value for each node, and for each first bit what its class is told; and room to find the nodes of a net.
+/// What passes compute: values of nodes, which are kept while nothing that they read changes, and for each first bit what its class was
+/// told.
 pub struct Work {
-    pub values: Vec<Four>,
+    pub memo: Memo,
     pub told: Vec<Option<Bit>>,
-    pub walk: Walk,
 }
 
 impl Drop for Work {
     fn drop(self) {
-        let Work {
-            values: _,
-            told: _,
-            walk: _,
-        } = self;
+        let Work { memo: _, told: _ } = self;
     }
 }
 
 impl Work {
-    /// Evaluates all nodes.
-    pub fn evaluate(&mut self, arena: &Arena, env: &Env)
-        requires { length self.old.values.items ≡ length arena.now }
-        ensures values { HasValues (read env.now) arena.now self.new.values.items (length arena.now) }
-        ensures len { length self.new.values.items ≡ length arena.now }
-        ensures arena { IsArena arena.now }
-        ensures told { self.new.told.items ≡ self.old.told.items }
-        ensures walk { self.new.walk ≡ self.old.walk }
-    {
-        let _ = arena.len();
-        evaluate_all(arena, env, &mut self.values);
-    }
-
-    /// Tells each class what is given to it.
-    pub fn tell(&mut self, tables: &Tables, env: &Env)
-        requires { All (IsGift self.old.values.items env.now.stim (length self.old.told.items)) tables.now.gifts.items }
-        ensures told { IsTold self.old.values.items env.now.stim tables.now.gifts.items self.new.told.items }
-        ensures len { length self.new.told.items ≡ length self.old.told.items }
-        ensures values { self.new.values.items ≡ self.old.values.items }
-        ensures walk { self.new.walk ≡ self.old.walk }
-    {
-        tell_all(&tables.gifts, &self.values, &env.stim, &mut self.told);
-    }
-
-    /// Finds the nodes that the gifts of a net take, and evaluates these alone.
+    /// Evaluates the nodes that are given to a net, where they are not fresh.
     pub fn evaluate_net(&mut self, gifts: &[Gift], arena: &Arena, env: &Env)
-        requires len { length self.old.values.items ≡ length arena.now }
-        requires room { HasRoom (length arena.now) self.old.walk }
+        requires memo { IsMemo arena.now self.old.memo }
+        requires right { HasFresh (read env.now) arena.now self.old.memo }
         requires roots { All (IsRoot (length arena.now)) gifts.now }
-        ensures needed { IsNeeded arena.now gifts.now self.new.walk.nodes.items }
-        ensures values { HasValuesOf (read env.now) arena.now self.new.values.items self.new.walk.nodes.items }
-        ensures len { length self.new.values.items ≡ length arena.now }
+        ensures memo { IsMemo arena.now self.new.memo }
+        ensures right { HasFresh (read env.now) arena.now self.new.memo }
+        ensures has { All (IsGivenFresh self.new.memo) gifts.now }
+        ensures stay { StayFresh self.old.memo self.new.memo }
+        ensures told { self.new.told ≡ self.old.told }
         ensures arena { IsArena arena.now }
-        ensures told { self.new.told.items ≡ self.old.told.items }
-        ensures room { HasRoom (length arena.now) self.new.walk }
     {
         let _ = arena.len();
-        self.walk.find(arena, gifts);
-        evaluate_some(&self.walk.nodes, arena, env, &mut self.values);
+        evaluate_all(gifts, arena, env, &mut self.memo);
     }
 
     /// Tells the classes of a net what is given to them.
     pub fn tell_net(&mut self, gifts: &[Gift], env: &Env)
-        requires { All (IsGift self.old.values.items env.now.stim (length self.old.told.items)) gifts.now }
-        ensures told { IsTold self.old.values.items env.now.stim gifts.now self.new.told.items }
+        requires { All (IsGift self.old.memo.values.items env.now.stim (length self.old.told.items)) gifts.now }
+        ensures told { IsToldOf gifts.now self.old.memo.values.items env.now.stim gifts.now self.new.told.items }
         ensures len { length self.new.told.items ≡ length self.old.told.items }
-        ensures values { self.new.values.items ≡ self.old.values.items }
-        ensures walk { self.new.walk ≡ self.old.walk }
+        ensures memo { self.new.memo ≡ self.old.memo }
     {
-        tell_all(gifts, &self.values, &env.stim, &mut self.told);
+        tell_all(gifts, &self.memo.values, &env.stim, &mut self.told);
     }
 
-    /// Gives each wire what its classes are told, where their net is taken, and says whether that changed anything.
-    pub fn take(&self, tables: &Tables, net: Option<usize>, env: &mut Env) -> bool
-        requires starts { length tables.now.starts.items ≡ length env.old.present }
-        requires places { (n : ℕ) → n < length env.old.present
-            → slice_index_or tables.now.starts.items n 0 + length (slice_index_or env.old.present n []) ≤ length tables.now.homes.items }
-        requires homes { All (λ home. home < length self.now.told.items) tables.now.homes.items }
-        requires lows { length tables.now.lows.items ≡ length self.now.told.items }
-        ensures rows { Passed tables.now.homes.items tables.now.starts.items tables.now.lows.items net self.now.told.items
+    /// Gives the wires of a net what its classes are told, forgets what reads a wire that changes, and lets the nets wait to which it was
+    /// given. Says whether anything changed.
+    pub fn take_net(
+        &mut self,
+        tables: &Tables,
+        links: &Links,
+        arena: &Arena,
+        low: usize,
+        env: &mut Env,
+        waiting: &mut IdxList,
+    ) -> bool
+        requires fits { FitsNet tables.now links.now low (map (λ row. length row) env.old.present) (length self.old.told.items) (length arena.now) waiting.old.room }
+        requires memo { IsMemo arena.now self.old.memo }
+        ensures rows { Passed tables.now.homes.items tables.now.starts.items tables.now.lows.items low self.old.told.items
             env.old.present env.new.present }
         ensures previous { env.new.previous ≡ env.old.previous }
         ensures stim { env.new.stim ≡ env.old.stim }
+        ensures chosen { env.new.chosen ≡ env.old.chosen }
+        ensures sampled { env.new.sampled ≡ env.old.sampled }
+        ensures told { self.new.told ≡ self.old.told }
+        ensures memo { IsMemo arena.now self.new.memo }
         ensures same { result ≡ false → env.new.present ≡ env.old.present }
+        ensures still { result ≡ false → waiting.new ≡ waiting.old }
         ensures changed { result ≡ true → env.new.present ≢ env.old.present }
+        ensures unread { AreUnread (rows_in links.now.present.items) env.old.present env.new.present self.new.memo }
+        ensures forgotten { AreForgotten (rows_in links.now.takers.items) self.old.memo self.new.memo waiting.old.items waiting.new.items }
+        ensures room { waiting.new.room ≡ waiting.old.room }
     {
-        take_all(
-            &tables.starts,
-            &tables.homes,
-            &tables.lows,
-            net,
+        take_wires(
+            tables,
+            links,
+            arena,
+            low,
             &self.told,
             &mut env.present,
+            &mut self.memo,
+            waiting,
         )
     }
 }
 
-// Evaluates all nodes, from the lowest number up.
-fn evaluate_all(arena: &Arena, env: &Env, values: &mut [Four])
-    requires { length values.old ≡ length arena.now }
-    ensures { HasValues (read env.now) arena.now values.new (length arena.now) }
+// Evaluates the node whose value is the source, if it is one.
+fn evaluate_source(from: &Source, arena: &Arena, env: &Env, memo: &mut Memo)
+    requires memo { IsMemo arena.now memo.old }
+    requires right { HasFresh (read env.now) arena.now memo.old }
+    requires root { IfSome (node_of from.now) (λ k. k < length arena.now) }
+    ensures memo { IsMemo arena.now memo.new }
+    ensures right { HasFresh (read env.now) arena.now memo.new }
+    ensures has { IfSome (node_of from.now) (λ k. is_fresh memo.new.fresh.items k ≡ true) }
+    ensures stay { StayFresh memo.old memo.new }
 {
-    'nodes: for node in 0..arena.len() {
-        let shape = arena.shape(Node::new(node));
-        values[node] = shape_value(&shape, env, values);
+    match from {
+        Source::Value(node) => memo.evaluate(arena, env, node.index()),
+        Source::Stimulus(_) => {}
     }
 }
 
-// Evaluates these nodes, each behind its children.
-fn evaluate_some(nodes: &[usize], arena: &Arena, env: &Env, values: &mut [Four])
-    requires len { length values.old ≡ length arena.now }
-    requires arena { IsArena arena.now }
-    requires order { IsInOrder arena.now nodes.now }
-    ensures { HasValuesOf (read env.now) arena.now values.new nodes.now }
+// The same of all that is given.
+fn evaluate_all(gifts: &[Gift], arena: &Arena, env: &Env, memo: &mut Memo)
+    requires memo { IsMemo arena.now memo.old }
+    requires right { HasFresh (read env.now) arena.now memo.old }
+    requires roots { All (IsRoot (length arena.now)) gifts.now }
+    ensures memo { IsMemo arena.now memo.new }
+    ensures right { HasFresh (read env.now) arena.now memo.new }
+    ensures has { All (IsGivenFresh memo.new) gifts.now }
+    ensures stay { StayFresh memo.old memo.new }
 {
-    'steps: for at in 0..nodes.len() {
-        let node = nodes[at];
-        let shape = arena.shape(Node::new(node));
-        values[node] = shape_value(&shape, env, values);
+    for gift in gifts {
+        evaluate_source(&gift.from, arena, env, memo);
     }
 }
 
@@ -147,35 +146,35 @@ fn bit_of(gift: &Gift, values: &[Four], stim: &[Four]) -> Bit
     }
 }
 
-fn clear(told: &mut [Option<Bit>])
-    ensures { (k : ℕ) → slice_index_or told.new k None ≡ None }
+// Takes away what was told to the classes of these gifts.
+fn clear(gifts: &[Gift], told: &mut [Option<Bit>])
+    requires { All (λ g. g.to < length told.old) gifts.now }
+    ensures { (place : ℕ) → has_gift gifts.now place ≡ true → slice_index_or told.new place None ≡ None }
 {
-    for at in 0..told.len() {
-        told[at] = None;
+    for gift in gifts {
+        told[gift.to] = None;
     }
 }
 
-// Tells each class, at the place of its first bit, what is given to it.
+// Tells each class of these gifts, at the place of its first bit, what is given to it.
 fn tell_all(gifts: &[Gift], values: &[Four], stim: &[Four], told: &mut [Option<Bit>])
     requires { All (IsGift values.now stim.now (length told.old)) gifts.now }
-    ensures { IsTold values.now stim.now gifts.now told.new }
+    ensures { IsToldOf gifts.now values.now stim.now gifts.now told.new }
 {
-    clear(told);
+    clear(gifts, told);
     for gift in gifts {
         let bit = bit_of(gift, values, stim);
         told[gift.to] = told_more(told[gift.to], bit);
     }
 }
 
-fn is_taken(net: Option<usize>, low: Option<usize>) -> bool
-    ensures { result ≡ takes net low }
+// Whether the net of a class is this one.
+fn is_taken(of: Option<usize>, low: usize) -> bool
+    ensures { result ≡ is_at of low }
 {
-    match net {
-        None => true,
-        Some(net) => match low {
-            None => false,
-            Some(low) => low == net,
-        },
+    match of {
+        None => false,
+        Some(net) => net == low,
     }
 }
 
@@ -192,7 +191,7 @@ fn bit_told(told: Option<Bit>) -> Bit
 fn new_bit(
     homes: &[usize],
     lows: &[Option<usize>],
-    net: Option<usize>,
+    low: usize,
     told: &[Option<Bit>],
     place: usize,
     old: Bit,
@@ -200,10 +199,10 @@ fn new_bit(
     requires place { place < length homes.now }
     requires homes { All (λ home. home < length told.now) homes.now }
     requires lows { length lows.now ≡ length told.now }
-    ensures { result ≡ passed_bit homes.now lows.now net told.now place old }
+    ensures { result ≡ passed_bit homes.now lows.now low told.now place old }
 {
     let home = homes[place];
-    if is_taken(net, lows[home]) {
+    if is_taken(lows[home], low) {
         bit_told(told[home])
     } else {
         old
@@ -225,7 +224,7 @@ fn one(bit: Bit) -> Four
 fn new_row(
     homes: &[usize],
     lows: &[Option<usize>],
-    net: Option<usize>,
+    low: usize,
     told: &[Option<Bit>],
     start: usize,
     old: &Four,
@@ -233,12 +232,12 @@ fn new_row(
     requires places { start + length old.now ≤ length homes.now }
     requires homes { All (λ home. home < length told.now) homes.now }
     requires lows { length lows.now ≡ length told.now }
-    ensures { result ≡ passed_row homes.now lows.now net told.now start old.now }
+    ensures { result ≡ passed_row homes.now lows.now low told.now start old.now }
 {
     let width = old.width();
-    let mut new = one(new_bit(homes, lows, net, told, start, old.bit(0)));
+    let mut new = one(new_bit(homes, lows, low, told, start, old.bit(0)));
     for at in 1..width {
-        let bit = new_bit(homes, lows, net, told, start + usize::from(at), old.bit(at));
+        let bit = new_bit(homes, lows, low, told, start + usize::from(at), old.bit(at));
         new = one(bit).concat(&new);
     }
     new
@@ -251,29 +250,65 @@ fn same(a: &Four, b: &Four) -> bool
     *a == *b
 }
 
-// Gives each wire what its classes are told, where their net is taken, and says whether that changed anything.
-fn take_all(
-    starts: &[usize],
-    homes: &[usize],
-    lows: &[Option<usize>],
-    net: Option<usize>,
+// Gives a wire what its classes are told, where they lie in a net, and says whether that changed it.
+fn take_wire(
+    tables: &Tables,
+    low: usize,
     told: &[Option<Bit>],
+    wire: usize,
     present: &mut [Four],
 ) -> bool
-    requires starts { length starts.now ≡ length present.old }
-    requires places { (n : ℕ) → n < length present.old
-        → slice_index_or starts.now n 0 + length (slice_index_or present.old n []) ≤ length homes.now }
-    requires homes { All (λ home. home < length told.now) homes.now }
-    requires lows { length lows.now ≡ length told.now }
-    ensures rows { Passed homes.now starts.now lows.now net told.now present.old present.new }
+    requires wire { wire < length present.old }
+    requires starts { length tables.now.starts.items ≡ length present.old }
+    requires places { slice_index_or tables.now.starts.items wire 0 + length (slice_index_or present.old wire []) ≤ length tables.now.homes.items }
+    requires homes { All (λ home. home < length told.now) tables.now.homes.items }
+    requires lows { length tables.now.lows.items ≡ length told.now }
+    ensures row { present.new ≡ slice_set present.old wire (passed_row tables.now.homes.items tables.now.lows.items low told.now
+        (slice_index_or tables.now.starts.items wire 0) (slice_index_or present.old wire [])) }
     ensures same { result ≡ false → present.new ≡ present.old }
+    ensures changed { result ≡ true → slice_index_or present.new wire [] ≢ slice_index_or present.old wire [] }
+{
+    let new = new_row(
+        &tables.homes,
+        &tables.lows,
+        low,
+        told,
+        tables.starts[wire],
+        &present[wire],
+    );
+    if same(&new, &present[wire]) {
+        return false;
+    }
+    present[wire] = new;
+    true
+}
+
+// The same of each wire of a net. What reads a wire that changes is forgotten, and the nets to which it was given wait from then on.
+fn take_wires(
+    tables: &Tables,
+    links: &Links,
+    arena: &Arena,
+    low: usize,
+    told: &[Option<Bit>],
+    present: &mut [Four],
+    memo: &mut Memo,
+    waiting: &mut IdxList,
+) -> bool
+    requires fits { FitsNet tables.now links.now low (map (λ row. length row) present.old) (length told.now) (length arena.now) waiting.old.room }
+    requires memo { IsMemo arena.now memo.old }
+    ensures rows { Passed tables.now.homes.items tables.now.starts.items tables.now.lows.items low told.now present.old present.new }
+    ensures memo { IsMemo arena.now memo.new }
+    ensures same { result ≡ false → present.new ≡ present.old }
+    ensures still { result ≡ false → waiting.new ≡ waiting.old }
     ensures changed { result ≡ true → present.new ≢ present.old }
+    ensures unread { AreUnread (rows_in links.now.present.items) present.old present.new memo.new }
+    ensures forgotten { AreForgotten (rows_in links.now.takers.items) memo.old memo.new waiting.old.items waiting.new.items }
+    ensures room { waiting.new.room ≡ waiting.old.room }
 {
     let mut changed = false;
-    for wire in 0..present.len() {
-        let new = new_row(homes, lows, net, told, starts[wire], &present[wire]);
-        if !same(&new, &present[wire]) {
-            present[wire] = new;
+    for wire in &links.wires[low] {
+        if take_wire(tables, low, told, *wire, present) {
+            forget_wire(arena, &links.present[*wire], &links.takers, memo, waiting);
             changed = true;
         }
     }

@@ -1,31 +1,37 @@
-//! A simulation: a valuation of the wires in one phase, which settles from X at every bit. A pass evaluates every node once,
-//! since children have lower numbers, tells each class what is given to it, and takes the resolutions; sweeps end where nothing
-//! changes. A single step does the same for one net, over the nodes that it needs alone. Only `new` takes memory, so that a run
-//! of many phases can not fail.
+//! A simulation: a valuation of the wires in one phase, which settles from X at every bit. A step evaluates the nodes that are given to
+//! one net, tells its classes what is given to them, and takes the resolutions. Nets wait for their step in a list: all at first, and then
+//! each net that reads what a step changed, at the end where it does not wait yet. A net that does not wait has what is given to it, so
+//! where none waits the phase is settled, and what rests costs nothing. Values of nodes are kept from step to step until something that
+//! they read changes, so nodes that many nets share are evaluated once for all of them. Only `new` takes memory, so that a run of many
+//! phases can not fail.
 
-ghost use Rattle.std.specs.Prelude.{◌≡◌, ◌≢◌, ℕ, ◌<◌, ◌≤◌, true, false, List, [], ◌∷◌, length, map, slice_index_or, None, Some, IfOk};
+ghost use Rattle.std.specs.Prelude.{◌≡◌, ◌≢◌, ℕ, ◌+◌, ◌-◌, ◌^◌, ◌<◌, ◌≤◌, min, true, false, List, [], ◌∷◌, length, map, slice_index_or, None, Some, IfOk};
 ghost use Rattle.fourvec.specs.declared.Bit.TheVariants.{Unknown};
 ghost use Rattle.svex_arena.specs.Arenas.{IsArena};
 ghost use Rattle.settling.specs.Events.{event};
 ghost use Rattle.driver_resolve.specs.Drivers.{widths_of};
 ghost use Rattle.flat_net.specs.Flats.{IsFlat, links_of, given_in, IsLeastSettling};
 ghost use Rattle.event_nets.specs.Tables.{store_of, IsValuation};
-ghost use Rattle.event_sim.specs.Sims.{now_values, prev_values, stim_values, now_of, prev_of, stim_of, Fits, picked};
+ghost use Rattle.event_sim.specs.Sims.{now_values, prev_values, stim_values, now_of, prev_of, stim_of, Fits, picked, AllRestBut, AllElseRests};
 ghost use Rattle.event_nets.specs.Nets.{nets_of, net_bits};
-ghost use Rattle.event_sim.specs.Steps.{IsAfter};
+ghost use Rattle.settling.specs.Least.{Under};
+ghost use Rattle.event_sim.specs.Steps.{IsAfter, IsOnTheWay};
 ghost use Rattle.flat_net.specs.declared.flat.Flat.{Flat};
 ghost use Rattle.lhs_alias.specs.Joined.{all_bits};
 ghost use Rattle.lhs_alias.specs.Segs.{bit};
 
+use crate::links::{Links, all_links};
 use crate::pass::Work;
+use crate::queue::{leave, take_first, wake};
 use event_nets::lay::wire_widths;
 use event_nets::make::{env_of, tables_of};
 use event_nets::nets::low_of;
 use event_nets::tables::Tables;
 use event_nets::values::{copy_all, hold};
-use event_nets::walk::Walk;
 use flat_net::{Flat, Valuation};
 use fourvec::Four;
+use idx_list::IdxList;
+use node_memo::Memo;
 use std::alloc::{AllocError, Global};
 use svex_arena::Env;
 
@@ -33,17 +39,25 @@ use svex_arena::Env;
 /// overridden: what they are set to stands in the stimulus.
 pub struct Sim {
     tables: Tables,
+    links: Links,
     // the values of the wires: present, previous and stimulus
     env: Env,
     work: Work,
+    // nets that wait for their turn, by the places of their lowest bits
+    waiting: IdxList,
+    // how many steps were taken since the start
+    steps: u64,
 }
 
 impl Drop for Sim {
     fn drop(self) {
         let Sim {
             tables: _,
+            links: _,
             env: _,
             work: _,
+            waiting: _,
+            steps: _,
         } = self;
     }
 }
@@ -59,14 +73,17 @@ impl Sim {
         let widths = wire_widths(alloc, flat.wires.as_slice())?;
         let mut told = Vec::new(alloc);
         let tables = tables_of(alloc, flat, over, &widths, &mut told)?;
-        let nodes = flat.arena.len();
-        let values = vec![in alloc; Four::new(1, 1, 0); nodes]?;
-        let walk = Walk::new(alloc, nodes)?;
+        let links = all_links(alloc, flat, &widths, &tables)?;
+        let memo = Memo::new(alloc, &flat.arena)?;
+        let waiting = IdxList::new(alloc, told.len())?;
         let env = env_of(alloc, &widths)?;
         Ok(Sim {
             tables,
+            links,
             env,
-            work: Work { values, told, walk },
+            work: Work { memo, told },
+            waiting,
+            steps: 0,
         })
     }
 
@@ -77,7 +94,8 @@ impl Sim {
         self.tables.nets.len()
     }
 
-    /// Sets every bit to X, and holds a previous valuation and a stimulus, in which the values of overridden wires stand too.
+    /// Sets every bit to X, and holds a previous valuation and a stimulus, in which the values of overridden wires stand too. Each net
+    /// waits for its step then.
     pub fn start(&mut self, flat: &Flat, prev: &Valuation, stim: &Valuation)
         requires fits { (over : List ℕ) × Fits flat.now over self.old }
         requires prev { IsValuation (widths_of flat.now.wires) prev.now.values }
@@ -87,33 +105,19 @@ impl Sim {
         ensures stim { stim_values self.new ≡ stim.now.values }
         ensures unknown { (n k : ℕ) → now_of self.new n k ≡ Unknown }
         ensures after { (over : List ℕ) → IsAfter flat.now over self.new [] }
+        ensures steps { self.new.steps ≡ 0 }
+        ensures rests { IsFlat flat.now → (over : List ℕ) → Fits flat.now over self.old → AllElseRests flat.now over self.new }
     {
         let _ = flat;
         hold(&mut self.env, &prev.values, &stim.values);
+        self.work.memo.clear();
+        wake(&self.tables.nets, &mut self.waiting);
+        self.steps = 0;
     }
 
-    // Evaluates all nodes once, and gives the bits of a net their resolution, or all bits where no net is named. Says whether that
-    // changed anything.
-    fn pass(&mut self, flat: &Flat, net: Option<usize>) -> bool
-        requires flat { IsFlat flat.now }
-        requires fits { (over : List ℕ) × Fits flat.now over self.old }
-        ensures fits { (over : List ℕ) → Fits flat.now over self.old → Fits flat.now over self.new }
-        ensures previous { prev_values self.new ≡ prev_values self.old }
-        ensures stim { stim_values self.new ≡ stim_values self.old }
-        ensures now { (over : List ℕ) → Fits flat.now over self.old → (n k : ℕ) → now_of self.new n k
-            ≡ event (links_of flat.now.joins) (given_in flat.now over (stim_of self.old) (prev_of self.old))
-            (picked (links_of flat.now.joins) (widths_of flat.now.wires) self.old.tables.lows.items net) (now_of self.old) n k }
-        ensures same { result ≡ false → now_values self.new ≡ now_values self.old }
-        ensures arena { IsArena flat.now.arena }
-        ensures changed { result ≡ true → now_values self.new ≢ now_values self.old }
-    {
-        self.work.evaluate(&flat.arena, &self.env);
-        self.work.tell(&self.tables, &self.env);
-        self.work.take(&self.tables, net, &mut self.env)
-    }
-
-    // The same of the net whose lowest bit has this place, over what it needs alone.
-    fn pass_net(&mut self, flat: &Flat, low: usize)
+    // A net takes its turn, whose lowest bit has this place: it has what is given to it then, and those that read what changed wait.
+    // Says whether anything changed.
+    fn turn(&mut self, flat: &Flat, low: usize) -> bool
         requires flat { IsFlat flat.now }
         requires fits { (over : List ℕ) × Fits flat.now over self.old }
         requires low { low < length (all_bits (widths_of flat.now.wires)) }
@@ -122,12 +126,26 @@ impl Sim {
         ensures stim { stim_values self.new ≡ stim_values self.old }
         ensures now { (over : List ℕ) → Fits flat.now over self.old → (n k : ℕ) → now_of self.new n k
             ≡ event (links_of flat.now.joins) (given_in flat.now over (stim_of self.old) (prev_of self.old))
-            (picked (links_of flat.now.joins) (widths_of flat.now.wires) self.old.tables.lows.items (Some low)) (now_of self.old) n k }
+            (picked (links_of flat.now.joins) (widths_of flat.now.wires) self.old.tables.lows.items low) (now_of self.old) n k }
+        ensures rests { (over : List ℕ) → Fits flat.now over self.old → AllRestBut flat.now over (low ∷ self.old.waiting.items) self.old → AllElseRests flat.now over self.new }
+        ensures steps { self.new.steps ≡ min (self.old.steps + 1) (2 ^ 64 - 1) }
+        ensures arena { IsArena flat.now.arena }
+        ensures same { result ≡ false → now_values self.new ≡ now_values self.old }
+        ensures still { result ≡ false → self.new.waiting.items ≡ self.old.waiting.items }
+        ensures changed { result ≡ true → now_values self.new ≢ now_values self.old }
     {
+        self.steps = self.steps.saturating_add(1);
         let gifts = self.tables.given_to(low);
         self.work.evaluate_net(gifts, &flat.arena, &self.env);
         self.work.tell_net(gifts, &self.env);
-        let _ = self.work.take(&self.tables, Some(low), &mut self.env);
+        self.work.take_net(
+            &self.tables,
+            &self.links,
+            &flat.arena,
+            low,
+            &mut self.env,
+            &mut self.waiting,
+        )
     }
 
     /// One event: gives a net, and the bits that are joined to it, the resolution of what is given to them.
@@ -141,12 +159,39 @@ impl Sim {
             ≡ event (links_of flat.now.joins) (given_in flat.now over (stim_of self.old) (prev_of self.old))
             (net_bits flat.now over (slice_index_or (nets_of flat.now over) net (bit 0 0))) (now_of self.old) n k }
         ensures after { (over : List ℕ) (steps : List ℕ) → Fits flat.now over self.old → IsAfter flat.now over self.old steps → IsAfter flat.now over self.new (net ∷ steps) }
+        ensures steps { self.new.steps ≡ min (self.old.steps + 1) (2 ^ 64 - 1) }
+        ensures rests { (over : List ℕ) → Fits flat.now over self.old → AllElseRests flat.now over self.old → AllElseRests flat.now over self.new }
     {
         let low = low_of(&self.tables.nets, net);
-        self.pass_net(flat, low);
+        leave(&mut self.waiting, low);
+        let _ = self.turn(flat, low);
     }
 
-    /// Settles a phase: starts, and sweeps over all nets until a sweep changes nothing.
+    // The nets that wait take their turns, the first one first, until one changes something. Says whether one did; if not, none
+    // waits any more.
+    fn next_change(&mut self, flat: &Flat) -> bool
+        requires flat { IsFlat flat.now }
+        requires fits { (over : List ℕ) × Fits flat.now over self.old }
+        ensures fits { (over : List ℕ) → Fits flat.now over self.old → Fits flat.now over self.new }
+        ensures previous { prev_values self.new ≡ prev_values self.old }
+        ensures stim { stim_values self.new ≡ stim_values self.old }
+        ensures reached { (over : List ℕ) → Fits flat.now over self.old → IsOnTheWay flat.now over self.old → IsOnTheWay flat.now over self.new }
+        ensures rises { (over : List ℕ) → Fits flat.now over self.old → IsOnTheWay flat.now over self.old → Under (now_of self.old) (now_of self.new) }
+        ensures rests { (over : List ℕ) → Fits flat.now over self.old → AllElseRests flat.now over self.old → AllElseRests flat.now over self.new }
+        ensures arena { IsArena flat.now.arena }
+        ensures ended { result ≡ false → self.new.waiting.items ≡ [] }
+        ensures changed { result ≡ true → now_values self.new ≢ now_values self.old }
+    {
+        let _ = flat.arena.len();
+        'turns: while let Some(low) = take_first(&mut self.waiting) {
+            if self.turn(flat, low) {
+                return true;
+            }
+        }
+        false
+    }
+
+    /// Settles a phase: starts, and lets nets take their turns until none waits any more.
     pub fn settle(&mut self, flat: &Flat, prev: &Valuation, stim: &Valuation)
         requires flat { IsFlat flat.now }
         requires fits { (over : List ℕ) × Fits flat.now over self.old }
@@ -158,7 +203,14 @@ impl Sim {
         ensures least { (over : List ℕ) → Fits flat.now over self.old → IsLeastSettling flat.now over (store_of stim.now.values) (store_of prev.now.values) (now_of self.new) }
     {
         self.start(flat, prev, stim);
-        'sweeps: while self.pass(flat, None) {}
+        'changes: while self.next_change(flat) {}
+    }
+
+    /// How many steps were taken since the start, by calls of `step` or in settling; no more than fit into the number.
+    pub fn steps(&self) -> u64
+        ensures { result ≡ self.now.steps }
+    {
+        self.steps
     }
 
     /// The value that a wire has now.

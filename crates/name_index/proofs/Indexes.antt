@@ -1,13 +1,12 @@
 -- Places of names, and indexes of them.
 use Rattle.std.proofs.Common.{◌≡◌, ◌<◌, ◌+◌, ℕ, suc, List, [], ◌∷◌, ◌++◌, length, Option, Some, None, Bool, true, false, cond, refl, sym, ◌∙◌, ap, subst, arith, ⊎_elim}
-use Rattle.std.specs.HashMap as hash
 use Rattle.std.specs.List.{position_from}
-use Rattle.std.specs.Map.{lookup, IsKeyTest, AreApart, KeepsOthers}
 use Rattle.std.specs.Str.{bytes_eq}
 use Rattle.std.specs.Cmp.Lexicographic.{nat_list_eq_equiv, bytes_decides}
 use Rattle.std.proofs.lemmas.Bool.{cases_Bool}
 use Rattle.std.proofs.lemmas.List.{length-map}
-use Rattle.std.specs.Prelude.{IfSome, is_some, map}
+use Rattle.std.specs.Prelude.{IfSome, is_some, map, OnOk, Result, Ok, Err}
+use Rattle.name_index.specs.Under.{under, Puts}
 use Rattle.name_index.specs.Indexing.{place_of, number_under, Indexes}
 use Rattle.name_index.specs.declared.index.NameIndex.{NameIndex}
 
@@ -66,40 +65,27 @@ place_other names name other n = by_case (position_from (bytes_eq other) 0 names
 
 -- ---- indexes
 
-apart : (bs cs ks : List ℕ) → bytes_eq bs cs ≡ false → bytes_eq bs ks ≡ true → bytes_eq cs ks ≡ false
-apart bs cs ks n y = nat_list_eq_equiv.symm cs ks ∙ sym (nat_list_eq_equiv.congr bs ks cs y) ∙ n
-
-module _ {K X : Type 0} (bytes : K → List ℕ) where
-  others_keep : (test : K → Bool) (old new : List (K × X)) → KeepsOthers (λ x y. bytes_eq (bytes x) (bytes y)) test old new
-      → (other : K → Bool) → IsKeyTest (λ x y. bytes_eq (bytes x) (bytes y)) other → AreApart test other → lookup other new ≡ lookup other old
-  unfolding KeepsOthers
-  others_keep test old new h = h
-
-pub indexes_none : (index : NameIndex) → index.numbers.entries ≡ [] → Indexes index []
+pub indexes_none : (index : NameIndex) → ((name : List ℕ) → under index.numbers name ≡ None) → Indexes index []
 unfolding number_under place_of
-indexes_none index e = λ name. ap (λ es. lookup (λ key. bytes_eq name key.items) es) e
-
-other_number : (m n : NameIndex) (name : List ℕ) (w : Option ℕ) → hash.UpdatesBy (λ x y. bytes_eq x.items y.items) (λ key. bytes_eq name key.items) m.numbers n.numbers w
-    → (other : List ℕ) → bytes_eq name other ≡ false → number_under n other ≡ number_under m other
-unfolding number_under
-other_number m n name w h other e = others_keep (λ key. key.items) _ _ _ h.3 _ (λ x y. nat_list_eq_equiv.congr other x.items y.items) (λ k. apart name other k.items e)
-
-same_number : (m n : NameIndex) (name : List ℕ) (w : Option ℕ) → hash.UpdatesBy (λ x y. bytes_eq x.items y.items) (λ key. bytes_eq name key.items) m.numbers n.numbers w → number_under n name ≡ w
-unfolding number_under
-same_number m n name w h = h.1
+indexes_none index e = e
 
 -- a name that is new
-pub noted : (m n : NameIndex) (name key : List ℕ) (number : ℕ) (names : List (List ℕ)) → key ≡ name → number_under m name ≡ None
-    → hash.UpdatesBy (λ x y. bytes_eq x.items y.items) (λ k. bytes_eq key k.items) m.numbers n.numbers (Some number)
-    → Indexes m names → number ≡ length names → Indexes n (names ++ name ∷ [])
-noted m n name key number names same new h indexed count other =
-    let h' = subst (λ bs. hash.UpdatesBy (λ x y. bytes_eq x.items y.items) (λ k. bytes_eq bs k.items) m.numbers n.numbers (Some number)) same h in
+pub noted : (m n : NameIndex) (name : List ℕ) (number : ℕ) (names : List (List ℕ)) → number_under m name ≡ None
+    → Puts m.numbers name (Some number) n.numbers → Indexes m names → number ≡ length names → Indexes n (names ++ name ∷ [])
+unfolding number_under
+noted m n name number names new h indexed count other =
     ⊎_elim
     (λ y. let e : name ≡ other = (bytes_decides name other).0 y in
-    subst (λ o. number_under n o ≡ place_of (names ++ name ∷ []) o) e
-    (same_number m n name (Some number) h' ∙ (ap (λ i. Some i) count ∙ sym (place_new names name (sym (indexed name) ∙ new)))))
-    (λ no. other_number m n name (Some number) h' other no ∙ (indexed other ∙ sym (place_other names name other (nat_list_eq_equiv.symm other name ∙ no))))
+    h other ∙ ap (λ b. cond b (Some number) (number_under m other)) y
+    ∙ subst (λ o. Some number ≡ place_of (names ++ name ∷ []) o) e (ap (λ i. Some i) count ∙ sym (place_new names name (sym (indexed name) ∙ new))))
+    (λ no. h other ∙ ap (λ b. cond b (Some number) (number_under m other)) no ∙ (indexed other ∙ sym (place_other names name other (nat_list_eq_equiv.symm other name ∙ no))))
     (cases_Bool (bytes_eq name other))
+
+-- the same of a call that succeeds
+pub noted_ok : {A E : Type 0} (r : Result A E) (m n : NameIndex) (name : List ℕ) (number : ℕ) → number_under m name ≡ None
+    → OnOk r (Puts m.numbers name (Some number) n.numbers) → OnOk r ((names : List (List ℕ)) → Indexes m names → number ≡ length names → Indexes n (names ++ name ∷ []))
+noted_ok (Ok x) m n name number new h = λ names. noted m n name number names new h
+noted_ok (Err e) m n name number new h = tt
 
 -- a name that is there already
 pub noted_before : (m : NameIndex) (name : List ℕ) (names : List (List ℕ)) (i : ℕ) → number_under m name ≡ Some i → Indexes m names → Indexes m (names ++ name ∷ [])

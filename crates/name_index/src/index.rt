@@ -2,14 +2,13 @@
 ghost use Rattle.std.specs.Prelude.{◌≡◌, ◌∷◌, [], ◌++◌, ℕ, List, length, OnOk};
 ghost use Rattle.name_index.specs.Indexing.{number_under, Indexes};
 
+use crate::map::NameMap;
 use std::alloc::{AllocError, Global};
-use std::collections::HashMap;
 
 /// The places of names in a list, of which the first counts.
 #[derive(Drop)]
 pub struct NameIndex {
-    alloc: Global,
-    numbers: HashMap<Vec<u8>, usize>,
+    numbers: NameMap,
 }
 
 impl NameIndex {
@@ -19,8 +18,7 @@ impl NameIndex {
         ensures { Indexes result [] }
     {
         NameIndex {
-            alloc,
-            numbers: HashMap::new(alloc),
+            numbers: NameMap::new(alloc),
         }
     }
 
@@ -29,7 +27,7 @@ impl NameIndex {
     pub fn number(&self, name: &[u8]) -> Option<usize>
         ensures { result ≡ number_under self.now name.now }
     {
-        self.numbers.get(name).copied()
+        self.numbers.get(name)
     }
 
     /// Goes on with one more name, at the end of the list.
@@ -39,8 +37,6 @@ impl NameIndex {
         if self.number(name).is_some() {
             return Ok(());
         }
-        let key = name.to_vec(self.alloc)?;
-        let _ = self.numbers.insert(key, number)?;
-        Ok(())
+        self.numbers.put(name, number)
     }
 }

@@ -7,3 +7,4 @@ pub mod Moving
 pub mod Starting
 pub mod Windows
 pub mod Laying
+pub mod Parities

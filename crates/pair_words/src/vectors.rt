@@ -1,10 +1,11 @@
 //! Circuits for vectors, bit by bit.
 
-ghost use Rattle.std.specs.Prelude.{◌≡◌, ◌*◌, ◌<◌, IfOk, ◌&&◌, length};
+ghost use Rattle.std.specs.Prelude.{◌≡◌, ◌*◌, ◌-◌, ◌<◌, IfOk, ◌&&◌, length};
 ghost use Rattle.std.specs.List.{All};
 ghost use Rattle.aig.specs.Graph.{holds, IsIn};
 ghost use Rattle.aig_words.specs.Words.{Grew, Obeyed};
-ghost use Rattle.fourvec.specs.Bits.{each, each_pair, over, is_known, is_known_bit};
+ghost use Rattle.fourvec.specs.declared.Bit.{Bit};
+ghost use Rattle.fourvec.specs.Bits.{each, each_pair, over, is_known, is_known_bit, xor_bit};
 ghost use Rattle.pair_words.specs.Rails.{bit_at, bits, IsWired, IsVector, one_value, two_value, two_nodes};
 
 use crate::pairs::{One, Pair, Two, one_bit, two_bits};
@@ -50,8 +51,8 @@ pub fn on_both(
     Ok(word)
 }
 
-/// An operator over all bits, from a bit on.
-pub fn over_all(aig: &mut Aig, op: Two, start: Pair, a: &[Pair]) -> Result<Pair, AllocError>
+// The same in turn, from the last bit to the first.
+fn over_in_turn(aig: &mut Aig, op: Two, start: Pair, a: &[Pair]) -> Result<Pair, AllocError>
     requires start_in { IsWired aig.old start }
     requires a_in { All (IsWired aig.old) a.now }
     ensures grew { Grew (two_nodes op * length a.now) aig.old aig.new }
@@ -63,6 +64,55 @@ pub fn over_all(aig: &mut Aig, op: Two, start: Pair, a: &[Pair]) -> Result<Pair,
         last = two_bits(aig, op, a[a.len() - 1 - i], last)?;
     }
     Ok(last)
+}
+
+// One bit that does for some bits what these do one after another. It is made of halves, so that it is a tree of few levels: a
+// solver finds sums of the same bits in other orders sooner where no chain of them is long.
+fn parity(aig: &mut Aig, a: &[Pair]) -> Result<Pair, AllocError>
+    requires some { 0 < length a.now }
+    requires a_in { All (IsWired aig.old) a.now }
+    ensures grew { Grew (10 * (length a.now - 1)) aig.old aig.new }
+    ensures within { IfOk result (λ r. IsWired aig.new r) }
+    ensures value { IfOk result (λ r. Obeyed aig.new (λ v. (rest : Bit) → xor_bit (bit_at v r) rest ≡ over xor_bit rest (bits v a.now))) }
+{
+    if a.len() == 1 {
+        return Ok(a[0]);
+    }
+    let half = a.len() / 2;
+    let first = parity(aig, &a[..half])?;
+    let second = parity(aig, &a[half..])?;
+    let both = two_bits(aig, Two::Xor, first, second)?;
+    Ok(both)
+}
+
+// The operator `xor` over all bits, from a bit on.
+fn xor_all(aig: &mut Aig, start: Pair, a: &[Pair]) -> Result<Pair, AllocError>
+    requires start_in { IsWired aig.old start }
+    requires a_in { All (IsWired aig.old) a.now }
+    ensures grew { Grew (10 * length a.now) aig.old aig.new }
+    ensures within { IfOk result (λ r. IsWired aig.new r) }
+    ensures value { IfOk result (λ r. Obeyed aig.new (λ v. bit_at v r ≡ over xor_bit (bit_at v start) (bits v a.now))) }
+{
+    if a.is_empty() {
+        return Ok(start);
+    }
+    let all = parity(aig, a)?;
+    let word = two_bits(aig, Two::Xor, all, start)?;
+    Ok(word)
+}
+
+/// An operator over all bits, from a bit on.
+pub fn over_all(aig: &mut Aig, op: Two, start: Pair, a: &[Pair]) -> Result<Pair, AllocError>
+    requires start_in { IsWired aig.old start }
+    requires a_in { All (IsWired aig.old) a.now }
+    ensures grew { Grew (two_nodes op * length a.now) aig.old aig.new }
+    ensures within { IfOk result (λ r. IsWired aig.new r) }
+    ensures value { IfOk result (λ r. Obeyed aig.new (λ v. bit_at v r ≡ over (two_value op) (bit_at v start) (bits v a.now))) }
+{
+    match op {
+        Two::Xor => xor_all(aig, start, a),
+        _ => over_in_turn(aig, op, start, a),
+    }
 }
 
 // Whether a bit is known, and all that come after it are.

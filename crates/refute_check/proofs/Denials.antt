@@ -1,5 +1,5 @@
 -- What the variables are where the literals of a clause are false.
-use Rattle.std.proofs.Common.{◌≡◌, ℕ, ◌<◌, Bool, true, false, not, nat_eq, cond, List, [], ◌∷◌, ◌++◌, length, get_or, take, Option, Some, None, sym, refl, ap, ◌∙◌, arith, drop, subst, ⊎_elim}
+use Rattle.std.proofs.Common.{◌≡◌, ℕ, ◌<◌, ◌≤◌, Bool, true, false, not, nat_eq, cond, List, [], ◌∷◌, ◌++◌, length, get_or, take, Option, Some, None, sym, refl, ap, ◌∙◌, arith, drop, subst, ⊎_elim}
 use mathlib.Core.Bool.{beq}
 use mathlib.Core.Path.{fun_ext}
 use Rattle.std.specs.List.{All, Contains}
@@ -129,11 +129,19 @@ denied_more vars a b xs d lt e up h =
     }
 
 -- a literal whose variable has the other value
-pub denied_clash : (vars : ℕ) (a : Valuation) (clause : List Dim) (i : ℕ) (value : Bool) → i < length clause →
-    a (get_or clause i no_dim).var ≡ Some value → not (beq value (get_or clause i no_dim).negated) ≡ true → Denied vars a (take i clause) → IsConsistent clause → ⊥
-denied_clash vars a clause i value lt e ne h all =
-    let d : Dim = get_or clause i no_dim in
-    let e2 : denied (take i clause) d.var ≡ Some value = ap (λ (f : Valuation). f d.var) (sym h.values) ∙ e in
-    let c : Contains clause (record { var = d.var; negated = value }) = Contains-take clause i _ (denied_contains (take i clause) d.var value e2) in
-    All-contains (λ d. Contains clause (negate d) → ⊥) clause d all (Contains-get_or clause i no_dim lt)
-    (subst (Contains clause) (let s : ◌≡◌ {A = Dim} (record { var = d.var; negated = value }) (negate d) = ap (λ t. let r : Dim = record { var = d.var; negated = t } in r) (other_sign value d.negated ne) in s) c)
+pub denied_clash : (vars : ℕ) (a : Valuation) (front later all : List Dim) (d : Dim) (value : Bool) → front ++ d ∷ later ≡ all →
+    a d.var ≡ Some value → not (beq value d.negated) ≡ true → Denied vars a front → IsConsistent all → ⊥
+denied_clash vars a front later all d value whole e ne h consistent =
+    let e2 : denied front d.var ≡ Some value = ap (λ (f : Valuation). f d.var) (sym h.values) ∙ e in
+    let inside : Contains all d = subst (λ (l : List Dim). Contains l d) whole (Contains-append_right front (d ∷ later) d (0, omega arith, refl)) in
+    let c : Contains all (record { var = d.var; negated = value }) =
+    subst (λ (l : List Dim). Contains l (record { var = d.var; negated = value })) whole (Contains-append_left front (d ∷ later) _ (denied_contains front d.var value e2)) in
+    All-contains (λ d. Contains all (negate d) → ⊥) all d consistent inside
+    (subst (Contains all) (let s : ◌≡◌ {A = Dim} (record { var = d.var; negated = value }) (negate d) = ap (λ t. let r : Dim = record { var = d.var; negated = t } in r) (other_sign value d.negated ne) in s) c)
+
+-- a literal whose variable is past the bound
+pub range_clash : (vars : ℕ) (front later all : List Dim) (d : Dim) → front ++ d ∷ later ≡ all → vars ≤ d.var → All (λ d. d.var < vars) all → ⊥
+range_clash vars front later all d whole le h =
+    let inside : Contains all d = subst (λ (l : List Dim). Contains l d) whole (Contains-append_right front (d ∷ later) d (0, omega arith, refl)) in
+    let lt : d.var < vars = All-contains (λ d. d.var < vars) all d h inside in
+    omega arith

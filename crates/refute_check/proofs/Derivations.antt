@@ -57,32 +57,28 @@ known_past vs log k h le f = rw (length_known vs log k le) (⊎_elim (λ lt. abs
 pub known_here : (vs : List (Vec Dim Global)) (log : List Entry) (k h : ℕ) → k ≤ length log → h < length vs + k → h < length (known_of (map (λ v. v.items) vs) log k)
 known_here vs log k h le lt = rw (length_known vs log k le) lt
 
--- The loop over the hints: rest is what the hints from i on do, and D what all do from the beginning.
-split : (hints : List ℕ) (i : ℕ) → i < length hints → drop i hints ≡ get_or hints i 0 ∷ drop (i + 1) hints
-split hints i lt = rw (add-one, drop-cons hints i 0) refl
+-- The loop over the hints: what is left does what all do from the beginning, which is D.
+pub never : (db : List (List Dim)) (a : Valuation) (left rest : List ℕ) (h : ℕ) (D : Type 0) → left ≡ h ∷ rest →
+    (Derives db a left ↔ D) → (Derives db a (h ∷ rest) → ⊥) → IsTrue false ↔ D
+never db a left rest h D e iff not' = (λ t. absurd (false≢true t), λ d. absurd (not' (subst (Derives db a) e (iff.1 d))))
 
-pub never : (db : List (List Dim)) (a : Valuation) (hints : List ℕ) (i : ℕ) (D : Type 0) → i < length hints →
-    (Derives db a (drop i hints) ↔ D) → (Derives db a (get_or hints i 0 ∷ drop (i + 1) hints) → ⊥) → IsTrue false ↔ D
-never db a hints i D lt rest not' = (λ t. absurd (false≢true t), λ d. absurd (not' (subst (Derives db a) (split hints i lt) (rest.1 d))))
+pub none_lead : (db : List (List Dim)) (a : Valuation) (left : List ℕ) (D : Type 0) → left ≡ [] → (Derives db a left ↔ D) → IsTrue false ↔ D
+none_lead db a left D e iff = (λ t. absurd (false≢true t), λ d. absurd (let k : Derives db a [] = subst (Derives db a) e (iff.1 d) in k))
 
-pub at_end : (db : List (List Dim)) (a : Valuation) (hints : List ℕ) (i : ℕ) (D : Type 0) → i < length hints →
-    (Derives db a (drop i hints) ↔ D) → get_or hints i 0 < length db → IsConflict a (clause_at db (get_or hints i 0)) →
-    IsTrue (nat_eq (i + 1) (length hints)) ↔ D
-at_end db a hints i D lt rest h f =
-    let here = derives_conflict db a (get_or hints i 0) (drop (i + 1) hints) h f in (
-      λ t. rest.0 (subst (Derives db a) (sym (split hints i lt)) (here.0 (drop_all (i + 1) hints (let e : i + 1 ≡ length hints = eqb-true _ _ t in omega arith)))),
-      λ d. let none : drop (i + 1) hints ≡ [] = here.1 (subst (Derives db a) (split hints i lt) (rest.1 d)) in
-          let len : length (drop (i + 1) hints) ≡ 0 = ap length none in
-          eq-eqb (i + 1) (length hints) (omega (arith, length-drop (i + 1) hints)),
+pub at_end : (db : List (List Dim)) (a : Valuation) (left rest : List ℕ) (h : ℕ) (D : Type 0) (r : Bool) → left ≡ h ∷ rest →
+    (Derives db a left ↔ D) → h < length db → IsConflict a (clause_at db h) → (IsTrue r ↔ (rest ≡ [])) → IsTrue r ↔ D
+at_end db a left rest h D r e iff lt f done =
+    let here = derives_conflict db a h rest lt f in (
+      λ t. iff.0 (subst (Derives db a) (sym e) (here.0 (done.0 t))),
+      λ d. done.1 (here.1 (subst (Derives db a) e (iff.1 d))),
     )
 
-pub one_more : (db : List (List Dim)) (a b : Valuation) (hints : List ℕ) (i : ℕ) (d : Dim) (D : Type 0) → i < length hints →
-    (Derives db a (drop i hints) ↔ D) → get_or hints i 0 < length db → IsUnit a (clause_at db (get_or hints i 0)) d → b ≡ assume a d →
-    Derives db b (drop (i + 1) hints) ↔ D
-one_more db a b hints i d D lt rest h u e =
-    let here = derives_unit db a (get_or hints i 0) (drop (i + 1) hints) d h u in (
-      λ k. rest.0 (subst (Derives db a) (sym (split hints i lt)) (here.0 (subst (λ (v : Valuation). Derives db v (drop (i + 1) hints)) e k))),
-      λ k. subst (λ (v : Valuation). Derives db v (drop (i + 1) hints)) (sym e) (here.1 (subst (Derives db a) (split hints i lt) (rest.1 k))),
+pub one_more : (db : List (List Dim)) (a b : Valuation) (left rest : List ℕ) (h : ℕ) (d : Dim) (D : Type 0) → left ≡ h ∷ rest →
+    (Derives db a left ↔ D) → h < length db → IsUnit a (clause_at db h) d → b ≡ assume a d → Derives db b rest ↔ D
+one_more db a b left rest h d D e iff lt u s =
+    let here = derives_unit db a h rest d lt u in (
+      λ k. iff.0 (subst (Derives db a) (sym e) (here.0 (subst (λ (v : Valuation). Derives db v rest) s k))),
+      λ k. subst (λ (v : Valuation). Derives db v rest) (sym s) (here.1 (subst (Derives db a) e (iff.1 k))),
     )
 
 -- A step whose clause can be false follows where its hints lead to a conflict from there.
@@ -121,8 +117,11 @@ known_below width vars clauses log k le kl h f =
     (All-weaker Q P (λ d q. omega arith) (entry_at log j).clause (f j jk).in_range) e)))
 
 -- the entry that the code read, field by field
-pub same_entry : (log : List Entry) (k : ℕ) (v r : Entry) (clause : List Dim) (hints : List ℕ) → k < length log →
-    clause ≡ v.clause → hints ≡ v.hints → v ≡ r → r ≡ get_or log k r → entry_of clause hints ≡ get_or log k (entry_of clause hints)
-same_entry log k v r clause hints lt e f view is =
-    let a : entry_of clause hints ≡ entry_of v.clause v.hints = cc in
-    a ∙ view ∙ is ∙ get_or_default log k r (entry_of clause hints) lt
+pub same_entry : (log : List Entry) (k : ℕ) (r : Entry) (clause : List Dim) (hints : List ℕ) → k < length log →
+    clause ≡ r.clause → hints ≡ r.hints → r ≡ get_or log k r → entry_of clause hints ≡ get_or log k (entry_of clause hints)
+same_entry log k r clause hints lt e f is =
+    let a : entry_of clause hints ≡ r = λ i. record { clause = e i; hints = f i } in
+    a ∙ is ∙ get_or_default log k r (entry_of clause hints) lt
+
+pub empty_at : (log : List Entry) (k : ℕ) (s : Entry) (r : Bool) → k < length log → s ≡ get_or log k s → (IsTrue r ↔ (s.clause ≡ [])) → IsTrue r ↔ ((entry_at log k).clause ≡ [])
+empty_at log k s r lt is h = at_read log (λ x. IsTrue r ↔ (x.clause ≡ [])) k s lt is h no_entry

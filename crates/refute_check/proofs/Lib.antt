@@ -5,3 +5,6 @@ pub mod Widths
 pub mod Trails
 pub mod Counts
 pub mod Bounds
+pub mod Packs
+pub mod Reading
+pub mod Known

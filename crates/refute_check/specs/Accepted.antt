@@ -54,6 +54,12 @@ pub record IsAccepted (formula : Formula) (log : List Entry) : Type 0 where
 abbrev pub IsBadAt : Formula → List Entry → ℕ → Type 0
 IsBadAt formula log k = AllDerived formula log k × (((k < length log) × (IsDerivedAt formula log k → ⊥)) ⊎ ((k ≡ length log) × (HasEmpty log → ⊥)))
 
+-- The first n steps are derived, and they are all, or the next one is not.
+pub record IsFront (formula : Formula) (log : List Entry) (n : ℕ) : Type 0 where
+  pub range : n ≤ length log
+  pub derived : AllDerived formula log n
+  pub stop : n < length log → IsDerivedAt formula log n → ⊥
+
 -- A checker with room for `width` variables serves for these clauses, whatever the log: a step that names a variable past
 -- `vars` is not derived.
 pub record Fits (width : ℕ) (formula : Formula) : Type 0 where

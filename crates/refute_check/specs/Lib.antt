@@ -4,3 +4,4 @@ pub mod Fresh
 pub mod Count
 pub mod Trail
 pub mod Errors
+pub mod Packed

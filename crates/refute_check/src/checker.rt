@@ -3,9 +3,9 @@
 //! judged to the end also behind an empty one, so that each step of an accepted log is derived.
 
 ghost use Rattle.std.specs.Prelude.{◌≡◌, ℕ, ◌<◌, ◌≤◌, ◌↔◌, None, map, length, replicate, IsTrue, IsOk, IfOk, IfErr, []};
-ghost use Rattle.cnf.specs.Formula.{formula_of};
+ghost use Rattle.cnf.specs.Formula.{Formula, formula_of};
 ghost use Rattle.cnf.specs.Clauses.{AllBelow, HasNoSolution};
-ghost use Rattle.refute_check.specs.Accepted.{entry_at, Fits, IsAccepted, IsBadAt};
+ghost use Rattle.refute_check.specs.Accepted.{entry_at, Fits, HasEmpty, IsAccepted, IsBadAt, IsFront};
 ghost use Rattle.refute_check.specs.Errors.{IsBadFor};
 
 use crate::follow::follows;
@@ -58,15 +58,58 @@ fn width_of(vars: usize, clauses: &[Vec<Dim>]) -> Result<usize, AllocError>
     Ok(width)
 }
 
+#[tactic(auto, using(crate::proofs::Derivations::empty_at))]
 fn is_empty_at(steps: &[Step], k: usize) -> bool
     requires { k < length steps.now }
     ensures { IsTrue result ↔ ((entry_at steps.now k).clause ≡ []) }
 {
     let step = &steps[k];
-    step.clause.is_empty()
+    step.is_empty()
 }
 
-/// Judges the steps in order.
+/// Whether some step is empty.
+fn has_empty(steps: &[Step]) -> bool
+    ensures { IsTrue result ↔ HasEmpty steps.now }
+{
+    for k in 0..steps.len() {
+        if is_empty_at(steps, k) {
+            return true;
+        }
+    }
+    false
+}
+
+/// Judges the steps in order, up to the first one that is not derived. Answers how many there are before it.
+fn front(marks: &mut Marks, vars: usize, clauses: &[Vec<Dim>], steps: &[Step]) -> usize
+    requires fits { Fits (length marks.old) (formula_of vars (map (λ v. v.items) clauses.now)) }
+    requires clear { marks.old ≡ replicate (length marks.old) None }
+    ensures front { IsFront (formula_of vars (map (λ v. v.items) clauses.now)) steps.now result }
+    ensures clear { marks.new ≡ marks.old }
+{
+    for k in 0..steps.len() {
+        if !follows(marks, vars, clauses, steps, k) {
+            return k;
+        }
+    }
+    steps.len()
+}
+
+/// The verdict on steps of which so many come before the first one that is not derived.
+fn verdict(steps: &[Step], derived: usize) -> Result<(), CheckErr>
+    ensures ok { (formula : Formula) → IsFront formula steps.now derived → IsOk result ↔ IsAccepted formula steps.now }
+    ensures bad { (formula : Formula) → IsFront formula steps.now derived → IfErr result (IsBadFor formula steps.now) }
+{
+    if derived < steps.len() {
+        return Err(CheckErr::Bad(derived));
+    }
+    if has_empty(steps) {
+        Ok(())
+    } else {
+        Err(CheckErr::Bad(derived))
+    }
+}
+
+/// Judges all steps.
 fn run(marks: &mut Marks, vars: usize, clauses: &[Vec<Dim>], steps: &[Step]) -> Result<(), CheckErr>
     requires fits { Fits (length marks.old) (formula_of vars (map (λ v. v.items) clauses.now)) }
     requires clear { marks.old ≡ replicate (length marks.old) None }
@@ -74,20 +117,8 @@ fn run(marks: &mut Marks, vars: usize, clauses: &[Vec<Dim>], steps: &[Step]) -> 
     ensures bad { IfErr result (IsBadFor (formula_of vars (map (λ v. v.items) clauses.now)) steps.now) }
     ensures clear { marks.new ≡ marks.old }
 {
-    let mut empty = false;
-    for k in 0..steps.len() {
-        if !follows(marks, vars, clauses, steps, k) {
-            return Err(CheckErr::Bad(k));
-        }
-        if is_empty_at(steps, k) {
-            empty = true;
-        }
-    }
-    if empty {
-        Ok(())
-    } else {
-        Err(CheckErr::Bad(steps.len()))
-    }
+    let derived = front(marks, vars, clauses, steps);
+    verdict(steps, derived)
 }
 
 impl Checker {
@@ -99,6 +130,20 @@ impl Checker {
         Ok(Checker {
             marks: Marks::new(alloc, width)?,
         })
+    }
+
+    /// How many steps come before the first one that is not derived; all of them, where each is. It takes no memory.
+    pub fn derived(&mut self, cnf: &Cnf, log: &Log) -> usize
+        requires { Fits self.old cnf.now }
+        ensures same { self.new ≡ self.old }
+        ensures front { IsFront cnf.now log.now result }
+    {
+        front(
+            &mut self.marks,
+            cnf.vars,
+            cnf.clauses.as_slice(),
+            log.steps.as_slice(),
+        )
     }
 
     /// Whether each step is derived and one is empty, so that the clauses have no solution. It takes no memory.

@@ -1,12 +1,16 @@
 //! One step of a log.
 
-ghost use Rattle.std.specs.Prelude.{◌≡◌, ◌+◌, ◌<◌, ◌≤◌, ◌↔◌, None, map, length, replicate, IsTrue};
+ghost use Rattle.std.specs.Prelude.{◌≡◌, ℕ, ◌+◌, ◌<◌, ◌≤◌, ◌↔◌, List, None, map, length, replicate, IfOk, IsTrue};
 ghost use Rattle.cnf.specs.Clauses.{AllBelow, valuation, all_open};
+ghost use Rattle.cnf.specs.State.{IsState};
+ghost use Rattle.refute_check.specs.Entry.{Entry};
 ghost use Rattle.refute_check.specs.Accepted.{clause_at, Derives, IsDerived, entry_at, known_of};
 
 use crate::log::Step;
 use crate::marks::Marks;
+use crate::readers::Hints;
 use cnf::{ClauseState, Dim};
+use std::alloc::{AllocError, Global};
 
 /// Whether step k may cite the clause.
 fn is_known(clauses: &[Vec<Dim>], k: usize, hint: usize) -> bool
@@ -15,17 +19,61 @@ fn is_known(clauses: &[Vec<Dim>], k: usize, hint: usize) -> bool
     hint < clauses.len() || hint - clauses.len() < k
 }
 
-/// The clause that a hint of step k names: a given clause, or that of a step before it.
-pub fn clause_of<'a>(clauses: &'a [Vec<Dim>], steps: &'a [Step], k: usize, hint: usize) -> &'a [Dim]
+/// The given clause that a hint names.
+fn given<'a>(clauses: &'a [Vec<Dim>], hint: usize) -> &'a [Dim]
+    requires { hint < length clauses.now }
+    ensures { (log : List Entry) (k : ℕ) → result.now ≡ clause_at (known_of (map (λ v. v.items) clauses.now) log k) hint }
+{
+    clauses[hint].as_slice()
+}
+
+/// The step before step k that a hint names.
+fn cited<'a>(clauses: &[Vec<Dim>], steps: &'a [Step], k: usize, hint: usize) -> &'a Step
+    requires k { k ≤ length steps.now }
+    requires past { length clauses.now ≤ hint }
+    requires hint { hint < length clauses.now + k }
+    ensures { result.now.clause ≡ clause_at (known_of (map (λ v. v.items) clauses.now) steps.now k) hint }
+{
+    &steps[hint - clauses.len()]
+}
+
+/// A copy of the clause that a hint of step k names: a given clause, or that of a step before it.
+pub fn clause_of(
+    alloc: Global,
+    clauses: &[Vec<Dim>],
+    steps: &[Step],
+    k: usize,
+    hint: usize,
+) -> Result<Vec<Dim>, AllocError>
     requires k { k ≤ length steps.now }
     requires hint { hint < length clauses.now + k }
-    ensures { result.now ≡ clause_at (known_of (map (λ v. v.items) clauses.now) steps.now k) hint }
+    ensures { IfOk result (λ clause. clause.items ≡ clause_at (known_of (map (λ v. v.items) clauses.now) steps.now k) hint) }
 {
     if hint < clauses.len() {
-        clauses[hint].as_slice()
+        Vec::from_slice(alloc, given(clauses, hint))
     } else {
-        let step = &steps[hint - clauses.len()];
-        step.clause.as_slice()
+        cited(clauses, steps, k, hint).clause(alloc)
+    }
+}
+
+/// What the clause that a hint of step k names is under the values that there are.
+fn state_at(
+    marks: &Marks,
+    clauses: &[Vec<Dim>],
+    steps: &[Step],
+    k: usize,
+    hint: usize,
+) -> ClauseState
+    requires k { k ≤ length steps.now }
+    requires hint { hint < length clauses.now + k }
+    requires width { AllBelow (length marks.now) (known_of (map (λ v. v.items) clauses.now) steps.now k) }
+    ensures { IsState (valuation marks.now) (clause_at (known_of (map (λ v. v.items) clauses.now) steps.now k) hint) result }
+{
+    if hint < clauses.len() {
+        marks.state_of(given(clauses, hint))
+    } else {
+        let mut literals = cited(clauses, steps, k, hint).literals();
+        marks.state_in(&mut literals)
     }
 }
 
@@ -35,19 +83,19 @@ fn derives(
     clauses: &[Vec<Dim>],
     steps: &[Step],
     k: usize,
-    hints: &[usize],
+    hints: &mut Hints<'_>,
 ) -> bool
     requires k { k ≤ length steps.now }
     requires width { AllBelow (length marks.old) (known_of (map (λ v. v.items) clauses.now) steps.now k) }
-    ensures answer { IsTrue result ↔ Derives (known_of (map (λ v. v.items) clauses.now) steps.now k) (valuation marks.old) hints.now }
+    ensures answer { IsTrue result ↔ Derives (known_of (map (λ v. v.items) clauses.now) steps.now k) (valuation marks.old) hints.old }
     ensures width { length marks.new ≡ length marks.old }
 {
-    for (i, hint) in hints.iter().enumerate() {
-        if !is_known(clauses, k, *hint) {
+    while let Some(hint) = hints.next() {
+        if !is_known(clauses, k, hint) {
             return false;
         }
-        match marks.state_of(clause_of(clauses, steps, k, *hint)) {
-            ClauseState::Conflict => return i + 1 == hints.len(),
+        match state_at(marks, clauses, steps, k, hint) {
+            ClauseState::Conflict => return hints.is_done(),
             ClauseState::Unit(d) => marks.assume(d),
             ClauseState::Neither => return false,
         }
@@ -71,8 +119,10 @@ fn marks_lead(
     ensures width { length marks.new ≡ length marks.old }
 {
     let step = &steps[k];
-    if marks.deny(vars, step.clause.as_slice()) {
-        derives(marks, clauses, steps, k, step.hints.as_slice())
+    let mut literals = step.literals();
+    if marks.deny(vars, &mut literals) {
+        let mut hints = step.hints();
+        derives(marks, clauses, steps, k, &mut hints)
     } else {
         false
     }

@@ -11,8 +11,11 @@ mod follow;
 mod laws;
 mod log;
 mod marks;
+mod packing;
+mod readers;
 
 pub use checker::{CheckErr, Checker};
 pub use follow::clause_of;
 pub use laws::fresh_logs_are_short;
-pub use log::{Log, Step};
+pub use log::{Draft, Log, Step};
+pub use readers::{Hints, Literals};

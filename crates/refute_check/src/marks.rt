@@ -9,7 +9,8 @@ ghost use Rattle.cnf.specs.State.{IsState};
 ghost use Rattle.refute_check.specs.Accepted.{IsConsistent};
 ghost use Rattle.refute_check.specs.Trail.{IsTracked};
 
-use cnf::{ClauseState, Dim, state_of};
+use crate::readers::Literals;
+use cnf::{ClauseState, Dim, look, looked, state_of};
 use std::alloc::{AllocError, Global};
 use std::marker::Model;
 
@@ -43,6 +44,20 @@ fn clear_trail(values: &mut [Option<bool>], trail: &mut Vec<usize>)
     }
 }
 
+// What a clause is under these values, by its literals as they are read.
+fn state_in(values: &[Option<bool>], literals: &mut Literals<'_>) -> ClauseState
+    requires { AreBelow (length values.now) literals.old }
+    ensures { IsState (valuation values.now) literals.old result }
+{
+    let mut found: Option<Dim> = None;
+    while let Some(d) = literals.next() {
+        if !look(values, d, &mut found) {
+            return ClauseState::Neither;
+        }
+    }
+    looked(found)
+}
+
 impl Marks {
     /// Marks for the variables below `width`, which are open.
     pub fn new(alloc: Global, width: usize) -> Result<Marks, AllocError>
@@ -71,6 +86,14 @@ impl Marks {
         state_of(self.values.as_slice(), clause)
     }
 
+    /// What the clause of a step is under these values.
+    pub fn state_in(&self, literals: &mut Literals<'_>) -> ClauseState
+        requires { AreBelow (length self.now) literals.old }
+        ensures { IsState (valuation self.now) literals.old result }
+    {
+        state_in(self.values.as_slice(), literals)
+    }
+
     /// Makes an open literal true.
     pub fn assume(&mut self, d: Dim)
         requires below { d.var < length self.old }
@@ -84,14 +107,14 @@ impl Marks {
 
     /// Makes each literal of a clause false, where all variables are open. Answers whether each variable is below `vars`
     /// and none stands with both signs.
-    pub fn deny(&mut self, vars: usize, clause: &[Dim]) -> bool
+    pub fn deny(&mut self, vars: usize, literals: &mut Literals<'_>) -> bool
         requires vars { vars ≤ length self.old }
         requires open { valuation self.old ≡ all_open }
-        ensures answer { IsTrue result ↔ (AreBelow vars clause.now × IsConsistent clause.now) }
-        ensures values { OnTrue result (valuation self.new ≡ denied clause.now) }
+        ensures answer { IsTrue result ↔ (AreBelow vars literals.old × IsConsistent literals.old) }
+        ensures values { OnTrue result (valuation self.new ≡ denied literals.old) }
         ensures width { length self.new ≡ length self.old }
     {
-        for d in clause {
+        while let Some(d) = literals.next() {
             if d.var >= vars {
                 return false;
             }
@@ -101,7 +124,7 @@ impl Marks {
                         return false;
                     }
                 }
-                None => self.assume(!*d),
+                None => self.assume(!d),
             }
         }
         true

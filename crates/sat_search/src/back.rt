@@ -30,7 +30,7 @@ pub fn is_clear(trail: &[Assigned], seen: &[bool]) -> bool
 }
 
 /// Takes the newest literals away until so many are left.
-fn cut(trail: &mut Trail, n: usize)
+pub fn cut(trail: &mut Trail, n: usize)
     requires range { n ≤ length trail.old.entries }
     requires tracks { Tracks trail.old.values trail.old.entries }
     ensures tracks { Tracks trail.new.values trail.new.entries }

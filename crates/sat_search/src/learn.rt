@@ -18,7 +18,7 @@ ghost use Rattle.sat_search.specs.Learn.{seen_at, IsClear, IsAnchored, IsAlone, 
 
 use crate::back::{go_back, is_clear};
 use cnf::Dim;
-use refute_check::Step;
+use refute_check::{Draft, Step};
 use sat_state::lists::{Uses, add_to, make_room};
 use sat_state::packed::PackedDim;
 use sat_state::store::Store;
@@ -92,14 +92,6 @@ fn mark(trail: &Trail, seen: &mut [bool], clause: &[PackedDim]) -> usize
 // Writes down a variable that was marked.
 fn note(walked: &mut Vec<usize>, var: usize) -> Result<(), AllocError> {
     walked.push(var)?;
-    Ok(())
-}
-
-// Writes down a variable whose literal is dropped. Only where the busiest variables are preferred it counts.
-fn note_dropped(trail: &Trail, walked: &mut Vec<usize>, var: usize) -> Result<(), AllocError> {
-    if trail.is_busy_turn() {
-        walked.push(var)?;
-    }
     Ok(())
 }
 
@@ -187,8 +179,8 @@ fn is_implied(seen: &[bool], clause: &[PackedDim], var: usize) -> bool
     true
 }
 
-/// Drops the literal at a place of the trail, which is not the last of the first `left`, if it is seen and the others imply
-/// it; else notes its variable.
+/// Notes the literal at a place of the trail, which is not the last of the first `left`, if it is seen, and drops it if the
+/// others imply it.
 fn drop_implied(
     trail: &Trail,
     seen: &mut [bool],
@@ -212,13 +204,13 @@ fn drop_implied(
     if !seen[e.dim.var] {
         return Ok(());
     }
+    note(walked, e.dim.var)?;
     match e.reason {
-        None => note(walked, e.dim.var),
+        None => Ok(()),
         Some(r) => {
             if !is_implied(seen, store.clause(r), e.dim.var) {
-                return note(walked, e.dim.var);
+                return Ok(());
             }
-            note_dropped(trail, walked, e.dim.var)?;
             seen[e.dim.var] = false;
             hints.push(r)?;
             Ok(())
@@ -226,7 +218,7 @@ fn drop_implied(
     }
 }
 
-/// Drops the literals that the others imply, but the last of the first `left`, and notes the variables of the rest.
+/// Drops the literals that the others imply, but the last of the first `left`, and notes their variables and those of the rest.
 fn shorten(
     trail: &Trail,
     seen: &mut [bool],
@@ -278,7 +270,7 @@ fn collect(
 #[derive(Drop)]
 struct Taught {
     left: usize,
-    step: Step,
+    step: Draft,
 }
 
 /// Learns a clause from a conflict. It is empty where nothing of the trail is left; then the clauses are refuted.
@@ -303,15 +295,15 @@ fn teach(
     walked.clear();
     hints.clear();
     let left = trace(trail, seen, walked, store, conflict, hints)?;
-    let traced = walked.len();
     shorten(trail, seen, walked, left, store, hints)?;
-    let room = walked.len().saturating_sub(traced).saturating_add(1);
+    // Of each variable that was walked over there is a hint, or its literal stays; and the conflict is a hint.
+    let room = walked.len().saturating_sub(hints.len()).saturating_add(1);
     let clause = collect(alloc, &trail.entries()[..left], seen, room)?;
     hints.reverse();
     let kept = Vec::from_slice(alloc, hints.as_slice())?;
     Ok(Taught {
         left,
-        step: Step {
+        step: Draft {
             clause,
             hints: kept,
         },
@@ -385,9 +377,19 @@ fn add_clause(
     Ok(number)
 }
 
+/// Puts a step behind the log.
+fn write(alloc: Global, steps: &mut Vec<Step>, draft: &Draft) -> Result<(), AllocError>
+    ensures { OnOk result (steps.new.items ≡ steps.old.items ++ draft.now ∷ []) }
+{
+    let step = Step::of(alloc, draft.clause.as_slice(), draft.hints.as_slice())?;
+    steps.push(step)?;
+    Ok(())
+}
+
 /// Takes the trail back to where the new clause has one open literal, adds the clause, and makes that literal true. Answers
 /// from where to propagate.
 fn take_up(
+    alloc: Global,
     trail: &mut Trail,
     seen: &[bool],
     pairs: &mut Vec<Pair>,
@@ -396,7 +398,7 @@ fn take_up(
     steps: &mut Vec<Step>,
     uses: &mut Uses,
     left: usize,
-    step: Step,
+    step: Draft,
 ) -> Result<usize, AllocError>
     requires ready { IsReady (length trail.old.values) store.old pairs.old.items (rows lists.old) trail.old }
     requires seen { length seen.now ≡ length trail.old.values }
@@ -411,7 +413,7 @@ fn take_up(
     let top = trail.entries()[left - 1].dim;
     go_back(trail, seen, left);
     let reason = add_clause(pairs, lists, store, uses, step.clause.as_slice())?;
-    steps.push(step)?;
+    write(alloc, steps, &step)?;
     let from = trail.entries().len();
     trail.assign(Assigned {
         dim: Dim {
@@ -468,11 +470,16 @@ pub fn learn(
         conflict,
     )?;
     if left == 0 {
-        steps.push(step)?;
+        write(alloc, steps, &step)?;
         return Ok(None);
     }
-    trail.after_conflict(&mut notes.walked, store.len().saturating_add(1))?;
+    trail.after_conflict(
+        &mut notes.walked,
+        step.clause.as_slice(),
+        store.len().saturating_add(1),
+    )?;
     let from = take_up(
+        alloc,
         trail,
         seen,
         pairs,

@@ -1,7 +1,5 @@
 -- The values, and the trail of literals that are false.
 use Rattle.std.specs.Prelude.{◌≡◌, ℕ, ◌<◌, Bool, Option, None, List, [], ◌∷◌, map, reverse, length, is_none, MatchOption}
-use Rattle.std.specs.declared.vec.Vec.{Vec}
-use Rattle.std.specs.declared.alloc.Global.{Global}
 use Rattle.refute_check.specs.Entry.{Entry}
 use Rattle.std.specs.List.{All, count_by}
 use Rattle.cnf.specs.declared.Dim.{Dim}

@@ -2,8 +2,8 @@
 //! the order of decisions. A literal is a `Dim` of `cnf` everywhere in contracts; the clauses and the watches hold it packed (`PackedDim`).
 #![tactic(auto)]
 
+pub mod likeness;
 pub mod lists;
-mod luby;
 pub mod order;
 pub mod packed;
 mod queue;

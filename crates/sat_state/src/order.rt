@@ -1,107 +1,148 @@
 //! Which of the variables of a conflict is decided first, and when the search starts anew. It is a choice of speed alone, of
 //! which no proof says anything.
+//!
+//! The variables of a conflict are moved to the front in the order in which they stand, so that those of newer conflicts are
+//! decided first. The search starts anew where the newest clauses have more levels than clauses had in the mean: then it is on a
+//! path on which much is decided and little follows.
 
-use crate::luby::Luby;
+ghost use Rattle.std.specs.Prelude.{◌<◌};
+
+use cnf::Dim;
 use std::alloc::{AllocError, Global};
 
-/// How many conflicts a turn takes.
-const TURN: u64 = 6_000;
+/// Numbers of levels are kept times this.
+const SCALE: u64 = 1 << 20;
 
-/// Which of the variables of a conflict comes to the very front.
-#[derive(Clone, Copy, PartialEq, Eq)]
-pub enum Preference {
-    /// In turns, the one that has had its value the longest, and the one that stood in the most of the newest conflicts. The
-    /// first turn suits clauses of gates, where older values stand nearer to the inputs.
-    InTurns,
-    /// The one that stood in the most of the newest conflicts.
-    Busiest,
-}
+/// How many clauses count in the mean of the newest ones, and in that of all.
+const NEWEST: u64 = 32;
 
-/// What the variables did in the conflicts so far.
+const MOST: u64 = 1_024;
+
+/// How many conflicts the search goes on at least before it starts anew.
+const PAUSE: u64 = 5;
+
+/// What the newest conflicts were like.
 pub struct Order {
-    preference: Preference,
-    scores: Vec<u64>,
-    conflicts: u64,
     ranked: Vec<(u64, usize)>,
-    luby: Luby,
+    conflicts: u64,
+    // The conflict after which the search was started anew last.
+    restarted: u64,
+    // Whether it was asked to start anew after this conflict.
+    is_asked: bool,
+    // For each level the newest conflict whose clause has a literal of it.
+    met: Vec<u64>,
+    // The number of levels of the newest clause, and the two means.
+    levels: u64,
+    newest: u64,
+    all: u64,
 }
 
 impl Drop for Order {
     fn drop(self) {
         let Order {
-            preference: _,
-            scores: _,
-            conflicts: _,
             ranked: _,
-            luby: _,
+            conflicts: _,
+            restarted: _,
+            is_asked: _,
+            met: _,
+            levels: _,
+            newest: _,
+            all: _,
         } = self;
     }
 }
 
-// The score of a variable that stands in this conflict: a mean of the numbers of its conflicts, of which each newer one counts
-// for a sixteenth. (It is scaled by 2^16.)
-fn raised(score: u64, conflict: u64) -> u64 {
-    (score - score / 16).saturating_add(conflict.saturating_mul(1 << 12))
-}
-
-// Raises the scores of the variables.
-fn raise(scores: &mut [u64], conflict: u64, walked: &[usize]) {
-    for var in walked {
-        if let Some(score) = scores.get_mut(*var) {
-            *score = raised(*score, conflict);
-        }
-    }
-}
-
-// Puts the variables into the order of their scores, the least first.
-fn rank(
-    scores: &[u64],
-    ranked: &mut Vec<(u64, usize)>,
-    walked: &mut [usize],
-) -> Result<(), AllocError> {
-    ranked.clear();
-    for var in walked.iter() {
-        ranked.push((scores.get(*var).copied().unwrap_or(0), *var))?;
-    }
-    ranked.sort_unstable();
-    for i in 0..walked.len() {
-        if let Some((_, var)) = ranked.get(i).copied() {
-            walked[i] = var;
-        }
-    }
-    Ok(())
+// A mean of so many numbers in which one is replaced by a new number.
+fn renewed(mean: u64, number: u64, count: u64) -> u64
+    requires { 0 < count }
+{
+    mean.saturating_sub(mean / count)
+        .saturating_add(number / count)
 }
 
 impl Order {
     /// Before the first conflict.
-    pub fn new(alloc: Global, vars: usize, preference: Preference) -> Result<Order, AllocError> {
+    pub fn new(alloc: Global, vars: usize) -> Result<Order, AllocError> {
         Ok(Order {
-            preference,
-            scores: vec![in alloc; 0; vars]?,
-            conflicts: 0,
             ranked: Vec::new(alloc),
-            luby: Luby::new(),
+            conflicts: 0,
+            restarted: 0,
+            is_asked: false,
+            met: vec![in alloc; 0; vars.saturating_add(1)]?,
+            levels: 0,
+            newest: 0,
+            all: 0,
         })
     }
 
-    /// Whether the busiest variable is preferred now.
-    pub fn is_busy_turn(&self) -> bool {
-        self.preference == Preference::Busiest || (self.conflicts / TURN) % 2 == 1
-    }
-
-    /// Counts a conflict, and puts its variables, of which the one with the newest value comes first, into the order in which
-    /// they are to be moved to the front.
-    pub fn arrange(&mut self, walked: &mut [usize]) -> Result<(), AllocError> {
-        self.conflicts = self.conflicts.saturating_add(1);
-        raise(&mut self.scores, self.conflicts, walked);
-        if self.is_busy_turn() {
-            rank(&self.scores, &mut self.ranked, walked)?;
+    /// Puts variables into the order of their stamps, the least first.
+    pub fn arrange(&mut self, stamps: &[u64], walked: &mut [usize]) -> Result<(), AllocError> {
+        self.ranked.clear();
+        for var in walked.iter() {
+            self.ranked
+                .push((stamps.get(*var).copied().unwrap_or(0), *var))?;
+        }
+        self.ranked.sort_unstable();
+        for i in 0..walked.len() {
+            if let Some((_, var)) = self.ranked.get(i).copied() {
+                walked[i] = var;
+            }
         }
         Ok(())
     }
 
-    /// Whether the search is to start anew after this conflict. That is so now and then while the busiest variable is preferred.
+    // Whether the level of a variable was not met before in the clause of this conflict. Then it is now.
+    fn meets(&mut self, levels: &[usize], var: usize) -> bool {
+        let level = levels.get(var).copied().unwrap_or(0);
+        match self.met.get_mut(level) {
+            Some(conflict) => {
+                let is_new = *conflict != self.conflicts;
+                *conflict = self.conflicts;
+                is_new
+            }
+            None => false,
+        }
+    }
+
+    /// Counts a conflict and the levels of its clause, where these are the levels of the variables.
+    pub fn count(&mut self, levels: &[usize], clause: &[Dim]) {
+        self.conflicts = self.conflicts.saturating_add(1);
+        let mut found: u64 = 0;
+        for d in clause {
+            if self.meets(levels, d.var) {
+                found = found.saturating_add(1);
+            }
+        }
+        self.levels = found;
+        let scaled = found.saturating_mul(SCALE);
+        self.newest = renewed(self.newest, scaled, NEWEST);
+        self.all = renewed(self.all, scaled, self.conflicts.clamp(1, MOST));
+    }
+
+    /// How many levels the clause of the newest conflict has.
+    pub fn levels(&self) -> u64 {
+        self.levels
+    }
+
+    // Whether the newest clauses have over 1.1 times as many levels as all had.
+    fn is_worse(&self) -> bool {
+        self.newest.saturating_mul(10) > self.all.saturating_mul(11)
+    }
+
+    /// Lets the search start anew after this conflict.
+    pub fn ask(&mut self) {
+        self.is_asked = true;
+    }
+
+    /// Whether the search is to start anew after this conflict: where it was asked for, or the newest clauses have many levels,
+    /// and it has not just been. Then it is taken to be so.
     pub fn is_restart_due(&mut self) -> bool {
-        self.is_busy_turn() && self.luby.is_over()
+        let is_early = self.conflicts.saturating_sub(self.restarted) < PAUSE;
+        if !self.is_asked && (is_early || !self.is_worse()) {
+            return false;
+        }
+        self.is_asked = false;
+        self.restarted = self.conflicts;
+        true
     }
 }

@@ -104,6 +104,11 @@ impl Queue {
         })
     }
 
+    /// Of each variable when it was moved to the front last.
+    pub fn stamps(&self) -> &[u64] {
+        self.stamps.as_slice()
+    }
+
     /// Moves a variable to the front, unless the stamps are used up.
     pub fn bump(&mut self, values: &[Option<bool>], var: usize)
         requires { IsQueue values.now self.old.list.items self.old.stamps.items self.old.clock self.old.next }

@@ -7,7 +7,8 @@ ghost use Rattle.std.specs.List.{All};
 ghost use Rattle.cnf.specs.Clauses.{all_open, valuation};
 ghost use Rattle.sat_state.specs.Trail.{Tracks, open_count};
 
-use crate::order::{Order, Preference};
+use crate::likeness::{Attempts, Likeness, Wish};
+use crate::order::Order;
 use crate::queue::Queue;
 use cnf::Dim;
 use std::alloc::{AllocError, Global};
@@ -22,7 +23,7 @@ pub struct Assigned {
 
 /// Values of variables, and the literals that they make false in the order in which they came. Contracts see these two
 /// lists. Beside them it keeps a queue of the variables, and, for the choice of decisions alone, the level at which each variable
-/// had a value last, that value, what conflicts it stood in, and the place of each clause at which a literal was found last.
+/// had a value last, that value, what the newest conflicts were like, and the place of each clause at which a literal was found last.
 pub struct Trail {
     values: Vec<Option<bool>>,
     entries: Vec<Assigned>,
@@ -31,6 +32,7 @@ pub struct Trail {
     level: usize,
     queue: Queue,
     order: Order,
+    attempts: Attempts,
     places: Vec<usize>,
 }
 
@@ -44,6 +46,7 @@ impl Drop for Trail {
             level: _,
             queue: _,
             order: _,
+            attempts: _,
             places: _,
         } = self;
     }
@@ -98,9 +101,27 @@ fn open_values(alloc: Global, vars: usize) -> Result<Vec<Option<bool>>, AllocErr
     Ok(values)
 }
 
+// Sets all flags.
+fn set_all(flags: &mut Vec<bool>, value: bool)
+    ensures { length flags.new.items ≡ length flags.old.items }
+{
+    for i in 0..flags.len() {
+        flags[i] = value;
+    }
+}
+
+// Sets the flag of a variable, if there is one.
+fn set_at(flags: &mut Vec<bool>, wish: Wish)
+    ensures { length flags.new.items ≡ length flags.old.items }
+{
+    if wish.var < flags.len() {
+        flags[wish.var] = wish.value;
+    }
+}
+
 impl Trail {
     /// A trail on which each of the variables below `vars` is open.
-    pub fn new(alloc: Global, vars: usize, preference: Preference) -> Result<Trail, AllocError>
+    pub fn new(alloc: Global, vars: usize) -> Result<Trail, AllocError>
         ensures width { IfOk result (λ trail. length trail.values ≡ vars) }
         ensures open { IfOk result (λ trail. valuation trail.values ≡ all_open) }
         ensures empty { IfOk result (λ trail. trail.entries ≡ []) }
@@ -112,7 +133,8 @@ impl Trail {
             phases: vec![in alloc; false; vars]?,
             level: 0,
             queue: Queue::new(alloc, vars)?,
-            order: Order::new(alloc, vars, preference)?,
+            order: Order::new(alloc, vars)?,
+            attempts: Attempts::new(alloc),
             places: Vec::new(alloc),
         })
     }
@@ -155,7 +177,13 @@ impl Trail {
         ensures open { MatchOption result (All (λ o. o ≡ None → ⊥) self.old.values) (λ v. (v < length self.old.values) × (valuation self.old.values v ≡ None)) }
         ensures unchanged { self.new ≡ self.old }
     {
-        self.queue.choose(&self.values)
+        match self.attempts.wish(&self.values) {
+            None => self.queue.choose(&self.values),
+            Some(wish) => {
+                set_at(&mut self.phases, wish);
+                Some(wish.var)
+            }
+        }
     }
 
     /// Of each clause, by its number, the place from which to look for a literal that is not false.
@@ -172,19 +200,49 @@ impl Trail {
         }
     }
 
-    /// After a conflict: lets its variables, the newest first, be chosen before all others, and makes room for the places of so
-    /// many clauses.
-    pub fn after_conflict(&mut self, walked: &mut [usize], count: usize) -> Result<(), AllocError>
+    /// After a conflict that taught this clause: lets its variables be chosen before all others, and makes room for the places of
+    /// so many clauses.
+    pub fn after_conflict(
+        &mut self,
+        walked: &mut [usize],
+        clause: &[Dim],
+        count: usize,
+    ) -> Result<(), AllocError>
         ensures { self.new ≡ self.old }
     {
-        self.order.arrange(walked)?;
+        self.order.arrange(self.queue.stamps(), walked)?;
+        self.order.count(&self.levels, clause);
         self.queue.bump_all(&self.values, walked);
+        if self.attempts.after_conflict() {
+            self.order.ask();
+        }
         fill_up(&mut self.places, count)
     }
 
-    /// Whether the variables that stood in the most of the newest conflicts are preferred now.
-    pub fn is_busy_turn(&self) -> bool {
-        self.order.is_busy_turn()
+    /// Lets variables be chosen before all others, the last one first.
+    pub fn prefer(&mut self, vars: &[usize])
+        ensures { self.new ≡ self.old }
+    {
+        self.queue.bump_all(&self.values, vars);
+    }
+
+    /// Tries first that variables differ that are likely to be alike.
+    pub fn attempt(&mut self, pairs: Vec<Likeness>)
+        ensures { self.new ≡ self.old }
+    {
+        self.attempts.begin(pairs);
+    }
+
+    /// Forgets the values that variables had: from now on each is decided to be this one first.
+    pub fn set_phases(&mut self, value: bool)
+        ensures { self.new ≡ self.old }
+    {
+        set_all(&mut self.phases, value);
+    }
+
+    /// How many levels the clause of the newest conflict has.
+    pub fn newest_levels(&self) -> u64 {
+        self.order.levels()
     }
 
     /// Whether the search is to start anew.

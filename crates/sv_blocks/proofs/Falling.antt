@@ -74,6 +74,9 @@ falls_by m n t h e = omega arith
 pub falls_to : (m n t : ℕ) → m < n → 4 * n ≡ t → 4 * m < t
 falls_to m n t h e = omega arith
 
+pub falls_apart : (m n t : ℕ) → m < n → 4 * n ≡ t → 4 * m + 1 < t
+falls_apart m n t h e = omega arith
+
 pub falls_arm : (m n t : ℕ) → suc m < n → 4 * n ≡ t → 4 * m + 2 < t
 falls_arm m n t h e = omega arith
 

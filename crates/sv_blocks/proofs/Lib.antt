@@ -14,3 +14,5 @@ pub mod Marking
 pub mod Driving
 pub mod Ending
 pub mod Sitting
+pub mod Overlaying
+pub mod Choosing

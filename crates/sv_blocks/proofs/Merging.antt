@@ -99,7 +99,7 @@ pub record Chooses (old new : List Shape) (truth : ℕ) (a b nodes : List ℕ) (
 pub chooses_none : (old new : List Shape) (truth : ℕ) (a b : List ℕ) → Chooses old new truth a b [] 0
 chooses_none old new truth a b = record { long = refl; at = λ i l. absurd (omega arith) }
 
-three_later : (old mid new : List Shape) (f : List Bit → List Bit → List Bit → List Bit) (c a b w n : ℕ) → Extends mid new → FromThree old mid f c a b w n → FromThree old new f c a b w n
+pub three_later : (old mid new : List Shape) (f : List Bit → List Bit → List Bit → List Bit) (c a b w n : ℕ) → Extends mid new → FromThree old mid f c a b w n → FromThree old new f c a b w n
 three_later old mid new f c a b w n e h = record {
   within = let g = h.within in let k = e.longer in omega arith;
   width = width-extends mid new n e h.within ∙ h.width;
@@ -107,7 +107,7 @@ three_later old mid new f c a b w n e h = record {
   mentions = λ p t x y. variables-extends p mid new n e h.within ∙ h.mentions p t x y;
 }
 
-three_earlier : (old mid new : List Shape) (f : List Bit → List Bit → List Bit → List Bit) (c a b w n : ℕ) → Extends old mid → c < length old → a < length old → b < length old → FromThree mid new f c a b w n → FromThree old new f c a b w n
+pub three_earlier : (old mid new : List Shape) (f : List Bit → List Bit → List Bit → List Bit) (c a b w n : ℕ) → Extends old mid → c < length old → a < length old → b < length old → FromThree mid new f c a b w n → FromThree old new f c a b w n
 three_earlier old mid new f c a b w n e lc la lb h = record {
   within = h.within;
   width = h.width;
@@ -223,9 +223,3 @@ merges_later scene old mid new truth a b nodes after sc e is h =
       value = λ bits. store_kept scene mid new bits nodes sc h.nodes_are e ∙ h.value bits;
       mentions = λ p t x y. holds_kept scene mid new p nodes h.nodes_are e (h.mentions p t x y);
     })
-
-pub merges_from : (scene : Scene) (old mid new : List Shape) (truth : ℕ) (a b xs ys nodes after : List ℕ) → IsScene scene → Extends mid new → after ≡ nodes → xs ≡ a → ys ≡ b → Merges scene old mid truth xs ys nodes → Merges scene old new truth a b after
-merges_from scene old mid new truth a b xs ys nodes after sc e is da db h =
-    let P : List ℕ → Type 0 = λ zs. Merges scene old mid truth zs ys nodes in
-    let Q : List ℕ → Type 0 = λ zs. Merges scene old mid truth a zs nodes in
-    merges_later scene old mid new truth a b nodes after sc e is (subst Q db (subst P da h))

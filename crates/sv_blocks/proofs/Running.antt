@@ -1,5 +1,5 @@
 -- Steps over nodes, one after another and side by side.
-use Rattle.std.proofs.Common.{◌≡◌, ℕ, zero, suc, ◌+◌, ◌<◌, ◌≤◌, Bool, List, [], ◌∷◌, ◌++◌, length, drop, get_or, refl, sym, ap, ◌∙◌, inl, inr, subst, arith, OnOk, Result, Ok, Err}
+use Rattle.std.proofs.Common.{◌≡◌, ℕ, zero, suc, ◌+◌, ◌<◌, ◌≤◌, Bool, List, [], ◌∷◌, ◌++◌, length, drop, get_or, Option, refl, sym, ap, ◌∙◌, inl, inr, subst, arith, OnOk, Result, Ok, Err}
 use Rattle.std.specs.List.{Contains}
 use Rattle.std.proofs.lemmas.List.Elements.{Contains-append_left, Contains-append_right, Contains-append_cases}
 use Rattle.std.proofs.lemmas.List.{drop_more, drop_all, at_drop_more, at_drop_all}
@@ -24,25 +24,36 @@ use Rattle.sv_actions.specs.declared.action.Arm.{Arm}
 use Rattle.sv_actions.specs.declared.action.Case.{Case}
 use Rattle.sv_actions.specs.Doing.{run, run_all, names, names_all, label_matches}
 use Rattle.sv_stores.specs.declared.scene.Scene.{Scene}
-use Rattle.sv_stores.specs.declared.scene.State.{State}
-use Rattle.sv_stores.specs.Scenes.{store_of, reads_in, Allows, HoldsIn, AreNodes, SeenBy, IsScene, IsState, Yields, Ran}
+use Rattle.sv_stores.specs.Scenes.{store_of, reads_in, Allows, HoldsIn, AreNodes, IsScene, Yields, Ran}
 use Rattle.sv_blocks.specs.Sides.{Merges}
+use Rattle.sv_blocks.specs.Overlays.{over}
 use Rattle.sv_blocks.specs.Writing.{assigns, assign_names}
 use Rattle.sv_blocks.specs.Running.{arm_run, arms_run, arm_names, arms_names, RanArm, RanArms}
 use Rattle.sv_stores.proofs.Stores.{store_kept, holds_kept}
 use Rattle.sv_stores.proofs.Yielding.{allows_left, allows_right}
+use Rattle.sv_blocks.proofs.Overlaying.{over_none}
+use Rattle.sv_blocks.proofs.Merging.{merges_later}
 use Rattle.sv_blocks.proofs.Acting.{run_assign, run_choose, run_match, names_assign, names_choose, names_match, labels_and_bodies}
 
--- ---- another state with the same nodes
+-- ---- what lies over a state that is put back
 
-pub state_as : (scene : Scene) (shapes : List Shape) (a b : State) → b.nodes ≡ a.nodes → b.seen ≡ a.seen → IsState scene shapes a → IsState scene shapes b
-state_as scene shapes a b e d h = record {
-  nodes = subst (AreNodes scene shapes) (sym e) h.nodes;
-  seen = subst (λ xs. SeenBy scene.manner scene shapes b.nodes xs) (sym d) (subst (λ xs. SeenBy scene.manner scene shapes xs a.seen) (sym e) h.seen);
-}
+-- what actions left is put back: the state is as before, and what is handed on makes of it what they left
+pub back_is : (before during back : List ℕ) (none kept : List (Option ℕ)) → none ≡ [] → over kept during ≡ over none before → back ≡ over kept during → back ≡ before
+back_is before during back none kept e k is = is ∙ k ∙ over_none none before e
 
-pub ran_copied : (scene : Scene) (old new : List Shape) (before copy after : List ℕ) (f : (Store → Read) → Store → Store) (a : List NamedSignal) → copy ≡ before → Ran scene old new copy after f a → Ran scene old new before after f a
-ran_copied scene old new before copy after f a e h = subst (λ xs. Ran scene old new xs after f a) e h
+pub puts_are : (before during back : List ℕ) (none puts : List (Option ℕ)) → none ≡ [] → back ≡ before → over puts back ≡ over none during → over puts before ≡ during
+puts_are before during back none puts e is k = ap (over puts) (sym is) ∙ k ∙ over_none none during e
+
+pub nodes_over : (scene : Scene) (shapes : List Shape) (a b : List ℕ) (puts : List (Option ℕ)) → a ≡ b → AreNodes scene shapes (over puts a) → AreNodes scene shapes (over puts b)
+nodes_over scene shapes a b puts e h = subst (λ xs. AreNodes scene shapes (over puts xs)) e h
+
+-- a step, as the arena grows behind it
+pub ran_later : (scene : Scene) (old mid new : List Shape) (before during after : List ℕ) (f : (Store → Read) → Store → Store) (a : List NamedSignal) → IsScene scene → AreNodes scene mid during → Extends mid new → after ≡ during → Ran scene old mid before during f a → Ran scene old new before after f a
+ran_later scene old mid new before during after f a sc are e is h =
+    subst (λ xs. Ran scene old new before xs f a) (sym is) (record {
+      value = λ bits. store_kept scene mid new bits during sc are e ∙ h.value bits;
+      mentions = λ p q v. holds_kept scene mid new p during are e (h.mentions p q v);
+    })
 
 -- ---- other functions and other names
 
@@ -240,6 +251,9 @@ pub on_ok : {T E : Type 0} (r : Result T E) (A B : Type 0) → (A → B) → OnO
 on_ok (Ok x) A B f h = f h
 on_ok (Err e) A B f h = tt
 
+pub kept_on : {T E : Type 0} (r : Result T E) (before back after : List ℕ) (p q : List (Option ℕ)) → back ≡ before → OnOk r (over q after ≡ over p back) → OnOk r (over q after ≡ over p before)
+kept_on r before back after p q e h = on_ok r (over q after ≡ over p back) (over q after ≡ over p before) (λ k. k ∙ ap (over p) e) h
+
 -- ---- an arm, under other names of its parts
 
 pub ran_arm_by : (scene : Scene) (old one two new : List Shape) (start left before after : List ℕ) (c : Case) (arm : Arm) (labels : List Typed) (body : List Action) (truth : ℕ) → IsScene scene → AreNodes scene old start → AreNodes scene old before
@@ -250,3 +264,36 @@ ran_arm_by scene old one two new start left before after c arm labels body truth
     ran_arm scene old one two new start left before after c arm truth sc are arb f g arl
     (subst (λ xs. Yields scene old one start (λ read. label_matches c read xs) (names_of c.value ++ names_together xs) 1 truth) dl t)
     (subst (λ xs. Ran scene one two start left (run_all xs) (names_all xs)) db k) m
+
+-- ---- what branches lay over one state
+
+pub ran_choose_apart : (scene : Scene) (old one two low mid new : List Shape) (before n1 n2 s after : List ℕ) (pa pb pm : List (Option ℕ)) (x : Action) (c : Typed) (a b : List Action) (truth : ℕ) → IsScene scene → AreNodes scene old before → x ≡ act.Choose c a b
+    → n1 ≡ before → n2 ≡ n1 → s ≡ n2 → after ≡ over pm n2 → Extends old one → Extends one two → Extends two low → Extends mid new → AreNodes scene two (over pa before)
+    → Yields scene old one before (λ read. truth_of (own c read)) (names_of c) 1 truth
+    → Ran scene one two before (over pa before) (run_all a) (names_all a) → Ran scene two low n1 (over pb n1) (run_all b) (names_all b) → Merges scene low mid truth (over pa s) (over pb s) (over pm s)
+    → Ran scene old new before after (run x) (names x)
+ran_choose_apart scene old one two low mid new before n1 n2 s after pa pb pm x c a b truth sc are e e1 e2 e3 is f g h ext arl t k j m =
+    let same : n2 ≡ before = e2 ∙ e1 in
+    let right : Ran scene two low before (over pb before) (run_all b) (names_all b) = subst (λ xs. Ran scene two low xs (over pb xs) (run_all b) (names_all b)) e1 j in
+    let both : Merges scene low mid truth (over pa before) (over pb before) (over pm before) = subst (λ xs. Merges scene low mid truth (over pa xs) (over pb xs) (over pm xs)) (e3 ∙ same) m in
+    ran_choose scene old one two low new before (over pa before) (over pb before) after x c a b truth sc are e f g h arl t k right
+    (merges_later scene low mid new truth (over pa before) (over pb before) (over pm before) after sc ext (is ∙ ap (over pm) same) both)
+
+pub ran_arm_apart : (scene : Scene) (old one two new : List Shape) (start s : List ℕ) (p r q : List (Option ℕ)) (c : Case) (arm : Arm) (labels : List Typed) (body : List Action) (truth : ℕ) → IsScene scene → AreNodes scene old start → AreNodes scene old (over r start)
+    → s ≡ start → labels ≡ arm.labels → body ≡ arm.body → Extends old one → Extends one two → AreNodes scene two (over p start)
+    → Yields scene old one start (λ read. label_matches c read labels) (names_of c.value ++ names_together labels) 1 truth
+    → Ran scene one two start (over p start) (run_all body) (names_all body) → Merges scene two new truth (over p s) (over r s) (over q s) → RanArm scene old new c arm start (over r start) (over q start)
+ran_arm_apart scene old one two new start s p r q c arm labels body truth sc are arb e dl db f g arl t k m =
+    ran_arm_by scene old one two new start (over p start) (over r start) (over q start) c arm labels body truth sc are arb dl db f g arl t k
+    (subst (λ xs. Merges scene two new truth (over p xs) (over r xs) (over q xs)) e m)
+
+pub arm_over : (scene : Scene) (old new : List Shape) (c : Case) (arm : Arm) (a b : List ℕ) (r q : List (Option ℕ)) → a ≡ b → RanArm scene old new c arm a (over r a) (over q a) → RanArm scene old new c arm b (over r b) (over q b)
+arm_over scene old new c arm a b r q e h = subst (λ xs. RanArm scene old new c arm xs (over r xs) (over q xs)) e h
+
+pub ran_match_apart : (scene : Scene) (old mid low new : List Shape) (before start back after : List ℕ) (p q : List (Option ℕ)) (x : Action) (c : Case) (arms xs : List Arm) (other os : List Action) → IsScene scene → AreNodes scene old before
+    → start ≡ before → back ≡ start → after ≡ over q back → x ≡ act.Match c arms other → xs ≡ arms → os ≡ other → Extends old mid → Extends low new → AreNodes scene low (over q start)
+    → Ran scene old mid before (over p before) (run_all os) (names_all os) → RanArms scene mid low c xs start (over p start) (over q start) → Ran scene old new before after (run x) (names x)
+ran_match_apart scene old mid low new before start back after p q x c arms xs other os sc are e1 e2 is e dx d_other f g there k m =
+    let all : RanArms scene mid low c xs before (over p before) (over q before) = subst (λ ys. RanArms scene mid low c xs ys (over p ys) (over q ys)) e1 m in
+    ran_later scene old low new before (over q before) after (run x) (names x) sc (nodes_over scene low start before q e1 there) g (is ∙ ap (over q) (e2 ∙ e1))
+    (ran_match scene old mid low before before (over p before) (over q before) x c arms xs other os sc are refl e dx d_other f k all)

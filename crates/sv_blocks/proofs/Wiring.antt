@@ -1,5 +1,5 @@
 -- The wires that the statements of a block write, as names declare them.
-use Rattle.std.proofs.Common.{◌≡◌, ◌≢◌, ℕ, zero, suc, ◌+◌, ◌*◌, ◌<◌, ◌≤◌, Bool, true, false, ◌&&◌, List, [], ◌∷◌, ◌++◌, length, set, take, replicate, get_or, Option, Some, None, refl, sym, ap, ◌∙◌, ◌⊎◌, inl, inr, subst, arith, nat_lt, get_or-set_same, get_or-set_other}
+use Rattle.std.proofs.Common.{◌≡◌, ◌≢◌, ℕ, zero, suc, ◌+◌, ◌*◌, ◌<◌, ◌≤◌, Bool, true, false, ◌&&◌, List, [], ◌∷◌, ◌++◌, length, take, replicate, get_or, Option, Some, None, refl, sym, ap, ◌∙◌, ◌⊎◌, inl, inr, subst, arith, nat_lt}
 use Rattle.std.specs.List.{All, Contains}
 use Rattle.std.proofs.lemmas.List.{replicate-append-replicate, take_all, get_or_push, get_or_past, length_push, length-replicate, get_or-replicate, get_or_append_left}
 use Rattle.std.specs.Prelude.{is_some}
@@ -42,26 +42,18 @@ among_all named all e h k d l = record { there = subst (λ ns. Contains ns (wire
 
 -- ---- places
 
-pub places_none : (named : List NamedSignal) (all : Places) → all.places.items ≡ [] → all.wires.items ≡ [] → all.widths.items ≡ [] → ArePlaces named all
+pub places_none : (named : List NamedSignal) (all : Places) → all.places ≡ [] → all.wires.items ≡ [] → all.widths.items ≡ [] → ArePlaces named all
 places_none named all e d f = record {
   long = ap length f ∙ sym (ap length d);
   back = λ n i h. let g : None ≡ Some i = sym (ap (λ xs. entry_at xs n) e) ∙ h in cc;
   among = λ i l. absurd (let g = ap length d in omega arith);
 }
 
-pub places_same : (named : List NamedSignal) (all new : Places) → ((n : ℕ) → get_or new.places.items n None ≡ get_or all.places.items n None) → new.wires.items ≡ all.wires.items → new.widths.items ≡ all.widths.items → ArePlaces named all → ArePlaces named new
-places_same named all new e d f h = record {
-  long = ap length f ∙ h.long ∙ sym (ap length d);
-  back = λ n i g. subst (λ xs. (i < length xs) × (get_or xs i 0 ≡ n)) (sym d) (h.back n i (sym (e n) ∙ g));
-  among = λ i l.
-      subst (λ xs. IsAmong named (record { number = get_or xs i 0; width = get_or new.widths.items i 0 })) (sym d)
-      (subst (λ xs. IsAmong named (record { number = get_or all.wires.items i 0; width = get_or xs i 0 })) (sym f) (h.among i (subst (λ xs. i < length xs) d l)));
-}
-
 -- a place more, for a wire that had none
-pub places_more : (named : List NamedSignal) (all new : Places) (mid : List (Option ℕ)) (w : Wire) → ((n : ℕ) → get_or mid n None ≡ get_or all.places.items n None) → w.number < length mid → IsAmong named w
-    → new.places.items ≡ set mid w.number (Some (length all.wires.items)) → new.wires.items ≡ all.wires.items ++ w.number ∷ [] → new.widths.items ≡ all.widths.items ++ w.width ∷ [] → ArePlaces named all → ArePlaces named new
-places_more named all new mid w same room declared p d f h = record {
+pub places_more : (named : List NamedSignal) (all new : Places) (w : Wire) → IsAmong named w
+    → entry_at new.places w.number ≡ Some (length all.wires.items) → ((n : ℕ) → n ≢ w.number → entry_at new.places n ≡ entry_at all.places n)
+    → new.wires.items ≡ all.wires.items ++ w.number ∷ [] → new.widths.items ≡ all.widths.items ++ w.width ∷ [] → ArePlaces named all → ArePlaces named new
+places_more named all new w declared here others d f h = record {
   long = ap length f ∙ length_push all.widths.items w.width ∙ ap (λ n. n + 1) h.long ∙ sym (ap length d ∙ length_push all.wires.items w.number);
   back = λ n i g. back n i g (cases_eq n w.number);
   among = λ i l. known i (omega (arith, ap length d, length_push all.wires.items w.number)) (cases_lt i (length all.wires.items));
@@ -85,13 +77,12 @@ places_more named all new mid w same room declared p d f h = record {
     some_same : (a b : ℕ) → Some a ≡ Some b → a ≡ b
     some_same a b e = cc
 
-    back : (n i : ℕ) → entry_at new.places.items n ≡ Some i → ((n ≡ w.number) ⊎ (n ≢ w.number)) → (i < length new.wires.items) × (get_or new.wires.items i 0 ≡ n)
+    back : (n i : ℕ) → entry_at new.places n ≡ Some i → ((n ≡ w.number) ⊎ (n ≢ w.number)) → (i < length new.wires.items) × (get_or new.wires.items i 0 ≡ n)
     back n i g (inl e) =
-        let is : i ≡ length all.wires.items = sym (some_same (length all.wires.items) i (sym (ap (λ xs. entry_at xs n) p ∙ ap (λ m. get_or (set mid w.number (Some (length all.wires.items))) m None) e ∙ get_or-set_same mid w.number (Some (length all.wires.items)) None room) ∙ g)) in
+        let is : i ≡ length all.wires.items = sym (some_same (length all.wires.items) i (sym here ∙ ap (entry_at new.places) (sym e) ∙ g)) in
         ((let x = longer in omega arith), ap (λ m. get_or new.wires.items m 0) is ∙ last_wire ∙ sym e)
     back n i g (inr ne) =
-        let old : entry_at all.places.items n ≡ Some i = sym (ap (λ xs. entry_at xs n) p ∙ get_or-set_other mid w.number n (Some (length all.wires.items)) None ne ∙ same n) ∙ g in
-        let b = h.back n i old in
+        let b = h.back n i (sym (others n ne) ∙ g) in
         ((let x = longer in let y = b.0 in omega arith), wire_at i b.0 ∙ b.1)
 
     known : (i : ℕ) → i < length all.wires.items + 1 → ((i < length all.wires.items) ⊎ (length all.wires.items ≤ i)) → IsAmong named (record { number = get_or new.wires.items i 0; width = get_or new.widths.items i 0 })
@@ -116,13 +107,11 @@ there_more old new found i x l e kept h k = subst (All (IsThere new)) (sym (take
 pub there_all : (places all : List (Option ℕ)) (found : List Wire) (i : ℕ) → length found ≤ i → places ≡ all → All (IsThere all) (take i found) → All (IsThere places) found
 there_all places all found i l e h = subst (λ xs. All (IsThere xs) found) (sym e) (subst (All (IsThere all)) (take_all i found l) h)
 
-pub set_there : (mid : List (Option ℕ)) (n p : ℕ) → n < length mid → is_some (get_or (set mid n (Some p)) n None) ≡ true
-set_there mid n p l = ap is_some (get_or-set_same mid n (Some p) None l)
-
-pub set_kept : (mid : List (Option ℕ)) (n m p : ℕ) → n < length mid → is_some (get_or mid m None) ≡ true → is_some (get_or (set mid n (Some p)) m None) ≡ true
-set_kept mid n m p l h = elim (cases_eq m n) [
-  | inl e ↦ ap (λ k. is_some (get_or (set mid n (Some p)) k None)) e ∙ set_there mid n p l
-  | inr ne ↦ ap is_some (get_or-set_other mid n m (Some p) None ne) ∙ h
+-- where a wire has a place and the others keep theirs
+pub there_kept : (old new : List (Option ℕ)) (w x : Wire) (p : ℕ) → entry_at new w.number ≡ Some p → ((n : ℕ) → n ≢ w.number → entry_at new n ≡ entry_at old n) → IsThere old x → IsThere new x
+there_kept old new w x p here others h = elim (cases_eq x.number w.number) [
+  | inl e ↦ ap (λ n. is_some (entry_at new n)) e ∙ ap is_some here
+  | inr ne ↦ ap is_some (others x.number ne) ∙ h
 ]
 
 -- ---- a scene with nothing marked
@@ -146,7 +135,7 @@ given_never : (f : ℕ → Bool) (o : Option ℕ) → ((i : ℕ) → f i ≡ fal
 given_never f None h = refl
 given_never f (Some i) h = h i
 
-pub begun : (named : List NamedSignal) (manner : Manner) (all : Places) (places : List (Option ℕ)) (wires widths : List ℕ) (marks : List Bool) (n : ℕ) → ArePlaces named all → places ≡ all.places.items → wires ≡ all.wires.items → widths ≡ all.widths.items → marks ≡ replicate (n * 128) false → n ≡ length all.wires.items
+pub begun : (named : List NamedSignal) (manner : Manner) (all : Places) (places : List (Option ℕ)) (wires widths : List ℕ) (marks : List Bool) (n : ℕ) → ArePlaces named all → places ≡ all.places → wires ≡ all.wires.items → widths ≡ all.widths.items → marks ≡ replicate (n * 128) false → n ≡ length all.wires.items
     → IsBegun named manner (record { places = places; wires = wires; widths = widths; marks = marks; manner = manner })
 begun named manner all places wires widths marks n h p d f m c = record {
   sound = record {
@@ -162,14 +151,3 @@ begun named manner all places wires widths marks n h p d f m c = record {
   clear = λ k j. given_never (λ i. mark_at marks i j) (entry_at places k) (λ i. ap (λ ms. mark_at ms i j) m ∙ no_mark (n * 128) i j);
   marks = ap length m ∙ length-replicate (n * 128) false ∙ ap (λ k. k * 128) (c ∙ ap length (sym d));
 }
-
--- ---- room for places
-
-pad_same : (xs : List (Option ℕ)) (n : ℕ) → get_or (xs ++ None ∷ []) n None ≡ get_or xs n None
-pad_same [] zero = refl
-pad_same [] (suc n) = refl
-pad_same (x ∷ xs) zero = refl
-pad_same (x ∷ xs) (suc n) = pad_same xs n
-
-pub pad_more : (old mid new : List (Option ℕ)) → ((n : ℕ) → get_or mid n None ≡ get_or old n None) → new ≡ mid ++ None ∷ [] → (n : ℕ) → get_or new n None ≡ get_or old n None
-pad_more old mid new h e n = ap (λ xs. get_or xs n None) e ∙ pad_same mid n ∙ h n

@@ -40,7 +40,7 @@ pub record IsAmong (named : List NamedSignal) (x : Wire) : Type 0 where
 -- each place is that of one of these signals
 pub record ArePlaces (named : List NamedSignal) (all : Places) : Type 0 where
   pub long : length all.widths.items ≡ length all.wires.items
-  pub back : (n i : ℕ) → entry_at all.places.items n ≡ Some i → (i < length all.wires.items) × (slice_index_or all.wires.items i 0 ≡ n)
+  pub back : (n i : ℕ) → entry_at all.places n ≡ Some i → (i < length all.wires.items) × (slice_index_or all.wires.items i 0 ≡ n)
   pub among : (i : ℕ) → i < length all.wires.items → IsAmong named (record { number = slice_index_or all.wires.items i 0; width = slice_index_or all.widths.items i 0 })
 
 -- the wire at each place, with its width, is one of these signals

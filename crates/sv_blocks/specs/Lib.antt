@@ -1,5 +1,6 @@
 pub mod Parts
 pub mod Sides
+pub mod Overlays
 pub mod Writing
 pub mod Masks
 pub mod Running

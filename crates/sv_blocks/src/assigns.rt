@@ -11,8 +11,10 @@ ghost use Rattle.sv_targets.specs.Targets.{width_of_all};
 ghost use Rattle.sv_actions.specs.Doing.{assigned_bits, TargetFits};
 ghost use Rattle.sv_stores.specs.Scenes.{Narrow, IsScene, IsState, Yields, Ran};
 ghost use Rattle.sv_blocks.specs.Fitting.{TargetSits};
+ghost use Rattle.sv_blocks.specs.Overlays.{over};
 ghost use Rattle.sv_blocks.specs.Writing.{Wrote, WroteAll, assigns, assign_names};
 
+use crate::overlay::Overlay;
 use crate::states::put_node;
 use crate::writes::written;
 use std::alloc::{AllocError, Global};
@@ -61,6 +63,7 @@ fn write_target(
     state: &mut State,
     target: &TypedTarget,
     part: Node,
+    kept: &mut Overlay,
 ) -> Result<(), AllocError>
     requires scene { IsScene scene.now }
     requires state { IsState scene.now arena.old state.old }
@@ -71,6 +74,7 @@ fn write_target(
     ensures stays { Extends arena.old arena.new }
     ensures state { OnOk result (IsState scene.now arena.new state.new) }
     ensures wrote { OnOk result (Wrote scene.now arena.old arena.new state.old.nodes state.new.nodes target.now part) }
+    ensures kept { OnOk result (over kept.new state.new.nodes ≡ over kept.old state.old.nodes) }
 {
     let _ = arena.len();
     let at = place_of(scene, target.wire);
@@ -84,7 +88,7 @@ fn write_target(
         old,
         part,
     )?;
-    put_node(alloc, arena, scene, state, at, node)?;
+    put_node(alloc, arena, scene, state, at, node, kept)?;
     let _ = arena.len();
     Ok(())
 }
@@ -110,6 +114,7 @@ fn write_targets(
     state: &mut State,
     targets: &[TypedTarget],
     whole: Node,
+    kept: &mut Overlay,
 ) -> Result<(), AllocError>
     requires scene { IsScene scene.now }
     requires state { IsState scene.now arena.old state.old }
@@ -120,13 +125,14 @@ fn write_targets(
     ensures stays { Extends arena.old arena.new }
     ensures state { OnOk result (IsState scene.now arena.new state.new) }
     ensures wrote { OnOk result (WroteAll scene.now arena.old arena.new state.old.nodes state.new.nodes targets.now whole) }
+    ensures kept { OnOk result (over kept.new state.new.nodes ≡ over kept.old state.old.nodes) }
 {
     let _ = arena.len();
     let mut left = arena.width(whole);
     'targets: for target in targets {
         left -= target.width;
         let part = sliced(alloc, arena, whole, left, target.width)?;
-        write_target(alloc, arena, scene, state, target, part)?;
+        write_target(alloc, arena, scene, state, target, part, kept)?;
     }
     Ok(())
 }
@@ -139,6 +145,7 @@ pub fn assign(
     state: &mut State,
     targets: &[TypedTarget],
     value: &Typed,
+    kept: &mut Overlay,
 ) -> Result<(), AllocError>
     requires scene { IsScene scene.now }
     requires state { IsState scene.now arena.old state.old }
@@ -151,7 +158,8 @@ pub fn assign(
     ensures stays { Extends arena.old arena.new }
     ensures state { OnOk result (IsState scene.now arena.new state.new) }
     ensures ran { OnOk result (Ran scene.now arena.old arena.new state.old.nodes state.new.nodes (assigns targets.now value.now) (assign_names targets.now value.now)) }
+    ensures kept { OnOk result (over kept.new state.new.nodes ≡ over kept.old state.old.nodes) }
 {
     let node = assigned(alloc, arena, scene, state, value, total(targets))?;
-    write_targets(alloc, arena, scene, state, targets, node)
+    write_targets(alloc, arena, scene, state, targets, node, kept)
 }

@@ -9,9 +9,11 @@ ghost use Rattle.sv_stores.specs.Scenes.{IsScene, AreNodes};
 ghost use Rattle.sv_blocks.specs.Fitting.{Sits, BitSits};
 ghost use Rattle.sv_blocks.specs.Ending.{Ends, Runs, Finishes};
 
+use crate::choices::merged;
 use crate::drivers::drivers_of;
+use crate::overlay::Overlay;
 use crate::run::run_actions;
-use crate::states::{first_state, merged};
+use crate::states::first_state;
 use driver_resolve::Driver;
 use items::Items;
 use lhs_alias::WireBit;
@@ -62,7 +64,8 @@ fn last_nodes(
     let start = start_nodes(alloc, arena, scene)?;
     let nodes = Items::from_vec(start.as_slice().to_vec(alloc)?);
     let mut state = first_state(alloc, arena, scene, nodes)?;
-    run_actions(alloc, arena, scene, actions, &mut state)?;
+    let mut kept = Overlay::new(alloc);
+    run_actions(alloc, arena, scene, actions, &mut state, &mut kept)?;
     ended(alloc, arena, scene, start.as_slice(), state.nodes)
 }
 

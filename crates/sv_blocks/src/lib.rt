@@ -3,9 +3,11 @@
 
 mod assigns;
 mod bits;
+mod choices;
 mod drivers;
 mod ends;
 mod labels;
+mod overlay;
 mod parts;
 mod run;
 mod shown;

@@ -4,17 +4,15 @@
 ghost use Rattle.std.specs.Prelude.{◌≡◌, ◌<◌, length, slice_set, IfOk, OnOk};
 ghost use Rattle.svex_shape.specs.Shapes.{width_at};
 ghost use Rattle.svex_arena.specs.Arenas.{Extends};
-ghost use Rattle.fourvec.specs.Bits.{pick_of};
-ghost use Rattle.sv_lower.specs.Nodes.{FromThree};
 ghost use Rattle.sv_stores.specs.Scenes.{width_in, IsScene, IsState, AreNodes, AreSeen, SeenBy, Starts};
-ghost use Rattle.sv_blocks.specs.Sides.{Merges};
+ghost use Rattle.sv_blocks.specs.Overlays.{over, Covers, PutsOver};
 
+use crate::overlay::Overlay;
 use crate::shown::shown;
 use items::Items;
 use std::alloc::{AllocError, Global};
-use sv_lower::make;
 use sv_stores::{Manner, Scene, State, sees_store};
-use svex_arena::{Arena, Node, Shape};
+use svex_arena::{Arena, Node};
 
 // What names see of nodes.
 #[tactic(auto, using(svex_arena::proofs::Keeping::extends_on))]
@@ -74,40 +72,8 @@ pub fn first_state(
     Ok(State { nodes, seen })
 }
 
-/// Puts other nodes in the place of all.
-pub fn put_nodes(
-    alloc: Global,
-    arena: &mut Arena,
-    scene: &Scene,
-    state: &mut State,
-    nodes: Items<Node>,
-) -> Result<(), AllocError>
-    requires scene { IsScene scene.now }
-    requires state { IsState scene.now arena.old state.old }
-    requires nodes { AreNodes scene.now arena.old nodes }
-    ensures stays { Extends arena.old arena.new }
-    ensures nodes { OnOk result (state.new.nodes ≡ nodes) }
-    ensures state { OnOk result (IsState scene.now arena.new state.new) }
-{
-    if sees_store(&scene.manner) {
-        state.seen = all_shown(alloc, arena, scene, nodes.as_slice())?;
-    }
-    state.nodes = nodes;
-    Ok(())
-}
-
-/// The same state once more.
-pub fn copied(alloc: Global, state: &State) -> Result<State, AllocError>
-    ensures nodes { IfOk result (λ copy. copy.nodes ≡ state.now.nodes) }
-    ensures seen { IfOk result (λ copy. copy.seen ≡ state.now.seen) }
-{
-    let nodes = Items::from_vec(state.nodes.as_slice().to_vec(alloc)?);
-    let seen = Items::from_vec(state.seen.as_slice().to_vec(alloc)?);
-    Ok(State { nodes, seen })
-}
-
-/// Puts a node in the place of another.
-pub fn put_node(
+// Sets a node, and what names see of it.
+fn set_node(
     alloc: Global,
     arena: &mut Arena,
     scene: &Scene,
@@ -135,54 +101,101 @@ pub fn put_node(
     }
 }
 
-// One of two nodes of one width, by a truth.
-fn chosen(
-    alloc: Global,
-    arena: &mut Arena,
-    truth: Node,
-    a: Node,
-    b: Node,
-) -> Result<Node, AllocError>
-    requires truth { truth < length arena.old }
-    requires a { a < length arena.old }
-    requires b { b < length arena.old }
-    requires one { width_at arena.old truth ≡ 1 }
-    requires same { width_at arena.old a ≡ width_at arena.old b }
-    ensures stays { Extends arena.old arena.new }
-    ensures ok { IfOk result (λ n. FromThree arena.old arena.new (λ c x y. pick_of c x y) truth a b (width_at arena.old a) n) }
-{
-    let _ = arena.len();
-    if a == b {
-        return Ok(a);
-    }
-    let node = make(alloc, arena, Shape::Pick(truth, a, b))?;
-    Ok(node)
-}
-
-/// The nodes of one of two stores, by a truth.
-#[tactic(auto, using(svex_arena::proofs::Keeping::extends_on))]
-pub fn merged(
+/// Puts a node in the place of another, and keeps what stood there.
+pub fn put_node(
     alloc: Global,
     arena: &mut Arena,
     scene: &Scene,
-    truth: Node,
-    a: &[Node],
-    b: &[Node],
-) -> Result<Items<Node>, AllocError>
+    state: &mut State,
+    at: usize,
+    node: Node,
+    kept: &mut Overlay,
+) -> Result<(), AllocError>
     requires scene { IsScene scene.now }
-    requires truth { truth < length arena.old }
-    requires one { width_at arena.old truth ≡ 1 }
-    requires a { AreNodes scene.now arena.old a.now }
-    requires b { AreNodes scene.now arena.old b.now }
+    requires state { IsState scene.now arena.old state.old }
+    requires at { at < length state.old.nodes }
+    requires node { node < length arena.old }
+    requires width { width_at arena.old node ≡ width_in scene.now at }
     ensures stays { Extends arena.old arena.new }
-    ensures ok { IfOk result (λ nodes. Merges scene.now arena.old arena.new truth a.now b.now nodes) }
+    ensures nodes { OnOk result (state.new.nodes ≡ slice_set state.old.nodes at node) }
+    ensures state { OnOk result (IsState scene.now arena.new state.new) }
+    ensures kept { OnOk result (over kept.new state.new.nodes ≡ over kept.old state.old.nodes) }
 {
-    let _ = scene.wires.len();
-    let _ = arena.len();
-    let mut nodes = Items::new(alloc);
-    'nodes: for at in 0..a.len() {
-        let node = chosen(alloc, arena, truth, a[at], b[at])?;
-        nodes.push(node)?;
+    let stood = state.nodes.as_slice()[at];
+    kept.keep(at, stood)?;
+    set_node(alloc, arena, scene, state, at, node)
+}
+
+// Puts the node that lies over a place there, if there is one.
+fn put_over(
+    alloc: Global,
+    arena: &mut Arena,
+    scene: &Scene,
+    state: &mut State,
+    puts: &Overlay,
+    at: usize,
+    kept: &mut Overlay,
+) -> Result<(), AllocError>
+    requires scene { IsScene scene.now }
+    requires state { IsState scene.now arena.old state.old }
+    requires puts { AreNodes scene.now arena.old (over puts.now state.old.nodes) }
+    ensures stays { Extends arena.old arena.new }
+    ensures put { OnOk result (PutsOver puts.now at state.old.nodes state.new.nodes) }
+    ensures state { OnOk result (IsState scene.now arena.new state.new) }
+    ensures kept { OnOk result (over kept.new state.new.nodes ≡ over kept.old state.old.nodes) }
+{
+    let Some(node) = puts.get(at) else {
+        return Ok(());
+    };
+    if at >= state.nodes.len() {
+        return Ok(());
     }
-    Ok(nodes)
+    put_node(alloc, arena, scene, state, at, node, kept)
+}
+
+// Puts what lies over these places there.
+#[tactic(auto, using(svex_arena::proofs::Keeping::extends_on))]
+fn put_places(
+    alloc: Global,
+    arena: &mut Arena,
+    scene: &Scene,
+    state: &mut State,
+    puts: &Overlay,
+    places: &[usize],
+    kept: &mut Overlay,
+) -> Result<(), AllocError>
+    requires scene { IsScene scene.now }
+    requires state { IsState scene.now arena.old state.old }
+    requires puts { AreNodes scene.now arena.old (over puts.now state.old.nodes) }
+    requires places { Covers places.now puts.now }
+    ensures stays { Extends arena.old arena.new }
+    ensures nodes { OnOk result (state.new.nodes ≡ over puts.now state.old.nodes) }
+    ensures state { OnOk result (IsState scene.now arena.new state.new) }
+    ensures kept { OnOk result (over kept.new state.new.nodes ≡ over kept.old state.old.nodes) }
+{
+    'places: for at in 0..places.len() {
+        put_over(alloc, arena, scene, state, puts, places[at], kept)?;
+    }
+    Ok(())
+}
+
+/// Puts all that lies over a state into it, and keeps what stood there.
+pub fn put_all(
+    alloc: Global,
+    arena: &mut Arena,
+    scene: &Scene,
+    state: &mut State,
+    puts: &Overlay,
+    kept: &mut Overlay,
+) -> Result<(), AllocError>
+    requires scene { IsScene scene.now }
+    requires state { IsState scene.now arena.old state.old }
+    requires puts { AreNodes scene.now arena.old (over puts.now state.old.nodes) }
+    ensures stays { Extends arena.old arena.new }
+    ensures nodes { OnOk result (state.new.nodes ≡ over puts.now state.old.nodes) }
+    ensures state { OnOk result (IsState scene.now arena.new state.new) }
+    ensures kept { OnOk result (over kept.new state.new.nodes ≡ over kept.old state.old.nodes) }
+{
+    let places = puts.places(alloc)?;
+    put_places(alloc, arena, scene, state, puts, places.as_slice(), kept)
 }

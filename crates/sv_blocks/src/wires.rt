@@ -1,7 +1,7 @@
 // The wires that the statements of a block write, each with a place in the store. They are found by the names of targets alone,
-// whatever the selects are, since a place is needed for each wire that may be written. A list from wires to places grows up to
-// the greatest number that is met, so that a lookup is one step.
-ghost use Rattle.std.specs.Prelude.{◌≡◌, ℕ, ◌<◌, ◌*◌, false, replicate, ◌++◌, All, List, length, slice_index_or, Some, None, IfOk, IfSome, OnOk};
+// whatever the selects are, since a place is needed for each wire that may be written. The places stand in an ordered map, so that a
+// block costs what it writes, whatever the numbers of its wires.
+ghost use Rattle.std.specs.Prelude.{◌≡◌, ◌*◌, false, replicate, ◌++◌, All, List, Some, IfOk, IfSome, OnOk};
 ghost use Rattle.sv_names.specs.Kinds.{what_is, WhatIsSound};
 ghost use Rattle.sv_names.specs.Names.{names_are};
 ghost use Rattle.sv_meaning.specs.Layouts.{NamedSignal, find};
@@ -13,6 +13,7 @@ use std::alloc::{AllocError, Global};
 use sv_names::{Names, What};
 use sv_stores::{Manner, Scene};
 use sv_tree::{Arm, Lvalue, Stmt};
+use wire_places::WirePlaces;
 
 /// A wire that a name stands for, with its width.
 #[derive(Clone, Copy)]
@@ -163,21 +164,10 @@ fn arm_wires(arm: &Arm, names: &Names<'_>, wires: &mut Vec<Wire>) -> Result<(), 
     }
 }
 
-// Makes room for the place of a wire.
-fn widen(places: &mut Vec<Option<usize>>, wire: usize) -> Result<(), AllocError>
-    ensures same { (n : ℕ) → slice_index_or places.new.items n None ≡ slice_index_or places.old.items n None }
-    ensures room { OnOk result (wire < length places.new.items) }
-{
-    'places: while places.len() <= wire {
-        places.push(None)?;
-    }
-    Ok(())
-}
-
 // Places of wires, and what stands at these.
 #[derive(Drop)]
 struct Places {
-    places: Vec<Option<usize>>,
+    places: WirePlaces,
     wires: Vec<usize>,
     widths: Vec<u8>,
 }
@@ -185,17 +175,16 @@ struct Places {
 // Gives a wire a place, if it has none.
 fn add_wire(all: &mut Places, wire: Wire) -> Result<(), AllocError>
     ensures are { (named : List NamedSignal) → IsAmong named wire → ArePlaces named all.old → OnOk result (ArePlaces named all.new) }
-    ensures there { OnOk result (IsThere all.new.places.items wire) }
-    ensures kept { (x : Wire) → IsThere all.old.places.items x → OnOk result (IsThere all.new.places.items x) }
+    ensures there { OnOk result (IsThere all.new.places wire) }
+    ensures kept { (x : Wire) → IsThere all.old.places x → OnOk result (IsThere all.new.places x) }
 {
-    widen(&mut all.places, wire.number)?;
-    if all.places[wire.number].is_some() {
+    if all.places.get(wire.number).is_some() {
         return Ok(());
     }
     let place = all.wires.len();
     all.wires.push(wire.number)?;
     all.widths.push(wire.width)?;
-    all.places[wire.number] = Some(place);
+    all.places.put(wire.number, place)?;
     Ok(())
 }
 
@@ -217,7 +206,7 @@ pub fn scene_of(alloc: Global, found: &[Wire], manner: Manner) -> Result<Scene, 
     ensures there { IfOk result (λ scene. All (IsThere scene.places) found.now) }
 {
     let mut all = Places {
-        places: Vec::new(alloc),
+        places: WirePlaces::new(alloc),
         wires: Vec::new(alloc),
         widths: Vec::new(alloc),
     };
@@ -231,7 +220,7 @@ pub fn scene_of(alloc: Global, found: &[Wire], manner: Manner) -> Result<Scene, 
     } = all;
     let marks = no_marks(alloc, wires.len())?;
     Ok(Scene {
-        places: Items::from_vec(places),
+        places,
         wires: Items::from_vec(wires),
         widths: Items::from_vec(widths),
         marks,

@@ -1,6 +1,7 @@
 // What names read.
 use sv_meaning::WireEdge;
 use svex_arena::Node;
+use wire_places::WirePlaces;
 
 /// What a wire reads, by where its name stands. A variable and a sample of a table read themselves everywhere.
 #[derive(Clone, Copy)]
@@ -15,5 +16,5 @@ pub enum Look<'a> {
     /// the block writes have nodes as wide as they are.
     Mixed(&'a [Option<Node>]),
     /// The same, where only some wires have places among the nodes: the place of each, by its number.
-    Placed(&'a [Option<usize>], &'a [Node]),
+    Placed(&'a WirePlaces, &'a [Node]),
 }

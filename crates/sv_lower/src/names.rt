@@ -17,15 +17,13 @@ use std::alloc::{AllocError, Global};
 use sv_meaning::WireEdge;
 use sv_typed::{Origin, Root};
 use svex_arena::{Arena, Node, Shape, VarName};
+use wire_places::WirePlaces;
 
 // The node at the place of a wire.
-fn node_in(places: &[Option<usize>], nodes: &[Node], number: usize) -> Option<Node>
+fn node_in(places: &WirePlaces, nodes: &[Node], number: usize) -> Option<Node>
     ensures { result ≡ node_in nodes.now (entry_at places.now number) }
 {
-    if number >= places.len() {
-        return None;
-    }
-    match places[number] {
+    match places.get(number) {
         Some(at) if at < nodes.len() => Some(nodes[at]),
         _ => None,
     }

@@ -1,42 +1,26 @@
 -- Sets of names.
-use Rattle.std.proofs.Common.{◌≡◌, ℕ, List, [], ◌∷◌, ◌++◌, Bool, true, false, ◌||◌, refl, sym, ◌∙◌, ap, subst, ⊎_elim, Result, Ok, Err}
+use Rattle.std.proofs.Common.{◌≡◌, ℕ, List, [], ◌∷◌, ◌++◌, Bool, true, false, cond, ◌||◌, Option, Some, None, is_some, refl, sym, ◌∙◌, ap, Result, Ok, Err}
 use Rattle.std.specs.Result.{OnOk}
-use Rattle.std.specs.HashSet as set
-use Rattle.std.specs.List.{list_any}
-use Rattle.std.specs.Map.{IsKeyTest, AreApart}
-use Rattle.std.specs.Set.{KeepsOthers}
 use Rattle.std.specs.Str.{bytes_eq}
-use Rattle.std.specs.Cmp.Lexicographic.{nat_list_eq_equiv, bytes_decides}
-use Rattle.std.proofs.lemmas.Bool.{cases_Bool}
+use Rattle.name_index.specs.Under.{Puts, under}
 use Rattle.sv_meaning.specs.Layouts.{Name}
 use Rattle.sv_meaning.specs.Names.{has_name}
 use Rattle.sv_modules.specs.Naming.{holds, Holds, Adds}
 use Rattle.sv_modules.specs.declared.name_set.NameSet.{NameSet}
 
-pub apart : (bs cs ks : List ℕ) → bytes_eq bs cs ≡ false → bytes_eq bs ks ≡ true → bytes_eq cs ks ≡ false
-apart bs cs ks n y = nat_list_eq_equiv.symm cs ks ∙ sym (nat_list_eq_equiv.congr bs ks cs y) ∙ n
-
-module _ {K : Type 0} (bytes : K → List ℕ) where
-  others_keep : (test : K → Bool) (old new : List K) → KeepsOthers (λ x y. bytes_eq (bytes x) (bytes y)) test old new
-      → (other : K → Bool) → IsKeyTest (λ x y. bytes_eq (bytes x) (bytes y)) other → AreApart test other → list_any other new ≡ list_any other old
-  unfolding KeepsOthers
-  others_keep test old new h = h
-
-pub holds_none : (s : NameSet) → s.names.keys ≡ [] → Holds s []
+pub holds_none : (s : NameSet) → ((name : Name) → under s.names name ≡ None) → Holds s []
 unfolding holds has_name
-holds_none s e = λ name. ap (λ ks. list_any (λ key. bytes_eq name key.items) ks) e
+holds_none s e = λ name. ap is_some (e name)
+
+some_or : (b : Bool) (o : Option ℕ) → is_some (cond b (Some 0) o) ≡ ((b || false) || is_some o)
+some_or true o = refl
+some_or false o = refl
 
 -- one more name
-pub added : (s t : NameSet) (name key : Name) → key ≡ name → set.UpdatesBy (λ x y. bytes_eq x.items y.items) (λ k. bytes_eq key k.items) s.names t.names true → Adds s (name ∷ []) t
+pub added : {A E : Type 0} (r : Result A E) (s t : NameSet) (name : Name) → OnOk r (Puts s.names name (Some 0) t.names) → OnOk r (Adds s (name ∷ []) t)
 unfolding holds has_name
-added s t name key same h other =
-    let g = subst (λ bs. set.UpdatesBy (λ x y. bytes_eq x.items y.items) (λ k. bytes_eq bs k.items) s.names t.names true) same h in
-    ⊎_elim
-    (λ y. let e : name ≡ other = (bytes_decides name other).0 y in
-    subst (λ o. holds t o ≡ true) e g.1 ∙ sym (ap (λ b. (b || false) || holds s other) y))
-    (λ no. others_keep (λ key. key.items) _ _ _ g.3 _ (λ x y. nat_list_eq_equiv.congr other x.items y.items) (λ k. apart name other k.items no)
-    ∙ sym (ap (λ b. (b || false) || holds s other) no))
-    (cases_Bool (bytes_eq name other))
+added (Ok x) s t name h = λ other. ap is_some (h other) ∙ some_or (bytes_eq name other) (under s.names other)
+added (Err e) s t name h = tt
 
 or_assoc : (a b c : Bool) → (a || (b || c)) ≡ ((a || b) || c)
 or_assoc true b c = refl

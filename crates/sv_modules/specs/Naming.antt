@@ -1,8 +1,7 @@
 -- Sets of names.
-use Rattle.std.specs.Prelude.{◌≡◌, Bool, ◌||◌, List, map}
+use Rattle.std.specs.Prelude.{◌≡◌, Bool, ◌||◌, List, map, is_some}
 use Rattle.std.specs.Borrow.{Bor}
-use Rattle.std.specs.HashSet as set
-use Rattle.std.specs.Str.{bytes_eq}
+use Rattle.name_index.specs.Under.{under}
 use Rattle.sv_tree.specs.declared.word.Word.{Word}
 use Rattle.sv_meaning.specs.Layouts.{Name}
 use Rattle.sv_meaning.specs.Names.{has_name}
@@ -11,7 +10,7 @@ use Rattle.sv_modules.specs.declared.name_set.NameSet.{NameSet}
 -- ---- sets
 
 unfoldable pub holds : NameSet → Name → Bool
-holds s name = set.contains_by (λ key. bytes_eq name key.items) s.names
+holds s name = is_some (under s.names name)
 
 -- the set has what it had, and these names
 abbrev pub Adds : NameSet → List Name → NameSet → Type 0

@@ -9,40 +9,44 @@ ghost use Rattle.sv_modules.specs.Listed.{modules_of};
 ghost use Rattle.sv_modules.specs.Named.{Lists, PutsModule};
 
 use crate::numbered::Modules;
-use indexmap::IndexMap;
+use name_index::NameIndex;
 use std::alloc::Global;
 use sv_outside::TextErr;
 use sv_tree::{Module, Source, SourcePart};
 use sv_typing::refusal;
 
 // Puts a module behind the others under its name, or E13 there where one of them has it.
-fn put<'a>(named: &mut IndexMap<&'a [u8], &'a Module>, tree: &'a Module) -> Result<(), TextErr>
-    ensures { PutsModule named.old tree.now named.new result }
+fn put<'a>(
+    numbers: &mut NameIndex,
+    trees: &mut Vec<&'a Module>,
+    tree: &'a Module,
+) -> Result<(), TextErr>
+    ensures { PutsModule numbers.old (trees_of trees.old.items) tree.now numbers.new (trees_of trees.new.items) result }
 {
-    let before = named.insert(tree.name.text.bytes(), tree)?;
-    if before.is_some() {
+    let name = tree.name.text.bytes();
+    if numbers.number(name).is_some() {
         return Err(TextErr::No(refusal(13, tree.name.place)));
     }
+    numbers.note(name, trees.len())?;
+    trees.push(tree)?;
     Ok(())
 }
 
 // The modules among the parts of a text under their names, or E13 at the name of the first whose name stands before it.
-fn named_in<'a>(
-    alloc: Global,
-    parts: &'a [SourcePart],
-) -> Result<IndexMap<&'a [u8], &'a Module>, TextErr>
-    ensures ok { IfOk result (λ named. Lists named (modules_in parts.now)) }
+fn named_in<'a>(alloc: Global, parts: &'a [SourcePart]) -> Result<Modules<'a>, TextErr>
+    ensures ok { IfOk result (λ m. Lists m.numbers (modules_of m) (modules_in parts.now)) }
     ensures err { IfErr result (λ why. IsCause (repeated [] (modules_in parts.now)) why) }
 {
-    let mut named = IndexMap::new(alloc);
+    let mut numbers = NameIndex::new(alloc);
+    let mut trees = Vec::new(alloc);
     'parts: for part in parts {
         match part {
-            SourcePart::Module(tree) => put(&mut named, tree)?,
+            SourcePart::Module(tree) => put(&mut numbers, &mut trees, tree)?,
             SourcePart::Typedef(_) => {}
             SourcePart::Param(_) => {}
         }
     }
-    Ok(named)
+    Ok(Modules { numbers, trees })
 }
 
 impl<'a> Modules<'a> {
@@ -50,15 +54,15 @@ impl<'a> Modules<'a> {
     pub fn new(alloc: Global, source: &'a Source) -> Result<Modules<'a>, TextErr>
         ensures { Answers (λ all m. modules_of m ≡ all) (modules_once source.now.parts) result }
     {
-        let named = named_in(alloc, source.parts.as_slice())?;
-        Ok(Modules { named })
+        let modules = named_in(alloc, source.parts.as_slice())?;
+        Ok(modules)
     }
 
     /// The modules in the order of the text.
     pub fn list(&self) -> &[&'a Module]
         ensures { trees_of result.now ≡ modules_of self.now }
     {
-        self.named.values().as_slice()
+        self.trees.as_slice()
     }
 
     /// The number of the module of a name, counted from 0 in the order of the text.
@@ -66,6 +70,6 @@ impl<'a> Modules<'a> {
         ensures is { (all : Library) → IsLibraryOf (modules_of self.now) all → option_map (λ m. m.number) (module_named name.now all) ≡ result }
         ensures within { IfSome result (λ number. number < length (modules_of self.now)) }
     {
-        self.named.get_index_of(name)
+        self.numbers.number(name)
     }
 }

@@ -2,14 +2,13 @@
 ghost use Rattle.std.specs.Prelude.{◌≡◌, ◌∷◌, [], OnOk};
 ghost use Rattle.sv_modules.specs.Naming.{holds, Holds, Adds};
 
+use name_index::NameMap;
 use std::alloc::{AllocError, Global};
-use std::collections::HashSet;
 
-/// A set of names.
+/// A set of names: those that have a value in a map.
 #[derive(Drop)]
 pub struct NameSet {
-    alloc: Global,
-    names: HashSet<Vec<u8>>,
+    names: NameMap,
 }
 
 impl NameSet {
@@ -19,8 +18,7 @@ impl NameSet {
         ensures { Holds result [] }
     {
         NameSet {
-            alloc,
-            names: HashSet::new(alloc),
+            names: NameMap::new(alloc),
         }
     }
 
@@ -29,15 +27,13 @@ impl NameSet {
     pub fn has(&self, name: &[u8]) -> bool
         ensures { result ≡ holds self.now name.now }
     {
-        self.names.contains(name)
+        self.names.get(name).is_some()
     }
 
     /// Puts a name in.
     pub fn add(&mut self, name: &[u8]) -> Result<(), AllocError>
         ensures { OnOk result (Adds self.old (name.now ∷ []) self.new) }
     {
-        let key = name.to_vec(self.alloc)?;
-        let _ = self.names.insert(key)?;
-        Ok(())
+        self.names.put(name, 0)
     }
 }

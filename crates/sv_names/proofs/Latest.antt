@@ -1,15 +1,13 @@
 -- The last place of a name, and the links that find it.
 use Rattle.std.proofs.Common.{◌≡◌, ℕ, zero, suc, ◌<◌, ◌≤◌, Bool, true, false, cond, List, [], ◌∷◌, ◌++◌, length, take, get_or, bytes_eq, Option, Some, None, Result, Ok, Err, refl, sym, ap, ◌∙◌, subst, arith, ◌⊎◌, inl, inr, ⊎_elim, if◌then◌else◌}
 use Rattle.std.specs.Cmp.Lexicographic.{nat_list_eq_equiv, bytes_decides}
-use Rattle.std.specs.HashMap as places
-use Rattle.std.specs.Map.{lookup, IsKeyTest, AreApart, KeepsOthers}
 use Rattle.std.specs.Option.{MatchOption, option_map, option_flatten, option_to_list, IsSome}
 use Rattle.std.specs.Prelude.{vec_len, OnErr}
 use Rattle.std.proofs.Math.Nat.{eq-or-lt_of_le}
 use Rattle.std.proofs.Math.Seq.{get_or-append_seam}
-use Rattle.std.proofs.lemmas.Bool.{cases_Bool}
 use Rattle.std.proofs.Math.ListN.{get_or-append}
 use Rattle.std.proofs.lemmas.List.{get_or_default, get_or-map, length-map, take-append-le}
+use Rattle.name_index.specs.Under.{Keeps, Puts, under}
 use Rattle.sv_meaning.specs.Layouts as m
 use Rattle.sv_names.specs.Kinds.{Entry, entries_are, what_is, names_of}
 use Rattle.sv_names.specs.Linked.{last_among, latest_of, IsLinked}
@@ -118,52 +116,33 @@ pop_earlier before b names name count old =
 
 -- ---- the links
 
-apart : (bs cs ks : List ℕ) → bytes_eq bs cs ≡ false → bytes_eq bs ks ≡ true → bytes_eq cs ks ≡ false
-apart bs cs ks n y = nat_list_eq_equiv.symm cs ks ∙ sym (nat_list_eq_equiv.congr bs ks cs y) ∙ n
-
-module _ {K X : Type 0} (bytes : K → List ℕ) where
-  others_keep : (test : K → Bool) (old new : List (K × X)) → KeepsOthers (λ x y. bytes_eq (bytes x) (bytes y)) test old new
-      → (other : K → Bool) → IsKeyTest (λ x y. bytes_eq (bytes x) (bytes y)) other → AreApart test other → lookup other new ≡ lookup other old
-  unfolding KeepsOthers
-  others_keep test old new h = h
-
 -- the last place is written for one name
 abbrev Rewritten : Links → Links → Name → Option ℕ → Type 0
 Rewritten m n name w = (other : Name) → latest_of n other ≡ cond (bytes_eq name other) w (latest_of m other)
 
-pub rewritten : (m n : Links) (name : Name) (w : Option ℕ) → places.UpdatesBy (λ x y. bytes_eq x.items y.items) (λ key. bytes_eq name key.items) m.latest n.latest w → Rewritten m n name w
-unfolding latest_of
-rewritten m n name w h other =
-    ⊎_elim
-    (λ y. let e : name ≡ other = (bytes_decides name other).0 y in
-    subst (λ o. latest_of n o ≡ w) e h.1 ∙ sym (ap (λ b. cond b w (latest_of m other)) y))
-    (λ no. others_keep (λ key. key.items) _ _ _ h.3 _ (λ x y. nat_list_eq_equiv.congr other x.items y.items) (λ k. apart name other k.items no)
-    ∙ sym (ap (λ b. cond b w (latest_of m other)) no))
-    (cases_Bool (bytes_eq name other))
-
-pub linked_none : (links : Links) → links.latest.entries ≡ [] → links.earlier.items ≡ [] → IsLinked links []
+pub linked_none : (links : Links) → ((name : Name) → under links.latest name ≡ None) → links.earlier.items ≡ [] → IsLinked links []
 unfolding latest_of last_among
 linked_none links e f = record {
-  latest = λ name. ap (λ es. lookup (λ key. bytes_eq name key.items) es) e;
+  latest = e;
   count = ap length f;
   earlier = λ i l. absurd (omega arith);
 }
 
 -- only what the links hold counts
-pub linked_along : (m n : Links) (names : List Name) → n.latest.entries ≡ m.latest.entries → n.earlier.items ≡ m.earlier.items → IsLinked m names → IsLinked n names
+pub linked_along : (m n : Links) (names : List Name) → Keeps m.latest n.latest → n.earlier.items ≡ m.earlier.items → IsLinked m names → IsLinked n names
 unfolding latest_of
 linked_along m n names e f h = record {
-  latest = λ name. ap (λ es. lookup (λ key. bytes_eq name key.items) es) e ∙ h.latest name;
+  latest = λ name. e name ∙ h.latest name;
   count = ap length f ∙ h.count;
   earlier = λ i l. ap (λ (x : List (Option ℕ)). get_or x i None) f ∙ h.earlier i l;
 }
 
-pub noted : (m n : Links) (name key : Name) (b : Option ℕ) (names : List Name) → key ≡ name
-    → places.UpdatesBy (λ x y. bytes_eq x.items y.items) (λ k. bytes_eq key k.items) m.latest n.latest (Some (length m.earlier.items))
-    → n.earlier.items ≡ m.earlier.items ++ b ∷ [] → b ≡ latest_of m key → IsLinked m names → IsLinked n (names ++ name ∷ [])
-noted m n name key b names same h more was linked =
-    let r = rewritten m n name (Some (length m.earlier.items)) (subst (λ bs. places.UpdatesBy (λ x y. bytes_eq x.items y.items) (λ k. bytes_eq bs k.items) m.latest n.latest (Some (length m.earlier.items))) same h) in
-    let b_is : b ≡ last_among names name (length names) = was ∙ ap (latest_of m) same ∙ linked.latest name in
+pub noted : (m n : Links) (name : Name) (b : Option ℕ) (names : List Name)
+    → Puts m.latest name (Some (length m.earlier.items)) n.latest
+    → n.earlier.items ≡ m.earlier.items ++ b ∷ [] → b ≡ latest_of m name → IsLinked m names → IsLinked n (names ++ name ∷ [])
+unfolding latest_of
+noted m n name b names r more was linked =
+    let b_is : b ≡ last_among names name (length names) = was ∙ linked.latest name in
     record {
       latest = λ other. r other ∙ (λ i. cond (bytes_eq name other) (Some (linked.count i)) (linked.latest other i)) ∙ sym (last_push names name other);
       count = ap length more ∙ length_push m.earlier.items b ∙ ap suc linked.count ∙ sym (length_push names name);

@@ -1,7 +1,7 @@
 -- Names in a list, found from its end: the last place of each name, and for each entry the place of its name before it.
 use Rattle.std.specs.Prelude.{◌≡◌, ℕ, zero, suc, ◌<◌, List, [], length, get_or, Option, Some, None, if◌then◌else◌}
-use Rattle.std.specs.HashMap as places
 use Rattle.std.specs.Str.{bytes_eq}
+use Rattle.name_index.specs.Under.{under}
 use Rattle.sv_meaning.specs.Layouts.{Name}
 use Rattle.sv_names.specs.declared.links.Links.{Links}
 
@@ -11,7 +11,7 @@ last_among names name zero = None
 last_among names name (suc k) = if bytes_eq (get_or names k []) name then Some k else last_among names name k
 
 unfoldable pub latest_of : Links → Name → Option ℕ
-latest_of links name = places.get_by (λ key. bytes_eq name key.items) links.latest
+latest_of links name = under links.latest name
 
 -- The links are those of these names.
 pub record IsLinked (links : Links) (names : List Name) : Type 0 where

@@ -3,15 +3,14 @@ ghost use Rattle.std.specs.Prelude.{◌≡◌, ◌<◌, ◌∷◌, [], ◌++◌,
 ghost use Rattle.sv_names.specs.Linked.{IsLinked, last_among};
 ghost use Rattle.sv_meaning.specs.Layouts.{Name as Bytes};
 
+use name_index::NameMap;
 use std::alloc::{AllocError, Global};
-use std::collections::HashMap;
 
 /// The places of names in a list that grows and shrinks at its end: the last place of each name, and for each entry the
 /// place of the entry of the same name before it.
 #[derive(Drop)]
 pub(crate) struct Links {
-    alloc: Global,
-    latest: HashMap<Vec<u8>, usize>,
+    latest: NameMap,
     earlier: Vec<Option<usize>>,
 }
 
@@ -21,8 +20,7 @@ impl Links {
         ensures { IsLinked result [] }
     {
         Links {
-            alloc,
-            latest: HashMap::new(alloc),
+            latest: NameMap::new(alloc),
             earlier: Vec::new(alloc),
         }
     }
@@ -32,9 +30,9 @@ impl Links {
         ensures ok { OnOk result ((names : List Bytes) → IsLinked self.old names → IsLinked self.new (names ++ name.now ∷ [])) }
         ensures err { OnErr result ((names : List Bytes) → IsLinked self.old names → IsLinked self.new names) }
     {
-        let key = name.to_vec(self.alloc)?;
         self.earlier.reserve(1)?;
-        let before = self.latest.insert(key, self.earlier.len())?;
+        let before = self.latest.get(name);
+        self.latest.put(name, self.earlier.len())?;
         self.earlier.push_reserved(before);
         Ok(())
     }
@@ -44,14 +42,8 @@ impl Links {
         ensures { (names : List Bytes) → IsLinked self.old (names ++ name.now ∷ []) → IsLinked self.new names }
     {
         match self.earlier.pop().flatten() {
-            Some(place) => {
-                if let Some(latest) = self.latest.get_mut(name) {
-                    *latest = place;
-                }
-            }
-            None => {
-                let _ = self.latest.remove(name);
-            }
+            Some(place) => self.latest.set(name, place),
+            None => self.latest.remove(name),
         }
     }
 
@@ -59,7 +51,7 @@ impl Links {
     pub(crate) fn latest(&self, name: &[u8]) -> Option<usize>
         ensures { (names : List Bytes) → IsLinked self.now names → result ≡ last_among names name.now (length names) }
     {
-        self.latest.get(name).copied()
+        self.latest.get(name)
     }
 
     /// The last place before this one that has the same name.

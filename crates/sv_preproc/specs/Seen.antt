@@ -1,7 +1,9 @@
 -- What contracts see of the reader's values, and of its errors.
 use Rattle.std.specs.Prelude.{◌≡◌, ◌≤◌, ◌⊎◌, ◌+◌, ◌++◌, Some, None, if◌then◌else◌, ℕ, Bool, true, false, List, [], ◌∷◌, length, option_map, Result, Ok, Err}
 use denote.Ref.{Bor}
-use Rattle.std.specs.HashMap.{get_by}
+use Rattle.std.specs.BTreeMap.{get_by}
+use Rattle.std.specs.Cmp.Lexicographic.{slice_cmp}
+use Rattle.std.specs.Ordering.{nat_cmp}
 use Rattle.std.specs.Str.{bytes_eq}
 use Rattle.sv_outside.specs.declared.outside.FileErr.{FileErr}
 use Rattle.sv_outside.specs.declared.outside.FileErr.TheVariants as why
@@ -30,7 +32,7 @@ use Rattle.sv_preproc.specs.Reached.{Stop, no, unread, Overruns, IsUnfit, IsFaul
 
 -- the texts by name
 unfoldable pub texts : Macros → spec.Macros
-texts m name = option_map (λ text. text.items) (get_by (λ key. bytes_eq name key.items) m.texts)
+texts m name = option_map (λ text. text.items) (get_by (λ key. slice_cmp nat_cmp name key.items) m.texts)
 
 abbrev pub seen : Known → spec.State
 seen k = record { macros = texts k.macros; files = k.files.items; counted = k.counted }

@@ -1,7 +1,6 @@
 // Macros, and the tokens that their texts stand for (IEEE 1800-2017, 22.5.1). The text of each name's latest definition
-// stands in a hash map. Macros are only found, set and forgotten by name, and never listed, so no order of names is kept
-// beside it. A use is expanded at its place, and each token of a macro's text is counted, so that texts which double at
-// each name end at a bound.
+// stands in a map that is ordered by names, and not by a hash, so that no names make a look-up slow. A use is expanded at its
+// place, and each token of a macro's text is counted, so that texts which double at each name end at a bound.
 ghost use Rattle.std.specs.Prelude.{◌≡◌, ◌≤◌, ◌<◌, ◌+◌, ◌++◌, ◌∷◌, [], ℕ, List, length, take, drop, IfOk, OnOk, IfErr, Option, Some, None, option_map};
 ghost use Rattle.std.specs.Map.{update};
 ghost use Rattle.std.specs.Str.{bytes_eq};
@@ -14,7 +13,7 @@ use crate::error::ItemErr;
 use crate::line::put_at;
 use crate::role::{Role, role_of};
 use std::alloc::{AllocError, Global};
-use std::collections::HashMap;
+use std::collections::BTreeMap;
 use sv_outside::{Place, Token};
 
 /// The most tokens that are counted.
@@ -27,7 +26,7 @@ const DEEPEST_USE: usize = 63;
 #[derive(Drop)]
 pub struct Macros {
     pub alloc: Global,
-    pub texts: HashMap<Vec<u8>, Vec<Token>>,
+    pub texts: BTreeMap<Vec<u8>, Vec<Token>>,
 }
 
 impl Macros {
@@ -41,7 +40,7 @@ impl Macros {
     {
         Macros {
             alloc,
-            texts: HashMap::new(alloc),
+            texts: BTreeMap::new(alloc),
         }
     }
 

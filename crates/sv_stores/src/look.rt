@@ -32,7 +32,7 @@ fn placed(
     ensures ok { IfOk result (λ n. Yields scene.now arena.old arena.new state.now.nodes (λ read. worth typed.now read width signed) (names_of typed.now) width n) }
 {
     let _ = arena.len();
-    let look = Look::Placed(scene.places.as_slice(), state.seen.as_slice());
+    let look = Look::Placed(&scene.places, state.seen.as_slice());
     let node = lower(alloc, arena, typed, &look, width, signed)?;
     Ok(node)
 }

@@ -8,12 +8,7 @@ use crate::Scene;
 pub fn place_in(scene: &Scene, wire: usize) -> Option<usize>
     ensures { result ≡ place_in scene.now wire }
 {
-    let places = scene.places.as_slice();
-    if wire < places.len() {
-        places[wire]
-    } else {
-        None
-    }
+    scene.places.get(wire)
 }
 
 /// The place of a wire that the block writes.

@@ -5,6 +5,7 @@ ghost use Rattle.sv_stores.specs.Scenes as spec;
 use items::Items;
 use sv_meaning::WireEdge;
 use svex_arena::Node;
+use wire_places::WirePlaces;
 
 /// What the wires of a block have where it begins, and what its names read (IEEE 1800-2017, 9.2.2).
 pub enum Manner {
@@ -51,7 +52,7 @@ pub fn sees_store(manner: &Manner) -> bool
 /// The wires that a block writes, and what its names read.
 pub struct Scene {
     /// The place of each wire that the block writes, by the wire's number.
-    pub places: Items<Option<usize>>,
+    pub places: WirePlaces,
     /// The number of the wire at each place.
     pub wires: Items<usize>,
     /// How many bits the wire at each place has, 1 to 128.

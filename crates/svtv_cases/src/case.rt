@@ -30,9 +30,10 @@ pub struct Case<'a> {
     pub name: &'a [u8],
     pub words: Vec<String>,
     pub files: Vec<CaseFile<'a>>,
-    // The read and the write that fail, and how much a sink takes.
+    // The read, the write of what is printed and that of the message that fail, and how much a sink takes.
     pub read: u64,
     pub write: u64,
+    pub message: u64,
     pub most: usize,
     pub status: &'a [u8],
     pub out: Vec<u8>,
@@ -85,6 +86,7 @@ impl<'a> Case<'a> {
             files: Vec::new(alloc),
             read: 0,
             write: 0,
+            message: 0,
             most: 1000,
             status: b"AllProved",
             out: Vec::new(alloc),
@@ -116,9 +118,26 @@ impl<'a> Case<'a> {
         }
     }
 
+    // Takes so many times a text, as contents.
+    fn repeat(&mut self, rest: &[u8]) -> Result<(), AllocError> {
+        let (times, text) = split_word(rest);
+        for _ in 0..number(times) {
+            self.content(text, b"")?;
+        }
+        Ok(())
+    }
+
     // Takes any other line.
     fn setting(&mut self, line: &'a [u8]) -> Result<(), AllocError> {
         let (word, rest) = split_word(line);
+        match word {
+            b"repeat" => self.repeat(rest),
+            _ => self.key(word, rest),
+        }
+    }
+
+    // Takes a line that ends the contents before it.
+    fn key(&mut self, word: &[u8], rest: &'a [u8]) -> Result<(), AllocError> {
         self.part = Part::Nothing;
         match word {
             b"words" => self.put_words(rest),
@@ -140,6 +159,7 @@ impl<'a> Case<'a> {
             b"status" => self.status = rest,
             b"read" => self.read = number(rest),
             b"write" => self.write = number(rest),
+            b"message" => self.message = number(rest),
             b"most" => self.most = number(rest) as usize,
             _ => self.strange = self.strange.saturating_add(1),
         }

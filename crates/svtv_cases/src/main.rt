@@ -10,10 +10,12 @@
 //!     err                 the message follows
 //!     status WORD         AllProved, Done, NotAll, Usage, Refused, ReadFault, WriteFault or Memory (in the first case: AllProved)
 //!     read N, write N     that read, or that write of what is printed, fails; 0: none
+//!     message N           that write of the message fails; 0: none
 //!     most N              how many bytes a sink takes at once (in the first case: 1000)
 //!     gone NAME           that file is not there
 //!     | TEXT              a line of what follows
 //!     \ TEXT              the same without a line end
+//!     repeat N TEXT       so many times that text, without a line end
 //!     # TEXT              a remark, as is an empty line
 #![tactic(auto)]
 

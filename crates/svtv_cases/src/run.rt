@@ -58,7 +58,10 @@ fn run_case(alloc: Global, case: &Case<'_>, report: &mut Report) -> Result<(), A
     }
     let files = files_of(alloc, case)?;
     let (files, output) = both(files, sink(alloc, case.most, case.write))?;
-    let ((mut files, mut output), mut errors) = both((files, output), sink(alloc, case.most, 0))?;
+    let ((mut files, mut output), mut errors) = both(
+        (files, output),
+        sink(alloc, case.most, case.message),
+    )?;
     call(alloc, case, &mut files, &mut output, &mut errors, report)
 }
 

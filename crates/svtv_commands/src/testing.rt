@@ -1,5 +1,5 @@
 // Self tests: the proof of goals whose texts the tool makes itself.
-ghost use Rattle.std.specs.Prelude.{◌≤◌, None, IfOk, IfErr};
+ghost use Rattle.std.specs.Prelude.{◌≡◌, ◌≤◌, None, IfOk, IfErr};
 ghost use Rattle.svtv_commands.specs.Done.{SelfTests};
 ghost use Rattle.svtv_commands.specs.Judged.{IsJudgement, StopsTest};
 ghost use Rattle.svtv_selftest.specs.Texts as test;
@@ -8,6 +8,7 @@ use crate::judging::{Judgement, judge};
 use std::alloc::Global;
 use sv_outside::Name;
 use svtv_files::Stop;
+use svtv_report::Verdict;
 use svtv_selftest::{TestFiles, line_text};
 
 // What is decided of the goals of a self test.
@@ -24,6 +25,13 @@ fn judged(alloc: Global, count: u64) -> Result<Judgement, Stop>
     judge(alloc, &mut files, &design, &table, &goals, None, None)
 }
 
+// What was decided, one verdict for each goal in order.
+fn verdicts_of(judgement: &Judgement) -> &[Verdict]
+    ensures { result.now ≡ judgement.now.decisions.verdicts }
+{
+    judgement.decisions.verdicts.as_slice()
+}
+
 /// The line of the self test with so many registers, or why there is none.
 pub fn selftest(alloc: Global, count: u64) -> Result<Vec<u8>, Stop>
     requires low { 1 ≤ count }
@@ -35,7 +43,7 @@ pub fn selftest(alloc: Global, count: u64) -> Result<Vec<u8>, Stop>
         Ok(judgement) => judgement,
         Err(stop) => return Err(stop),
     };
-    match line_text(alloc, count, judgement.decisions.verdicts.as_slice()) {
+    match line_text(alloc, count, verdicts_of(&judgement)) {
         Ok(text) => Ok(text),
         Err(_) => Err(Stop::Memory),
     }

@@ -1,8 +1,9 @@
-use Rattle.std.proofs.lemmas.Result.{IfOk-from_err}
+use Rattle.std.proofs.Common.{◌+◌, List, [], ◌∷◌, ap, ◌∙◌}
+use Rattle.std.proofs.lemmas.Result.{IfOk-weaker}
+use Rattle.cnf.specs.declared.Dim.{Dim}
+use Rattle.refute_check.specs.Entry.{entry_of}
 use Rattle.choice_inputs.proofs.tables.step_of.Goals as goal
 
-pub returns-in_err-push : goal.returns-in_err-push
-returns-in_err-push c = IfOk-from_err _ _ c.from_residual.ensures.0
-
-pub returns-in_err-push-2 : goal.returns-in_err-push-2
-returns-in_err-push-2 c = IfOk-from_err _ _ c.from_residual-in_err-push-2.ensures.0
+pub returns : goal.returns
+returns c =
+    IfOk-weaker c.of.result _ _ (λ s h. h ∙ ap (λ (cl : List Dim). entry_of cl (c.args.first ∷ (c.args.first + 1) ∷ [])) c.as_slice.ensures.value) c.of.ensures

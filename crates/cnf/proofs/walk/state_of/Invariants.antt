@@ -1,8 +1,8 @@
 use Rattle.std.proofs.Common.{take}
 use Rattle.cnf.specs.Clauses.{valuation}
-use Rattle.cnf.proofs.Walks.{Looked}
+use Rattle.cnf.specs.State.{Looked}
 use Rattle.cnf.proofs.walk.state_of.Given as goal
 
 -- of the literals so far, all are false, or one is open and the others false
 abbrev pub invariant-loop-d : goal.invariant-loop-d
-invariant-loop-d l = Looked (valuation l.values) (take l.d-index l.clause) l.open
+invariant-loop-d l = Looked (valuation l.values) (take l.d-index l.clause) l.found

@@ -1,27 +1,25 @@
-use Rattle.std.proofs.Common.{◌<◌, length, sym, ap, ◌∙◌, subst, arith, length-set}
-use Rattle.svex_shape.specs.Shapes.{FitsWidths, shape_at}
-use Rattle.svex_shape.specs.Values.{read, value_of}
-use Rattle.svex_arena.specs.Evaluated.{value_in, width_in}
-use Rattle.svex_shape.proofs.Readings.{read_has_widths}
-use Rattle.event_sim.proofs.Evaluating.{node-fits, node-is, values-more}
+use Rattle.std.proofs.Common.{◌≡◌, ◌+◌, ◌++◌, ◌∷◌, [], List, take, sym, ap, ◌∙◌, subst, arith}
+use Rattle.std.specs.Prelude.{All}
+use Rattle.std.proofs.lemmas.List.{take_more}
+use Rattle.std.proofs.lemmas.List.Elements.{All-push, All-weaker}
+use Rattle.event_nets.specs.declared.gift.Gift.{Gift}
+use Rattle.event_sim.specs.Queues.{IsGivenFresh}
+use Rattle.event_sim.proofs.Forgetting.{given-rises}
 use Rattle.event_sim.proofs.pass.evaluate_all.Goals as goal
 
-pub shape_value-requires-clause-fits : goal.shape_value-requires-clause-fits
-shape_value-requires-clause-fits c =
-    let env = c.args.env.now in
-    let shapes = c.args.arena.now in
-    subst (λ s. FitsWidths (width_in c.nodes.values) s) (sym (c.shape-shape.ensures.is ∙ ap (λ k. shape_at shapes k) c.new.ensures))
-    (node-fits (read env) shapes c.nodes.values c.nodes.node (read_has_widths env) c.len-node-end.ensures.arena (omega (arith, c.len-node-end.ensures.is)) c.nodes.invariant.so_far)
-
-pub nodes-preserved : goal.nodes-preserved
-nodes-preserved c =
-    let env = c.args.env.now in
-    let shapes = c.args.arena.now in
-    let done = c.nodes.values in
-    let n = c.nodes.node in
-    let within : n < length shapes = omega (arith, c.len-node-end.ensures.is) in
+pub loop-gift-preserved : goal.loop-gift-preserved
+loop-gift-preserved c =
+    let gifts = c.args.gifts.now in
+    let i = c.loop-gift.gift-index in
+    let g = c.gift-item.result in
+    let old = c.loop-gift.memo in
+    let new = c.evaluate_source.new.memo in
+    let more : take (i + 1) gifts ≡ take i gifts ++ g ∷ [] = take_more gifts i g (omega arith) ∙ ap (λ (x : Gift). take i gifts ++ x ∷ []) (sym c.gift-item.is) in
     record {
-      room = length-set done n c.shape_value.result ∙ c.nodes.invariant.room;
-      so_far = values-more (read env) shapes done n c.shape_value.result c.nodes.invariant.so_far (omega (arith, c.nodes.invariant.room, within))
-          (c.shape_value.ensures ∙ ap (λ s. value_of (read env) (value_in done) s) (c.shape-shape.ensures.is ∙ ap (λ k. shape_at shapes k) c.new.ensures) ∙ node-is (read env) shapes done n c.len-node-end.ensures.arena within c.nodes.invariant.so_far);
+      memo = c.evaluate_source.ensures.memo;
+      right = c.evaluate_source.ensures.right;
+      has = subst (λ (l : List Gift). All (IsGivenFresh new) l) (sym more)
+          (All-push (IsGivenFresh new) (take i gifts) g
+          (All-weaker (IsGivenFresh old) (IsGivenFresh new) (given-rises old new c.evaluate_source.ensures.stay) (take i gifts) c.loop-gift.invariant.has) c.evaluate_source.ensures.has);
+      stay = λ k h. c.evaluate_source.ensures.stay k (c.loop-gift.invariant.stay k h);
     }

@@ -14,12 +14,12 @@ loop-at-init c =
     c.one-new.ensures
     ∙ ap (λ b. b ∷ [])
     (c.new_bit.ensures
-    ∙ ap (λ s. passed_bit homes lows c.args.net told s c.bit.result) (sym (add-zero c.args.start))
-    ∙ ap (λ o. passed_bit homes lows c.args.net told (c.args.start + 0) o) (sym (get_or_from_slice_get c.args.old.now 0 c.bit.result Unknown c.bit.ensures)))
+    ∙ ap (λ s. passed_bit homes lows c.args.low told s c.bit.result) (sym (add-zero c.args.start))
+    ∙ ap (λ o. passed_bit homes lows c.args.low told (c.args.start + 0) o) (sym (get_or_from_slice_get c.args.old.now 0 c.bit.result Unknown c.bit.ensures)))
 
 pub concat-new-requires : goal.concat-new-requires
 concat-new-requires c =
-    let f = λ (k : ℕ). passed_bit c.args.homes.now c.args.lows.now c.args.net c.args.told.now (c.args.start + k) (get_or c.args.old.now k Unknown) in
+    let f = λ (k : ℕ). passed_bit c.args.homes.now c.args.lows.now c.args.low c.args.told.now (c.args.start + k) (get_or c.args.old.now k Unknown) in
     omega (arith, ap (λ l. length l) c.one.ensures, ap (λ l. length l) c.loop-at.invariant, length-map-range_with_len f 0 c.loop-at.at, c.width-width.ensures.most, c.loop-at-test.true)
 
 pub loop-at-preserved : goal.loop-at-preserved
@@ -28,11 +28,11 @@ loop-at-preserved c =
     let lows = c.args.lows.now in
     let told = c.args.told.now in
     let at = c.loop-at.at in
-    let f = λ (k : ℕ). passed_bit homes lows c.args.net told (c.args.start + k) (get_or c.args.old.now k Unknown) in
+    let f = λ (k : ℕ). passed_bit homes lows c.args.low told (c.args.start + k) (get_or c.args.old.now k Unknown) in
     let bit : c.new_bit-bit.result ≡ f at =
     c.new_bit-bit.ensures
-    ∙ ap (λ s. passed_bit homes lows c.args.net told (c.args.start + s) c.bit-in-loop-at.result) c.from.ensures
-    ∙ ap (λ o. passed_bit homes lows c.args.net told (c.args.start + at) o) (sym (get_or_from_slice_get c.args.old.now at c.bit-in-loop-at.result Unknown c.bit-in-loop-at.ensures)) in
+    ∙ ap (λ s. passed_bit homes lows c.args.low told (c.args.start + s) c.bit-in-loop-at.result) c.from.ensures
+    ∙ ap (λ o. passed_bit homes lows c.args.low told (c.args.start + at) o) (sym (get_or_from_slice_get c.args.old.now at c.bit-in-loop-at.result Unknown c.bit-in-loop-at.ensures)) in
     c.concat-new.ensures
     ∙ ap (λ l. l ++ c.one.result) c.loop-at.invariant
     ∙ ap (λ l. map f (range_with_len 0 at) ++ l) (c.one.ensures ∙ ap (λ b. b ∷ []) bit)

@@ -4,7 +4,7 @@ use Rattle.cnf.specs.declared.Dim.{Dim}
 use Rattle.refute_check.specs.Accepted.{clause_at}
 use Rattle.sat_state.specs.declared.trail.Assigned.{Assigned}
 use Rattle.sat_search.specs.Learn.{seen_at, no_assigned, Suffices, IsTraced}
-use Rattle.sat_search.proofs.Steps.{explained_front, place_is, front_is, reason_known, on_ok}
+use Rattle.sat_search.proofs.Steps.{explained_front, place_is, front_is, reason_known}
 use Rattle.sat_search.proofs.Rows.{dim_near}
 use Rattle.sat_search.proofs.Shorter.{dropped}
 use Rattle.std.proofs.lemmas.Result.{IfOk-from_err}
@@ -54,8 +54,8 @@ returns-in_ok-push-in-Some-clause-traced c =
     (subst (λ (y : Assigned). All (λ d. d.var ≢ y.dim.var → seen_at c.args.seen.now d.var ≡ true) (clause_at db r)) same marked0) c.requires.enough c.requires.traced in
     subst (λ (y : Assigned). IsTraced (set c.args.seen.now y.dim.var false) (reverse (take c.args.left entries))) (sym same) both.1
 
-pub returns-in_err-note_dropped-in-Some : goal.returns-in_err-note_dropped-in-Some
-returns-in_err-note_dropped-in-Some c =
+pub returns-in_err-note : goal.returns-in_err-note
+returns-in_err-note c =
     let e = c.from_residual.ensures.0 in
     record {
       enough = IfOk-from_err _ _ e;
@@ -85,13 +85,13 @@ bounds-seen-e-in-Some c =
     (dim_near (length c.args.trail.now.values) c.args.i c.args.trail.now.entries c.entries.result.now no_assigned c.entries.ensures c.requires.sound.tracks.apart (omega (arith, c.requires.place, c.requires.range)))
 
 pub returns-in-None-clause-enough : goal.returns-in-None-clause-enough
-returns-in-None-clause-enough c = on_ok _ _ c.requires.enough
+returns-in-None-clause-enough c = c.requires.enough
 
 pub returns-in-None-clause-traced : goal.returns-in-None-clause-traced
-returns-in-None-clause-traced c = on_ok _ _ c.requires.traced
+returns-in-None-clause-traced c = c.requires.traced
 
 pub returns-then-not-is_implied-clause-enough : goal.returns-then-not-is_implied-clause-enough
-returns-then-not-is_implied-clause-enough c = on_ok _ _ c.requires.enough
+returns-then-not-is_implied-clause-enough c = c.requires.enough
 
 pub returns-then-not-is_implied-clause-traced : goal.returns-then-not-is_implied-clause-traced
-returns-then-not-is_implied-clause-traced c = on_ok _ _ c.requires.traced
+returns-then-not-is_implied-clause-traced c = c.requires.traced

@@ -19,9 +19,9 @@ returns-in_err-left c =
       half = IfOk-from_err _ _ e;
     }
 
-pub returns-in_err-push : goal.returns-in_err-push
-returns-in_err-push c =
-    let e = c.from_residual-in_err-push.ensures.0 in
+pub returns-in_err-write : goal.returns-in_err-write
+returns-in_err-write c =
+    let e = c.from_residual-in_err-write.ensures.0 in
     record {
       refuted = IfOk-from_err _ _ e;
       learned = IfOk-from_err _ _ e;

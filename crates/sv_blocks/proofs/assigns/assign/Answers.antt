@@ -16,3 +16,6 @@ returns-in_err-node-clause-ran c = IfOk-from_err _ _ c.from_residual.ensures.0
 
 pub returns-in_err-node-clause-state : goal.returns-in_err-node-clause-state
 returns-in_err-node-clause-state c = IfOk-from_err _ _ c.from_residual.ensures.0
+
+pub returns-in_err-node-clause-kept : goal.returns-in_err-node-clause-kept
+returns-in_err-node-clause-kept c = IfOk-from_err _ _ c.from_residual.ensures.0

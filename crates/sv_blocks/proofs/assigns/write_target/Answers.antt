@@ -73,3 +73,12 @@ returns-in_err-put_node-clause-state c = IfOk-from_err _ _ c.from_residual-in_er
 
 pub returns-in_err-put_node-clause-wrote : goal.returns-in_err-put_node-clause-wrote
 returns-in_err-put_node-clause-wrote c = IfOk-from_err _ _ c.from_residual-in_err-put_node.ensures.0
+
+pub returns-in_err-node-clause-kept : goal.returns-in_err-node-clause-kept
+returns-in_err-node-clause-kept c = IfOk-from_err _ _ c.from_residual.ensures.0
+
+pub returns-in_err-put_node-clause-kept : goal.returns-in_err-put_node-clause-kept
+returns-in_err-put_node-clause-kept c = IfOk-from_err _ _ c.from_residual-in_err-put_node.ensures.0
+
+pub returns-clause-kept : goal.returns-clause-kept
+returns-clause-kept c = c.in_ok-put_node.ensures.kept

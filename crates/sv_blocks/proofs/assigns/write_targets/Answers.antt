@@ -12,6 +12,7 @@ pub targets-init : goal.targets-init
 targets-init c = record {
   stays = extends_self _;
   state = c.requires.state;
+  kept = refl;
   left = c.width-left.ensures.is ∙ c.requires.wide;
   made = wrote_none _ _ _ _ _ _ c.len.ensures.arena c.requires.whole c.width-left.ensures.is;
 }
@@ -37,6 +38,7 @@ targets-preserved c =
     record {
       stays = extends_on _ _ _ (extends_on _ _ _ i.stays c.in_ok-part.ensures.stays) c.in_ok-write_target.ensures.stays;
       state = c.in_ok-write_target.ensures.state;
+      kept = c.in_ok-write_target.ensures.kept ∙ i.kept;
       left = (left_on _ _ _ _ c.targets-test.true c.target-item.is i.left).1;
       made =
           wrote_more _ _ _ _ _ _ _ _ _ _ _ _ _ _ _ c.requires.scene c.targets-test.true c.target-item.is i.left refl c.requires.whole i.state.nodes i.stays c.in_ok-part.ensures.stays
@@ -69,3 +71,12 @@ returns-in_err-write_target-clause-wrote c = IfOk-from_err _ _ c.from_residual-i
 
 pub returns-clause-stays : goal.returns-clause-stays
 returns-clause-stays c = c.targets.invariant.stays
+
+pub returns-clause-kept : goal.returns-clause-kept
+returns-clause-kept c = c.targets.invariant.kept
+
+pub returns-in_err-part-clause-kept : goal.returns-in_err-part-clause-kept
+returns-in_err-part-clause-kept c = IfOk-from_err _ _ c.from_residual.ensures.0
+
+pub returns-in_err-write_target-clause-kept : goal.returns-in_err-write_target-clause-kept
+returns-in_err-write_target-clause-kept c = IfOk-from_err _ _ c.from_residual-in_err-write_target.ensures.0

@@ -4,12 +4,14 @@ use Rattle.svex_arena.proofs.Keeping.{extends_self, extends_on}
 use Rattle.svex_arena.proofs.Steps.{width-extends}
 use Rattle.sv_lower.proofs.Lowered.{element}
 use Rattle.sv_actions.specs.Doing.{Fits, LabelFits}
+use Rattle.sv_stores.specs.Scenes.{AreNodes}
 use Rattle.sv_blocks.specs.Running.{ArmFits}
 use Rattle.sv_blocks.specs.Fitting.{LabelSits, Sits, ArmSits}
-use Rattle.sv_stores.proofs.Stores.{state_kept}
+use Rattle.sv_stores.proofs.Stores.{nodes_kept, state_kept}
 use Rattle.sv_blocks.proofs.Acting.{fits_assign_by, fits_choose_by, fits_match_by}
-use Rattle.sv_blocks.proofs.Falling.{all_size, choose_less, choose_as, match_other, match_arms, falls_by, falls_to, falls_arm, action_less, arm_less}
-use Rattle.sv_blocks.proofs.Running.{on_ok, state_as, ran_copied, ran_assign, ran_choose, ran_match, ran_arm_by, some_none, some_more, some_end, arms_none, arms_more, arms_end}
+use Rattle.sv_blocks.proofs.Falling.{all_size, choose_less, choose_as, match_other, match_arms, falls_by, falls_to, falls_apart, falls_arm, action_less, arm_less}
+use Rattle.sv_blocks.proofs.Overlaying.{over_none}
+use Rattle.sv_blocks.proofs.Running.{on_ok, kept_on, back_is, puts_are, nodes_over, ran_later, ran_assign, ran_choose_apart, ran_match_apart, ran_arm_apart, arm_over, some_none, some_more, some_end, arms_none, arms_more, arms_end}
 use Rattle.sv_blocks.proofs.Sitting.{sits_assign_by, sits_choose_by, sits_match_by}
 use Rattle.sv_blocks.proofs.run.+run.Goals as goal
 
@@ -49,64 +51,157 @@ run_action-run_choice-requires t c =
 pub run_action-returns-in-Choose-clause-ran : goal.run_action-returns-in-Choose-clause-ran
 run_action-returns-in-Choose-clause-ran t c = c.run_choice.ensures.ran c.args.action.now (choose_as _ _ _ _ _ _ c.in-Choose.is c.as_slice-in-Choose.ensures c.as_slice-in-Choose-2.ensures)
 
-pub run_choice-run_copy-requires : goal.run_choice-run_copy-requires
-run_choice-run_copy-requires t c =
+pub run_choice-run_apart-requires : goal.run_choice-run_apart-requires
+run_choice-run_apart-requires t c =
     ((let d = c.decreases in omega arith), (c.requires.scene, (state_kept _ _ _ _ c.in_ok-truth.ensures.stays c.requires.state, (c.requires.left, c.requires.left_sits))))
 
-pub run_choice-run_actions-requires : goal.run_choice-run_actions-requires
-run_choice-run_actions-requires t c =
-    ((let d = c.decreases in omega arith), (c.requires.scene, (state_kept _ _ _ _ (extends_on _ _ _ c.in_ok-truth.ensures.stays c.in_ok-taken.ensures.stays) c.requires.state, (c.requires.right, c.requires.right_sits))))
+pub run_choice-run_apart-requires-2 : goal.run_choice-run_apart-requires-2
+run_choice-run_apart-requires-2 t c = ((let d = c.decreases in omega arith), (c.requires.scene, (c.in_ok-left.ensures.state, (c.requires.right, c.requires.right_sits))))
 
-pub run_choice-merge-requires-clause-one : goal.run_choice-merge-requires-clause-one
-run_choice-merge-requires-clause-one t c =
-    width-extends _ _ _ (extends_on _ _ _ c.in_ok-taken.ensures.stays c.in_ok-run_actions.ensures.stays) c.in_ok-truth.ensures.ok.within ∙ c.in_ok-truth.ensures.ok.width
+pub run_choice-either-requires-clause-truth : goal.run_choice-either-requires-clause-truth
+run_choice-either-requires-clause-truth t c =
+    let e = (extends_on _ _ _ c.in_ok-left.ensures.stays c.in_ok-right.ensures.stays).longer in let l = c.in_ok-truth.ensures.ok.within in omega arith
 
-pub run_choice-merge-requires-clause-taken : goal.run_choice-merge-requires-clause-taken
-run_choice-merge-requires-clause-taken t c = state_kept _ _ _ _ c.in_ok-run_actions.ensures.stays c.in_ok-taken.ensures.state
+pub run_choice-either-requires-clause-one : goal.run_choice-either-requires-clause-one
+run_choice-either-requires-clause-one t c =
+    width-extends _ _ _ (extends_on _ _ _ c.in_ok-left.ensures.stays c.in_ok-right.ensures.stays) c.in_ok-truth.ensures.ok.within ∙ c.in_ok-truth.ensures.ok.width
+
+pub run_choice-either-requires-clause-a : goal.run_choice-either-requires-clause-a
+run_choice-either-requires-clause-a t c =
+    nodes_over c.args.scene.now _ _ _ _ (sym (c.as_slice.ensures ∙ c.in_ok-right.ensures.nodes ∙ c.in_ok-left.ensures.nodes)) (nodes_kept _ _ _ _ c.in_ok-left.ensures.puts c.in_ok-right.ensures.stays)
+
+pub run_choice-either-requires-clause-b : goal.run_choice-either-requires-clause-b
+run_choice-either-requires-clause-b t c = nodes_over c.args.scene.now _ _ _ _ (sym (c.as_slice.ensures ∙ c.in_ok-right.ensures.nodes)) c.in_ok-right.ensures.puts
+
+pub run_choice-put_all-requires-clause-state : goal.run_choice-put_all-requires-clause-state
+run_choice-put_all-requires-clause-state t c = state_kept _ _ _ _ c.in_ok-both.ensures.stays c.in_ok-right.ensures.state
+
+pub run_choice-put_all-requires-clause-puts : goal.run_choice-put_all-requires-clause-puts
+run_choice-put_all-requires-clause-puts t c = nodes_over c.args.scene.now _ _ _ _ c.as_slice.ensures c.in_ok-both.ensures.ok.nodes_are
 
 pub run_choice-returns-clause-stays : goal.run_choice-returns-clause-stays
-run_choice-returns-clause-stays t c = extends_on _ _ _ (extends_on _ _ _ (extends_on _ _ _ c.in_ok-truth.ensures.stays c.in_ok-taken.ensures.stays) c.in_ok-run_actions.ensures.stays) c.merge.ensures.stays
+run_choice-returns-clause-stays t c =
+    extends_on _ _ _ (extends_on _ _ _ (extends_on _ _ _ (extends_on _ _ _ c.in_ok-truth.ensures.stays c.in_ok-left.ensures.stays) c.in_ok-right.ensures.stays) c.in_ok-both.ensures.stays) c.put_all.ensures.stays
+
+pub run_choice-returns-clause-state : goal.run_choice-returns-clause-state
+run_choice-returns-clause-state t c = c.put_all.ensures.state
 
 pub run_choice-returns-clause-ran : goal.run_choice-returns-clause-ran
 run_choice-returns-clause-ran t c = λ x e.
-    on_ok _ _ _ (λ m.
-    ran_choose _ _ _ _ _ _ _ _ _ _ x _ _ _ _ c.requires.scene c.requires.state.nodes e
-    c.in_ok-truth.ensures.stays c.in_ok-taken.ensures.stays c.in_ok-run_actions.ensures.stays c.in_ok-taken.ensures.state.nodes
-    c.in_ok-truth.ensures.ok c.in_ok-taken.ensures.ran c.in_ok-run_actions.ensures.ran m)
-    c.merge.ensures.merged
+    on_ok _ _ _ (λ put.
+    ran_choose_apart _ _ _ _ _ _ _ _ _ _ _ _ _ _ _ x _ _ _ _ c.requires.scene c.requires.state.nodes e c.in_ok-left.ensures.nodes c.in_ok-right.ensures.nodes c.as_slice.ensures put
+    c.in_ok-truth.ensures.stays c.in_ok-left.ensures.stays c.in_ok-right.ensures.stays c.put_all.ensures.stays c.in_ok-left.ensures.puts
+    c.in_ok-truth.ensures.ok c.in_ok-left.ensures.ran c.in_ok-right.ensures.ran c.in_ok-both.ensures.ok)
+    c.put_all.ensures.nodes
+
+pub run_choice-returns-clause-kept : goal.run_choice-returns-clause-kept
+run_choice-returns-clause-kept t c = kept_on c.put_all.result _ _ _ _ _ (c.in_ok-right.ensures.nodes ∙ c.in_ok-left.ensures.nodes) c.put_all.ensures.kept
+
+pub run_choice-returns-in_err-truth-clause-state : goal.run_choice-returns-in_err-truth-clause-state
+run_choice-returns-in_err-truth-clause-state t c = IfOk-from_err _ _ c.from_residual.ensures.0
 
 pub run_choice-returns-in_err-truth-clause-ran : goal.run_choice-returns-in_err-truth-clause-ran
 run_choice-returns-in_err-truth-clause-ran t c = λ x e. IfOk-from_err _ _ c.from_residual.ensures.0
 
-pub run_choice-returns-in_err-taken-clause-ran : goal.run_choice-returns-in_err-taken-clause-ran
-run_choice-returns-in_err-taken-clause-ran t c = λ x e. IfOk-from_err _ _ c.from_residual-in_err-taken.ensures.0
+pub run_choice-returns-in_err-truth-clause-kept : goal.run_choice-returns-in_err-truth-clause-kept
+run_choice-returns-in_err-truth-clause-kept t c = IfOk-from_err _ _ c.from_residual.ensures.0
 
-pub run_choice-returns-in_err-run_actions-clause-ran : goal.run_choice-returns-in_err-run_actions-clause-ran
-run_choice-returns-in_err-run_actions-clause-ran t c = λ x e. IfOk-from_err _ _ c.from_residual-in_err-run_actions.ensures.0
+pub run_choice-returns-in_err-left-clause-state : goal.run_choice-returns-in_err-left-clause-state
+run_choice-returns-in_err-left-clause-state t c = IfOk-from_err _ _ c.from_residual-in_err-left.ensures.0
 
-pub run_choice-returns-in_err-taken-clause-stays : goal.run_choice-returns-in_err-taken-clause-stays
-run_choice-returns-in_err-taken-clause-stays t c = extends_on _ _ _ c.in_ok-truth.ensures.stays c.in_err-taken.ensures.stays
+pub run_choice-returns-in_err-left-clause-ran : goal.run_choice-returns-in_err-left-clause-ran
+run_choice-returns-in_err-left-clause-ran t c = λ x e. IfOk-from_err _ _ c.from_residual-in_err-left.ensures.0
 
-pub run_choice-returns-in_err-run_actions-clause-stays : goal.run_choice-returns-in_err-run_actions-clause-stays
-run_choice-returns-in_err-run_actions-clause-stays t c = extends_on _ _ _ (extends_on _ _ _ c.in_ok-truth.ensures.stays c.in_ok-taken.ensures.stays) c.in_err-run_actions.ensures.stays
+pub run_choice-returns-in_err-left-clause-kept : goal.run_choice-returns-in_err-left-clause-kept
+run_choice-returns-in_err-left-clause-kept t c = IfOk-from_err _ _ c.from_residual-in_err-left.ensures.0
 
--- ---- a copy
+pub run_choice-returns-in_err-right-clause-state : goal.run_choice-returns-in_err-right-clause-state
+run_choice-returns-in_err-right-clause-state t c = IfOk-from_err _ _ c.from_residual-in_err-right.ensures.0
 
-pub run_copy-returns-in_err-end-clause-stays : goal.run_copy-returns-in_err-end-clause-stays
-run_copy-returns-in_err-end-clause-stays t c = extends_self _
+pub run_choice-returns-in_err-right-clause-ran : goal.run_choice-returns-in_err-right-clause-ran
+run_choice-returns-in_err-right-clause-ran t c = λ x e. IfOk-from_err _ _ c.from_residual-in_err-right.ensures.0
 
-pub run_copy-run_actions-requires : goal.run_copy-run_actions-requires
-run_copy-run_actions-requires t c =
-    ((let d = c.decreases in omega arith), (c.requires.scene, (state_as _ _ _ _ c.in_ok-end.ensures.nodes c.in_ok-end.ensures.seen c.requires.start, (c.requires.fits, c.requires.sits))))
+pub run_choice-returns-in_err-right-clause-kept : goal.run_choice-returns-in_err-right-clause-kept
+run_choice-returns-in_err-right-clause-kept t c = IfOk-from_err _ _ c.from_residual-in_err-right.ensures.0
 
-pub run_copy-returns-clause-ran : goal.run_copy-returns-clause-ran
-run_copy-returns-clause-ran t c = ran_copied _ _ _ _ _ _ _ _ c.in_ok-end.ensures.nodes c.in_ok-run_actions.ensures.ran
+pub run_choice-returns-in_err-both-clause-state : goal.run_choice-returns-in_err-both-clause-state
+run_choice-returns-in_err-both-clause-state t c = IfOk-from_err _ _ c.from_residual-in_err-both.ensures.0
+
+pub run_choice-returns-in_err-both-clause-ran : goal.run_choice-returns-in_err-both-clause-ran
+run_choice-returns-in_err-both-clause-ran t c = λ x e. IfOk-from_err _ _ c.from_residual-in_err-both.ensures.0
+
+pub run_choice-returns-in_err-both-clause-kept : goal.run_choice-returns-in_err-both-clause-kept
+run_choice-returns-in_err-both-clause-kept t c = IfOk-from_err _ _ c.from_residual-in_err-both.ensures.0
+
+pub run_choice-returns-in_err-left-clause-stays : goal.run_choice-returns-in_err-left-clause-stays
+run_choice-returns-in_err-left-clause-stays t c = extends_on _ _ _ c.in_ok-truth.ensures.stays c.in_err-left.ensures.stays
+
+pub run_choice-returns-in_err-right-clause-stays : goal.run_choice-returns-in_err-right-clause-stays
+run_choice-returns-in_err-right-clause-stays t c = extends_on _ _ _ (extends_on _ _ _ c.in_ok-truth.ensures.stays c.in_ok-left.ensures.stays) c.in_err-right.ensures.stays
+
+pub run_choice-returns-in_err-both-clause-stays : goal.run_choice-returns-in_err-both-clause-stays
+run_choice-returns-in_err-both-clause-stays t c = extends_on _ _ _ (extends_on _ _ _ (extends_on _ _ _ c.in_ok-truth.ensures.stays c.in_ok-left.ensures.stays) c.in_ok-right.ensures.stays) c.in_err-both.ensures.stays
+
+-- ---- actions apart
+
+pub run_apart-run_actions-requires : goal.run_apart-run_actions-requires
+run_apart-run_actions-requires t c = ((let d = c.decreases in omega arith), (c.requires.scene, (c.requires.state, (c.requires.fits, c.requires.sits))))
+
+pub run_apart-put_all-requires-clause-puts : goal.run_apart-put_all-requires-clause-puts
+run_apart-put_all-requires-clause-puts t c =
+    subst (AreNodes c.args.scene.now c.run_actions.new.arena) (sym (c.in_ok-run_actions.ensures.kept ∙ over_none _ _ c.new-kept.ensures)) (nodes_kept _ _ _ _ c.requires.state.nodes c.in_ok-run_actions.ensures.stays)
+
+pub run_apart-returns-clause-stays : goal.run_apart-returns-clause-stays
+run_apart-returns-clause-stays t c = extends_on _ _ _ c.in_ok-run_actions.ensures.stays c.in_ok-put_all.ensures.stays
+
+pub run_apart-returns-clause-state : goal.run_apart-returns-clause-state
+run_apart-returns-clause-state t c = c.in_ok-put_all.ensures.state
+
+pub run_apart-returns-clause-nodes : goal.run_apart-returns-clause-nodes
+run_apart-returns-clause-nodes t c = back_is _ _ _ _ _ c.new-kept.ensures c.in_ok-run_actions.ensures.kept c.in_ok-put_all.ensures.nodes
+
+pub run_apart-returns-clause-puts : goal.run_apart-returns-clause-puts
+run_apart-returns-clause-puts t c =
+    let back = back_is _ _ _ _ _ c.new-kept.ensures c.in_ok-run_actions.ensures.kept c.in_ok-put_all.ensures.nodes in
+    subst (AreNodes c.args.scene.now c.put_all.new.arena) (sym (puts_are _ _ _ _ _ c.new-puts.ensures back c.in_ok-put_all.ensures.kept)) (nodes_kept _ _ _ _ c.in_ok-run_actions.ensures.state.nodes c.in_ok-put_all.ensures.stays)
+
+pub run_apart-returns-clause-ran : goal.run_apart-returns-clause-ran
+run_apart-returns-clause-ran t c =
+    let back = back_is _ _ _ _ _ c.new-kept.ensures c.in_ok-run_actions.ensures.kept c.in_ok-put_all.ensures.nodes in
+    ran_later _ _ _ _ _ _ _ _ _ c.requires.scene c.in_ok-run_actions.ensures.state.nodes c.in_ok-put_all.ensures.stays (puts_are _ _ _ _ _ c.new-puts.ensures back c.in_ok-put_all.ensures.kept) c.in_ok-run_actions.ensures.ran
+
+pub run_apart-returns-in_err-run_actions-clause-state : goal.run_apart-returns-in_err-run_actions-clause-state
+run_apart-returns-in_err-run_actions-clause-state t c = IfOk-from_err _ _ c.from_residual.ensures.0
+
+pub run_apart-returns-in_err-run_actions-clause-nodes : goal.run_apart-returns-in_err-run_actions-clause-nodes
+run_apart-returns-in_err-run_actions-clause-nodes t c = IfOk-from_err _ _ c.from_residual.ensures.0
+
+pub run_apart-returns-in_err-run_actions-clause-puts : goal.run_apart-returns-in_err-run_actions-clause-puts
+run_apart-returns-in_err-run_actions-clause-puts t c = IfOk-from_err _ _ c.from_residual.ensures.0
+
+pub run_apart-returns-in_err-run_actions-clause-ran : goal.run_apart-returns-in_err-run_actions-clause-ran
+run_apart-returns-in_err-run_actions-clause-ran t c = IfOk-from_err _ _ c.from_residual.ensures.0
+
+pub run_apart-returns-in_err-put_all-clause-state : goal.run_apart-returns-in_err-put_all-clause-state
+run_apart-returns-in_err-put_all-clause-state t c = IfOk-from_err _ _ c.from_residual-in_err-put_all.ensures.0
+
+pub run_apart-returns-in_err-put_all-clause-nodes : goal.run_apart-returns-in_err-put_all-clause-nodes
+run_apart-returns-in_err-put_all-clause-nodes t c = IfOk-from_err _ _ c.from_residual-in_err-put_all.ensures.0
+
+pub run_apart-returns-in_err-put_all-clause-puts : goal.run_apart-returns-in_err-put_all-clause-puts
+run_apart-returns-in_err-put_all-clause-puts t c = IfOk-from_err _ _ c.from_residual-in_err-put_all.ensures.0
+
+pub run_apart-returns-in_err-put_all-clause-ran : goal.run_apart-returns-in_err-put_all-clause-ran
+run_apart-returns-in_err-put_all-clause-ran t c = IfOk-from_err _ _ c.from_residual-in_err-put_all.ensures.0
+
+pub run_apart-returns-in_err-put_all-clause-stays : goal.run_apart-returns-in_err-put_all-clause-stays
+run_apart-returns-in_err-put_all-clause-stays t c = extends_on _ _ _ c.in_ok-run_actions.ensures.stays c.in_err-put_all.ensures.stays
 
 -- ---- a case statement
 
-pub run_action-run_actions-requires : goal.run_action-run_actions-requires
-run_action-run_actions-requires t c = (
-  falls_to _ _ t (match_other _ _ _ _ _ _ c.in-Match.is c.as_slice-in-Match.ensures refl) c.decreases,
+pub run_action-run_apart-requires : goal.run_action-run_apart-requires
+run_action-run_apart-requires t c = (
+  falls_apart _ _ t (match_other _ _ _ _ _ _ c.in-Match.is c.as_slice-in-Match.ensures refl) c.decreases,
   (
     c.requires.scene,
     (c.requires.state, ((fits_match_by _ _ _ _ _ _ c.in-Match.is refl c.as_slice-in-Match.ensures c.requires.fits).other, (sits_match_by _ _ _ _ _ _ _ c.in-Match.is refl c.as_slice-in-Match.ensures c.requires.sits).other)),
@@ -119,9 +214,9 @@ run_action-run_arms-requires t c = (
   (
     c.requires.scene,
     (
-      state_as _ _ _ _ c.in_ok-start-in-Match.ensures.nodes c.in_ok-start-in-Match.ensures.seen (state_kept _ _ _ _ c.in_ok-run_actions-in-Match.ensures.stays c.requires.state),
+      c.in_ok-rest-in-Match.ensures.state,
       (
-        c.in_ok-run_actions-in-Match.ensures.state,
+        nodes_over c.args.scene.now _ _ _ _ (sym c.in_ok-rest-in-Match.ensures.nodes) c.in_ok-rest-in-Match.ensures.puts,
         (
           (fits_match_by _ _ _ _ _ _ c.in-Match.is refl refl c.requires.fits).case,
           (
@@ -134,17 +229,24 @@ run_action-run_arms-requires t c = (
   ),
 )
 
-pub run_action-returns-in_ok-run_actions-in-Match-clause-ran : goal.run_action-returns-in_ok-run_actions-in-Match-clause-ran
-run_action-returns-in_ok-run_actions-in-Match-clause-ran t c =
-    on_ok _ _ _ (λ m.
-    ran_match _ _ _ _ _ _ _ _ c.args.action.now _ _ _ _ _ c.requires.scene c.requires.state.nodes c.in_ok-start-in-Match.ensures.nodes c.in-Match.is c.as_slice-in-Match-2.ensures c.as_slice-in-Match.ensures
-    c.in_ok-run_actions-in-Match.ensures.stays c.in_ok-run_actions-in-Match.ensures.ran m)
-    c.run_arms.ensures.ran
+pub run_action-put_all-requires-clause-puts : goal.run_action-put_all-requires-clause-puts
+run_action-put_all-requires-clause-puts t c = nodes_over c.args.scene.now _ _ _ _ (sym c.in_ok-run_arms-in-Match.ensures.nodes) c.in_ok-run_arms-in-Match.ensures.rest
+
+pub run_action-returns-in_ok-run_arms-in-Match-clause-ran : goal.run_action-returns-in_ok-run_arms-in-Match-clause-ran
+run_action-returns-in_ok-run_arms-in-Match-clause-ran t c =
+    on_ok _ _ _ (λ put.
+    ran_match_apart _ _ _ _ _ _ _ _ _ _ _ c.args.action.now _ _ _ _ _ c.requires.scene c.requires.state.nodes c.in_ok-rest-in-Match.ensures.nodes c.in_ok-run_arms-in-Match.ensures.nodes put
+    c.in-Match.is c.as_slice-in-Match-2.ensures c.as_slice-in-Match.ensures c.in_ok-rest-in-Match.ensures.stays c.put_all.ensures.stays
+    c.in_ok-run_arms-in-Match.ensures.rest c.in_ok-rest-in-Match.ensures.ran c.in_ok-run_arms-in-Match.ensures.ran)
+    c.put_all.ensures.nodes
+
+pub run_action-returns-in_ok-run_arms-in-Match-clause-kept : goal.run_action-returns-in_ok-run_arms-in-Match-clause-kept
+run_action-returns-in_ok-run_arms-in-Match-clause-kept t c = kept_on c.put_all.result _ _ _ _ _ (c.in_ok-run_arms-in-Match.ensures.nodes ∙ c.in_ok-rest-in-Match.ensures.nodes) c.put_all.ensures.kept
 
 -- ---- actions, one after another
 
 pub run_actions-actions-init : goal.run_actions-actions-init
-run_actions-actions-init t c = record { stays = extends_self _; state = c.requires.state; made = some_none _ _ _ _ }
+run_actions-actions-init t c = record { stays = extends_self _; state = c.requires.state; kept = refl; made = some_none _ _ _ _ }
 
 pub run_actions-run_action-requires : goal.run_actions-run_action-requires
 run_actions-run_action-requires t c =
@@ -156,11 +258,18 @@ run_actions-actions-preserved t c =
     record {
       stays = extends_on _ _ _ i.stays c.in_ok-run_action.ensures.stays;
       state = c.in_ok-run_action.ensures.state;
+      kept = c.in_ok-run_action.ensures.kept ∙ i.kept;
       made = some_more _ _ _ _ _ _ _ _ _ _ c.actions-test.true c.action-item.is i.made c.in_ok-run_action.ensures.ran;
     }
 
 pub run_actions-returns-clause-state : goal.run_actions-returns-clause-state
 run_actions-returns-clause-state t c = c.actions.invariant.state
+
+pub run_actions-returns-clause-kept : goal.run_actions-returns-clause-kept
+run_actions-returns-clause-kept t c = c.actions.invariant.kept
+
+pub run_actions-returns-in_err-run_action-clause-kept : goal.run_actions-returns-in_err-run_action-clause-kept
+run_actions-returns-in_err-run_action-clause-kept t c = IfOk-from_err _ _ c.from_residual.ensures.0
 
 pub run_actions-returns-clause-ran : goal.run_actions-returns-clause-ran
 run_actions-returns-clause-ran t c = some_end _ _ _ _ _ _ _ c.actions-test.false c.actions.invariant.made
@@ -168,15 +277,30 @@ run_actions-returns-clause-ran t c = some_end _ _ _ _ _ _ _ c.actions-test.false
 -- ---- arms, from the last backwards
 
 pub run_arms-arms-init : goal.run_arms-arms-init
-run_arms-arms-init t c =
-    record { stays = extends_self _; within = omega arith; state = c.requires.state; made = arms_none c.args.scene.now _ c.args.case.now c.args.arms.now _ _ _ refl }
+run_arms-arms-init t c = record {
+  stays = extends_self _;
+  within = omega arith;
+  state = c.requires.state;
+  same = refl;
+  rest = c.requires.rest;
+  made = arms_none c.args.scene.now _ c.args.case.now c.args.arms.now _ _ _ refl;
+}
 
 pub run_arms-run_arm-requires : goal.run_arms-run_arm-requires
 run_arms-run_arm-requires t c =
     let i = c.arms.invariant in
     let l : c.arms.at - 1 < length c.args.arms.now = let a = c.arms-test.true in let b = i.within in omega arith in (
       falls_arm _ _ t (arm_less _ _ _ _ l c.index-arms-at.is refl) c.decreases,
-      (c.requires.scene, (state_kept _ _ _ _ i.stays c.requires.start, (i.state, (c.requires.case, (element (ArmFits c.args.case.now) _ _ _ c.requires.arms l c.index-arms-at.is, (c.requires.narrow, element (ArmSits c.args.scene.now) _ _ _ c.requires.sits l c.index-arms-at.is)))))),
+      (
+        c.requires.scene,
+        (
+          i.state,
+          (
+            nodes_over c.args.scene.now _ _ _ _ (sym i.same) i.rest,
+            (c.requires.case, (element (ArmFits c.args.case.now) _ _ _ c.requires.arms l c.index-arms-at.is, (c.requires.narrow, element (ArmSits c.args.scene.now) _ _ _ c.requires.sits l c.index-arms-at.is))),
+          ),
+        ),
+      ),
     )
 
 pub run_arms-arms-preserved : goal.run_arms-arms-preserved
@@ -188,10 +312,24 @@ run_arms-arms-preserved t c =
       stays = extends_on _ _ _ i.stays c.in_ok-run_arm.ensures.stays;
       within = let b = i.within in omega arith;
       state = c.in_ok-run_arm.ensures.state;
+      same = c.in_ok-run_arm.ensures.nodes ∙ i.same;
+      rest = nodes_over c.args.scene.now _ _ _ _ i.same c.in_ok-run_arm.ensures.rest;
       made =
-          arms_more c.args.scene.now _ _ _ c.args.case.now c.args.arms.now (c.arms.at - 1) c.arms.at c.index-arms-at.result _ _ _ _ c.requires.scene c.requires.start.nodes i.stays l next c.index-arms-at.is
-          i.made c.in_ok-run_arm.ensures.ran;
+          arms_more c.args.scene.now _ _ _ c.args.case.now c.args.arms.now (c.arms.at - 1) c.arms.at c.index-arms-at.result _ _ _ _ c.requires.scene c.requires.state.nodes i.stays l next c.index-arms-at.is
+          i.made (arm_over c.args.scene.now _ _ c.args.case.now c.index-arms-at.result _ _ _ _ i.same c.in_ok-run_arm.ensures.ran);
     }
+
+pub run_arms-returns-clause-nodes : goal.run_arms-returns-clause-nodes
+run_arms-returns-clause-nodes t c = c.arms.invariant.same
+
+pub run_arms-returns-clause-rest : goal.run_arms-returns-clause-rest
+run_arms-returns-clause-rest t c = c.arms.invariant.rest
+
+pub run_arms-returns-in_err-run_arm-clause-nodes : goal.run_arms-returns-in_err-run_arm-clause-nodes
+run_arms-returns-in_err-run_arm-clause-nodes t c = IfOk-from_err _ _ c.from_residual.ensures.0
+
+pub run_arms-returns-in_err-run_arm-clause-rest : goal.run_arms-returns-in_err-run_arm-clause-rest
+run_arms-returns-in_err-run_arm-clause-rest t c = IfOk-from_err _ _ c.from_residual.ensures.0
 
 pub run_arms-returns-clause-state : goal.run_arms-returns-clause-state
 run_arms-returns-clause-state t c = c.arms.invariant.state
@@ -209,27 +347,44 @@ run_arm-label_matches-requires-clause-labels t c = subst (All (LabelFits c.args.
 pub run_arm-label_matches-requires-clause-sits : goal.run_arm-label_matches-requires-clause-sits
 run_arm-label_matches-requires-clause-sits t c = subst (All (LabelSits c.args.scene.now)) (sym c.as_slice.ensures) c.requires.sits.labels
 
-pub run_arm-run_copy-requires : goal.run_arm-run_copy-requires
-run_arm-run_copy-requires t c = (
+pub run_arm-run_apart-requires : goal.run_arm-run_apart-requires
+run_arm-run_apart-requires t c = (
   (let h = ap all_size c.as_slice-2.ensures in let d = c.decreases in omega arith),
   (
     c.requires.scene,
-    (state_kept _ _ _ _ c.in_ok-truth.ensures.stays c.requires.start, (subst (All Fits) (sym c.as_slice-2.ensures) c.requires.arm.body, subst (All (Sits c.args.scene.now)) (sym c.as_slice-2.ensures) c.requires.sits.body)),
+    (state_kept _ _ _ _ c.in_ok-truth.ensures.stays c.requires.state, (subst (All Fits) (sym c.as_slice-2.ensures) c.requires.arm.body, subst (All (Sits c.args.scene.now)) (sym c.as_slice-2.ensures) c.requires.sits.body)),
   ),
 )
 
-pub run_arm-merge-requires-clause-one : goal.run_arm-merge-requires-clause-one
-run_arm-merge-requires-clause-one t c = width-extends _ _ _ c.in_ok-taken.ensures.stays c.in_ok-truth.ensures.ok.within ∙ c.in_ok-truth.ensures.ok.width
+pub run_arm-either-requires-clause-truth : goal.run_arm-either-requires-clause-truth
+run_arm-either-requires-clause-truth t c = let e = c.in_ok-taken.ensures.stays.longer in let l = c.in_ok-truth.ensures.ok.within in omega arith
 
-pub run_arm-merge-requires-clause-state : goal.run_arm-merge-requires-clause-state
-run_arm-merge-requires-clause-state t c = state_kept _ _ _ _ (extends_on _ _ _ c.in_ok-truth.ensures.stays c.in_ok-taken.ensures.stays) c.requires.state
+pub run_arm-either-requires-clause-one : goal.run_arm-either-requires-clause-one
+run_arm-either-requires-clause-one t c = width-extends _ _ _ c.in_ok-taken.ensures.stays c.in_ok-truth.ensures.ok.within ∙ c.in_ok-truth.ensures.ok.width
+
+pub run_arm-either-requires-clause-a : goal.run_arm-either-requires-clause-a
+run_arm-either-requires-clause-a t c = nodes_over c.args.scene.now _ _ _ _ (sym (c.as_slice-3.ensures ∙ c.in_ok-taken.ensures.nodes)) c.in_ok-taken.ensures.puts
+
+pub run_arm-either-requires-clause-b : goal.run_arm-either-requires-clause-b
+run_arm-either-requires-clause-b t c =
+    nodes_over c.args.scene.now _ _ _ _ (sym (c.as_slice-3.ensures ∙ c.in_ok-taken.ensures.nodes)) (nodes_kept _ _ _ _ c.requires.rest (extends_on _ _ _ c.in_ok-truth.ensures.stays c.in_ok-taken.ensures.stays))
+
+pub run_arm-returns-clause-stays : goal.run_arm-returns-clause-stays
+run_arm-returns-clause-stays t c = extends_on _ _ _ (extends_on _ _ _ c.in_ok-truth.ensures.stays c.in_ok-taken.ensures.stays) c.in_ok-both.ensures.stays
+
+pub run_arm-returns-clause-state : goal.run_arm-returns-clause-state
+run_arm-returns-clause-state t c = state_kept _ _ _ _ c.in_ok-both.ensures.stays c.in_ok-taken.ensures.state
+
+pub run_arm-returns-clause-nodes : goal.run_arm-returns-clause-nodes
+run_arm-returns-clause-nodes t c = c.in_ok-taken.ensures.nodes
+
+pub run_arm-returns-clause-rest : goal.run_arm-returns-clause-rest
+run_arm-returns-clause-rest t c = nodes_over c.args.scene.now _ _ _ _ (c.as_slice-3.ensures ∙ c.in_ok-taken.ensures.nodes) c.in_ok-both.ensures.ok.nodes_are
 
 pub run_arm-returns-clause-ran : goal.run_arm-returns-clause-ran
 run_arm-returns-clause-ran t c =
-    on_ok _ _ _ (λ m.
-    ran_arm_by _ _ _ _ _ _ _ _ _ c.args.case.now c.args.arm.now _ _ _ c.requires.scene c.requires.start.nodes c.requires.state.nodes c.as_slice.ensures c.as_slice-2.ensures
-    c.in_ok-truth.ensures.stays c.in_ok-taken.ensures.stays c.in_ok-taken.ensures.state.nodes c.in_ok-truth.ensures.ok c.in_ok-taken.ensures.ran m)
-    c.merge.ensures.merged
+    ran_arm_apart _ _ _ _ _ _ _ _ _ _ c.args.case.now c.args.arm.now _ _ _ c.requires.scene c.requires.state.nodes c.requires.rest (c.as_slice-3.ensures ∙ c.in_ok-taken.ensures.nodes) c.as_slice.ensures c.as_slice-2.ensures
+    c.in_ok-truth.ensures.stays c.in_ok-taken.ensures.stays c.in_ok-taken.ensures.puts c.in_ok-truth.ensures.ok c.in_ok-taken.ensures.ran c.in_ok-both.ensures.ok
 
 -- ---- what stays, and what is wanted of no refusal
 
@@ -245,29 +400,41 @@ run_action-returns-in-Choose-clause-state t c = c.run_choice.ensures.state
 pub run_action-returns-in-Choose-clause-stays : goal.run_action-returns-in-Choose-clause-stays
 run_action-returns-in-Choose-clause-stays t c = c.run_choice.ensures.stays
 
-pub run_action-returns-in_err-start-in-Match-clause-state : goal.run_action-returns-in_err-start-in-Match-clause-state
-run_action-returns-in_err-start-in-Match-clause-state t c = IfOk-from_err _ _ c.from_residual.ensures.0
+pub run_action-returns-in_err-rest-in-Match-clause-state : goal.run_action-returns-in_err-rest-in-Match-clause-state
+run_action-returns-in_err-rest-in-Match-clause-state t c = IfOk-from_err _ _ c.from_residual.ensures.0
 
-pub run_action-returns-in_err-start-in-Match-clause-ran : goal.run_action-returns-in_err-start-in-Match-clause-ran
-run_action-returns-in_err-start-in-Match-clause-ran t c = IfOk-from_err _ _ c.from_residual.ensures.0
+pub run_action-returns-in_err-rest-in-Match-clause-ran : goal.run_action-returns-in_err-rest-in-Match-clause-ran
+run_action-returns-in_err-rest-in-Match-clause-ran t c = IfOk-from_err _ _ c.from_residual.ensures.0
 
-pub run_action-returns-in_err-run_actions-in-Match-clause-state : goal.run_action-returns-in_err-run_actions-in-Match-clause-state
-run_action-returns-in_err-run_actions-in-Match-clause-state t c = IfOk-from_err _ _ c.from_residual-in_err-run_actions-in-Match.ensures.0
+pub run_action-returns-in_err-rest-in-Match-clause-kept : goal.run_action-returns-in_err-rest-in-Match-clause-kept
+run_action-returns-in_err-rest-in-Match-clause-kept t c = IfOk-from_err _ _ c.from_residual.ensures.0
 
-pub run_action-returns-in_err-run_actions-in-Match-clause-ran : goal.run_action-returns-in_err-run_actions-in-Match-clause-ran
-run_action-returns-in_err-run_actions-in-Match-clause-ran t c = IfOk-from_err _ _ c.from_residual-in_err-run_actions-in-Match.ensures.0
+pub run_action-returns-in_err-run_arms-in-Match-clause-state : goal.run_action-returns-in_err-run_arms-in-Match-clause-state
+run_action-returns-in_err-run_arms-in-Match-clause-state t c = IfOk-from_err _ _ c.from_residual-in_err-run_arms-in-Match.ensures.0
 
-pub run_action-returns-in_err-start-in-Match-clause-stays : goal.run_action-returns-in_err-start-in-Match-clause-stays
-run_action-returns-in_err-start-in-Match-clause-stays t c = extends_self _
+pub run_action-returns-in_err-run_arms-in-Match-clause-ran : goal.run_action-returns-in_err-run_arms-in-Match-clause-ran
+run_action-returns-in_err-run_arms-in-Match-clause-ran t c = IfOk-from_err _ _ c.from_residual-in_err-run_arms-in-Match.ensures.0
 
-pub run_action-returns-in_err-run_actions-in-Match-clause-stays : goal.run_action-returns-in_err-run_actions-in-Match-clause-stays
-run_action-returns-in_err-run_actions-in-Match-clause-stays t c = c.in_err-run_actions-in-Match.ensures.stays
+pub run_action-returns-in_err-run_arms-in-Match-clause-kept : goal.run_action-returns-in_err-run_arms-in-Match-clause-kept
+run_action-returns-in_err-run_arms-in-Match-clause-kept t c = IfOk-from_err _ _ c.from_residual-in_err-run_arms-in-Match.ensures.0
 
-pub run_action-returns-in_ok-run_actions-in-Match-clause-stays : goal.run_action-returns-in_ok-run_actions-in-Match-clause-stays
-run_action-returns-in_ok-run_actions-in-Match-clause-stays t c = extends_on _ _ _ c.in_ok-run_actions-in-Match.ensures.stays c.run_arms.ensures.stays
+pub run_action-returns-in_err-rest-in-Match-clause-stays : goal.run_action-returns-in_err-rest-in-Match-clause-stays
+run_action-returns-in_err-rest-in-Match-clause-stays t c = c.in_err-rest-in-Match.ensures.stays
 
-pub run_action-returns-in_ok-run_actions-in-Match-clause-state : goal.run_action-returns-in_ok-run_actions-in-Match-clause-state
-run_action-returns-in_ok-run_actions-in-Match-clause-state t c = c.run_arms.ensures.state
+pub run_action-returns-in_err-run_arms-in-Match-clause-stays : goal.run_action-returns-in_err-run_arms-in-Match-clause-stays
+run_action-returns-in_err-run_arms-in-Match-clause-stays t c = extends_on _ _ _ c.in_ok-rest-in-Match.ensures.stays c.in_err-run_arms-in-Match.ensures.stays
+
+pub run_action-returns-in_ok-run_arms-in-Match-clause-stays : goal.run_action-returns-in_ok-run_arms-in-Match-clause-stays
+run_action-returns-in_ok-run_arms-in-Match-clause-stays t c = extends_on _ _ _ (extends_on _ _ _ c.in_ok-rest-in-Match.ensures.stays c.in_ok-run_arms-in-Match.ensures.stays) c.put_all.ensures.stays
+
+pub run_action-returns-in_ok-run_arms-in-Match-clause-state : goal.run_action-returns-in_ok-run_arms-in-Match-clause-state
+run_action-returns-in_ok-run_arms-in-Match-clause-state t c = c.put_all.ensures.state
+
+pub run_action-returns-in-Assign-clause-kept : goal.run_action-returns-in-Assign-clause-kept
+run_action-returns-in-Assign-clause-kept t c = c.assign.ensures.kept
+
+pub run_action-returns-in-Choose-clause-kept : goal.run_action-returns-in-Choose-clause-kept
+run_action-returns-in-Choose-clause-kept t c = c.run_choice.ensures.kept
 
 pub run_actions-returns-in_err-run_action-clause-state : goal.run_actions-returns-in_err-run_action-clause-state
 run_actions-returns-in_err-run_action-clause-state t c = IfOk-from_err _ _ c.from_residual.ensures.0
@@ -296,56 +463,50 @@ run_arms-returns-clause-stays t c = c.arms.invariant.stays
 pub run_arm-returns-in_err-truth-clause-state : goal.run_arm-returns-in_err-truth-clause-state
 run_arm-returns-in_err-truth-clause-state t c = IfOk-from_err _ _ c.from_residual.ensures.0
 
+pub run_arm-returns-in_err-truth-clause-nodes : goal.run_arm-returns-in_err-truth-clause-nodes
+run_arm-returns-in_err-truth-clause-nodes t c = IfOk-from_err _ _ c.from_residual.ensures.0
+
+pub run_arm-returns-in_err-truth-clause-rest : goal.run_arm-returns-in_err-truth-clause-rest
+run_arm-returns-in_err-truth-clause-rest t c = IfOk-from_err _ _ c.from_residual.ensures.0
+
 pub run_arm-returns-in_err-truth-clause-ran : goal.run_arm-returns-in_err-truth-clause-ran
 run_arm-returns-in_err-truth-clause-ran t c = IfOk-from_err _ _ c.from_residual.ensures.0
 
 pub run_arm-returns-in_err-taken-clause-state : goal.run_arm-returns-in_err-taken-clause-state
 run_arm-returns-in_err-taken-clause-state t c = IfOk-from_err _ _ c.from_residual-in_err-taken.ensures.0
 
+pub run_arm-returns-in_err-taken-clause-nodes : goal.run_arm-returns-in_err-taken-clause-nodes
+run_arm-returns-in_err-taken-clause-nodes t c = IfOk-from_err _ _ c.from_residual-in_err-taken.ensures.0
+
+pub run_arm-returns-in_err-taken-clause-rest : goal.run_arm-returns-in_err-taken-clause-rest
+run_arm-returns-in_err-taken-clause-rest t c = IfOk-from_err _ _ c.from_residual-in_err-taken.ensures.0
+
 pub run_arm-returns-in_err-taken-clause-ran : goal.run_arm-returns-in_err-taken-clause-ran
 run_arm-returns-in_err-taken-clause-ran t c = IfOk-from_err _ _ c.from_residual-in_err-taken.ensures.0
 
-pub run_arm-returns-in_err-truth-clause-stays : goal.run_arm-returns-in_err-truth-clause-stays
-run_arm-returns-in_err-truth-clause-stays t c = c.in_err-truth.ensures.stays
+pub run_arm-returns-in_err-both-clause-state : goal.run_arm-returns-in_err-both-clause-state
+run_arm-returns-in_err-both-clause-state t c = IfOk-from_err _ _ c.from_residual-in_err-both.ensures.0
+
+pub run_arm-returns-in_err-both-clause-nodes : goal.run_arm-returns-in_err-both-clause-nodes
+run_arm-returns-in_err-both-clause-nodes t c = IfOk-from_err _ _ c.from_residual-in_err-both.ensures.0
+
+pub run_arm-returns-in_err-both-clause-rest : goal.run_arm-returns-in_err-both-clause-rest
+run_arm-returns-in_err-both-clause-rest t c = IfOk-from_err _ _ c.from_residual-in_err-both.ensures.0
+
+pub run_arm-returns-in_err-both-clause-ran : goal.run_arm-returns-in_err-both-clause-ran
+run_arm-returns-in_err-both-clause-ran t c = IfOk-from_err _ _ c.from_residual-in_err-both.ensures.0
 
 pub run_arm-returns-in_err-taken-clause-stays : goal.run_arm-returns-in_err-taken-clause-stays
 run_arm-returns-in_err-taken-clause-stays t c = extends_on _ _ _ c.in_ok-truth.ensures.stays c.in_err-taken.ensures.stays
 
-pub run_arm-returns-clause-stays : goal.run_arm-returns-clause-stays
-run_arm-returns-clause-stays t c = extends_on _ _ _ (extends_on _ _ _ c.in_ok-truth.ensures.stays c.in_ok-taken.ensures.stays) c.merge.ensures.stays
+pub run_arm-returns-in_err-both-clause-stays : goal.run_arm-returns-in_err-both-clause-stays
+run_arm-returns-in_err-both-clause-stays t c = extends_on _ _ _ (extends_on _ _ _ c.in_ok-truth.ensures.stays c.in_ok-taken.ensures.stays) c.in_err-both.ensures.stays
 
-pub run_arm-returns-clause-state : goal.run_arm-returns-clause-state
-run_arm-returns-clause-state t c = c.merge.ensures.state
-
-pub run_choice-returns-in_err-truth-clause-state : goal.run_choice-returns-in_err-truth-clause-state
-run_choice-returns-in_err-truth-clause-state t c = IfOk-from_err _ _ c.from_residual.ensures.0
-
-pub run_choice-returns-in_err-taken-clause-state : goal.run_choice-returns-in_err-taken-clause-state
-run_choice-returns-in_err-taken-clause-state t c = IfOk-from_err _ _ c.from_residual-in_err-taken.ensures.0
-
-pub run_choice-returns-in_err-run_actions-clause-state : goal.run_choice-returns-in_err-run_actions-clause-state
-run_choice-returns-in_err-run_actions-clause-state t c = IfOk-from_err _ _ c.from_residual-in_err-run_actions.ensures.0
+pub run_arm-returns-in_err-truth-clause-stays : goal.run_arm-returns-in_err-truth-clause-stays
+run_arm-returns-in_err-truth-clause-stays t c = c.in_err-truth.ensures.stays
 
 pub run_choice-returns-in_err-truth-clause-stays : goal.run_choice-returns-in_err-truth-clause-stays
 run_choice-returns-in_err-truth-clause-stays t c = c.in_err-truth.ensures.stays
 
-pub run_choice-returns-clause-state : goal.run_choice-returns-clause-state
-run_choice-returns-clause-state t c = c.merge.ensures.state
-
-pub run_copy-returns-in_err-end-clause-state : goal.run_copy-returns-in_err-end-clause-state
-run_copy-returns-in_err-end-clause-state t c = IfOk-from_err _ _ c.from_residual.ensures.0
-
-pub run_copy-returns-in_err-end-clause-ran : goal.run_copy-returns-in_err-end-clause-ran
-run_copy-returns-in_err-end-clause-ran t c = IfOk-from_err _ _ c.from_residual.ensures.0
-
-pub run_copy-returns-in_err-run_actions-clause-state : goal.run_copy-returns-in_err-run_actions-clause-state
-run_copy-returns-in_err-run_actions-clause-state t c = IfOk-from_err _ _ c.from_residual-in_err-run_actions.ensures.0
-
-pub run_copy-returns-in_err-run_actions-clause-ran : goal.run_copy-returns-in_err-run_actions-clause-ran
-run_copy-returns-in_err-run_actions-clause-ran t c = IfOk-from_err _ _ c.from_residual-in_err-run_actions.ensures.0
-
-pub run_copy-returns-in_err-run_actions-clause-stays : goal.run_copy-returns-in_err-run_actions-clause-stays
-run_copy-returns-in_err-run_actions-clause-stays t c = c.in_err-run_actions.ensures.stays
-
-pub run_copy-returns-clause-stays : goal.run_copy-returns-clause-stays
-run_copy-returns-clause-stays t c = c.in_ok-run_actions.ensures.stays
+pub run_apart-returns-in_err-run_actions-clause-stays : goal.run_apart-returns-in_err-run_actions-clause-stays
+run_apart-returns-in_err-run_actions-clause-stays t c = c.in_err-run_actions.ensures.stays

@@ -1,19 +1,25 @@
-use Rattle.std.proofs.lemmas.Result.{IfOk-from_err}
-use Rattle.std.proofs.Common.{sym, ◌∙◌}
-use Rattle.svex_arena.proofs.Keeping.{extends_self}
-use Rattle.sv_stores.proofs.Stores.{put_seen, put_unseen}
+use Rattle.std.proofs.lemmas.Result.{on_ok_weaker, IfOk-from_err}
+use Rattle.std.proofs.Common.{length, get_or, ap, ◌∙◌, arith, rules}
+use Rattle.sv_blocks.proofs.Overlaying.{over_kept}
 use Rattle.sv_blocks.proofs.states.put_node.Goals as goal
 
-pub returns-in_ok-seen-clause-state : goal.returns-in_ok-seen-clause-state
-returns-in_ok-seen-clause-state c =
-    put_seen _ _ _ _ _ _ _ _ _ (sym c.sees_store.ensures ∙ c.if-sees_store.true) c.requires.state c.in_ok-seen.ensures.stays c.requires.at c.requires.node c.requires.width c.in_ok-seen.ensures.ok c.set.ensures c.set-then-sees_store.ensures
+pub bounds-as_slice-at : goal.bounds-as_slice-at
+bounds-as_slice-at c = let l = c.requires.at in let same = ap length c.as_slice.ensures in omega arith
 
-pub returns-else-sees_store-clause-state : goal.returns-else-sees_store-clause-state
-returns-else-sees_store-clause-state c =
-    put_unseen _ _ _ _ _ _ _ (sym c.sees_store.ensures ∙ c.if-sees_store.false) c.requires.state (extends_self _) c.requires.at c.requires.node c.requires.width c.set-else-sees_store.ensures
+pub offset_bounds-as_slice-at : goal.offset_bounds-as_slice-at
+offset_bounds-as_slice-at c = let l = c.requires.at in let same = ap length c.as_slice.ensures in search rules
 
-pub returns-in_err-seen-clause-nodes : goal.returns-in_err-seen-clause-nodes
-returns-in_err-seen-clause-nodes c = IfOk-from_err _ _ c.from_residual.ensures.0
+pub returns-clause-kept : goal.returns-clause-kept
+returns-clause-kept c =
+    on_ok_weaker c.set_node.result
+    (λ put. over_kept _ _ _ _ _ _ _ c.requires.at (c.index-as_slice-at.is ∙ ap (λ xs. get_or xs c.args.at c.index-as_slice-at.result) c.as_slice.ensures) put c.in_ok-keep.ensures.here c.in_ok-keep.ensures.others)
+    c.set_node.ensures.nodes
 
-pub returns-in_err-seen-clause-state : goal.returns-in_err-seen-clause-state
-returns-in_err-seen-clause-state c = IfOk-from_err _ _ c.from_residual.ensures.0
+pub returns-in_err-keep-clause-nodes : goal.returns-in_err-keep-clause-nodes
+returns-in_err-keep-clause-nodes c = IfOk-from_err _ _ c.from_residual.ensures.0
+
+pub returns-in_err-keep-clause-state : goal.returns-in_err-keep-clause-state
+returns-in_err-keep-clause-state c = IfOk-from_err _ _ c.from_residual.ensures.0
+
+pub returns-in_err-keep-clause-kept : goal.returns-in_err-keep-clause-kept
+returns-in_err-keep-clause-kept c = IfOk-from_err _ _ c.from_residual.ensures.0

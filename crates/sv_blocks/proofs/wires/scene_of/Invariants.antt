@@ -6,5 +6,5 @@ use Rattle.sv_blocks.proofs.wires.scene_of.Given as goal
 abbrev pub invariant-found : goal.invariant-found
 invariant-found l = record {
   are : (named : List NamedSignal) → All (IsAmong named) l.found → ArePlaces named l.all;
-  there : All (IsThere l.all.places.items) (take l.wire-index l.found);
+  there : All (IsThere l.all.places) (take l.wire-index l.found);
 }

@@ -6,4 +6,4 @@ use Rattle.svtv_commands.proofs.testing.selftest.Goals as goal
 
 pub returns-in-Ok-line_text-clause-tests : goal.returns-in-Ok-line_text-clause-tests
 returns-in-Ok-line_text-clause-tests c =
-    self_tests c.args.count c.in-Ok.judgement _ c.in-Ok.ensures.judges (c.in-Ok-line_text.ensures ∙ ap (λ verdicts. line_text c.args.count (map verdict_is verdicts)) c.as_slice.ensures)
+    self_tests c.args.count c.in-Ok.judgement _ c.in-Ok.ensures.judges (c.in-Ok-line_text.ensures ∙ ap (λ verdicts. line_text c.args.count (map verdict_is verdicts)) c.verdicts_of.ensures)

@@ -11,7 +11,7 @@ tables_of-requires-clause-widths c = c.deref.ensures.value ∙ c.in_ok-widths.en
 pub env_of-requires : goal.env_of-requires
 env_of-requires c =
     let P : List ℕ → Type 0 = All (λ width. (1 ≤ width) × (width ≤ 128)) in
-    subst P (sym (c.deref-2.ensures.value ∙ c.in_ok-widths.ensures ∙ ap (λ l. widths_of l) c.as_slice.ensures)) (wires-narrow c.args.flat.now.wires c.requires.wires)
+    subst P (sym (c.deref-3.ensures.value ∙ c.in_ok-widths.ensures ∙ ap (λ l. widths_of l) c.as_slice.ensures)) (wires-narrow c.args.flat.now.wires c.requires.wires)
 
 pub returns-in_err-env : goal.returns-in_err-env
 returns-in_err-env c = IfOk-from_err _ _ c.from_residual-in_err-env.ensures.0
@@ -19,11 +19,14 @@ returns-in_err-env c = IfOk-from_err _ _ c.from_residual-in_err-env.ensures.0
 pub returns-in_err-tables : goal.returns-in_err-tables
 returns-in_err-tables c = IfOk-from_err _ _ c.from_residual-in_err-tables.ensures.0
 
-pub returns-in_err-values : goal.returns-in_err-values
-returns-in_err-values c = IfOk-from_err _ _ c.from_residual-in_err-values.ensures.0
+pub returns-in_err-links : goal.returns-in_err-links
+returns-in_err-links c = IfOk-from_err _ _ c.from_residual-in_err-links.ensures.0
 
-pub returns-in_err-walk : goal.returns-in_err-walk
-returns-in_err-walk c = IfOk-from_err _ _ c.from_residual-in_err-walk.ensures.0
+pub returns-in_err-memo : goal.returns-in_err-memo
+returns-in_err-memo c = IfOk-from_err _ _ c.from_residual-in_err-memo.ensures.0
+
+pub returns-in_err-waiting : goal.returns-in_err-waiting
+returns-in_err-waiting c = IfOk-from_err _ _ c.from_residual-in_err-waiting.ensures.0
 
 pub returns-in_err-widths : goal.returns-in_err-widths
 returns-in_err-widths c = IfOk-from_err _ _ c.from_residual.ensures.0

@@ -4,4 +4,4 @@ use Rattle.sv_names.proofs.links.Links.latest.Goals as goal
 
 pub returns : goal.returns
 unfolding latest_of
-returns c = λ names linked. c.copied.ensures ∙ (c.get.ensures.value ∙ linked.latest c.args.name.now)
+returns c = λ names linked. c.get.ensures ∙ linked.latest c.args.name.now

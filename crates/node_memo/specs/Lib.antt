@@ -1,0 +1,4 @@
+pub mod Children
+pub mod Lists
+pub mod Memos
+pub mod Walks

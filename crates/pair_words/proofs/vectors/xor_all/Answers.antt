@@ -1,0 +1,7 @@
+use Rattle.std.proofs.Common.{eqb-true, sym, ◌∙◌}
+use Rattle.pair_words.specs.Rails.{bit_at}
+use Rattle.pair_words.proofs.Parities.{parity_none}
+use Rattle.pair_words.proofs.vectors.xor_all.Goals as goal
+
+pub returns-then-is_empty-clause-value : goal.returns-then-is_empty-clause-value
+returns-then-is_empty-clause-value c = λ v o. parity_none v c.args.a.now (bit_at v c.args.start) (eqb-true _ _ (sym c.is_empty.ensures ∙ c.if-is_empty.true))

@@ -1,0 +1,14 @@
+use Rattle.std.proofs.lemmas.Result.{IfOk-from_err}
+use Rattle.std.proofs.Common.{map, Some, subst, ap, ◌∙◌, ◌≡◌}
+use Rattle.cnf.specs.Formula.{Formula, formula_of}
+use Rattle.sat_whole.specs.Stop.{IsRightStop}
+use Rattle.sat_core.proofs.solver.solve_shortly.Goals as goal
+
+pub returns : goal.returns
+returns c =
+    let is : formula_of c.cnf.inside.vars (map (λ v. v.items) c.as_slice.result.now) ≡ c.args.cnf.now =
+    ap (λ v. formula_of c.cnf.inside.vars (map (λ v. v.items) v)) c.as_slice.ensures.value ∙ c.cnf.view_is in
+    c.ended_early.ensures c.args.cnf.now (Some 300) (subst (λ (f : Formula). IsRightStop f (Some 300) c.search_whole.new.steps.items c.in_ok-stop.stop) is c.in_ok-stop.ensures)
+
+pub returns-in_err-stop : goal.returns-in_err-stop
+returns-in_err-stop c = IfOk-from_err _ _ c.from_residual.ensures.0

@@ -1,0 +1,6 @@
+//! Places of wires by their numbers, at a cost that does not depend on the numbers.
+#![tactic(auto)]
+
+mod places;
+
+pub use places::WirePlaces;
