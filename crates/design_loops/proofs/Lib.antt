@@ -4,3 +4,4 @@ mod Stemming
 mod Segments
 mod Feeding
 pub mod Wide
+pub mod Passed

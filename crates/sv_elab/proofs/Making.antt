@@ -20,8 +20,8 @@ use Rattle.sv_meaning.specs.Faults.{Faults}
 use Rattle.sv_meaning.specs.Designs as d
 use Rattle.sv_meaning.specs.Designs.{Work, gives, contributions_of, names_now, work_faults, work_turns, faults_from}
 use Rattle.sv_typing.specs.Judging.{IsCause}
-use Rattle.sv_blocks.specs.Driving.{IsPlaced}
-use Rattle.sv_blocks.proofs.Driving.{gives_kept, placed_kept, mentions_kept}
+use Rattle.sv_stmt.specs.Passed.{IsPlaced}
+use Rattle.sv_stmt.proofs.Passed.{gives_kept, placed_kept, mentions_kept}
 use Rattle.sv_elab.specs.declared.works.Parts.{Parts}
 use Rattle.sv_elab.specs.declared.whole.Making.{Making}
 use Rattle.sv_elab.specs.Elaborated.{names_only, Stem, AllStem, none, more}

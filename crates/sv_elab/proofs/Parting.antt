@@ -20,8 +20,8 @@ use Rattle.sv_lower.proofs.Sizing.{length-node}
 use Rattle.sv_lower.proofs.Trees.{taken_more}
 use Rattle.sv_targets.specs.declared.parts.Part.{Part}
 use Rattle.sv_targets.specs.Slots.{Slots, AreParts}
-use Rattle.sv_blocks.specs.Driving.{IsPlaced}
-use Rattle.sv_blocks.proofs.Driving.{gives_push, gives_kept, placed_kept, mentions_kept}
+use Rattle.sv_stmt.specs.Passed.{IsPlaced}
+use Rattle.sv_stmt.proofs.Passed.{gives_push, gives_kept, placed_kept, mentions_kept}
 use Rattle.sv_elab.specs.Working.{IsWithin, Puts, PutAll, Fills, parts_give}
 use Rattle.sv_elab.proofs.Slotting.{Lies, driven_are}
 

@@ -37,7 +37,7 @@ use Rattle.sv_meaning.specs.Designs.{Work, is_joined, are_present, as_targets, a
 use Rattle.sv_typing.specs.Judging.{IsCause}
 use Rattle.sv_targets.specs.declared.parts.Target as lowered
 use Rattle.sv_targets.specs.Slots.{IsLowered}
-use Rattle.sv_actions.specs.Texts.{signals_of}
+use Rattle.sv_stmt.specs.Passed.{signals_of}
 use Rattle.sv_stmt.specs.Blocks.{AreWires, Reads}
 use Rattle.sv_elab.specs.declared.works.Parts.{Parts}
 use Rattle.sv_elab.specs.Elaborated.{names_only}

@@ -31,7 +31,7 @@ use Rattle.sv_scope.specs.Scoped.{levels_of, wires_of, works_of}
 use Rattle.sv_lower.specs.Nodes.{bits_at_node}
 use Rattle.sv_targets.specs.declared.parts.Part.{Part}
 use Rattle.sv_targets.specs.Slots.{Slots}
-use Rattle.sv_blocks.specs.Driving.{IsPlaced}
+use Rattle.sv_stmt.specs.Passed.{IsPlaced}
 use Rattle.sv_stmt.specs.Blocks.{AreWires}
 use Rattle.sv_elab.specs.declared.works.Parts.{Parts}
 use Rattle.sv_elab.specs.declared.whole.Making.{Making}

@@ -6,8 +6,8 @@ ghost use Rattle.sv_names.specs.Cursors.{each_is, EachIsSound, cursor_is, Cursor
 ghost use Rattle.sv_meaning.specs.Layouts.{width, is_signed, width_all, member_in, goes_down};
 ghost use Rattle.sv_meaning.specs.Meanings.{is_bound};
 
+use crate::ranges::goes_down;
 use crate::{Field, Form, Layout};
-use sv_ranges::goes_down;
 
 /// A layout: that of a bit of a constant, or one that is declared.
 #[derive(Clone, Copy)]

@@ -5,6 +5,7 @@ mod cursor;
 mod layout;
 mod links;
 mod names;
+mod ranges;
 mod scope;
 
 pub use cursor::{Cursor, Each, Part, Row};

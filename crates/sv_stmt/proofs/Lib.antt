@@ -4,3 +4,4 @@ pub mod Naming
 pub mod Rooted
 pub mod Placing
 pub mod Judging
+pub mod Passed

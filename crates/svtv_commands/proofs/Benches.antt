@@ -8,8 +8,8 @@ use Rattle.sv_elab.specs.Elaborated.{IsElaborated}
 use Rattle.sv_meaning.specs.Designs.{Design}
 use Rattle.sv_outside.specs.declared.text.Signal.{Signal}
 use Rattle.svtv_table.proofs.Apart.{drives_apart, overs_apart}
-use Rattle.svtv_least.proofs.Fitting.{still_apart}
-use Rattle.svtv_decide.specs.Posing.{Poses, bench}
+use Rattle.svtv_texts.proofs.Passed.{still_apart}
+use Rattle.svtv_texts.specs.Passed.{Poses, bench}
 use Rattle.svtv_runs.specs.Runs.{AreApart, asks_of}
 use Rattle.svtv_table.specs.Binding.{HasWidth, bind_faults, bound_of, cell_sample, sampled_by, sampled_in, samples_of}
 use Rattle.svtv_table.specs.Faults.{at_each}

@@ -22,13 +22,13 @@ use Rattle.svex_arena.proofs.Steps.{value-extends, variables-extends, width-exte
 use Rattle.svex_shape.specs.declared.shape.Shape.{Shape}
 use Rattle.svex_shape.specs.declared.shape.VarName.{VarName}
 use Rattle.svtv_commands.specs.Machines.{IsWideStop, StopsWide}
-use Rattle.svtv_decide.specs.Posing.{IsOneBit, IsThere, Poses}
+use Rattle.svtv_texts.specs.Passed.{IsOneBit, IsThere, Poses}
 use Rattle.svtv_files.specs.Files.{Text}
 use Rattle.svtv_files.specs.Refusals.{at_first}
 use Rattle.svtv_files.specs.Stopping.{IfUnread, IsOf}
 use Rattle.svtv_files.specs.declared.stop.Stop.{Stop}
 use Rattle.svtv_files.specs.declared.stop.Stop.TheVariants.{Refused, Unread, Memory}
-use Rattle.svtv_machine.specs.Least.{AreLeastNodes}
+use Rattle.svtv_texts.specs.Passed.{AreLeastNodes}
 use Rattle.svtv_runs.specs.Runs.{Asked}
 use Rattle.svtv_table.specs.declared.bound.Bound.{Bound}
 use Rattle.svtv_table.specs.declared.bound.Sample.{Sample}

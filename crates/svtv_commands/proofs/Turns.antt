@@ -12,10 +12,10 @@ use Rattle.sv_meaning.specs.Designs.{Design}
 use Rattle.sv_outside.specs.declared.text.Signal.{Signal}
 use Rattle.svex_shape.specs.declared.shape.Shape.{Shape}
 use Rattle.svtv_choices.proofs.Values.{values_choice}
-use Rattle.svtv_decide.specs.Posing.{Poses, bench}
+use Rattle.svtv_texts.specs.Passed.{Poses, bench}
 use Rattle.svtv_report.specs.Shown.{sample_texts}
 use Rattle.svtv_report.specs.Texts.{value_lines}
-use Rattle.svtv_least.specs.Running.{AreAsWide}
+use Rattle.svtv_texts.specs.Passed.{AreAsWide}
 use Rattle.svtv_runs.specs.Runs.{Asked, Run, IsLeastRun, asks_of}
 use Rattle.svtv_runs.proofs.Runs.{least_run_stands}
 use Rattle.svtv_table.specs.Binding.{HasWidth, IsBound, bound_of}

@@ -13,7 +13,7 @@ ghost use Rattle.sv_meaning.specs.Designs.{Design};
 ghost use Rattle.sv_outside.specs.Outside.{Rose};
 ghost use Rattle.svtv_commands.specs.Judged.{AreAsLong, IsJudgement};
 ghost use Rattle.svtv_commands.specs.Machines.{IsWideStop, StopsWide};
-ghost use Rattle.svtv_decide.specs.Posing.{IsThere, Poses, bench};
+ghost use Rattle.svtv_texts.specs.Passed.{IsThere, Poses, bench};
 ghost use Rattle.svtv_files.specs.Refusals.{LeavesProof, RefusesProof};
 ghost use Rattle.svtv_files.specs.Stopping.{IfUnread, Stops};
 ghost use Rattle.svtv_runs.specs.Runs.{Asked};
@@ -29,11 +29,9 @@ use goal_text::Goal;
 use net_equations::ComposeErr;
 use std::alloc::Global;
 use sv_outside::{Files, Name, Place, Refusal, TextErr};
-use svtv_decide::Problem;
 use svtv_files::{Stop, refused};
-use svtv_machine::sample_nodes;
 use svtv_table::Bound;
-use svtv_texts::{Decisions, decide_all};
+use svtv_texts::{Decisions, Problem, decide_all, sample_nodes};
 
 // E39 of the design, or want of memory.
 fn too_wide(design: &Name, error: ComposeErr) -> Stop

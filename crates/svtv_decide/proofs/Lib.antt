@@ -1,3 +1,4 @@
 pub mod Reading
 pub mod Zips
 pub mod Deciding
+pub mod Passed

@@ -29,7 +29,7 @@ use Rattle.svtv_runs.specs.Runs.{Run}
 use Rattle.svtv_runs.specs.Truths.{no_run, sampled, table_values, valuation}
 use Rattle.svtv_table.specs.declared.bound.Sample.{Sample}
 use Rattle.svtv_table.specs.declared.bound.VarDecl.{VarDecl}
-use Rattle.svtv_unroll.specs.Unrolled.{AreSampleNodes, HaveSamples, choice_bits, under_choice, vector_of, width_of_sample}
+use Rattle.svtv_machine.specs.Passed.{AreSampleNodes, HaveSamples, choice_bits, under_choice, vector_of, width_of_sample}
 use Rattle.svtv_verdicts.specs.Benches.{sampled_in}
 
 -- ---- vectors by their bits

@@ -1,1 +1,2 @@
 pub mod Posing
+pub mod Passed

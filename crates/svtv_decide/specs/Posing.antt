@@ -5,7 +5,7 @@ use Rattle.fourvec.specs.declared.Bit.{Bit}
 use Rattle.goal_prove.specs.declared.certs.Verdict.{Verdict as Found}
 use Rattle.goal_prove.specs.declared.certs.Verdict.TheVariants as found
 use Rattle.goal_text.specs.declared.goal.Goal.{Goal}
-use Rattle.sv_elab.specs.Elaborated.{IsElaborated}
+use Rattle.svtv_machine.specs.Passed.{IsElaborated}
 use Rattle.sv_meaning.specs.Designs.{Design}
 use Rattle.flat_net.specs.declared.flat.Flat.{Flat}
 use Rattle.svex_shape.specs.declared.shape.Shape.{Shape}

@@ -14,7 +14,7 @@ ghost use Rattle.svtv_machine.specs.Least.{AreLeastNodes};
 ghost use Rattle.svtv_report.specs.Seen.{verdict_is};
 ghost use Rattle.svtv_runs.specs.Runs.{Asked};
 ghost use Rattle.svtv_table.specs.Binding.{HasWidth, IsBound};
-ghost use Rattle.svtv_unroll.specs.Unrolled.{AreSampleNodes};
+ghost use Rattle.svtv_machine.specs.Passed.{AreSampleNodes};
 ghost use Rattle.svtv_verdicts.specs.Verdicts.{IsRight};
 
 use crate::least::least_samples;

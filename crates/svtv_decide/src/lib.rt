@@ -5,3 +5,5 @@ mod goals;
 mod least;
 
 pub use goals::{Decided, Problem, decide};
+pub use svtv_least::Runner;
+pub use svtv_machine::sample_nodes;

@@ -5,7 +5,7 @@ use Rattle.std.specs.Prelude.{All}
 use Rattle.std.specs.List.{Contains}
 use Rattle.std.proofs.lemmas.List.Elements.{All-contains, All-head, All-tail}
 use Rattle.sv_cursor.specs.Refusals.{place_at}
-use Rattle.sv_elab.specs.Elaborated.{sound_design}
+use Rattle.design_loops.specs.Passed.{sound_design}
 use Rattle.sv_hierarchy.specs.Scopes.{source_faults}
 use Rattle.sv_meaning.specs.Faults.{Faults, faults_of}
 use Rattle.sv_outside.specs.Text.{TokenList}

@@ -4,7 +4,7 @@ use Rattle.goal_tree.specs.declared.tree.GoalTree.{GoalTree}
 use Rattle.goal_text.specs.Faults.{goal_faults}
 use Rattle.goal_text.specs.Goals.{Spell}
 use Rattle.fourvec.specs.declared.Bit.{Bit}
-use Rattle.sv_elab.specs.Elaborated.{sound_design}
+use Rattle.design_loops.specs.Passed.{sound_design}
 use Rattle.sv_meaning.specs.Designs.{Design}
 use Rattle.sv_outside.specs.Text.{TokenList}
 use Rattle.sv_outside.specs.declared.text.Signal.{Signal}

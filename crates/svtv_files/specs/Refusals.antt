@@ -4,7 +4,7 @@ use Rattle.std.specs.List.{Contains}
 use Rattle.design_loops.specs.Loops.{HasWideLoop}
 use Rattle.goal_text.specs.Goals.{HasCause}
 use Rattle.goal_tree.specs.declared.tree.GoalTree.{GoalTree}
-use Rattle.sv_elab.specs.Elaborated.{sound_design}
+use Rattle.design_loops.specs.Passed.{sound_design}
 use Rattle.sv_meaning.specs.Designs.{Design}
 use Rattle.sv_meaning.specs.Faults.{Faults}
 use Rattle.sv_outside.specs.Text.{TokenList}

@@ -1,7 +1,7 @@
 // Where the refusals of a design stand.
 ghost use Rattle.std.specs.Prelude.{◌≡◌, ◌⊎◌, ◌<◌, length, Option, Err};
 ghost use Rattle.std.specs.List.{Contains};
-ghost use Rattle.sv_elab.specs.Elaborated.{sound_design};
+ghost use Rattle.design_loops.specs.Passed.{sound_design};
 ghost use Rattle.sv_meaning.specs.Faults.{Faults};
 ghost use Rattle.sv_outside.specs.Text.{TokenList};
 ghost use Rattle.sv_outside.specs.declared.refusal.Refusal.{Refusal};

@@ -15,8 +15,8 @@ use Rattle.flat_net.specs.declared.flat.Flat.{Flat}
 use Rattle.flat_net.specs.Flats.{links_of, given}
 use Rattle.phase_fsm.proofs.Growing.{over_nodes, flat-stays, settles-stays, settles-stays-back}
 use Rattle.sv_meaning.specs.Designs.{Design, Work, names_now, outside}
-use Rattle.sv_elab.specs.Elaborated.{AllStem, IsElaborated, Stem, more, names_only, none}
-use Rattle.sv_elab.proofs.Lists.{left_all, right_all}
+use Rattle.design_loops.specs.Passed.{AllStem, IsElaborated, Stem, more, names_only, none}
+use Rattle.design_loops.proofs.Passed.{left_all, right_all}
 
 -- ---- drivers
 

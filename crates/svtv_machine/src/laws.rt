@@ -3,7 +3,7 @@ ghost use Rattle.std.specs.Prelude.{List};
 ghost use Rattle.flat_net.specs.declared.flat.Flat.{Flat};
 ghost use Rattle.svex_arena.specs.Arenas.{Extends, IsArena};
 ghost use Rattle.svex_shape.specs.declared.shape.Shape.{Shape};
-ghost use Rattle.sv_elab.specs.Elaborated.{IsElaborated};
+ghost use Rattle.design_loops.specs.Passed.{IsElaborated};
 ghost use Rattle.sv_meaning.specs.Designs.{Design};
 
 /// A flat design means the same where its graph has grown.

@@ -4,7 +4,7 @@ ghost use Rattle.design_loops.specs.Loops.{HasWideLoop};
 ghost use Rattle.flat_net.specs.Flats.{IsFlat};
 ghost use Rattle.net_equations.specs.declared.group.ComposeErr.TheVariants.{LoopTooWide};
 ghost use Rattle.svex_arena.specs.Arenas.{Extends, IsArena};
-ghost use Rattle.sv_elab.specs.Elaborated.{IsElaborated};
+ghost use Rattle.design_loops.specs.Passed.{IsElaborated};
 ghost use Rattle.sv_meaning.specs.Designs.{Design};
 ghost use Rattle.svtv_machine.specs.Least.{AreLeastNodes};
 ghost use Rattle.svtv_table.specs.Binding.{IsBound};

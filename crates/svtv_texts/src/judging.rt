@@ -9,7 +9,7 @@ ghost use Rattle.goal_text.specs.Nodes.{IsGoal};
 ghost use Rattle.goal_tree.specs.declared.tree.GoalTree.{GoalTree};
 ghost use Rattle.sv_meaning.specs.Designs.{Design};
 ghost use Rattle.svtv_decide.specs.Posing.{IsThere, Poses, bench};
-ghost use Rattle.svtv_machine.specs.Least.{AreLeastNodes};
+ghost use Rattle.svtv_decide.specs.Passed.{AreLeastNodes};
 ghost use Rattle.svtv_report.specs.Seen.{verdict_is};
 ghost use Rattle.svtv_report.specs.Shown.{sample_texts, var_texts};
 ghost use Rattle.svtv_report.specs.Texts as t;
@@ -17,7 +17,7 @@ ghost use Rattle.svtv_runs.specs.Runs.{Asked};
 ghost use Rattle.svtv_table.specs.Binding.{HasWidth, IsBound};
 ghost use Rattle.svtv_texts.specs.Rights as a;
 ghost use Rattle.svtv_texts.specs.Rights.{AreRight, names_of};
-ghost use Rattle.svtv_unroll.specs.Unrolled.{AreSampleNodes};
+ghost use Rattle.svtv_decide.specs.Passed.{AreSampleNodes};
 
 use fourvec::Four;
 use goal_text::Goal;

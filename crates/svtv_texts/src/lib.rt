@@ -6,3 +6,4 @@ mod samples;
 
 pub use judging::{Decisions, decide_all, reported};
 pub use samples::sampled;
+pub use svtv_decide::{Problem, sample_nodes};

@@ -1,9 +1,9 @@
 // The samples of a simulation.
 ghost use Rattle.std.specs.Prelude.{◌≡◌, [], IfOk};
 ghost use Rattle.flat_net.specs.Flats.{IsFlat};
-ghost use Rattle.sv_elab.specs.Elaborated.{IsElaborated};
+ghost use Rattle.svtv_decide.specs.Passed.{IsElaborated};
 ghost use Rattle.sv_meaning.specs.Designs.{Design};
-ghost use Rattle.svtv_least.specs.Running.{AreAsWide};
+ghost use Rattle.svtv_decide.specs.Passed.{AreAsWide};
 ghost use Rattle.svtv_report.specs.Shown.{sample_texts};
 ghost use Rattle.svtv_report.specs.Texts.{value_lines};
 ghost use Rattle.svtv_runs.specs.Runs.{IsLeastRun, Run, asks_of};
@@ -13,7 +13,7 @@ ghost use Rattle.svtv_verdicts.specs.Benches.{sampled_in};
 use flat_net::Flat;
 use fourvec::Four;
 use std::alloc::{AllocError, Global};
-use svtv_least::Runner;
+use svtv_decide::Runner;
 use svtv_report::samples_text;
 use svtv_table::Bound;
 

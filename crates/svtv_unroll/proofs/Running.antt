@@ -24,7 +24,7 @@ use Rattle.sv_meaning.specs.Designs as d
 use Rattle.sv_meaning.specs.Designs.{Design}
 use Rattle.sv_meaning.specs.Laws as laws
 use Rattle.sv_meaning.proofs.Leasts.{least_settling_exists}
-use Rattle.sv_elab.specs.Elaborated.{IsElaborated}
+use Rattle.svtv_least.specs.Passed.{IsElaborated}
 use Rattle.svtv_table.specs.declared.bound.Bound.{Bound}
 use Rattle.svtv_table.specs.declared.bound.Sample.{Sample}
 use Rattle.svtv_table.specs.declared.bound.VarDecl.{VarDecl}

@@ -11,7 +11,7 @@ ghost use Rattle.driver_resolve.specs.Drivers.{widths_of};
 ghost use Rattle.flat_net.specs.declared.flat.Flat.{Flat};
 ghost use Rattle.phase_fsm.specs.Machines.{IsMachine, row_of};
 ghost use Rattle.sv_meaning.specs.Designs.{Design};
-ghost use Rattle.sv_elab.specs.Elaborated.{IsElaborated};
+ghost use Rattle.svtv_least.specs.Passed.{IsElaborated};
 ghost use Rattle.svtv_table.specs.Binding.{IsBound};
 ghost use Rattle.svtv_table.specs.Stimuli.{IsChoice};
 ghost use Rattle.svtv_runs.specs.Runs.{IsLeastRun, Run, asks_of};

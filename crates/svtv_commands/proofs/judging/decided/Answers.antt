@@ -4,13 +4,13 @@ use Rattle.flat_net.specs.Flats.{IsFlat}
 use Rattle.fourvec.specs.declared.Bit.{Bit}
 use Rattle.goal_tree.specs.declared.tree.GoalTree.{GoalTree}
 use Rattle.sv_meaning.specs.Designs.{Design}
-use Rattle.svtv_decide.specs.Posing.{bench}
-use Rattle.svtv_machine.specs.Least.{AreLeastNodes}
+use Rattle.svtv_texts.specs.Passed.{bench}
+use Rattle.svtv_texts.specs.Passed.{AreLeastNodes}
 use Rattle.svtv_runs.specs.Runs.{Asked}
 use Rattle.svtv_table.specs.Binding.{IsBound}
 use Rattle.svtv_report.specs.Seen.{verdict_is}
 use Rattle.svtv_texts.specs.Rights.{AreRight}
-use Rattle.svtv_unroll.specs.Unrolled.{AreSampleNodes}
+use Rattle.svtv_texts.specs.Passed.{AreSampleNodes}
 use Rattle.svtv_commands.proofs.Growing.{reports, stops_wide, there_kept}
 use Rattle.svtv_commands.proofs.judging.decided.Goals as goal
 

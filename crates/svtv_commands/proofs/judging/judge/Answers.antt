@@ -5,8 +5,8 @@ use Rattle.flat_net.specs.declared.flat.Flat.{Flat}
 use Rattle.svtv_commands.specs.Inputs.{AreGoalsIn}
 use Rattle.svtv_commands.proofs.Growing.{none_left}
 use Rattle.svtv_commands.proofs.Turns.{fits, goals_turn, judged, same_told, samples_all_wide, vars_wide, wide_turn}
-use Rattle.svtv_decide.specs.Posing.{IsThere}
-use Rattle.svtv_machine.proofs.Growing.{designs_grow}
+use Rattle.svtv_texts.specs.Passed.{IsThere}
+use Rattle.svtv_texts.proofs.Passed.{designs_grow}
 use Rattle.svtv_texts.proofs.Verdicts.{all_there}
 use Rattle.svtv_commands.proofs.judging.judge.Goals as goal
 

@@ -3,11 +3,11 @@ use Rattle.goal_text.specs.declared.goal.Goal.{Goal}
 use Rattle.goal_text.specs.Nodes.{IsGoal}
 use Rattle.svex_shape.specs.declared.shape.Shape.{Shape}
 use Rattle.svtv_decide.specs.Posing.{IsThere, bench}
-use Rattle.svtv_machine.specs.Least.{AreLeastNodes}
+use Rattle.svtv_decide.specs.Passed.{AreLeastNodes}
 use Rattle.svtv_report.specs.Seen.{verdict_is}
 use Rattle.svtv_texts.specs.Rights.{AreRight, names_of}
 use Rattle.svtv_texts.proofs.Verdicts.{map_more, no_goal, right_next, take_more, take_whole, zip_at, zip_long, one_longer}
-use Rattle.svtv_unroll.specs.Unrolled.{AreSampleNodes}
+use Rattle.svtv_decide.specs.Passed.{AreSampleNodes}
 use Rattle.svtv_texts.proofs.judging.decide_all.Goals as goal
 
 pub decide-requires-clause-samples : goal.decide-requires-clause-samples

@@ -5,7 +5,7 @@ use Rattle.goal_text.specs.Nodes.{IsGoal}
 use Rattle.goal_tree.specs.declared.tree.GoalTree.{GoalTree}
 use Rattle.sv_meaning.specs.Designs.{Design}
 use Rattle.svtv_decide.specs.Posing.{Poses, bench}
-use Rattle.svtv_machine.specs.Least.{AreLeastNodes}
+use Rattle.svtv_decide.specs.Passed.{AreLeastNodes}
 use Rattle.svtv_report.specs.Seen.{verdict_is}
 use Rattle.svtv_runs.specs.Runs.{Asked}
 use Rattle.svtv_texts.specs.Rights.{AreRight, names_of}

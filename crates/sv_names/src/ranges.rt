@@ -1,6 +1,4 @@
 //! Which way ranges of elements go.
-#![tactic(auto)]
-
 ghost use Rattle.std.specs.Prelude.{◌≡◌};
 ghost use Rattle.sv_meaning.specs.Layouts.{goes_down};
 
