@@ -13,7 +13,7 @@ use crate::sound::is_sound;
 use crate::unrolled::{put_samples, unrolled};
 use case_exprs::{digits, put_vectors};
 use case_rows::{Fault, Report, put, rows_of, sides};
-use flat_copy::copy_flat;
+use flat_print::copy_flat;
 use flat_net::Flat;
 use fourvec::Four;
 use std::alloc::Global;

@@ -8,3 +8,4 @@ pub mod Bounds
 pub mod Packs
 pub mod Reading
 pub mod Known
+pub mod Rows

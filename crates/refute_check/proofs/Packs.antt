@@ -4,9 +4,9 @@ use Rattle.std.specs.List.{All}
 use Rattle.std.proofs.lemmas.Bool.{eq-eqb, ne_eqb}
 use Rattle.std.proofs.lemmas.List.{take_more, take_all, drop_all, map-append, length-map, take-append-le, drop-append-le}
 use Rattle.std.proofs.lemmas.List.Elements.{All-cons, All-append, All-map}
-use Rattle.number_row.specs.declared.number.Number.{Number}
-use Rattle.number_row.specs.Groups.{value, whole}
-use Rattle.number_row.proofs.Rows.{whole_small}
+use Rattle.refute_check.specs.declared.number.Number.{Number}
+use Rattle.refute_check.specs.Groups.{value, whole}
+use Rattle.refute_check.proofs.Rows.{whole_small}
 use Rattle.cnf.specs.declared.Dim.{Dim}
 use Rattle.refute_check.specs.Entry.{Entry, entry_of}
 use Rattle.refute_check.specs.Packed.{number_of, literal_of, entry_from}

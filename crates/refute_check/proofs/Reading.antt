@@ -3,8 +3,8 @@ use Rattle.std.proofs.Common.{◌≡◌, ℕ, zero, suc, ◌<◌, ◌≤◌, ◌
 use Rattle.std.specs.List.{All, Contains}
 use Rattle.std.proofs.lemmas.List.{append-nil, take_all, drop_all}
 use Rattle.std.proofs.lemmas.List.Elements.{All-contains, Contains-append_right}
-use Rattle.number_row.specs.declared.number.Number.{Number}
-use Rattle.number_row.specs.Groups.{value}
+use Rattle.refute_check.specs.declared.number.Number.{Number}
+use Rattle.refute_check.specs.Groups.{value}
 use Rattle.cnf.specs.declared.Dim.{Dim}
 use Rattle.refute_check.specs.Entry.{Entry}
 use Rattle.refute_check.specs.Packed.{literal_of, entry_from}

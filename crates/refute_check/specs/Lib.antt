@@ -5,3 +5,4 @@ pub mod Count
 pub mod Trail
 pub mod Errors
 pub mod Packed
+pub mod Groups

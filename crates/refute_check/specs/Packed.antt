@@ -1,7 +1,7 @@
 -- How a step stands in a row of numbers: how many literals its clause has, these, and its hints.
 use Rattle.std.specs.Prelude.{ℕ, ◌+◌, ◌*◌, ◌/◌, ◌%◌, ◌^◌, ◌==◌, if◌then◌else◌, List, [], ◌∷◌, map, take, drop}
-use Rattle.number_row.specs.declared.number.Number.{Number}
-use Rattle.number_row.specs.Groups.{value}
+use Rattle.refute_check.specs.declared.number.Number.{Number}
+use Rattle.refute_check.specs.Groups.{value}
 use Rattle.cnf.specs.declared.Dim.{Dim}
 use Rattle.refute_check.specs.Entry.{Entry, entry_of, no_entry}
 

@@ -11,11 +11,17 @@ mod follow;
 mod laws;
 mod log;
 mod marks;
+mod number;
 mod packing;
+mod reader;
 mod readers;
+mod row;
 
 pub use checker::{CheckErr, Checker};
 pub use follow::clause_of;
 pub use laws::fresh_logs_are_short;
 pub use log::{Draft, Log, Step};
+pub use number::Number;
+pub use reader::Reader;
 pub use readers::{Hints, Literals};
+pub use row::NumberRow;

@@ -4,10 +4,10 @@
 ghost use Rattle.std.specs.Prelude.{◌≡◌, [], ◌↔◌, IfOk, IsTrue};
 ghost use Rattle.refute_check.specs.Entry.{entry_of};
 
+use crate::NumberRow;
 use crate::packing::numbers_of;
 use crate::readers::{Hints, Literals, all_hints, all_literals};
 use cnf::Dim;
-use number_row::NumberRow;
 use std::alloc::{AllocError, Global};
 use std::marker::Model;
 

@@ -2,11 +2,11 @@
 
 ghost use Rattle.std.specs.Prelude.{◌≡◌, ◌≤◌, ◌++◌, ◌∷◌, IfOk, OnOk, length, map, if◌then◌else◌};
 ghost use Rattle.cnf.specs.declared.Dim.{Dim};
-ghost use Rattle.number_row.specs.Groups.{value, whole};
+ghost use Rattle.refute_check.specs.Groups.{value, whole};
 ghost use Rattle.refute_check.specs.Packed.{literal_of, number_of};
 
+use crate::Number;
 use cnf::Dim;
-use number_row::Number;
 use std::alloc::{AllocError, Global};
 
 fn sign(negated: bool) -> u8
@@ -30,7 +30,7 @@ fn packed(var: usize, negated: bool) -> Number
 }
 
 /// A number as a literal.
-#[tactic(auto, using(number_row::proofs::Rows::mod_first), unfolding(crate::specs::Packed::literal_of))]
+#[tactic(auto, using(crate::proofs::Rows::mod_first), unfolding(crate::specs::Packed::literal_of))]
 pub fn literal(number: Number) -> Dim
     ensures { result ≡ literal_of number }
 {

@@ -1,12 +1,12 @@
 //! The literals and the hints of a step, as they are read from its row. Readers take no memory.
 
 ghost use Rattle.std.specs.Prelude.{◌≡◌, ◌∷◌, [], ◌↔◌, IfNone, IfOk, IfSome, IsTrue, drop, map, take};
-ghost use Rattle.number_row.specs.Groups.{value};
+ghost use Rattle.refute_check.specs.Groups.{value};
 ghost use Rattle.refute_check.specs.Packed.{literal_of};
 
+use crate::Reader;
 use crate::packing::literal;
 use cnf::Dim;
-use number_row::Reader;
 use std::alloc::{AllocError, Global};
 use std::marker::Model;
 
@@ -35,7 +35,7 @@ pub struct Hints<'a> {
 
 impl<'a> Model for Hints<'a> {
     ghost use Rattle.std.specs.Prelude.{List, ℕ, map};
-    ghost use Rattle.number_row.specs.Groups.{value};
+    ghost use Rattle.refute_check.specs.Groups.{value};
 
     ghost Value = { List ℕ };
 

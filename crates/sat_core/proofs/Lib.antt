@@ -1,2 +1,3 @@
 pub mod Names
 mod Examples
+pub mod Ends

@@ -14,11 +14,11 @@ use Rattle.refute_check.specs.Accepted.{AllDerived, Derives, IsDerived, IsAccept
 use Rattle.sat_state.specs.Trail.{all_of}
 use Rattle.sat_state.specs.Watch.{HasTrue}
 use Rattle.sat_search.proofs.Learned.{known_push}
-use Rattle.sat_whole.specs.declared.whole.Stop.{Stop}
-use Rattle.sat_whole.specs.declared.whole.Stop.TheVariants.{Solved, Refuted, UsedUp}
-use Rattle.sat_whole.specs.Stop.{IsRightStop}
+use Rattle.sat_core.specs.declared.whole.Stop.{Stop}
+use Rattle.sat_core.specs.declared.whole.Stop.TheVariants.{Solved, Refuted, UsedUp}
+use Rattle.sat_core.specs.Stop.{IsRightStop}
 use Rattle.sat_core.specs.Rounds.{IsNamed, name_at, named_step}
-use Rattle.sat_whole.proofs.Ends.{each_push, entry_last, value_written}
+use Rattle.sat_core.proofs.Ends.{each_push, entry_last, value_written}
 
 pub derives_named : (all round : List (List Dim)) (names : List ℕ) → IsNamed all names round → (a : Valuation) (hints : List ℕ) → Derives round a hints → Derives all a (map (name_at names) hints)
 derives_named all round names n a [] d = d

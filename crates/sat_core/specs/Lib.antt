@@ -1,2 +1,3 @@
 pub mod End
 pub mod Rounds
+pub mod Stop

@@ -5,5 +5,7 @@ mod prepare;
 mod rounds;
 mod solver;
 mod trim;
+mod whole;
 
 pub use solver::{SatEnd, solve};
+pub use whole::{Stop, search_whole, solution};

@@ -16,10 +16,11 @@ ghost use Rattle.sat_state.specs.Trail.{Tracks, all_of};
 ghost use Rattle.sat_state.specs.Watch.{HasTrue, rows};
 ghost use Rattle.sat_search.specs.Found.{IsFound};
 ghost use Rattle.sat_search.specs.Lesson.{IsHalfway, IsReady};
-ghost use Rattle.sat_whole.specs.Stop.{IsRightStop};
+ghost use Rattle.sat_core.specs.Stop.{IsRightStop};
 ghost use Rattle.sat_core.specs.Rounds.{IsBetween, IsNamed, IsRightTurn, name_at, named_step};
 
 use crate::trim::trim;
+use crate::{Stop, search_whole, solution};
 use cnf::{Cnf, Dim};
 use refute_check::{Step, clause_of};
 use sat_rests::Rests;
@@ -31,7 +32,6 @@ use sat_state::lists::{empty_lists, make_all_room};
 use sat_state::store::Store;
 use sat_state::trail::Trail;
 use sat_state::watch::{Pair, Watch};
-use sat_whole::{Stop, search_whole, solution};
 use std::alloc::{AllocError, Global};
 
 /// How a round ended. The steps so far stand beside it.

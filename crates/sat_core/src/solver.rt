@@ -5,14 +5,14 @@
 ghost use Rattle.std.specs.Prelude.{ℕ, ◌<◌, None, IfOk, IfSome, length, map, Option};
 ghost use Rattle.cnf.specs.Formula.{Formula, formula_of};
 ghost use Rattle.cnf.specs.Clauses.{AllBelow};
-ghost use Rattle.sat_whole.specs.Stop.{IsRightStop};
+ghost use Rattle.sat_core.specs.Stop.{IsRightStop};
 ghost use Rattle.sat_core.specs.End.{IsRightEnd};
 
 use crate::prepare::{Prepared, prepare};
 use crate::rounds::search_rounds;
+use crate::{Stop, search_whole};
 use cnf::{Cnf, Dim};
 use refute_check::{Log, Step};
-use sat_whole::{Stop, search_whole};
 use std::alloc::{AllocError, Global};
 
 /// How many steps the search over all clauses has where there is no budget.

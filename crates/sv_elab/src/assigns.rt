@@ -16,7 +16,7 @@ use crate::parts::part_drivers;
 use driver_resolve::Driver;
 use items::Items;
 use std::alloc::Global;
-use sv_lowered::lower_expr;
+use sv_stmt::lower_expr;
 use sv_names::Names;
 use sv_outside::TextErr;
 use sv_targets::{Target, target_of};

@@ -30,7 +30,7 @@ use driver_resolve::Driver;
 use items::Items;
 use std::alloc::{AllocError, Global};
 use sv_lower::{Look, lower_assigned};
-use sv_lowered::lower_expr;
+use sv_stmt::lower_expr;
 use sv_names::Names;
 use sv_outside::TextErr;
 use sv_targets::{Target, target_of_actual};

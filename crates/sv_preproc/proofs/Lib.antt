@@ -14,3 +14,4 @@ pub mod Refusals
 pub mod Items
 pub mod Steps
 pub mod Commands
+pub mod Main

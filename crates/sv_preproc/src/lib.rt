@@ -1,4 +1,4 @@
-//! Reads files with their directives, one behind the other. `preprocess` of `sv_text` reads a whole text with these.
+//! Reads a whole text: the main file, with its directives and the files that it includes, one behind the other.
 #![tactic(auto)]
 
 mod branch;
@@ -11,6 +11,7 @@ mod macros;
 mod reading;
 mod role;
 mod stepping;
+mod whole;
 
 pub use error::PreErr;
 pub use known::{Frame, Known};
@@ -18,3 +19,4 @@ pub use law::one_text;
 pub use macros::Macros;
 pub use reading::{Entered, enter, read_all, start_of};
 pub use role::Role;
+pub use whole::preprocess;

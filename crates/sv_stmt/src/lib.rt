@@ -3,6 +3,7 @@
 #![tactic(auto)]
 
 mod block;
+mod source;
 
 pub use block::block_drivers;
-pub use sv_lowered::lower_expr;
+pub use source::lower_expr;

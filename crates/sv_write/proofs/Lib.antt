@@ -10,3 +10,6 @@ pub mod Lawful
 pub mod Loops
 pub mod StmtsLaws
 pub mod StmtsMade
+pub mod Heads
+pub mod ModulesLaws
+pub mod Whole

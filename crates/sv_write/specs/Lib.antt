@@ -4,3 +4,5 @@ pub mod Exprs
 pub mod Forms
 pub mod Stmts
 pub mod Writing
+pub mod Modules
+pub mod Spelt

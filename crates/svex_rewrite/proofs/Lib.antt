@@ -8,3 +8,4 @@ pub mod Moving
 pub mod Computing
 pub mod Fills
 pub mod Simplifying
+pub mod Narrowing

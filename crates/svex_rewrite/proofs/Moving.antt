@@ -14,7 +14,7 @@ use Rattle.svex_shape.specs.Shapes.{width_of, width_at}
 use Rattle.svex_shape.specs.Values.{Vector, value_of, value_at, each_variable_of}
 use Rattle.svex_arena.specs.Arenas.{IsArena}
 use Rattle.svex_arena.proofs.Widths.{length-value_at}
-use Rattle.svex_parts.proofs.Narrowing.{is_of}
+use Rattle.svex_rewrite.proofs.Narrowing.{is_of}
 use Rattle.svex_rewrite.specs.Meaning.{IsOver, Becomes, HasShape}
 use Rattle.svex_rewrite.proofs.Becoming.{becomes_as, becomes_node, becomes_const, const_value, const_width}
 

@@ -14,8 +14,8 @@ use Rattle.svex_shape.specs.Shapes.{shape_at, width_of, width_at}
 use Rattle.svex_shape.specs.Values.{Vector, Reading, HasWidths, value_of, value_at, each_variable_of, each_variable}
 use Rattle.svex_arena.specs.Arenas.{IsArena}
 use Rattle.svex_arena.specs.Marks.{IsMarked, IsClosed}
-pub use Rattle.svex_parts.specs.Becoming.{IsOver, KeepsMeaning, HasShape}
-unfoldable pub use Rattle.svex_parts.specs.Becoming.{Becomes}
+pub use Rattle.svex_rewrite.specs.Becoming.{IsOver, KeepsMeaning, HasShape}
+unfoldable pub use Rattle.svex_rewrite.specs.Becoming.{Becomes}
 
 -- a node of a later arena has the meaning of a shape
 pub record Makes (old : List Shape) (s : Shape) (new : List Shape) (node : ℕ) : Type 0 where

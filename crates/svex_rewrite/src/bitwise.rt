@@ -9,10 +9,10 @@ ghost use Rattle.svex_shape.specs.declared.shape.Un.{Un};
 ghost use Rattle.svex_rewrite.specs.Meaning.{Becomes, IsOver};
 
 use crate::nodes::all_at;
+use crate::shape_of;
 use crate::unfloating::{negated, unfloated};
 use fourvec::Bit;
 use svex_arena::{Arena, Bin, Node, Shape, Un};
-use svex_parts::shape_of;
 
 /// Conjunction: 0 decides, and 1 leaves the other operand, as the same operand does, but for Z.
 #[tactic(auto, using(crate::proofs::Becoming::becomes_self, crate::proofs::Binary::and_laws))]

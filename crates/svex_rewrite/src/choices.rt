@@ -5,9 +5,9 @@ ghost use Rattle.svex_shape.specs.declared.shape.Shape.{Shape};
 ghost use Rattle.svex_rewrite.specs.Meaning.{Becomes, IsOver};
 
 use crate::nodes::{all_at, constant};
+use crate::shape_of;
 use fourvec::Bit;
 use svex_arena::{Arena, Node, Shape};
-use svex_parts::shape_of;
 
 // A choice between two constants by a constant.
 #[tactic(auto, using(crate::proofs::Becoming::becomes_self, crate::proofs::Choosing::cond_folds))]

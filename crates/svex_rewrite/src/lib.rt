@@ -32,9 +32,11 @@ mod computed;
 mod nodes;
 mod operators;
 mod parts;
+mod place;
 mod rules;
 mod simple;
 mod unfloating;
 
+pub use place::{Place, narrowed, shape_of};
 pub use rules::make;
 pub use simple::simplify;

@@ -6,9 +6,9 @@ ghost use Rattle.svex_shape.specs.Shapes.{ChildrenBelow, shape_at};
 ghost use Rattle.svex_shape.specs.declared.shape.Shape.{Shape};
 ghost use Rattle.svex_rewrite.specs.Meaning.{HasShape, IsAllAt, constant_of};
 
+use crate::shape_of;
 use fourvec::{Bit, Four};
 use svex_arena::{Arena, Node, Shape};
-use svex_parts::shape_of;
 
 // One bit.
 #[tactic(auto, using(crate::proofs::Fills::one_bit))]

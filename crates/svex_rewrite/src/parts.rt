@@ -8,9 +8,9 @@ ghost use Rattle.svex_shape.specs.declared.shape.Bin.{Bin};
 ghost use Rattle.svex_rewrite.specs.Meaning.{Becomes, HasShape, IsOver};
 
 use crate::nodes::filled;
+use crate::{Place, narrowed, shape_of};
 use fourvec::Bit;
 use svex_arena::{Arena, Bin, Node, Shape};
-use svex_parts::{Place, narrowed, shape_of};
 
 // A part of all bits, of a constant, or of the zeros above a node.
 #[tactic(auto, using(crate::proofs::Becoming::becomes_self, crate::proofs::Moving::slice_laws))]

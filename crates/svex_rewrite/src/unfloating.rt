@@ -8,9 +8,9 @@ ghost use Rattle.svex_shape.specs.declared.shape.Un.{Un};
 ghost use Rattle.svex_rewrite.specs.Meaning.{Becomes, GivesNoZ, HasNoZ, passes_z};
 
 use crate::nodes::same_vector;
+use crate::shape_of;
 use fourvec::Four;
 use svex_arena::{Arena, Bin, Node, Shape, Un};
-use svex_parts::shape_of;
 
 fn is_without_z(value: &Four) -> bool
     ensures { IsTrue result ↔ (value.now ≡ unfloat_of value.now) }

@@ -16,7 +16,7 @@ use std::alloc::Global;
 use sv_elab::elaborate;
 use sv_outside::{Files, Name, TextErr, Tokens};
 use sv_parser::parse;
-use sv_text::{PreErr, preprocess};
+use sv_preproc::{PreErr, preprocess};
 use svtv_files::Stop;
 
 // The tokens of the design's text.

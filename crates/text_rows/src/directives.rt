@@ -6,7 +6,7 @@ use crate::texts::print_refusal;
 use items::both;
 use std::alloc::AllocError;
 use sv_outside::{Name, Place, Refusal, Token, Tokens};
-use sv_text::{PreErr, preprocess};
+use sv_preproc::{PreErr, preprocess};
 
 fn print_texts(tokens: &[Token], out: &mut Printed) -> Result<(), AllocError> {
     for token in tokens {

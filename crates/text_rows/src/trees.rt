@@ -9,7 +9,7 @@ use std::alloc::{AllocError, Global};
 use sv_expr_parser::parse_expr;
 use sv_outside::{TextErr, Tokens};
 use sv_parser::parse;
-use sv_spell::{Lexeme, spell};
+use sv_write::{Lexeme, spell};
 use sv_tree::Expr;
 
 fn print_read(

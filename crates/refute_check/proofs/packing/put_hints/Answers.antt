@@ -1,4 +1,4 @@
-use Rattle.number_row.specs.Groups.{whole, value}
+use Rattle.refute_check.specs.Groups.{whole, value}
 use Rattle.refute_check.proofs.Packs.{put_more, put_all, back_more, back_all}
 use Rattle.refute_check.proofs.packing.put_hints.Goals as goal
 

@@ -1,5 +1,5 @@
 use Rattle.std.proofs.Common.{◌≡◌, ◌++◌, map, take}
-use Rattle.number_row.specs.Groups.{whole, value}
+use Rattle.refute_check.specs.Groups.{whole, value}
 use Rattle.refute_check.proofs.packing.put_hints.Given as goal
 
 abbrev pub invariant-loop-hint : goal.invariant-loop-hint

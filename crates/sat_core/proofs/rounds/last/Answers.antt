@@ -5,7 +5,7 @@ use Rattle.cnf.specs.Formula.{formula_of}
 use Rattle.cnf.specs.Clauses.{AllBelow}
 use Rattle.refute_check.specs.Entry.{Entry}
 use Rattle.sat_state.specs.Trail.{all_of}
-use Rattle.sat_whole.specs.Stop.{IsRightStop}
+use Rattle.sat_core.specs.Stop.{IsRightStop}
 use Rattle.sat_core.proofs.Names.{all_below, stop_joined}
 use Rattle.sat_core.proofs.rounds.last.Goals as goal
 

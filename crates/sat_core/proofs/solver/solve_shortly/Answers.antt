@@ -1,7 +1,7 @@
 use Rattle.std.proofs.lemmas.Result.{IfOk-from_err}
 use Rattle.std.proofs.Common.{map, Some, subst, ap, ◌∙◌, ◌≡◌}
 use Rattle.cnf.specs.Formula.{Formula, formula_of}
-use Rattle.sat_whole.specs.Stop.{IsRightStop}
+use Rattle.sat_core.specs.Stop.{IsRightStop}
 use Rattle.sat_core.proofs.solver.solve_shortly.Goals as goal
 
 pub returns : goal.returns

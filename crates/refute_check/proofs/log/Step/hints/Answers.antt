@@ -1,5 +1,5 @@
 use Rattle.std.proofs.Common.{ℕ, List, drop, sym, ap, ◌∙◌}
-use Rattle.number_row.specs.declared.number.Number.{Number}
+use Rattle.refute_check.specs.declared.number.Number.{Number}
 use Rattle.refute_check.specs.Entry.{Entry}
 use Rattle.refute_check.proofs.Reading.{hints_none, hints_some}
 use Rattle.refute_check.proofs.log.Step.hints.Goals as goal

@@ -1,5 +1,5 @@
 use Rattle.std.proofs.Common.{ℕ, List, map, take, sym, ap, ◌∙◌}
-use Rattle.number_row.specs.declared.number.Number.{Number}
+use Rattle.refute_check.specs.declared.number.Number.{Number}
 use Rattle.refute_check.specs.Entry.{Entry}
 use Rattle.refute_check.specs.Packed.{literal_of}
 use Rattle.refute_check.proofs.Reading.{clause_none, clause_some}

@@ -1,6 +1,6 @@
 use Rattle.std.proofs.Common.{List, subst, sym, ◌∙◌, ◌<◌}
 use Rattle.std.specs.List.{All}
-use Rattle.number_row.specs.declared.number.Number.{Number}
+use Rattle.refute_check.specs.declared.number.Number.{Number}
 use Rattle.refute_check.proofs.Packs.{row_small, entry_made}
 use Rattle.refute_check.proofs.log.Step.of.Goals as goal
 

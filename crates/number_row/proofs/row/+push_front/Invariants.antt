@@ -1,4 +1,0 @@
-use Rattle.number_row.proofs.row.+push_front.Given as goal
-
-abbrev pub decreases-push_front : goal.decreases-push_front
-decreases-push_front l = l.front

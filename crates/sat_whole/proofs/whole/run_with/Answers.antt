@@ -1,5 +1,0 @@
-use Rattle.std.proofs.lemmas.Result.{IfOk-from_err}
-use Rattle.sat_whole.proofs.whole.run_with.Goals as goal
-
-pub returns-in_err-store : goal.returns-in_err-store
-returns-in_err-store c = IfOk-from_err _ _ c.from_residual.ensures.0

@@ -1,8 +1,0 @@
-use Rattle.sv_spell.specs.Modules.{write_ports}
-use Rattle.sv_spell.proofs.Heads.{ports_are}
-use Rattle.sv_write.proofs.Adding.{◌▷◌, turned}
-use Rattle.sv_spell.proofs.modules.header.Goals as goal
-
-pub returns : goal.returns
-unfolding write_ports
-returns c = c.mark.ensures ▷ turned (ports_are c.args.all.now) c.commas.ensures ▷ c.mark-2.ensures

@@ -1,5 +1,0 @@
-use Rattle.sv_spell.proofs.Whole.{spelt}
-use Rattle.sv_spell.proofs.spelling.spell.Goals as goal
-
-pub returns : goal.returns
-returns c = spelt c.args.text.now c.end.result c.new-writer.ensures c.source.ensures c.end.ensures
