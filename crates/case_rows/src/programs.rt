@@ -1,9 +1,9 @@
-// A program of rows: it judges the files that its words name, and prints what was found.
+// Files of cases, for a program of rows.
 use crate::judging::{Bench, Report, judge_text};
-use std::io::Write;
-use std::{env, fs, io};
+use std::{fs, io};
 
-fn judge_file<B: Bench + Drop>(
+/// Judges the cases of a file on a bench of its own, and keeps what was found.
+pub fn judge_file<B: Bench + Drop>(
     rt: &HostRuntime,
     name: &str,
     report: &mut Report,
@@ -14,18 +14,4 @@ fn judge_file<B: Bench + Drop>(
         Ok(()) => Ok(()),
         Err(_) => Err(io::ErrorKind::OutOfMemory.into()),
     }
-}
-
-fn judge_all<B: Bench + Drop>(rt: &HostRuntime, report: &mut Report) -> io::Result<()> {
-    for name in env::args(rt)?.skip(1) {
-        judge_file::<B>(rt, name.as_str(), report)?;
-    }
-    Ok(())
-}
-
-/// Judges the cases of each file that the program's words name, each file on a bench of its own, and prints what was found.
-pub fn judge_files<B: Bench + Drop>(rt: &HostRuntime) -> io::Result<()> {
-    let mut report = Report::new(rt.alloc());
-    judge_all::<B>(rt, &mut report)?;
-    rt.stdout().write_all(report.out())
 }

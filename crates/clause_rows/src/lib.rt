@@ -1,5 +1,5 @@
 //! Judges what the crates of clauses, of the judge of refutations and of the solver give, by answers that were found by hand. They stand in
-//! data/; what they mean stands at the head of each module.
+//! data/ of the crate rows; what they mean stands at the head of each module.
 #![tactic(auto)]
 
 mod formulas;
@@ -9,13 +9,12 @@ mod random;
 mod scanning;
 mod solving;
 
-use case_rows::{Bench, Fault, Report, each_row, judge_files, named, word};
+use case_rows::{Bench, Fault, Report, each_row, named, word};
 use gates::judge_gates;
 use logs::Logs;
 use random::Random;
 use solving::Formulas;
 use std::alloc::Global;
-use std::io;
 
 #[derive(Clone, Copy)]
 enum Key {
@@ -34,13 +33,13 @@ static KEYS: [(&[u8], Key); 4] = [
 
 /// What judges by the keys of the files.
 #[derive(Drop)]
-struct Keys {
+pub struct ClauseRows {
     alloc: Global,
 }
 
-impl Bench for Keys {
-    fn new(alloc: Global) -> Keys {
-        Keys { alloc }
+impl Bench for ClauseRows {
+    fn new(alloc: Global) -> ClauseRows {
+        ClauseRows { alloc }
     }
 
     fn key(&mut self, line: &[u8], block: &[u8], report: &mut Report) -> Result<(), Fault> {
@@ -52,8 +51,4 @@ impl Bench for Keys {
             None => report.take(line, Err(Fault::Form)),
         }
     }
-}
-
-fn main(rt: HostRuntime) -> io::Result<()> {
-    judge_files::<Keys>(&rt)
 }

@@ -1,5 +1,5 @@
 //! Judges flat designs: their equations, how they settle, by events and by machines of one phase, and the least runs of tables over them, by
-//! values that were found by hand. They stand in data/; what they mean stands at the head of each module.
+//! values that were found by hand. They stand in data/ of the crate rows; what they mean stands at the head of each module.
 #![tactic(auto)]
 
 mod design;
@@ -11,14 +11,13 @@ mod sizes;
 mod sound;
 mod unrolled;
 
-use case_rows::{Bench, Fault, Report, judge_files, named, put, size, word, words_from};
+use case_rows::{Bench, Fault, Report, named, put, size, word, words_from};
 use equations::judge_equations;
 use least::{Given, judge_run};
 use machines::judge_machines;
 use settled::{Asked, judge_settling};
 use sizes::{judge_chains, judge_sizes};
 use std::alloc::Global;
-use std::io;
 
 #[derive(Clone, Copy)]
 enum Key {
@@ -47,7 +46,7 @@ static KEYS: [(&[u8], Key); 9] = [
 
 /// The texts of what other keys stand on.
 #[derive(Drop)]
-struct Keys {
+pub struct EventRows {
     alloc: Global,
     design: Vec<u8>,
     table: Vec<u8>,
@@ -64,7 +63,7 @@ fn number_of(word: &[u8]) -> Result<usize, Fault> {
     if word.is_empty() { Ok(0) } else { size(word) }
 }
 
-impl Keys {
+impl EventRows {
     fn given(&self) -> Given<'_> {
         Given {
             design: self.design.as_slice(),
@@ -82,9 +81,9 @@ impl Keys {
     }
 }
 
-impl Bench for Keys {
-    fn new(alloc: Global) -> Keys {
-        Keys {
+impl Bench for EventRows {
+    fn new(alloc: Global) -> EventRows {
+        EventRows {
             alloc,
             design: Vec::new(alloc),
             table: Vec::new(alloc),
@@ -108,8 +107,4 @@ impl Bench for Keys {
             None => report.take(line, Err(Fault::Form)),
         }
     }
-}
-
-fn main(rt: HostRuntime) -> io::Result<()> {
-    judge_files::<Keys>(&rt)
 }

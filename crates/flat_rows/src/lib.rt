@@ -1,18 +1,15 @@
 //! Judges texts of flat designs by what was found by hand: which are read and printed again as they stand, which are printed otherwise,
-//! and which line is refused. The cases stand in data/.
+//! and which line is refused. The cases stand in data/ of the crate rows.
 //!
 //! `text` gives the lines of a text, each behind `| `. A row of `read` says what comes of it: `same` where the design that is read is
 //! printed as the text stands, `other` where it is printed otherwise, and `line N` where line N is refused. `prints` gives the lines
 //! that are printed. `open` takes the last line feed of the text away.
 #![tactic(auto)]
 
-use case_rows::{
-    Bench, Fault, Judge, Report, each_row, judge_files, named, put, put_size, rows_of, word,
-};
+use case_rows::{Bench, Fault, Judge, Report, each_row, named, put, put_size, rows_of, word};
 use flat_print::print_flat;
 use flat_read::{FlatErr, read_flat};
 use std::alloc::Global;
-use std::io;
 
 #[derive(Clone, Copy)]
 enum Key {
@@ -31,7 +28,7 @@ static KEYS: [(&[u8], Key); 4] = [
 
 // The text that is judged.
 #[derive(Drop)]
-struct Texts {
+pub struct FlatRows {
     alloc: Global,
     text: Vec<u8>,
 }
@@ -55,7 +52,7 @@ fn printed(alloc: Global, text: &[u8]) -> Result<Vec<u8>, FlatErr> {
     Ok(again)
 }
 
-impl Judge for Texts {
+impl Judge for FlatRows {
     fn row(&mut self, _: &[u8], _: &[u8], said: &mut Vec<u8>) -> Result<(), Fault> {
         match printed(self.alloc, &self.text) {
             Ok(again) => {
@@ -85,9 +82,9 @@ fn prints(alloc: Global, text: &[u8], block: &[u8]) -> Result<bool, Fault> {
     }
 }
 
-impl Bench for Texts {
-    fn new(alloc: Global) -> Texts {
-        Texts {
+impl Bench for FlatRows {
+    fn new(alloc: Global) -> FlatRows {
+        FlatRows {
             alloc,
             text: Vec::new(alloc),
         }
@@ -108,8 +105,4 @@ impl Bench for Texts {
             None => report.take(line, Err(Fault::Form)),
         }
     }
-}
-
-fn main(rt: HostRuntime) -> io::Result<()> {
-    judge_files::<Texts>(&rt)
 }

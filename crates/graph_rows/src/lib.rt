@@ -1,5 +1,5 @@
 //! Judges what the crates of vectors, of the graph of expressions, of gates, of lists and of joined wires give, by values that were worked
-//! out by hand. They stand in data/; what they mean stands at the head of each module.
+//! out by hand. They stand in data/ of the crate rows; what they mean stands at the head of each module.
 #![tactic(auto)]
 
 mod circuits;
@@ -11,19 +11,18 @@ mod parts;
 mod trees;
 mod values;
 
-use case_rows::{Bench, Fault, Report, each_row, first_named, judge_files};
+use case_rows::{Bench, Fault, Report, each_row, first_named};
 use circuits::{Circuits, Swapped};
 use gates::judge_gates;
 use joins::{Cut, judge_joins};
 use lists::{Owned, judge_ring};
 use nodes::{Becomes, Nodes, Substituted};
 use std::alloc::Global;
-use std::io;
 use svex_arena::Env;
 use trees::Trees;
 use values::{Entries, Planes, Values};
 
-/// Keys of vectors and of the graph of expressions.
+/// GraphRows of vectors and of the graph of expressions.
 #[derive(Clone, Copy)]
 enum Graph {
     Planes,
@@ -34,7 +33,7 @@ enum Graph {
     Substitute,
 }
 
-/// Keys of gates, of lists and of joined wires.
+/// GraphRows of gates, of lists and of joined wires.
 #[derive(Clone, Copy)]
 enum Structure {
     Circuits,
@@ -72,12 +71,12 @@ static KEYS: [(&[u8], Key); 14] = [
 
 /// What the entries of variables have.
 #[derive(Drop)]
-struct Keys {
+pub struct GraphRows {
     alloc: Global,
     env: Env,
 }
 
-impl Keys {
+impl GraphRows {
     fn graph(&mut self, key: Graph, block: &[u8], report: &mut Report) -> Result<(), Fault> {
         match key {
             Graph::Planes => each_row(&mut Planes, block, report),
@@ -116,9 +115,9 @@ fn judge_structure(
     }
 }
 
-impl Bench for Keys {
-    fn new(alloc: Global) -> Keys {
-        Keys {
+impl Bench for GraphRows {
+    fn new(alloc: Global) -> GraphRows {
+        GraphRows {
             alloc,
             env: Env {
                 present: Vec::new(alloc),
@@ -137,8 +136,4 @@ impl Bench for Keys {
             judged => judged,
         }
     }
-}
-
-fn main(rt: HostRuntime) -> io::Result<()> {
-    judge_files::<Keys>(&rt)
 }

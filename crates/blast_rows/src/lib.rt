@@ -1,4 +1,4 @@
-//! Judges the gates of expressions, by the values of the expressions, and verdicts of goals. The cases stand in data/; what they mean stands at the head of
+//! Judges the gates of expressions, by the values of the expressions, and verdicts of goals. The cases stand in data/ of the crate rows; what they mean stands at the head of
 //! each module.
 #![tactic(auto)]
 
@@ -8,11 +8,10 @@ mod nodes;
 mod rails;
 mod vars;
 
-use case_rows::{Bench, Fault, Report, each_row, judge_files, named, word, words_from};
+use case_rows::{Bench, Fault, Report, each_row, named, word, words_from};
 use goals::{Goal, Role, Verdicts};
 use rails::{Agreement, Counts};
 use std::alloc::Global;
-use std::io;
 use svtv_table::VarDecl;
 use vars::declare;
 
@@ -37,13 +36,13 @@ static KEYS: [(&[u8], Key); 7] = [
 
 /// The variables of the expressions below, and the goal over them.
 #[derive(Drop)]
-struct Keys {
+pub struct BlastRows {
     alloc: Global,
     vars: Vec<VarDecl>,
     goal: Goal,
 }
 
-impl Keys {
+impl BlastRows {
     fn judge(
         &mut self,
         key: Key,
@@ -68,9 +67,9 @@ impl Keys {
     }
 }
 
-impl Bench for Keys {
-    fn new(alloc: Global) -> Keys {
-        Keys {
+impl Bench for BlastRows {
+    fn new(alloc: Global) -> BlastRows {
+        BlastRows {
             alloc,
             vars: Vec::new(alloc),
             goal: Goal::new(alloc),
@@ -89,8 +88,4 @@ impl Bench for Keys {
             None => report.take(line, Err(Fault::Form)),
         }
     }
-}
-
-fn main(rt: HostRuntime) -> io::Result<()> {
-    judge_files::<Keys>(&rt)
 }
