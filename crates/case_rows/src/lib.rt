@@ -12,6 +12,6 @@ mod words;
 pub use judging::{Bench, Judge, Report, each_row};
 pub use programs::judge_file;
 pub use words::{
-    Fault, first_named, named, number, part, put, put_number, put_size, put_three, rows_of, sides,
-    signed, size, size_at, small, small_at, trimmed, word, words_from,
+    Fault, first_named, keep_lines, named, number, part, put, put_number, put_size, put_three,
+    rows_of, sides, signed, size, size_at, small, small_at, trimmed, word, words_from,
 };

@@ -103,6 +103,18 @@ pub fn rows_of(line: &[u8]) -> Option<&[u8]> {
     }
 }
 
+/// Keeps the rows of a block in place of what was kept, each with its line feed.
+pub fn keep_lines(kept: &mut Vec<u8>, block: &[u8]) -> Result<(), Fault> {
+    kept.clear();
+    for line in block.split(|c| *c == b'\n') {
+        if let Some(row) = rows_of(line) {
+            put(kept, row)?;
+            put(kept, b"\n")?;
+        }
+    }
+    Ok(())
+}
+
 /// A decimal number.
 pub fn number(word: &[u8]) -> Option<u64> {
     if word.is_empty() {

@@ -6,7 +6,7 @@
 //! that are printed. `open` takes the last line feed of the text away.
 #![tactic(auto)]
 
-use case_rows::{Bench, Fault, Judge, Report, each_row, named, put, put_size, rows_of, word};
+use case_rows::{Bench, Fault, Judge, Report, each_row, keep_lines, named, put, put_size, word};
 use flat_print::print_flat;
 use flat_read::{FlatErr, read_flat};
 use std::alloc::Global;
@@ -31,18 +31,6 @@ static KEYS: [(&[u8], Key); 4] = [
 pub struct FlatRows {
     alloc: Global,
     text: Vec<u8>,
-}
-
-// The lines of a block, each with its line feed.
-fn keep(kept: &mut Vec<u8>, block: &[u8]) -> Result<(), Fault> {
-    kept.clear();
-    for line in block.split(|c| *c == b'\n') {
-        if let Some(row) = rows_of(line) {
-            put(kept, row)?;
-            put(kept, b"\n")?;
-        }
-    }
-    Ok(())
 }
 
 // What is printed of the design of a text, or the line that is refused.
@@ -74,7 +62,7 @@ impl Judge for FlatRows {
 // Whether these lines are printed.
 fn prints(alloc: Global, text: &[u8], block: &[u8]) -> Result<bool, Fault> {
     let mut wanted = Vec::new(alloc);
-    keep(&mut wanted, block)?;
+    keep_lines(&mut wanted, block)?;
     match printed(alloc, text) {
         Ok(again) => Ok(again.as_slice() == wanted.as_slice()),
         Err(FlatErr::BadLine(_)) => Ok(false),
@@ -92,7 +80,7 @@ impl Bench for FlatRows {
 
     fn key(&mut self, line: &[u8], block: &[u8], report: &mut Report) -> Result<(), Fault> {
         match named(&KEYS, word(line, 0)) {
-            Some(Key::Text) => keep(&mut self.text, block),
+            Some(Key::Text) => keep_lines(&mut self.text, block),
             Some(Key::Open) => {
                 let _ = self.text.pop();
                 Ok(())

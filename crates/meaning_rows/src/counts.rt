@@ -1,10 +1,10 @@
 // How many nodes and drivers a design takes.
+use case_rows::{Fault, Judge, put, size_at};
 use std::alloc::Global;
 use sv_elab::elaborate;
 use sv_outside::{Name, TextErr, Tokens};
 use sv_parser::parse;
 use sv_token::{end_of, lex};
-use sv_tree::Source;
 
 /// The tokens of a text, which includes no other.
 pub fn tokens_of(alloc: Global, text: &[u8]) -> Result<Tokens, TextErr> {
@@ -17,23 +17,37 @@ pub fn tokens_of(alloc: Global, text: &[u8]) -> Result<Tokens, TextErr> {
     })
 }
 
-// A node for each read, operator and choice, and few more.
-fn put_source(alloc: Global, source: &Source, out: &mut Vec<u8>) -> Result<(), TextErr> {
-    let flat = elaborate(alloc, source, None)?;
-    let nodes = flat.arena.len();
-    let drivers = flat.drivers.len();
-    put_few(nodes <= 64 && drivers <= 4, out)
+/// Why a row was not judged.
+pub fn fault_of(error: TextErr) -> Fault {
+    match error {
+        TextErr::Memory => Fault::Memory,
+        TextErr::No(_) => Fault::Form,
+    }
 }
 
-fn put_few(is_few: bool, out: &mut Vec<u8>) -> Result<(), TextErr> {
-    let told: &[u8] = if is_few { b"few\n" } else { b"many\n" };
-    out.extend_from_slice(told)?;
-    Ok(())
-}
-
-/// Tells of a design whether it takes few.
-pub fn put_counts(alloc: Global, text: &[u8], out: &mut Vec<u8>) -> Result<(), TextErr> {
+// Whether a design takes at most so many nodes and drivers.
+fn takes(alloc: Global, text: &[u8], nodes: usize, drivers: usize) -> Result<bool, TextErr> {
     let tokens = tokens_of(alloc, text)?;
     let source = parse(alloc, &tokens)?;
-    put_source(alloc, &source, out)
+    let flat = elaborate(alloc, &source, None)?;
+    Ok(flat.arena.len() <= nodes && flat.drivers.len() <= drivers)
+}
+
+/// What a design takes.
+#[derive(Drop)]
+pub struct Takes<'a> {
+    pub alloc: Global,
+    pub text: &'a [u8],
+}
+
+impl Judge for Takes<'_> {
+    fn row(&mut self, question: &[u8], _wanted: &[u8], said: &mut Vec<u8>) -> Result<(), Fault> {
+        let nodes = size_at(question, 0)?;
+        let drivers = size_at(question, 1)?;
+        match takes(self.alloc, self.text, nodes, drivers) {
+            Ok(true) => put(said, b"yes"),
+            Ok(false) => put(said, b"no"),
+            Err(error) => Err(fault_of(error)),
+        }
+    }
 }

@@ -1,9 +1,9 @@
-// The turns of loops behind turns that were made before: each row gives a count and a statement, and is told with the count
-// behind it or the refusal. The count before is given and not made by loops, so that a short text comes to the limit. A
-// statement is put into a module of its own, so that it is read as any text is.
+// The turns of loops behind turns that were made before. The count before is given and not made by loops, so that a short text
+// comes to the limit. A statement is put into a module of its own, so that it is read as any text is.
 ghost use Rattle.sv_names.specs.Kinds.{IsSound};
 
-use crate::counts::tokens_of;
+use crate::counts::{fault_of, tokens_of};
+use case_rows::{Fault, Judge, number, word, words_from};
 use std::alloc::{AllocError, Global};
 use sv_actions::typed_body;
 use sv_names::{Form, Layout, Names, Scope, What};
@@ -30,12 +30,12 @@ fn put_wire(alloc: Global, scope: &mut Scope) -> Result<(), AllocError> {
 fn put_refusal(alloc: Global, refusal: Refusal, out: &mut Vec<u8>) -> Result<(), TextErr> {
     let number = refusal.number;
     let column = refusal.place.column;
-    out.extend_from_slice(format!(in alloc; "E{number} {column}\n")?.as_bytes())?;
+    out.extend_from_slice(format!(in alloc; "E{number} {column}")?.as_bytes())?;
     Ok(())
 }
 
 fn put_made(alloc: Global, made: u64, out: &mut Vec<u8>) -> Result<(), TextErr> {
-    out.extend_from_slice(format!(in alloc; "{made}\n")?.as_bytes())?;
+    out.extend_from_slice(format!(in alloc; "{made}")?.as_bytes())?;
     Ok(())
 }
 
@@ -98,62 +98,27 @@ fn put_statement(
     put_source(alloc, &source, names, made, out)
 }
 
-fn number(digits: &[u8]) -> u64 {
-    let mut value: u64 = 0;
-    for byte in digits {
-        let digit = u64::from(byte.saturating_sub(b'0'));
-        value = value.saturating_mul(10).saturating_add(digit);
-    }
-    value
-}
-
-// The turns of a row, and its statement.
-fn split_row(row: &[u8]) -> (&[u8], &[u8]) {
-    match row.iter().position(|byte| *byte == b'|') {
-        Some(at) => row.split_at(at),
-        None => (b"", row),
-    }
-}
-
-fn put_row(
-    alloc: Global,
-    row: &[u8],
-    names: &mut Names<'_>,
-    out: &mut Vec<u8>,
-) -> Result<(), TextErr> {
-    let (before, rest) = split_row(row);
-    let (digits, text) = match (before, rest) {
-        ([digits @ .., b' '], [b'|', b' ', text @ ..]) => (digits, text),
-        _ => (before, rest),
-    };
-    out.extend_from_slice(row)?;
-    out.extend_from_slice(b" => ")?;
-    put_statement(alloc, text, names, number(digits), out)
-}
-
-fn put_all(
-    alloc: Global,
-    rows: &[u8],
-    names: &mut Names<'_>,
-    out: &mut Vec<u8>,
-) -> Result<(), TextErr> {
-    for row in rows.split(|byte| *byte == b'\n') {
-        if !row.is_empty() {
-            put_row(alloc, row, names, out)?;
-        }
-    }
-    Ok(())
-}
-
-fn put_over(alloc: Global, rows: &[u8], scope: &Scope, out: &mut Vec<u8>) -> Result<(), TextErr> {
-    let mut names = Names::new(alloc);
-    names.push_scope(scope, scope.len(), scope.len())?;
-    put_all(alloc, rows, &mut names, out)
-}
-
-/// Tells each row with what it gives.
-pub fn put_turns(alloc: Global, rows: &[u8], out: &mut Vec<u8>) -> Result<(), TextErr> {
+// What comes of a statement over the signal behind so many turns.
+fn put_turns(alloc: Global, text: &[u8], made: u64, out: &mut Vec<u8>) -> Result<(), TextErr> {
     let mut scope = Scope::new(alloc);
     put_wire(alloc, &mut scope)?;
-    put_over(alloc, rows, &scope, out)
+    let mut names = Names::new(alloc);
+    names.push_scope(&scope, scope.len(), scope.len())?;
+    put_statement(alloc, text, &mut names, made, out)
+}
+
+/// What comes of statements behind turns that were made before.
+#[derive(Drop)]
+pub struct Turns {
+    pub alloc: Global,
+}
+
+impl Judge for Turns {
+    fn row(&mut self, question: &[u8], _wanted: &[u8], said: &mut Vec<u8>) -> Result<(), Fault> {
+        let made = number(word(question, 0)).ok_or(Fault::Form)?;
+        match put_turns(self.alloc, words_from(question, 1), made, said) {
+            Ok(()) => Ok(()),
+            Err(error) => Err(fault_of(error)),
+        }
+    }
 }

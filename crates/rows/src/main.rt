@@ -7,6 +7,7 @@ use clause_rows::ClauseRows;
 use event_rows::EventRows;
 use flat_rows::FlatRows;
 use graph_rows::GraphRows;
+use meaning_rows::MeaningRows;
 use std::io::Write;
 use std::{env, io};
 
@@ -18,14 +19,16 @@ enum Folder {
     Event,
     Flat,
     Graph,
+    Meaning,
 }
 
-static FOLDERS: [(&[u8], Folder); 5] = [
+static FOLDERS: [(&[u8], Folder); 6] = [
     (b"blast", Folder::Blast),
     (b"clause", Folder::Clause),
     (b"event", Folder::Event),
     (b"flat", Folder::Flat),
     (b"graph", Folder::Graph),
+    (b"meaning", Folder::Meaning),
 ];
 
 fn judge(rt: &HostRuntime, name: &str, report: &mut Report) -> io::Result<()> {
@@ -35,6 +38,7 @@ fn judge(rt: &HostRuntime, name: &str, report: &mut Report) -> io::Result<()> {
         Some(Folder::Event) => judge_file::<EventRows>(rt, name, report),
         Some(Folder::Flat) => judge_file::<FlatRows>(rt, name, report),
         Some(Folder::Graph) => judge_file::<GraphRows>(rt, name, report),
+        Some(Folder::Meaning) => judge_file::<MeaningRows>(rt, name, report),
         None => Err(io::ErrorKind::NotFound.into()),
     }
 }
