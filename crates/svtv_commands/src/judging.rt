@@ -23,8 +23,8 @@ ghost use Rattle.svtv_texts.specs.Rights.{AreRight, names_of};
 
 use crate::goals::load_goals;
 use crate::setup::{Setup, load_setup};
-use flat_print::copy_flat;
 use flat_net::Flat;
+use flat_print::copy_flat;
 use goal_text::Goal;
 use net_equations::ComposeErr;
 use std::alloc::Global;

@@ -9,8 +9,8 @@ use std::alloc::{AllocError, Global};
 use sv_expr_parser::parse_expr;
 use sv_outside::{TextErr, Tokens};
 use sv_parser::parse;
-use sv_write::{Lexeme, spell};
 use sv_tree::Expr;
+use sv_write::{Lexeme, spell};
 
 fn print_read(
     tree: &Expr,
