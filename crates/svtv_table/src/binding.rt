@@ -18,10 +18,10 @@ ghost use Rattle.svtv_table.specs.declared.bound.VarDecl.{VarDecl};
 use crate::bound::{Bound, Drive, VarDecl};
 use crate::drives::drives_of;
 use crate::faults::refused;
-use crate::names::{Target, Variables, Wires, add_rows, declarations, wire_of, wires_of};
+use crate::names::{Target, Wires, add_rows, declarations, no_variables, wire_of, wires_of};
 use crate::overs::overs_of;
 use crate::samples::{Samples, sample_cells};
-use indexmap::IndexMap;
+use crate::variables::Variables;
 use items::Items;
 use name_index::NameIndex;
 use std::alloc::{AllocError, Global};
@@ -264,7 +264,7 @@ fn bind_under(
     Ok(work.finished(table.phases, vars))
 }
 
-// Binds a table whose variables are to be put into a map that has none yet.
+// Binds a table whose variables are to be put in: there is none yet.
 #[tactic(auto, unfolding(crate::specs::Faults::Stops))]
 fn bind_with<'a>(
     alloc: Global,
@@ -290,7 +290,7 @@ fn bind_wires(alloc: Global, table: &Table, wires: &Wires) -> Result<Bound, Text
     ensures fine { OnOk result (spec.bind_faults wires.now.list.now table.now ≡ []) }
     ensures err { IfErr result (Stops (spec.bind_faults wires.now.list.now table.now)) }
 {
-    let mut variables = IndexMap::new(alloc);
+    let mut variables = no_variables(alloc);
     bind_with(alloc, table, wires, &mut variables)
 }
 

@@ -10,7 +10,8 @@ ghost use Rattle.svtv_table.specs.Indexing.{listed};
 
 use crate::bound::Drive;
 use crate::faults::refused;
-use crate::names::{Target, Variables, number_of, width_under};
+use crate::names::{Target, number_of, width_under};
+use crate::variables::Variables;
 use fourvec::Four;
 use items::Items;
 use std::alloc::Global;

@@ -16,6 +16,7 @@ mod overs;
 mod read;
 mod samples;
 mod values;
+mod variables;
 
 pub use binding::bind;
 pub use bound::{Bound, Drive, Sample, VarDecl};

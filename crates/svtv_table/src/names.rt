@@ -1,7 +1,7 @@
-// The wires of a design and the variables of a table, by name. Wires are found by a hash index, in which the first of a path
-// counts, and variables are kept in one map from their names to their widths, in the order in which they appear, so that binding
-// takes linear time. A variable stands where an `in` or `over` row names it first and gets the width of that row's wire; whether
-// other rows fit is judged when they are bound. The map borrows the names from the rows; they are copied once, into the list of the bound table.
+// The wires of a design and the variables of a table, by name. Both are found in maps that no names make slow, so that binding takes
+// linear time. Of wires with one path the first counts. A variable stands where an `in` or `over` row names it first and gets the
+// width of that row's wire; whether other rows fit is judged when they are bound. Variables borrow their names from the rows; these
+// are copied once, into the list of the bound table.
 ghost use Rattle.std.specs.Prelude.{◌≡◌, ◌≤◌, ◌<◌, [], map, length, All, IfOk, IfSome, OnOk};
 ghost use Rattle.svtv_table.specs.Binding.{HasWidth, declared_in, variables_of};
 ghost use Rattle.svtv_table.specs.Indexing.{Indexes, listed, wide, with_var, with_vars};
@@ -9,9 +9,9 @@ ghost use Rattle.svtv_table.specs.Names as spec;
 ghost use Rattle.svtv_table.specs.Names.{name_in, name_of, names_in, path_of};
 
 use crate::bound::VarDecl;
-use indexmap::IndexMap;
+use crate::variables::{Variable, Variables};
 use items::Items;
-use name_index::NameIndex;
+use name_index::{NameIndex, NameMap};
 use std::alloc::{AllocError, Global};
 use sv_outside::{Name, Signal};
 use table_cells::{Cell, Row, RowKind};
@@ -23,9 +23,6 @@ pub struct Wires<'a> {
     pub index: NameIndex,
     ghost indexed: { Indexes index (map path_of list.now) },
 }
-
-/// The variables of a table: the width of each under its name, which the table's rows hold.
-pub type Variables<'a> = IndexMap<&'a [u8], u8>;
 
 /// The signal of a row: the number of its wire, the wire's width, and the row's number from 1.
 #[derive(Clone, Copy)]
@@ -96,29 +93,46 @@ fn width_of(wires: &Wires, path: &Name) -> u8
     }
 }
 
+/// No variables.
+pub fn no_variables<'a>(alloc: Global) -> Variables<'a>
+    ensures { listed result ≡ [] }
+{
+    Variables {
+        list: Vec::new(alloc),
+        numbers: NameMap::new(alloc),
+    }
+}
+
 /// The number of a variable.
 pub fn number_of(variables: &Variables<'_>, name: &Name) -> Option<usize>
     ensures is { result ≡ spec.number_of (listed variables.now) name.now }
     ensures within { IfSome result (λ number. number < length (listed variables.now)) }
 {
-    variables.get_index_of(name.bytes())
+    variables.numbers.get(name.bytes())
 }
 
 /// The width of a variable.
 pub fn width_under(variables: &Variables<'_>, name: &Name) -> Option<u8>
     ensures { result ≡ spec.width_under (listed variables.now) name.now }
 {
-    variables.get(name.bytes()).copied()
+    match number_of(variables, name) {
+        Some(number) => Some(variables.list[number].width),
+        None => None,
+    }
 }
 
-// Puts in a variable behind the others, unless its name is there.
+// Puts in a variable behind the others, unless its name is there. Room is made first, so that each name in the map has its place in
+// the list also where memory is out.
 fn add<'a>(variables: &mut Variables<'a>, name: &'a Name, width: u8) -> Result<(), AllocError>
     ensures { OnOk result (listed variables.new ≡ with_var (listed variables.old) (record { name = name.now; width = width })) }
 {
     if number_of(variables, name).is_some() {
         return Ok(());
     }
-    variables.insert(name.bytes(), width)?;
+    let name = name.bytes();
+    variables.list.reserve(1)?;
+    variables.numbers.put(name, variables.list.len())?;
+    variables.list.push_reserved(Variable { name, width });
     Ok(())
 }
 
@@ -179,11 +193,11 @@ pub fn declarations(alloc: Global, variables: &Variables<'_>) -> Result<Items<Va
     ensures { IfOk result (λ vars. vars ≡ listed variables.now) }
 {
     let mut vars = Items::new(alloc);
-    for (text, width) in variables {
-        let name = Name::new(alloc, *text)?;
+    for variable in &variables.list {
+        let name = Name::new(alloc, variable.name)?;
         vars.push(VarDecl {
             name,
-            width: *width,
+            width: variable.width,
         })?;
     }
     Ok(vars)

@@ -8,7 +8,8 @@ ghost use Rattle.svtv_table.specs.Names.{is_among};
 
 use crate::bound::Sample;
 use crate::faults::refused;
-use crate::names::{Target, Variables, number_of};
+use crate::names::{Target, number_of};
+use crate::variables::Variables;
 use items::Items;
 use name_index::NameIndex;
 use sv_outside::{Name, TextErr};

@@ -1,8 +1,12 @@
-use Rattle.std.proofs.Common.{◌∙◌, ap}
-use Rattle.svtv_table.specs.Indexing.{listed}
-use Rattle.svtv_table.specs.Names.{width_under}
-use Rattle.svtv_table.proofs.Listed.{width_is}
+use Rattle.std.proofs.Common.{◌<◌, ◌∙◌, sym, subst, arith}
+use Rattle.svtv_table.proofs.Listed.{listed_long, width_there}
 use Rattle.svtv_table.proofs.names.width_under.Goals as goal
 
-pub returns : goal.returns
-returns c = width_is c.args.variables.now c.bytes.result.now c.copied.result (c.copied.ensures ∙ c.get.ensures.value) ∙ ap (width_under (listed c.args.variables.now)) c.bytes.ensures
+pub index-requires : goal.index-requires
+index-requires c = omega (arith, c.in-Some.ensures.within, listed_long c.args.variables.now, c.args.variables.now.list.ok.0)
+
+pub returns-in-Some : goal.returns-in-Some
+returns-in-Some c =
+    let all = c.args.variables.now in
+    width_there all c.args.name.now c.in-Some.number c.index.result.now (sym c.number_of.ensures.is ∙ c.in-Some.is)
+    (subst (λ long. c.in-Some.number < long) (listed_long all) c.in-Some.ensures.within) c.index.ensures
