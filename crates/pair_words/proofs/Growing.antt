@@ -1,13 +1,16 @@
 -- What stays as graphs grow.
-use Rattle.std.proofs.Common.{◌≡◌, ℕ, ◌+◌, ◌*◌, ◌<◌, ◌≤◌, List, [], ◌∷◌, ◌++◌, length, ◌∙◌, arith}
+use Rattle.std.proofs.Common.{◌≡◌, ℕ, ◌+◌, ◌-◌, ◌*◌, ◌<◌, ◌≤◌, List, [], ◌∷◌, ◌++◌, length, get_or, sym, subst, ◌∙◌, arith}
 use Rattle.std.proofs.lemmas.Nat.{mul-le}
 use Rattle.std.proofs.lemmas.List.{length_push}
 use Rattle.std.proofs.lemmas.List.Elements.{All-weaker, All-push, All-nil}
 use Rattle.std.specs.List.{All}
+use Rattle.std.specs.Prelude.{Result, Ok, Err, IfOk}
 use Rattle.aig.specs.declared.gate.Gate.{Gate}
-use Rattle.aig.specs.Graph.{Grows}
-use Rattle.aig_words.specs.Words.{Grew}
-use Rattle.aig_words.proofs.Grown.{IsIn-later}
+use Rattle.aig.specs.declared.gate.Lit.{Lit}
+use Rattle.aig.specs.Graph.{Grows, IsIn}
+use Rattle.aig.proofs.Growth.{Grows-refl}
+use Rattle.aig_words.specs.Words.{Grew, IsWord}
+use Rattle.aig_words.proofs.Grown.{IsIn-later, IsWord-nil, IsWord-push}
 use Rattle.pair_words.specs.declared.pairs.Pair.{Pair}
 use Rattle.pair_words.specs.Rails.{IsWired, IsVector}
 
@@ -49,3 +52,38 @@ vector_at gates m n word e h = record { long = h.long ∙ e; inside = h.inside }
 
 pub Grew_at : (m n : ℕ) (old new : List Gate) → m ≡ n → Grew m old new → Grew n old new
 Grew_at m n old new e h = record { grows = h.grows; nodes = omega (arith, h.nodes, e); flat = h.flat }
+
+-- one place more, within all of them
+pub one_place : (m i n : ℕ) → i < n → m * i + m ≤ m * n
+one_place m i n lt = let h : m * i + m ≡ m * (i + 1) = grind arith in let k = mul-le m (i + 1) m n (omega arith) (omega (arith, lt)) in omega (arith, h, k)
+
+pub at_literal : (gates : List Gate) (k l : Lit) → l ≡ k → IsIn gates k → IsIn gates l
+at_literal gates k l e h = subst (λ (m : Lit). IsIn gates m) (sym e) h
+
+-- what a slice of a vector is
+pub wired_at : (gates : List Gate) (a b : List Pair) → b ≡ a → All (IsWired gates) a → All (IsWired gates) b
+wired_at gates a b e h = subst (λ (t : List Pair). All (IsWired gates) t) (sym e) h
+
+-- what two promises of a result make of it
+pub if_both : {T E : Type 0} (r : Result T E) (P Q S : T → Type 0) → IfOk r P → IfOk r Q → ((x : T) → P x → Q x → S x) → IfOk r S
+if_both (Ok x) P Q S p q f = f x p q
+if_both (Err e) P Q S p q f = tt
+
+pub one_word : (gates : List Gate) (word : List Lit) (l : Lit) → word ≡ l ∷ [] → IsIn gates l → IsWord gates 1 word
+one_word gates word l e h = subst (λ (xs : List Lit). IsWord gates 1 xs) (sym e) (IsWord-push gates gates 0 [] l (Grows-refl gates) (IsWord-nil gates) h)
+
+pub literals_at : (gates : List Gate) (a b : List Lit) → b ≡ a → All (IsIn gates) a → All (IsIn gates) b
+literals_at gates a b e h = subst (λ (t : List Lit). All (IsIn gates) t) (sym e) h
+
+pub word_at : (gates : List Gate) (m n : ℕ) (word : List Lit) → m ≡ n → IsWord gates m word → IsWord gates n word
+word_at gates m n word e h = record { long = h.long ∙ e; inside = h.inside }
+
+pub top_in : (gates : List Gate) (a : List Lit) (d : Lit) → 0 < length a → All (IsIn gates) a → IsIn gates (get_or a (length a - 1) d)
+top_in gates a d some h = h (length a - 1) d (omega arith)
+
+-- the rails of a pair of an older graph
+pub up_later : (old new : List Gate) (p : Pair) → Grows old new → IsWired old p → IsIn new p.up
+up_later old new p g h = IsIn-later old new p.up g h.up
+
+pub low_later : (old new : List Gate) (p : Pair) → Grows old new → IsWired old p → IsIn new p.low
+low_later old new p g h = IsIn-later old new p.low g h.low

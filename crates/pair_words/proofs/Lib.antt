@@ -8,3 +8,4 @@ pub mod Starting
 pub mod Windows
 pub mod Laying
 pub mod Parities
+mod Stepping

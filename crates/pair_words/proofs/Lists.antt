@@ -1,5 +1,5 @@
 -- Operators on the bits that pairs stand for, one pair more at a time.
-use Rattle.std.proofs.Common.{◌≡◌, ℕ, ◌+◌, ◌-◌, ◌<◌, ◌≤◌, Bool, true, ◌&&◌, List, [], ◌∷◌, ◌++◌, length, get_or, take, drop, refl, sym, ap, ◌∙◌, arith}
+use Rattle.std.proofs.Common.{◌≡◌, ℕ, ◌+◌, ◌-◌, ◌<◌, ◌≤◌, Bool, true, ◌&&◌, List, [], ◌∷◌, ◌++◌, length, get_or, take, drop, replicate, refl, sym, ap, ◌∙◌, arith}
 use Rattle.std.proofs.lemmas.List.{map_more, map_push, length-map, drop_more, drop_all, length-take-le}
 use Rattle.fourvec.specs.declared.Bit.{Bit}
 use Rattle.fourvec.specs.Bits.{each, each_pair, over, is_known, is_known_bit}
@@ -101,3 +101,17 @@ known_more v a i d last next lt before here =
 
 pub known_end : (v : ℕ → Bool) (a : List Pair) (i : ℕ) (last : Bool) → length a ≤ i → last ≡ is_known (bits v (drop (length a - i) a)) → last ≡ is_known (bits v a)
 known_end v a i last le e = let z : length a - i ≡ 0 = omega arith in e ∙ ap (λ (n : ℕ). is_known (bits v (drop n a))) z
+
+-- an operator of the first of two equal vectors
+pub each_first : (f : Bit → Bit) (xs : List Bit) → each_pair (λ x y. f x) xs xs ≡ each f xs
+unfolding each each_pair
+each_first f [] = refl
+each_first f (x ∷ xs) = ap (λ (t : List Bit). f x ∷ t) (each_first f xs)
+
+-- an operator with one bit for all of the second
+pub each_by : (f : Bit → Bit → Bit) (y : Bit) (xs zs : List Bit) → length xs ≡ length zs → each_pair (λ x z. f x y) xs zs ≡ each_pair f xs (replicate (length xs) y)
+unfolding each_pair
+each_by f y [] [] e = refl
+each_by f y [] (z ∷ zs) e = absurd (omega (arith, e))
+each_by f y (x ∷ xs) [] e = absurd (omega (arith, e))
+each_by f y (x ∷ xs) (z ∷ zs) e = ap (λ (t : List Bit). f x y ∷ t) (each_by f y xs zs (omega (arith, e)))

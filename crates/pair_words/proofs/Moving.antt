@@ -190,15 +190,15 @@ stage v way a next m p true e = e ∙ moved_twice v way m p a ∙ ap (λ k. move
 stage v way a next m p false e = e ∙ ap (λ k. moved_bits v way k a) (let h : m ≡ m + p * 0 = omega arith in h)
 
 -- one bit more of the distance
-pub shift_more : (v : ℕ → Bool) (way : Way) (b : List Lit) (d : Lit) (a : List Bit) (word moved_word : List Pair) (next : List Bit) (j k : ℕ) → v 0 ≡ false → j < length b → length word ≡ length a → k ≤ length word → k ≡ min (2 ^ j) (length a) →
-    bits v word ≡ moved_bits v way (number v (take j b)) a → moved_word ≡ moved way k word → next ≡ cond (holds v (get_or b j d)) (bits v moved_word) (bits v word) →
+pub shift_more : (v : ℕ → Bool) (way : Way) (b : List Lit) (d : Lit) (a : List Bit) (word : List Pair) (next : List Bit) (j k : ℕ) → j < length b → length word ≡ length a → k ≡ min (2 ^ j) (length a) →
+    bits v word ≡ moved_bits v way (number v (take j b)) a → next ≡ cond (holds v (get_or b j d)) (moved_bits v way k (bits v word)) (bits v word) →
     next ≡ moved_bits v way (number v (take (j + 1) b)) a
-shift_more v way b d a word moved_word next j k h0 lt long le ek before em here =
+shift_more v way b d a word next j k lt long ek before here =
     let x : Bool = holds v (get_or b j d) in
     let m : ℕ = number v (take j b) in
     let wide : length (bits v word) ≡ length a = length-map word (bit_at v) ∙ long in
     let cap : k ≡ min (2 ^ j) (length (bits v word)) = ek ∙ ap (λ n. min (2 ^ j) n) (sym wide) in
-    let one : bits v moved_word ≡ moved_bits v way (2 ^ j) (bits v word) = ap (λ (t : List Pair). bits v t) em ∙ moved_is v way k word h0 le ∙ ap (λ n. moved_bits v way n (bits v word)) cap ∙ moved_far v way (2 ^ j) (bits v word) in
+    let one : moved_bits v way k (bits v word) ≡ moved_bits v way (2 ^ j) (bits v word) = ap (λ n. moved_bits v way n (bits v word)) cap ∙ moved_far v way (2 ^ j) (bits v word) in
     let both : next ≡ cond x (moved_bits v way (2 ^ j) (moved_bits v way m a)) (moved_bits v way m a) = here ∙ ap (λ (t : List Bit). cond x t (bits v word)) one ∙ ap (λ (t : List Bit). cond x (moved_bits v way (2 ^ j) t) t) before in
     stage v way a next m (2 ^ j) x both ∙ ap (λ n. moved_bits v way n a) (sym (number-more v b j d lt))
 

@@ -1,10 +1,10 @@
 -- Words of literals as vectors of known bits.
-use Rattle.std.proofs.Common.{◌≡◌, ℕ, ◌+◌, ◌-◌, ◌*◌, ◌/◌, ◌%◌, ◌^◌, ◌<◌, ◌≤◌, ◌≢◌, Bool, true, false, not, ◌&&◌, ◌||◌, cond, ltb, List, [], ◌∷◌, ◌++◌, length, get_or, take, map, refl, sym, ap, subst, ◌∙◌, arith}
+use Rattle.std.proofs.Common.{◌≡◌, ℕ, ◌+◌, ◌-◌, ◌*◌, ◌/◌, ◌%◌, ◌^◌, ◌<◌, ◌≤◌, ◌≢◌, Bool, true, false, ◌&&◌, cond, ltb, List, [], ◌∷◌, length, get_or, take, map, refl, sym, ap, subst, ◌∙◌, arith}
 use Rattle.std.specs.Bool.{beq}
 use Rattle.std.specs.Prelude.{pos, negsuc, neg_ℤ, int_lt, int_div, int_rem, unsigned_abs}
 use Rattle.std.proofs.lemmas.Bool.{lt-ltb, le-ltb, eq-eqb, ne_eqb}
 use Rattle.std.proofs.Math.Nat.{mod-eq_of_lt}
-use Rattle.std.proofs.lemmas.List.{length-map, get_or-map, take_all, map_push, map_more}
+use Rattle.std.proofs.lemmas.List.{length-map, get_or-map, take_all}
 use Rattle.aig.specs.declared.gate.Lit.{Lit}
 use Rattle.aig.specs.Graph.{holds, constant_lit, IsIn}
 use Rattle.aig_words.specs.Words.{number, weight, differ}
@@ -12,7 +12,7 @@ use Rattle.aig_words.specs.Words as words
 use Rattle.aig_words.proofs.Numbers.{number-below, number-more, number-take-below}
 use Rattle.aig_words.proofs.Tables.{and_true}
 use Rattle.fourvec.specs.declared.Bit.{Bit}
-use Rattle.fourvec.specs.declared.Bit.TheVariants.{Zero, Unknown}
+use Rattle.fourvec.specs.declared.Bit.TheVariants.{Zero}
 use Rattle.fourvec.specs.Bits.{truth_bit, is_odd, is_one, vector, is_known, is_known_bit, all_x, top, is_negative, add_of, sub_of, mul_of, div_of, rem_of, neg_of, sdiv_of, srem_of, lt_of, slt_of, signed_vector, bit_of}
 use Rattle.fourvec.specs.Bits as bits
 use Rattle.fourvec.proofs.Basic.{vector-mod, number-vector, number-lt}
@@ -24,7 +24,7 @@ use Rattle.aig.specs.declared.gate.Gate.{Gate}
 use Rattle.pair_words.specs.Rails as rails
 use Rattle.pair_words.specs.declared.numbers.Number.{Number}
 use Rattle.pair_words.specs.declared.numbers.Number.TheVariants.{Add, Sub, Mul, Div, Rem, Sdiv, Srem, Lt, Slt}
-use Rattle.pair_words.specs.Truths.{truths, number_value, number_width, is_defined}
+use Rattle.pair_words.specs.Truths.{truths, known_pair, number_value, number_width, is_defined}
 
 pub length-truths : (v : ℕ → Bool) (a : List Lit) → length (truths v a) ≡ length a
 length-truths v a = length-map a (λ l. truth_bit (holds v l))
@@ -120,14 +120,11 @@ negative_is v a d some =
     ap is_one (get_or-map (λ l. truth_bit (holds v l)) a (length a - 1) d Zero (omega arith)) ∙ one_truth (holds v (get_or a (length a - 1) d))
 
 -- a number turned into its two's complement
-pub turned_is : (v : ℕ → Bool) (a none o r : List Lit) (t : Bool) → length none ≡ length a → length o ≡ length none → length r ≡ length o → number v none ≡ 0 →
-    number v o ≡ (number v none + (2 ^ length none - number v a)) % 2 ^ length none → number v r ≡ cond t (number v o) (number v a) → truths v r ≡ cond t (neg_of (truths v a)) (truths v a)
+pub turned_is : (v : ℕ → Bool) (a o r : List Lit) (t : Bool) → length r ≡ length a → number v o ≡ (2 ^ length a - number v a) % 2 ^ length a → number v r ≡ cond t (number v o) (number v a) →
+    truths v r ≡ cond t (neg_of (truths v a)) (truths v a)
 unfolding neg_of
-turned_is v a none o r true ln lo lr z e f =
-    let n : (number v none + (2 ^ length none - number v a)) ≡ 2 ^ length none - number v a = omega arith in
-    let g : number v r ≡ (2 ^ length a - number v a) % 2 ^ length a = f ∙ e ∙ ap (λ k. k % 2 ^ length none) n ∙ ap (λ k. (2 ^ k - number v a) % 2 ^ k) ln in
-    rw (known-truths v a, length-truths v a, number-truths v a) (truths-mod v r (length a) (2 ^ length a - number v a) (lr ∙ lo ∙ ln) g)
-turned_is v a none o r false ln lo lr z e f = truths-of v r (length a) (number v a) (lr ∙ lo ∙ ln) f ∙ sym (truths-vector v a)
+turned_is v a o r true long e f = rw (known-truths v a, length-truths v a, number-truths v a) (truths-mod v r (length a) (2 ^ length a - number v a) long (f ∙ e))
+turned_is v a o r false long e f = truths-of v r (length a) (number v a) long f ∙ sym (truths-vector v a)
 
 neg_number : (v : ℕ → Bool) (a : List Lit) → 0 < number v a → bits.number (neg_of (truths v a)) ≡ 2 ^ length a - 1 - number v a + 1
 unfolding neg_of
@@ -150,19 +147,19 @@ magnitude_is v a p t s e =
     sym (magnitude_by_sign (truths v a) (number-lt (truths v a)) ∙
     rw (s, length-truths v a, number-truths v a) refl)
 
-sdiv_by : (v : ℕ → Bool) (a b d r : List Lit) (w : ℕ) (s t : Bool) → length a ≡ w → length d ≡ w → is_negative (truths v a) ≡ s → is_negative (truths v b) ≡ t → 0 < number v b →
-    number v d ≡ unsigned_abs (bits.signed (truths v a)) / unsigned_abs (bits.signed (truths v b)) →
-    truths v r ≡ cond (differ s t) (neg_of (truths v d)) (truths v d) → truths v r ≡ sdiv_of (truths v a) (truths v b)
+-- the quotient of two's complement numbers, by the signs s and t and the distances p and q from 0
+pub sdiv_by : (v : ℕ → Bool) (a b r : List Lit) (w p q : ℕ) (s t : Bool) → w ≡ length a → is_negative (truths v a) ≡ s → is_negative (truths v b) ≡ t → 0 < number v b →
+    p ≡ unsigned_abs (bits.signed (truths v a)) → q ≡ unsigned_abs (bits.signed (truths v b)) →
+    truths v r ≡ cond (differ s t) (neg_of (vector w (p / q))) (vector w (p / q)) → truths v r ≡ sdiv_of (truths v a) (truths v b)
 unfolding sdiv_of
-sdiv_by v a b d r w s t la ld sa sb some e f =
-    let plain : truths v d ≡ vector w (unsigned_abs (bits.signed (truths v a)) / unsigned_abs (bits.signed (truths v b))) = truths-of v d w _ ld e in
+sdiv_by v a b r w p q s t la sa sb some ep eq f =
     let n : ℕ = unsigned_abs (bits.signed (truths v a)) / unsigned_abs (bits.signed (truths v b)) in
     let A : List Bit = truths v a in
     let B : List Bit = truths v b in
     let k : ((is_known A && is_known B) && ltb 0 (bits.number B)) ≡ true = rw (known-truths v a, known-truths v b, number-truths v b) (lt-ltb 0 (number v b) some) in
-    f ∙ ap (λ (xs : List Bit). cond (differ s t) (neg_of xs) xs) plain ∙
+    f ∙ (λ i. cond (differ s t) (neg_of (vector w (ep i / eq i))) (vector w (ep i / eq i))) ∙
     sym (ap (λ c. cond c (signed_vector (length A) (int_div (bits.signed A) (bits.signed B))) (all_x (length A))) k ∙
-    ap (λ m. signed_vector m (int_div (bits.signed A) (bits.signed B))) (length-truths v a ∙ la) ∙
+    ap (λ m. signed_vector m (int_div (bits.signed A) (bits.signed B))) (length-truths v a ∙ sym la) ∙
     ap (λ z. signed_vector w z) (divided A B ∙ (λ i. cond (beq (sa i) (sb i)) (pos n) (neg_ℤ (pos n)))) ∙ by_sign w n s t)
   where
     by_sign : (w n : ℕ) (s t : Bool) → signed_vector w (cond (beq s t) (pos n) (neg_ℤ (pos n))) ≡ cond (differ s t) (neg_of (vector w n)) (vector w n)
@@ -171,19 +168,18 @@ sdiv_by v a b d r w s t la ld sa sb some e f =
     by_sign w n false true = sym (neg_vector w n)
     by_sign w n false false = refl
 
-srem_by : (v : ℕ → Bool) (a b d r : List Lit) (w : ℕ) (s : Bool) → length a ≡ w → length d ≡ w → is_negative (truths v a) ≡ s → 0 < number v b →
-    number v d ≡ unsigned_abs (bits.signed (truths v a)) % unsigned_abs (bits.signed (truths v b)) →
-    truths v r ≡ cond s (neg_of (truths v d)) (truths v d) → truths v r ≡ srem_of (truths v a) (truths v b)
+pub srem_by : (v : ℕ → Bool) (a b r : List Lit) (w p q : ℕ) (s : Bool) → w ≡ length a → is_negative (truths v a) ≡ s → 0 < number v b →
+    p ≡ unsigned_abs (bits.signed (truths v a)) → q ≡ unsigned_abs (bits.signed (truths v b)) →
+    truths v r ≡ cond s (neg_of (vector w (p % q))) (vector w (p % q)) → truths v r ≡ srem_of (truths v a) (truths v b)
 unfolding srem_of
-srem_by v a b d r w s la ld sa some e f =
-    let plain : truths v d ≡ vector w (unsigned_abs (bits.signed (truths v a)) % unsigned_abs (bits.signed (truths v b))) = truths-of v d w _ ld e in
+srem_by v a b r w p q s la sa some ep eq f =
     let n : ℕ = unsigned_abs (bits.signed (truths v a)) % unsigned_abs (bits.signed (truths v b)) in
     let A : List Bit = truths v a in
     let B : List Bit = truths v b in
     let k : ((is_known A && is_known B) && ltb 0 (bits.number B)) ≡ true = rw (known-truths v a, known-truths v b, number-truths v b) (lt-ltb 0 (number v b) some) in
-    f ∙ ap (λ (xs : List Bit). cond s (neg_of xs) xs) plain ∙
+    f ∙ (λ i. cond s (neg_of (vector w (ep i % eq i))) (vector w (ep i % eq i))) ∙
     sym (ap (λ c. cond c (signed_vector (length A) (int_rem (bits.signed A) (bits.signed B))) (all_x (length A))) k ∙
-    ap (λ m. signed_vector m (int_rem (bits.signed A) (bits.signed B))) (length-truths v a ∙ la) ∙
+    ap (λ m. signed_vector m (int_rem (bits.signed A) (bits.signed B))) (length-truths v a ∙ sym la) ∙
     ap (λ z. signed_vector w z) (left_over A B ∙ (λ i. cond (sa i) (neg_ℤ (pos n)) (pos n))) ∙ by_sign w n s)
   where
     by_sign : (w n : ℕ) (s : Bool) → signed_vector w (cond s (neg_ℤ (pos n)) (pos n)) ≡ cond s (neg_of (vector w n)) (vector w n)
@@ -192,25 +188,6 @@ srem_by v a b d r w s la ld sa some e f =
 
 pub divisor_is : (v : ℕ → Bool) (b : List Lit) → 0 < number v b → 0 < unsigned_abs (bits.signed (truths v b))
 divisor_is v b some = divisor_some (truths v b) (number-lt (truths v b)) (subst (λ n. 0 < n) (sym (number-truths v b)) some)
-
--- the quotient of two's complement numbers, by the signs s and t and the distances from 0
-pub signed_quotient_is : (v : ℕ → Bool) (a b p q d r : List Lit) (w : ℕ) (s t : Bool) → length a ≡ w → length d ≡ w → is_negative (truths v a) ≡ s → is_negative (truths v b) ≡ t → 0 < number v b →
-    truths v p ≡ cond s (neg_of (truths v a)) (truths v a) → truths v q ≡ cond t (neg_of (truths v b)) (truths v b) →
-    (0 < number v q → number v d ≡ number v p / number v q) →
-    truths v r ≡ cond (differ s t) (neg_of (truths v d)) (truths v d) → truths v r ≡ sdiv_of (truths v a) (truths v b)
-signed_quotient_is v a b p q d r w s t la ld sa sb some ep eq ed er =
-    let mp = magnitude_is v a p s sa ep in
-    let mq = magnitude_is v b q t sb eq in
-    sdiv_by v a b d r w s t la ld sa sb some (ed (subst (λ n. 0 < n) (sym mq) (divisor_is v b some)) ∙ ap (λ n. n / number v q) mp ∙ ap (λ n. unsigned_abs (bits.signed (truths v a)) / n) mq) er
-
-pub signed_rest_is : (v : ℕ → Bool) (a b p q d r : List Lit) (w : ℕ) (s t : Bool) → length a ≡ w → length d ≡ w → is_negative (truths v a) ≡ s → is_negative (truths v b) ≡ t → 0 < number v b →
-    truths v p ≡ cond s (neg_of (truths v a)) (truths v a) → truths v q ≡ cond t (neg_of (truths v b)) (truths v b) →
-    (0 < number v q → number v d ≡ number v p % number v q) →
-    truths v r ≡ cond s (neg_of (truths v d)) (truths v d) → truths v r ≡ srem_of (truths v a) (truths v b)
-signed_rest_is v a b p q d r w s t la ld sa sb some ep eq ed er =
-    let mp = magnitude_is v a p s sa ep in
-    let mq = magnitude_is v b q t sb eq in
-    srem_by v a b d r w s la ld sa some (ed (subst (λ n. 0 < n) (sym mq) (divisor_is v b some)) ∙ ap (λ n. n % number v q) mp ∙ ap (λ n. unsigned_abs (bits.signed (truths v a)) % n) mq) er
 
 -- two's complement by the top bit is two's complement by the number
 by_top : (w n m p : ℕ) (x : Bool) → p ≡ 2 ^ (w - 1) → m < p → n ≡ m + p * weight x → cond (ltb n (2 ^ (w - 1))) (pos n) (negsuc (2 ^ w - 1 - n)) ≡ cond x (negsuc (2 ^ w - 1 - n)) (pos n)
@@ -238,29 +215,20 @@ signed_less_is v a b r some same e =
 
 -- ---- guards
 
-guard_table : (c b : Bool) → bit_of (not c || b) (c && b) ≡ cond c (truth_bit b) Unknown
-guard_table true true = refl
-guard_table true false = refl
-guard_table false true = refl
-guard_table false false = refl
+known_table : (b : Bool) → bit_of b b ≡ truth_bit b
+known_table true = refl
+known_table false = refl
 
-pub guard_by : (c b n u l : Bool) → n ≡ not c → u ≡ (n || b) → l ≡ (c && b) → bit_of u l ≡ cond c (truth_bit b) Unknown
-guard_by c b n u l e f g = let h : bit_of u l ≡ bit_of (not c || b) (c && b) = cc in h ∙ guard_table c b
+-- a word as pairs
+pub pairs_are : (v : ℕ → Bool) (word : List Lit) → rails.bits v (map known_pair word) ≡ truths v word
+pairs_are v [] = refl
+pairs_are v (l ∷ word) = ap (λ (t : List Bit). bit_of (holds v l) (holds v l) ∷ t) (pairs_are v word) ∙ ap (λ (t : Bit). t ∷ truths v word) (known_table (holds v l))
 
--- the bits of a word where a condition is true, else X
-pub guarded_word : (v : ℕ → Bool) (c : Bool) (word : List Lit) → map (λ l. cond c (truth_bit (holds v l)) Unknown) word ≡ cond c (truths v word) (all_x (length word))
-guarded_word v true word = refl
-guarded_word v false [] = refl
-guarded_word v false (l ∷ word) = ap (λ (t : List Bit). Unknown ∷ t) (guarded_word v false word)
-
-pub guarded_more : (v : ℕ → Bool) (c : Bool) (word : List Lit) (vector : List Pair) (i : ℕ) (d : Lit) (p : Pair) → i < length word →
-    rails.bits v vector ≡ map (λ l. cond c (truth_bit (holds v l)) Unknown) (take i word) → bit_at v p ≡ cond c (truth_bit (holds v (get_or word i d))) Unknown →
-    rails.bits v (vector ++ p ∷ []) ≡ map (λ l. cond c (truth_bit (holds v l)) Unknown) (take (i + 1) word)
-guarded_more v c word vector i d p lt before here =
-    map_push (bit_at v) vector p ∙
-    ap (λ (t : List Bit). t ++ bit_at v p ∷ []) before ∙
-    ap (λ (t : Bit). map (λ l. cond c (truth_bit (holds v l)) Unknown) (take i word) ++ t ∷ []) here ∙
-    sym (map_more (λ l. cond c (truth_bit (holds v l)) Unknown) word i d lt)
+pub pairs_in : (gates : List Gate) (word : List Lit) → All (IsIn gates) word → All (IsWired gates) (map known_pair word)
+pairs_in gates word h = λ k d lt. let below : k < length word = subst (λ n. k < n) (length-map word known_pair) lt in
+    let e = get_or-map known_pair word k (constant_lit false) d below in
+    let i = h k (constant_lit false) below in
+    subst (λ (p : Pair). IsWired gates p) (sym e) (record { up = i; low = i })
 
 -- ---- vectors of known bits
 

@@ -1,4 +1,5 @@
 pub mod Rails
+pub mod Starts
+pub mod Steps
 pub mod Truths
 pub mod Ways
-pub mod Starts

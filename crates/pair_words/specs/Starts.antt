@@ -1,5 +1,5 @@
 -- Parts of a vector at all places where they can begin.
-use Rattle.std.specs.Prelude.{ℕ, ◌+◌, ◌-◌, ◌*◌, ◌<◌, Bool, false, not, ◌&&◌, ◌==◌, if◌then◌else◌, ℤ, pos, negsuc, ◌+ℤ◌, unsigned_abs, List, ◌++◌, length, map, take, drop, replicate, slice_index_or}
+use Rattle.std.specs.Prelude.{ℕ, ◌+◌, ◌-◌, ◌*◌, ◌<◌, Bool, false, not, ◌&&◌, ◌==◌, if◌then◌else◌, ℤ, pos, negsuc, ◌+ℤ◌, unsigned_abs, Option, Some, None, List, ◌++◌, length, map, take, drop, replicate, slice_index_or}
 use Rattle.std.specs.List.{range_with_len}
 use Rattle.std.specs.Bool.{beq}
 use Rattle.fourvec.specs.declared.Bit.{Bit}
@@ -14,6 +14,11 @@ use Rattle.pair_words.specs.Ways.{constant_pair}
 abbrev pub is_there : ℤ → ℕ → Bool
 is_there (pos n) t = n == t
 is_there (negsuc n) t = false
+
+-- whether a natural number is the distance, if there is one
+abbrev pub is_distance : Option ℕ → ℕ → Bool
+is_distance (Some k) p = p == k
+is_distance None p = false
 
 -- a whole number is the number of one of so many
 abbrev pub IsPlace : ℕ → ℤ → Type 0

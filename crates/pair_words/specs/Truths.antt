@@ -4,12 +4,17 @@ use Rattle.aig.specs.declared.gate.Lit.{Lit}
 use Rattle.aig.specs.Graph.{holds}
 use Rattle.fourvec.specs.declared.Bit.{Bit}
 use Rattle.fourvec.specs.Bits.{truth_bit, add_of, sub_of, mul_of, div_of, rem_of, sdiv_of, srem_of, lt_of, slt_of}
+use Rattle.pair_words.specs.declared.pairs.Pair.{Pair}
 use Rattle.pair_words.specs.declared.numbers.Number.{Number}
 use Rattle.pair_words.specs.declared.numbers.Number.TheVariants.{Add, Sub, Mul, Div, Rem, Sdiv, Srem, Lt, Slt}
 
 -- the vector of known bits that literals stand for
 abbrev pub truths : (ℕ → Bool) → List Lit → List Bit
 truths v word = map (λ l. truth_bit (holds v l)) word
+
+-- the pair of a known bit
+abbrev pub known_pair : Lit → Pair
+known_pair l = record { up = l; low = l }
 
 -- what an operator gives
 abbrev pub number_value : Number → List Bit → List Bit → List Bit

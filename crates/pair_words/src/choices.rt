@@ -6,28 +6,13 @@ ghost use Rattle.std.specs.List.{All};
 ghost use Rattle.aig.specs.Graph.{holds, IsIn};
 ghost use Rattle.aig_words.specs.Words.{Grew, Obeyed};
 ghost use Rattle.fourvec.specs.Bits.{choose, all_x};
-ghost use Rattle.fourvec.specs.declared.Bit.TheVariants.{Unknown};
 ghost use Rattle.pair_words.specs.Rails.{bit_at, bits, IsWired, IsVector, two_value, two_nodes};
 
-use crate::pairs::{Pair, Two};
+use crate::pairs::{Pair, Two, unfloat};
+use crate::steps::{Step, each_place};
 use crate::vectors::on_both;
 use aig::{Aig, Lit};
-use aig_words::{or, pick};
 use std::alloc::{AllocError, Global};
-
-// The first pair where the condition is true, else the second.
-fn pick_pair(aig: &mut Aig, c: Lit, a: Pair, b: Pair) -> Result<Pair, AllocError>
-    requires c_in { IsIn aig.old c }
-    requires a_in { IsWired aig.old a }
-    requires b_in { IsWired aig.old b }
-    ensures grew { Grew 6 aig.old aig.new }
-    ensures within { IfOk result (λ r. IsWired aig.new r) }
-    ensures value { IfOk result (λ r. Obeyed aig.new (λ v. bit_at v r ≡ (if holds v c then bit_at v a else bit_at v b))) }
-{
-    let up = pick(aig, c, a.up, b.up)?;
-    let low = pick(aig, c, a.low, b.low)?;
-    Ok(Pair { up, low })
-}
 
 /// The first vector where the condition is true, else the second.
 pub fn pick_vector(
@@ -45,25 +30,7 @@ pub fn pick_vector(
     ensures word { IfOk result (λ r. IsVector aig.new (length a.now) r.items) }
     ensures value { IfOk result (λ r. Obeyed aig.new (λ v. bits v r.items ≡ (if holds v c then bits v a.now else bits v b.now))) }
 {
-    let mut word = Vec::new(alloc);
-    for i in 0..a.len() {
-        let next = pick_pair(aig, c, a[i], b[i])?;
-        word.push(next)?;
-    }
-    Ok(word)
-}
-
-// The pair where the condition is true, else X.
-fn pair_or_x(aig: &mut Aig, c: Lit, a: Pair) -> Result<Pair, AllocError>
-    requires c_in { IsIn aig.old c }
-    requires a_in { IsWired aig.old a }
-    ensures grew { Grew 2 aig.old aig.new }
-    ensures within { IfOk result (λ r. IsWired aig.new r) }
-    ensures value { IfOk result (λ r. Obeyed aig.new (λ v. bit_at v r ≡ (if holds v c then bit_at v a else Unknown))) }
-{
-    let up = or(aig, !c, a.up)?;
-    let low = aig.and(c, a.low)?;
-    Ok(Pair { up, low })
+    each_place(alloc, aig, Step::Pick(c), a, b)
 }
 
 /// The vector where the condition is true, else all X.
@@ -79,15 +46,10 @@ pub fn vector_or_x(
     ensures word { IfOk result (λ r. IsVector aig.new (length a.now) r.items) }
     ensures value { IfOk result (λ r. Obeyed aig.new (λ v. bits v r.items ≡ (if holds v c then bits v a.now else all_x (length a.now)))) }
 {
-    let mut word = Vec::new(alloc);
-    for i in 0..a.len() {
-        let next = pair_or_x(aig, c, a[i])?;
-        word.push(next)?;
-    }
-    Ok(word)
+    each_place(alloc, aig, Step::OrX(c), a, a)
 }
 
-// A choice by a bit that may be unknown.
+// A choice by a bit that may be unknown. With Z as X its upper rail tells whether one of its rails is true, its lower one whether both are.
 fn joined_choice(
     alloc: Global,
     aig: &mut Aig,
@@ -105,12 +67,10 @@ fn joined_choice(
     ensures word { IfOk result (λ r. IsVector aig.new (length a.now) r.items) }
     ensures value { IfOk result (λ r. Obeyed aig.new (λ v. bits v r.items ≡ choose (two_value op) (bit_at v c) (bits v a.now) (bits v b.now))) }
 {
-    let some = or(aig, c.up, c.low)?;
-    let every = aig.and(c.up, c.low)?;
+    let some = unfloat(aig, c)?;
     let joined = on_both(alloc, aig, op, a, b)?;
-    let other = pick_vector(alloc, aig, some, &joined, b)?;
-    let word = pick_vector(alloc, aig, every, a, &other)?;
-    Ok(word)
+    let other = pick_vector(alloc, aig, some.up, &joined, b)?;
+    pick_vector(alloc, aig, some.low, a, &other)
 }
 
 /// A choice by a four-valued bit: `op` joins the vectors where it is unknown, and is not made at all where the bit's rails are one

@@ -2,14 +2,15 @@
 //! there. The part begins at a whole number that grows or falls with the index, so for each place there is one distance from 0 that the
 //! index has to have, if any, and the literal compares the index with that constant.
 
-ghost use Rattle.std.specs.Prelude.{◌≡◌, ◌+◌, ◌*◌, ◌^◌, ◌<◌, ◌≤◌, ◌≢◌, ◌==◌, IfOk, true, false, length, map, if◌then◌else◌};
+ghost use Rattle.std.specs.Prelude.{◌≡◌, ℕ, ◌+◌, ◌*◌, ◌^◌, ◌<◌, ◌==◌, IfOk, true, false, length, map, ◌+ℤ◌, if◌then◌else◌};
 ghost use Rattle.std.specs.List.{All};
 ghost use Rattle.aig.specs.Graph.{holds, negation, IsIn};
 ghost use Rattle.aig_words.specs.Words.{number, Grew, IsWord, Obeyed};
 ghost use Rattle.fourvec.specs.Bits.{is_known};
 ghost use Rattle.pair_words.specs.Rails.{bits, IsWired};
 ghost use Rattle.pair_words.specs.Truths.{truths};
-ghost use Rattle.pair_words.specs.Starts.{is_there, back_of, far_of, begin_at};
+ghost use Rattle.fourvec.specs.Spots.{reached};
+ghost use Rattle.pair_words.specs.Starts.{is_there, is_distance, back_of, far_of, begin_at};
 
 use crate::numbers::{turned, uppers};
 use crate::pairs::Pair;
@@ -19,11 +20,12 @@ use aig_words::pick;
 use fourvec::Spot;
 use std::alloc::{AllocError, Global};
 
-// An index: whether it counts downwards, and how far it is from 0.
+/// Where an index leads: whether no bit of it is unknown, whether it counts downwards, and how far it is from 0.
 #[derive(Drop)]
-struct Index {
-    back: Lit,
-    far: Vec<Lit>,
+pub struct Aim {
+    pub fine: Lit,
+    pub back: Lit,
+    pub far: Vec<Lit>,
 }
 
 /// A whole number: how far from 0 it is, and whether below.
@@ -40,11 +42,18 @@ fn flipped(l: Lit, yes: bool) -> Lit
     if yes { !l } else { l }
 }
 
-fn signed_index(alloc: Global, aig: &mut Aig, at: &[Lit], spot: &Spot) -> Result<Index, AllocError>
+fn signed_index(
+    alloc: Global,
+    aig: &mut Aig,
+    fine: Lit,
+    at: &[Lit],
+    spot: &Spot,
+) -> Result<Aim, AllocError>
     requires signed { spot.now.signed ≡ true }
     requires some { 0 < length at.now }
     requires at_in { All (IsIn aig.old) at.now }
     ensures grew { Grew (10 * length at.now) aig.old aig.new }
+    ensures fine { IfOk result (λ x. x.fine ≡ fine) }
     ensures back_in { IfOk result (λ x. IsIn aig.new x.back) }
     ensures word { IfOk result (λ x. IsWord aig.new (length at.now) x.far.items) }
     ensures back { IfOk result (λ x. Obeyed aig.new (λ v. holds v x.back ≡ back_of spot.now (truths v at.now))) }
@@ -52,17 +61,25 @@ fn signed_index(alloc: Global, aig: &mut Aig, at: &[Lit], spot: &Spot) -> Result
 {
     let top = at[at.len() - 1];
     let far = turned(alloc, aig, top, at)?;
-    Ok(Index {
+    Ok(Aim {
+        fine,
         back: flipped(top, spot.negate),
         far,
     })
 }
 
-fn plain_index(alloc: Global, aig: &mut Aig, at: &[Lit], spot: &Spot) -> Result<Index, AllocError>
+fn plain_index(
+    alloc: Global,
+    aig: &mut Aig,
+    fine: Lit,
+    at: &[Lit],
+    spot: &Spot,
+) -> Result<Aim, AllocError>
     requires plain { spot.now.signed ≡ false }
     requires some { 0 < length at.now }
     requires at_in { All (IsIn aig.old) at.now }
     ensures grew { Grew (10 * length at.now) aig.old aig.new }
+    ensures fine { IfOk result (λ x. x.fine ≡ fine) }
     ensures back_in { IfOk result (λ x. IsIn aig.new x.back) }
     ensures word { IfOk result (λ x. IsWord aig.new (length at.now) x.far.items) }
     ensures back { IfOk result (λ x. Obeyed aig.new (λ v. holds v x.back ≡ back_of spot.now (truths v at.now))) }
@@ -70,34 +87,34 @@ fn plain_index(alloc: Global, aig: &mut Aig, at: &[Lit], spot: &Spot) -> Result<
 {
     let _ = aig.len();
     let far = Vec::from_slice(alloc, at)?;
-    Ok(Index {
+    Ok(Aim {
+        fine,
         back: flipped(Lit::constant(false), spot.negate),
         far,
     })
 }
 
-fn index_of(alloc: Global, aig: &mut Aig, at: &[Lit], spot: &Spot) -> Result<Index, AllocError>
+fn index_of(
+    alloc: Global,
+    aig: &mut Aig,
+    fine: Lit,
+    at: &[Lit],
+    spot: &Spot,
+) -> Result<Aim, AllocError>
     requires some { 0 < length at.now }
     requires at_in { All (IsIn aig.old) at.now }
     ensures grew { Grew (10 * length at.now) aig.old aig.new }
+    ensures fine { IfOk result (λ x. x.fine ≡ fine) }
     ensures back_in { IfOk result (λ x. IsIn aig.new x.back) }
     ensures word { IfOk result (λ x. IsWord aig.new (length at.now) x.far.items) }
     ensures back { IfOk result (λ x. Obeyed aig.new (λ v. holds v x.back ≡ back_of spot.now (truths v at.now))) }
     ensures far { IfOk result (λ x. Obeyed aig.new (λ v. number v x.far.items ≡ far_of spot.now (truths v at.now))) }
 {
     if spot.signed {
-        signed_index(alloc, aig, at, spot)
+        signed_index(alloc, aig, fine, at, spot)
     } else {
-        plain_index(alloc, aig, at, spot)
+        plain_index(alloc, aig, fine, at, spot)
     }
-}
-
-/// Where an index leads: whether no bit of it is unknown, whether it counts downwards, and how far it is from 0.
-#[derive(Drop)]
-pub struct Aim {
-    pub fine: Lit,
-    pub back: Lit,
-    pub far: Vec<Lit>,
 }
 
 /// Where the index of a vector leads, by its upper rail.
@@ -115,8 +132,7 @@ pub fn sought(alloc: Global, aig: &mut Aig, at: &[Pair], spot: &Spot) -> Result<
 {
     let fine = known(aig, at)?;
     let x = uppers(alloc, at)?;
-    let Index { back, far } = index_of(alloc, aig, &x, spot)?;
-    Ok(Aim { fine, back, far })
+    index_of(alloc, aig, fine, &x, spot)
 }
 
 // Whether a word stands for a number.
@@ -154,226 +170,56 @@ fn is_product(aig: &mut Aig, word: &[Lit], each: u128, n: u128) -> Result<Lit, A
     if n % each != 0 {
         return Ok(Lit::constant(false));
     }
-    let there = is_number(aig, word, n / each)?;
-    Ok(there)
+    is_number(aig, word, n / each)
 }
 
-// Whether an index that counts upwards leads to a place, from a start below 0.
-fn up_from_below(
-    aig: &mut Aig,
-    far: &[Lit],
-    each: u128,
-    start: u128,
-    t: u128,
-) -> Result<Lit, AllocError>
-    requires node { 0 < length aig.old }
-    requires small { t < 2 ^ 64 }
-    requires near { start < 2 ^ 65 }
-    requires far_in { All (IsIn aig.old) far.now }
-    ensures grew { Grew (length far.now) aig.old aig.new }
-    ensures within { IfOk result (λ r. IsIn aig.new r) }
-    ensures value { IfOk result (λ r. Obeyed aig.new (λ v. holds v r ≡ is_there (begin_at false (number v far.now) each true start) t)) }
-{
-    let there = is_product(aig, far, each, t + start)?;
-    Ok(there)
-}
-
-// The same, from a start that is no less than 0 and not beyond the place.
-fn up_from_above(
-    aig: &mut Aig,
-    far: &[Lit],
-    each: u128,
-    start: u128,
-    t: u128,
-) -> Result<Lit, AllocError>
-    requires node { 0 < length aig.old }
-    requires small { t < 2 ^ 64 }
-    requires near { start < 2 ^ 65 }
-    requires far_in { All (IsIn aig.old) far.now }
-    requires before { start ≤ t }
-    ensures grew { Grew (length far.now) aig.old aig.new }
-    ensures within { IfOk result (λ r. IsIn aig.new r) }
-    ensures value { IfOk result (λ r. Obeyed aig.new (λ v. holds v r ≡ is_there (begin_at false (number v far.now) each false start) t)) }
-{
-    let there = is_product(aig, far, each, t - start)?;
-    Ok(there)
-}
-
-// The same, from a start beyond the place.
-fn up_from_beyond(
-    aig: &mut Aig,
-    far: &[Lit],
-    each: u128,
-    start: u128,
-    t: u128,
-) -> Result<Lit, AllocError>
-    requires node { 0 < length aig.old }
-    requires small { t < 2 ^ 64 }
-    requires near { start < 2 ^ 65 }
-    requires far_in { All (IsIn aig.old) far.now }
-    requires beyond { t < start }
-    ensures grew { Grew (length far.now) aig.old aig.new }
-    ensures within { IfOk result (λ r. IsIn aig.new r) }
-    ensures value { IfOk result (λ r. Obeyed aig.new (λ v. holds v r ≡ is_there (begin_at false (number v far.now) each false start) t)) }
-{
-    let _ = aig.len();
-    let _ = far;
-    let _ = each;
-    Ok(Lit::constant(false))
-}
-
-// Whether an index that counts downwards leads to a place, from a start below 0 or at it; here all are 0.
-fn down_from_zero(
-    aig: &mut Aig,
-    far: &[Lit],
-    each: u128,
-    start: u128,
-    t: u128,
-) -> Result<Lit, AllocError>
-    requires node { 0 < length aig.old }
-    requires small { t < 2 ^ 64 }
-    requires near { start < 2 ^ 65 }
-    requires far_in { All (IsIn aig.old) far.now }
-    requires zero { t + start ≡ 0 }
-    ensures grew { Grew (length far.now) aig.old aig.new }
-    ensures within { IfOk result (λ r. IsIn aig.new r) }
-    ensures value { IfOk result (λ r. Obeyed aig.new (λ v. holds v r ≡ is_there (begin_at true (number v far.now) each true start) t)) }
-{
-    let there = is_product(aig, far, each, 0)?;
-    Ok(there)
-}
-
-// The same, where the place or the start is not 0.
-fn down_from_below(
-    aig: &mut Aig,
-    far: &[Lit],
-    each: u128,
-    start: u128,
-    t: u128,
-) -> Result<Lit, AllocError>
-    requires node { 0 < length aig.old }
-    requires small { t < 2 ^ 64 }
-    requires near { start < 2 ^ 65 }
-    requires far_in { All (IsIn aig.old) far.now }
-    requires apart { t + start ≢ 0 }
-    ensures grew { Grew (length far.now) aig.old aig.new }
-    ensures within { IfOk result (λ r. IsIn aig.new r) }
-    ensures value { IfOk result (λ r. Obeyed aig.new (λ v. holds v r ≡ is_there (begin_at true (number v far.now) each true start) t)) }
-{
-    let _ = aig.len();
-    let _ = far;
-    let _ = each;
-    Ok(Lit::constant(false))
-}
-
-// The same, from a start that is no less than 0 and not below the place.
-fn down_from_beyond(
-    aig: &mut Aig,
-    far: &[Lit],
-    each: u128,
-    start: u128,
-    t: u128,
-) -> Result<Lit, AllocError>
-    requires node { 0 < length aig.old }
-    requires small { t < 2 ^ 64 }
-    requires near { start < 2 ^ 65 }
-    requires far_in { All (IsIn aig.old) far.now }
-    requires beyond { t ≤ start }
-    ensures grew { Grew (length far.now) aig.old aig.new }
-    ensures within { IfOk result (λ r. IsIn aig.new r) }
-    ensures value { IfOk result (λ r. Obeyed aig.new (λ v. holds v r ≡ is_there (begin_at true (number v far.now) each false start) t)) }
-{
-    let there = is_product(aig, far, each, start - t)?;
-    Ok(there)
-}
-
-// The same, from a start below the place.
-fn down_from_above(
-    aig: &mut Aig,
-    far: &[Lit],
-    each: u128,
-    start: u128,
-    t: u128,
-) -> Result<Lit, AllocError>
-    requires node { 0 < length aig.old }
-    requires small { t < 2 ^ 64 }
-    requires near { start < 2 ^ 65 }
-    requires far_in { All (IsIn aig.old) far.now }
-    requires before { start < t }
-    ensures grew { Grew (length far.now) aig.old aig.new }
-    ensures within { IfOk result (λ r. IsIn aig.new r) }
-    ensures value { IfOk result (λ r. Obeyed aig.new (λ v. holds v r ≡ is_there (begin_at true (number v far.now) each false start) t)) }
-{
-    let _ = aig.len();
-    let _ = far;
-    let _ = each;
-    Ok(Lit::constant(false))
-}
-
-// Whether an index that counts upwards leads to a place.
-fn upwards(aig: &mut Aig, far: &[Lit], each: u128, start: Start, t: u128) -> Result<Lit, AllocError>
-    requires node { 0 < length aig.old }
+// How far from 0 an index that counts upwards has to be to lead to a place.
+fn distance_up(start: Start, t: u128) -> Option<u128>
     requires small { t < 2 ^ 64 }
     requires near { start.far < 2 ^ 65 }
-    requires far_in { All (IsIn aig.old) far.now }
-    ensures grew { Grew (length far.now) aig.old aig.new }
-    ensures within { IfOk result (λ r. IsIn aig.new r) }
-    ensures value { IfOk result (λ r. Obeyed aig.new (λ v. holds v r ≡ is_there (begin_at false (number v far.now) each start.back start.far) t)) }
+    ensures { (p : ℕ) → is_distance result p ≡ is_there (reached false p +ℤ reached start.back start.far) t }
 {
     if start.back {
-        up_from_below(aig, far, each, start.far, t)
+        Some(t + start.far)
     } else if start.far <= t {
-        up_from_above(aig, far, each, start.far, t)
+        Some(t - start.far)
     } else {
-        up_from_beyond(aig, far, each, start.far, t)
+        None
     }
 }
 
-// Whether an index that counts downwards leads to a place.
-fn downwards(
-    aig: &mut Aig,
-    far: &[Lit],
-    each: u128,
-    start: Start,
-    t: u128,
-) -> Result<Lit, AllocError>
-    requires node { 0 < length aig.old }
+// How far from 0 an index that counts downwards has to be to lead to a place. From a start below 0, or at it, it leads there only
+// where all are 0.
+fn distance_down(start: Start, t: u128) -> Option<u128>
     requires small { t < 2 ^ 64 }
     requires near { start.far < 2 ^ 65 }
-    requires far_in { All (IsIn aig.old) far.now }
-    ensures grew { Grew (length far.now) aig.old aig.new }
-    ensures within { IfOk result (λ r. IsIn aig.new r) }
-    ensures value { IfOk result (λ r. Obeyed aig.new (λ v. holds v r ≡ is_there (begin_at true (number v far.now) each start.back start.far) t)) }
+    ensures { (p : ℕ) → is_distance result p ≡ is_there (reached true p +ℤ reached start.back start.far) t }
 {
     if start.back {
-        down_behind(aig, far, each, start.far, t)
+        if t + start.far == 0 { Some(0) } else { None }
     } else if t <= start.far {
-        down_from_beyond(aig, far, each, start.far, t)
+        Some(start.far - t)
     } else {
-        down_from_above(aig, far, each, start.far, t)
+        None
     }
 }
 
-// Whether an index that counts downwards leads to a place, from a start below 0 or at it.
-fn down_behind(
+// Whether the product of a word's number and another is a distance.
+fn goes_as_far(
     aig: &mut Aig,
-    far: &[Lit],
+    word: &[Lit],
     each: u128,
-    start: u128,
-    t: u128,
+    distance: Option<u128>,
 ) -> Result<Lit, AllocError>
     requires node { 0 < length aig.old }
-    requires small { t < 2 ^ 64 }
-    requires near { start < 2 ^ 65 }
-    requires far_in { All (IsIn aig.old) far.now }
-    ensures grew { Grew (length far.now) aig.old aig.new }
+    requires word_in { All (IsIn aig.old) word.now }
+    ensures grew { Grew (length word.now) aig.old aig.new }
     ensures within { IfOk result (λ r. IsIn aig.new r) }
-    ensures value { IfOk result (λ r. Obeyed aig.new (λ v. holds v r ≡ is_there (begin_at true (number v far.now) each true start) t)) }
+    ensures value { IfOk result (λ r. Obeyed aig.new (λ v. holds v r ≡ is_distance distance (number v word.now * each))) }
 {
-    if t + start == 0 {
-        down_from_zero(aig, far, each, start, t)
-    } else {
-        down_from_below(aig, far, each, start, t)
+    match distance {
+        Some(n) => is_product(aig, word, each, n),
+        None => Ok(Lit::constant(false)),
     }
 }
 
@@ -395,8 +241,7 @@ pub fn leads(
     ensures within { IfOk result (λ r. IsIn aig.new r) }
     ensures value { IfOk result (λ r. Obeyed aig.new (λ v. holds v r ≡ is_there (begin_at (holds v back) (number v far.now) each start.back start.far) t)) }
 {
-    let up = upwards(aig, far, each, start, t)?;
-    let down = downwards(aig, far, each, start, t)?;
-    let there = pick(aig, back, down, up)?;
-    Ok(there)
+    let up = goes_as_far(aig, far, each, distance_up(start, t))?;
+    let down = goes_as_far(aig, far, each, distance_down(start, t))?;
+    pick(aig, back, down, up)
 }

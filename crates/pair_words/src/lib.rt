@@ -11,6 +11,7 @@ mod numbers;
 mod pairs;
 mod places;
 mod shifts;
+mod steps;
 mod vectors;
 
 pub use choices::on_choice;

@@ -2,19 +2,21 @@
 //! tells whether all bits are known and the result is defined: without it each bit of the result is X. Of vectors whose rails are the
 //! same literals that literal is true, and no gate is made but those of the words.
 
-ghost use Rattle.std.specs.Prelude.{◌≡◌, ◌+◌, ◌*◌, ◌<◌, IfOk, nat_lt, ◌&&◌, true, false, length, map, replicate, if◌then◌else◌};
+ghost use Rattle.std.specs.Prelude.{◌≡◌, ◌+◌, ◌-◌, ◌*◌, ◌/◌, ◌%◌, ◌^◌, ◌<◌, IfOk, Ok, nat_lt, unsigned_abs, ◌&&◌, true, false, [], ◌∷◌, length, map, replicate, if◌then◌else◌};
+ghost use Rattle.aig.specs.declared.gate.Lit.{Lit};
 ghost use Rattle.std.specs.List.{All};
 ghost use Rattle.aig.specs.Graph.{holds, constant_lit, IsIn};
-ghost use Rattle.aig_words.specs.Words.{number, Grew, IsWord, Obeyed};
-ghost use Rattle.fourvec.specs.declared.Bit.TheVariants.{Unknown};
-ghost use Rattle.fourvec.specs.Bits.{is_known, truth_bit, all_x, neg_of, add_of, sub_of, mul_of, div_of, rem_of, sdiv_of, srem_of, lt_of, slt_of};
-ghost use Rattle.pair_words.specs.Rails.{bit_at, bits, IsWired, IsVector};
-ghost use Rattle.pair_words.specs.Truths.{truths, number_value, number_width, is_defined};
+ghost use Rattle.aig_words.specs.Words.{number, Grew, IsWord, Obeyed, differ};
+ghost use Rattle.fourvec.specs.Bits as vectors;
+ghost use Rattle.fourvec.specs.Bits.{is_known, all_x, vector, neg_of, sdiv_of, srem_of};
+ghost use Rattle.pair_words.specs.Rails.{bits, IsWired, IsVector};
+ghost use Rattle.pair_words.specs.Truths.{truths, known_pair, number_value, number_width, is_defined};
 
+use crate::choices::vector_or_x;
 use crate::pairs::Pair;
 use crate::vectors::known;
 use aig::{Aig, Lit};
-use aig_words::{add, div, lt, mul, mux, or, rem, slt, sub, xor};
+use aig_words::{add, div, lt, mul, mux, rem, slt, sub, xor};
 use std::alloc::{AllocError, Global};
 
 /// An operator on two vectors that stand for numbers: where a bit of them is unknown, each bit of the result is X.
@@ -50,17 +52,19 @@ fn zeros(alloc: Global, n: usize) -> Result<Vec<Lit>, AllocError>
     Ok(word)
 }
 
-// The bit of a literal where a condition is true, else X.
-fn guarded_bit(aig: &mut Aig, c: Lit, l: Lit) -> Result<Pair, AllocError>
-    requires c_in { IsIn aig.old c }
-    requires l_in { IsIn aig.old l }
-    ensures grew { Grew 2 aig.old aig.new }
-    ensures within { IfOk result (λ r. IsWired aig.new r) }
-    ensures value { IfOk result (λ r. Obeyed aig.new (λ v. bit_at v r ≡ (if holds v c then truth_bit (holds v l) else Unknown))) }
+// The pairs whose rails are both the literals of a word.
+fn pairs_of(alloc: Global, word: &[Lit]) -> Result<Vec<Pair>, AllocError>
+    ensures { IfOk result (λ r. r.items ≡ map known_pair word.now) }
 {
-    let up = or(aig, !c, l)?;
-    let low = aig.and(c, l)?;
-    Ok(Pair { up, low })
+    let mut vector = Vec::new(alloc);
+    for i in 0..word.len() {
+        let both = word[i];
+        vector.push(Pair {
+            up: both,
+            low: both,
+        })?;
+    }
+    Ok(vector)
 }
 
 // The vector of a word where a condition is true, else all X.
@@ -71,12 +75,20 @@ fn guarded(alloc: Global, aig: &mut Aig, c: Lit, word: &[Lit]) -> Result<Vec<Pai
     ensures word { IfOk result (λ r. IsVector aig.new (length word.now) r.items) }
     ensures value { IfOk result (λ r. Obeyed aig.new (λ v. bits v r.items ≡ (if holds v c then truths v word.now else all_x (length word.now)))) }
 {
-    let mut vector = Vec::new(alloc);
-    for i in 0..word.len() {
-        let next = guarded_bit(aig, c, word[i])?;
-        vector.push(next)?;
-    }
-    Ok(vector)
+    let vector = pairs_of(alloc, word)?;
+    vector_or_x(alloc, aig, c, &vector)
+}
+
+// The two's complement of a number.
+fn opposite(alloc: Global, aig: &mut Aig, a: &[Lit]) -> Result<Vec<Lit>, AllocError>
+    requires some { 0 < length a.now }
+    requires a_in { All (IsIn aig.old) a.now }
+    ensures grew { Grew (7 * length a.now) aig.old aig.new }
+    ensures word { IfOk result (λ r. IsWord aig.new (length a.now) r.items) }
+    ensures value { IfOk result (λ r. Obeyed aig.new (λ v. number v r.items ≡ (2 ^ length a.now - number v a.now) % 2 ^ length a.now)) }
+{
+    let none = zeros(alloc, a.len())?;
+    sub(alloc, aig, &none, a)
 }
 
 /// The number, or its two's complement where a condition is true.
@@ -88,75 +100,44 @@ pub fn turned(alloc: Global, aig: &mut Aig, c: Lit, a: &[Lit]) -> Result<Vec<Lit
     ensures word { IfOk result (λ r. IsWord aig.new (length a.now) r.items) }
     ensures value { IfOk result (λ r. Obeyed aig.new (λ v. truths v r.items ≡ (if holds v c then neg_of (truths v a.now) else truths v a.now))) }
 {
-    let none = zeros(alloc, a.len())?;
-    let opposite = sub(alloc, aig, &none, a)?;
-    let word = mux(alloc, aig, c, &opposite, a)?;
-    Ok(word)
+    let other = opposite(alloc, aig, a)?;
+    mux(alloc, aig, c, &other, a)
 }
 
-fn plus(alloc: Global, aig: &mut Aig, a: &[Lit], b: &[Lit]) -> Result<Vec<Lit>, AllocError>
+// How far a number in two's complement is from 0.
+fn magnitude(alloc: Global, aig: &mut Aig, a: &[Lit]) -> Result<Vec<Lit>, AllocError>
     requires some { 0 < length a.now }
-    requires same { length a.now ≡ length b.now }
     requires a_in { All (IsIn aig.old) a.now }
-    requires b_in { All (IsIn aig.old) b.now }
-    ensures grew { Grew (7 * length a.now) aig.old aig.new }
+    ensures grew { Grew (10 * length a.now) aig.old aig.new }
     ensures word { IfOk result (λ r. IsWord aig.new (length a.now) r.items) }
-    ensures value { IfOk result (λ r. Obeyed aig.new (λ v. truths v r.items ≡ add_of (truths v a.now) (truths v b.now))) }
+    ensures value { IfOk result (λ r. Obeyed aig.new (λ v. number v r.items ≡ unsigned_abs (vectors.signed (truths v a.now)))) }
 {
-    let word = add(alloc, aig, a, b)?;
-    Ok(word)
+    turned(alloc, aig, a[a.len() - 1], a)
 }
 
-fn minus(alloc: Global, aig: &mut Aig, a: &[Lit], b: &[Lit]) -> Result<Vec<Lit>, AllocError>
-    requires some { 0 < length a.now }
-    requires same { length a.now ≡ length b.now }
-    requires a_in { All (IsIn aig.old) a.now }
-    requires b_in { All (IsIn aig.old) b.now }
-    ensures grew { Grew (7 * length a.now) aig.old aig.new }
-    ensures word { IfOk result (λ r. IsWord aig.new (length a.now) r.items) }
-    ensures value { IfOk result (λ r. Obeyed aig.new (λ v. truths v r.items ≡ sub_of (truths v a.now) (truths v b.now))) }
+// The quotient of two distances from 0, turned where one of two signs is set.
+fn quotient_by_signs(
+    alloc: Global,
+    aig: &mut Aig,
+    sign: Lit,
+    other: Lit,
+    first: &[Lit],
+    second: &[Lit],
+) -> Result<Vec<Lit>, AllocError>
+    requires some { 0 < length first.now }
+    requires same { length first.now ≡ length second.now }
+    requires first_in { All (IsIn aig.old) first.now }
+    requires second_in { All (IsIn aig.old) second.now }
+    requires sign_in { IsIn aig.old sign }
+    requires other_in { IsIn aig.old other }
+    ensures grew { Grew (11 * length first.now * length first.now + 3 + 10 * length first.now) aig.old aig.new }
+    ensures word { IfOk result (λ r. IsWord aig.new (length first.now) r.items) }
+    ensures value { IfOk result (λ r. Obeyed aig.new (λ v. 0 < number v second.now
+        → truths v r.items ≡ (if differ (holds v sign) (holds v other) then neg_of (vector (length first.now) (number v first.now / number v second.now)) else (vector (length first.now) (number v first.now / number v second.now))))) }
 {
-    let word = sub(alloc, aig, a, b)?;
-    Ok(word)
-}
-
-fn times(alloc: Global, aig: &mut Aig, a: &[Lit], b: &[Lit]) -> Result<Vec<Lit>, AllocError>
-    requires some { 0 < length a.now }
-    requires same { length a.now ≡ length b.now }
-    requires a_in { All (IsIn aig.old) a.now }
-    requires b_in { All (IsIn aig.old) b.now }
-    ensures grew { Grew (10 * length a.now * length a.now) aig.old aig.new }
-    ensures word { IfOk result (λ r. IsWord aig.new (length a.now) r.items) }
-    ensures value { IfOk result (λ r. Obeyed aig.new (λ v. truths v r.items ≡ mul_of (truths v a.now) (truths v b.now))) }
-{
-    let word = mul(alloc, aig, a, b)?;
-    Ok(word)
-}
-
-fn quotient(alloc: Global, aig: &mut Aig, a: &[Lit], b: &[Lit]) -> Result<Vec<Lit>, AllocError>
-    requires some { 0 < length a.now }
-    requires same { length a.now ≡ length b.now }
-    requires a_in { All (IsIn aig.old) a.now }
-    requires b_in { All (IsIn aig.old) b.now }
-    ensures grew { Grew (11 * length a.now * length a.now) aig.old aig.new }
-    ensures word { IfOk result (λ r. IsWord aig.new (length a.now) r.items) }
-    ensures value { IfOk result (λ r. Obeyed aig.new (λ v. 0 < number v b.now → truths v r.items ≡ div_of (truths v a.now) (truths v b.now))) }
-{
-    let word = div(alloc, aig, a, b)?;
-    Ok(word)
-}
-
-fn rest(alloc: Global, aig: &mut Aig, a: &[Lit], b: &[Lit]) -> Result<Vec<Lit>, AllocError>
-    requires some { 0 < length a.now }
-    requires same { length a.now ≡ length b.now }
-    requires a_in { All (IsIn aig.old) a.now }
-    requires b_in { All (IsIn aig.old) b.now }
-    ensures grew { Grew (11 * length a.now * length a.now) aig.old aig.new }
-    ensures word { IfOk result (λ r. IsWord aig.new (length a.now) r.items) }
-    ensures value { IfOk result (λ r. Obeyed aig.new (λ v. 0 < number v b.now → truths v r.items ≡ rem_of (truths v a.now) (truths v b.now))) }
-{
-    let word = rem(alloc, aig, a, b)?;
-    Ok(word)
+    let plain = div(alloc, aig, first, second)?;
+    let apart = xor(aig, sign, other)?;
+    turned(alloc, aig, apart, &plain)
 }
 
 fn signed_quotient(
@@ -173,14 +154,31 @@ fn signed_quotient(
     ensures word { IfOk result (λ r. IsWord aig.new (length a.now) r.items) }
     ensures value { IfOk result (λ r. Obeyed aig.new (λ v. 0 < number v b.now → truths v r.items ≡ sdiv_of (truths v a.now) (truths v b.now))) }
 {
-    let top_a = a[a.len() - 1];
-    let top_b = b[b.len() - 1];
-    let first = turned(alloc, aig, top_a, a)?;
-    let second = turned(alloc, aig, top_b, b)?;
-    let plain = div(alloc, aig, &first, &second)?;
-    let opposite = xor(aig, top_a, top_b)?;
-    let word = turned(alloc, aig, opposite, &plain)?;
-    Ok(word)
+    let first = magnitude(alloc, aig, a)?;
+    let second = magnitude(alloc, aig, b)?;
+    quotient_by_signs(alloc, aig, a[a.len() - 1], b[b.len() - 1], &first, &second)
+}
+
+// What is left over by a division of two distances from 0, turned where a sign is set.
+fn rest_by_sign(
+    alloc: Global,
+    aig: &mut Aig,
+    sign: Lit,
+    first: &[Lit],
+    second: &[Lit],
+) -> Result<Vec<Lit>, AllocError>
+    requires some { 0 < length first.now }
+    requires same { length first.now ≡ length second.now }
+    requires first_in { All (IsIn aig.old) first.now }
+    requires second_in { All (IsIn aig.old) second.now }
+    requires sign_in { IsIn aig.old sign }
+    ensures grew { Grew (11 * length first.now * length first.now + 10 * length first.now) aig.old aig.new }
+    ensures word { IfOk result (λ r. IsWord aig.new (length first.now) r.items) }
+    ensures value { IfOk result (λ r. Obeyed aig.new (λ v. 0 < number v second.now
+        → truths v r.items ≡ (if holds v sign then neg_of (vector (length first.now) (number v first.now % number v second.now)) else (vector (length first.now) (number v first.now % number v second.now))))) }
+{
+    let plain = rem(alloc, aig, first, second)?;
+    turned(alloc, aig, sign, &plain)
 }
 
 fn signed_rest(alloc: Global, aig: &mut Aig, a: &[Lit], b: &[Lit]) -> Result<Vec<Lit>, AllocError>
@@ -192,42 +190,18 @@ fn signed_rest(alloc: Global, aig: &mut Aig, a: &[Lit], b: &[Lit]) -> Result<Vec
     ensures word { IfOk result (λ r. IsWord aig.new (length a.now) r.items) }
     ensures value { IfOk result (λ r. Obeyed aig.new (λ v. 0 < number v b.now → truths v r.items ≡ srem_of (truths v a.now) (truths v b.now))) }
 {
-    let top_a = a[a.len() - 1];
-    let top_b = b[b.len() - 1];
-    let first = turned(alloc, aig, top_a, a)?;
-    let second = turned(alloc, aig, top_b, b)?;
-    let plain = rem(alloc, aig, &first, &second)?;
-    let word = turned(alloc, aig, top_a, &plain)?;
-    Ok(word)
+    let first = magnitude(alloc, aig, a)?;
+    let second = magnitude(alloc, aig, b)?;
+    rest_by_sign(alloc, aig, a[a.len() - 1], &first, &second)
 }
 
-fn below(alloc: Global, aig: &mut Aig, a: &[Lit], b: &[Lit]) -> Result<Vec<Lit>, AllocError>
-    requires some { 0 < length a.now }
-    requires same { length a.now ≡ length b.now }
-    requires a_in { All (IsIn aig.old) a.now }
-    requires b_in { All (IsIn aig.old) b.now }
-    ensures grew { Grew (4 * length a.now) aig.old aig.new }
-    ensures word { IfOk result (λ r. IsWord aig.new 1 r.items) }
-    ensures value { IfOk result (λ r. Obeyed aig.new (λ v. truths v r.items ≡ lt_of (truths v a.now) (truths v b.now))) }
+// The word of one literal, if there is one.
+fn single(alloc: Global, bit: Result<Lit, AllocError>) -> Result<Vec<Lit>, AllocError>
+    ensures { IfOk result (λ r. (l : Lit) × (bit ≡ Ok l) × (r.items ≡ l ∷ [])) }
 {
-    let less = lt(aig, a, b)?;
+    let bit = bit?;
     let mut word = Vec::new(alloc);
-    word.push(less)?;
-    Ok(word)
-}
-
-fn signed_below(alloc: Global, aig: &mut Aig, a: &[Lit], b: &[Lit]) -> Result<Vec<Lit>, AllocError>
-    requires some { 0 < length a.now }
-    requires same { length a.now ≡ length b.now }
-    requires a_in { All (IsIn aig.old) a.now }
-    requires b_in { All (IsIn aig.old) b.now }
-    ensures grew { Grew (4 * length a.now) aig.old aig.new }
-    ensures word { IfOk result (λ r. IsWord aig.new 1 r.items) }
-    ensures value { IfOk result (λ r. Obeyed aig.new (λ v. truths v r.items ≡ slt_of (truths v a.now) (truths v b.now))) }
-{
-    let less = slt(aig, a, b)?;
-    let mut word = Vec::new(alloc);
-    word.push(less)?;
+    word.push(bit)?;
     Ok(word)
 }
 
@@ -248,15 +222,15 @@ fn computed(
     ensures value { IfOk result (λ r. Obeyed aig.new (λ v. is_defined op (number v b.now) ≡ true → truths v r.items ≡ number_value op (truths v a.now) (truths v b.now))) }
 {
     match op {
-        Number::Add => plus(alloc, aig, a, b),
-        Number::Sub => minus(alloc, aig, a, b),
-        Number::Mul => times(alloc, aig, a, b),
-        Number::Div => quotient(alloc, aig, a, b),
-        Number::Rem => rest(alloc, aig, a, b),
+        Number::Add => add(alloc, aig, a, b),
+        Number::Sub => sub(alloc, aig, a, b),
+        Number::Mul => mul(alloc, aig, a, b),
+        Number::Div => div(alloc, aig, a, b),
+        Number::Rem => rem(alloc, aig, a, b),
         Number::Sdiv => signed_quotient(alloc, aig, a, b),
         Number::Srem => signed_rest(alloc, aig, a, b),
-        Number::Lt => below(alloc, aig, a, b),
-        Number::Slt => signed_below(alloc, aig, a, b),
+        Number::Lt => single(alloc, lt(aig, a, b)),
+        Number::Slt => single(alloc, slt(aig, a, b)),
     }
 }
 
@@ -286,8 +260,7 @@ pub fn some(alloc: Global, aig: &mut Aig, b: &[Lit]) -> Result<Lit, AllocError>
     ensures value { IfOk result (λ r. Obeyed aig.new (λ v. holds v r ≡ nat_lt 0 (number v b.now))) }
 {
     let none = zeros(alloc, b.len())?;
-    let more = lt(aig, &none, b)?;
-    Ok(more)
+    lt(aig, &none, b)
 }
 
 // Whether no bit of two vectors is unknown.
@@ -301,8 +274,7 @@ fn both_known(aig: &mut Aig, a: &[Pair], b: &[Pair]) -> Result<Lit, AllocError>
 {
     let first = known(aig, a)?;
     let second = known(aig, b)?;
-    let both = aig.and(first, second)?;
-    Ok(both)
+    aig.and(first, second)
 }
 
 // The operator on words of known bits, where a condition is true and it has a result, else all X.

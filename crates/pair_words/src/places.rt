@@ -16,9 +16,9 @@ ghost use Rattle.pair_words.specs.Starts.{IsPlace, picked, begin_at, padded, par
 
 use crate::choices::{pick_vector, vector_or_x};
 use crate::indexes::{Aim, Start, leads, sought};
-use crate::pairs::{Pair, Two};
+use crate::pairs::Pair;
 use crate::shifts::constant;
-use crate::vectors::on_both;
+use crate::steps::{Step, each_place};
 use aig::{Aig, Lit};
 use fourvec::{Bit, Spot};
 use items::Items;
@@ -237,14 +237,6 @@ pub fn dyn_slice(
     slice_at(alloc, aig, a, at, spot, width, u128::from(spot.each))
 }
 
-fn filled(alloc: Global, bit: Pair, n: usize) -> Result<Vec<Pair>, AllocError>
-    ensures { IfOk result (λ r. r.items ≡ replicate n bit) }
-{
-    let mut word = Vec::new(alloc);
-    word.resize(n, bit)?;
-    Ok(word)
-}
-
 // Each bit that equals every bit of the other vector stays, and the rest become X.
 fn kept_under(
     alloc: Global,
@@ -260,8 +252,7 @@ fn kept_under(
 {
     let mut word = Vec::from_slice(alloc, a)?;
     for j in 0..put.len() {
-        let same = filled(alloc, put[j], a.len())?;
-        word = on_both(alloc, aig, Two::Keep, &word, &same)?;
+        word = each_place(alloc, aig, Step::KeepBy(put[j]), &word, &word)?;
     }
     Ok(word)
 }
@@ -288,8 +279,7 @@ fn put_where(
         return Ok(plain);
     }
     let kept = kept_under(alloc, aig, a, put)?;
-    let word = pick_vector(alloc, aig, fine, &plain, &kept)?;
-    Ok(word)
+    pick_vector(alloc, aig, fine, &plain, &kept)
 }
 
 // A vector with another in place of a part of it, cut to n bits from place p on.
@@ -308,8 +298,7 @@ fn laid_part(
     let mut word = Vec::from_slice(alloc, &a[..t])?;
     word.extend_from_slice(put)?;
     word.extend_from_slice(&a[t + put.len()..])?;
-    let part = part_of(alloc, &word, p, n)?;
-    Ok(part)
+    part_of(alloc, &word, p, n)
 }
 
 // The same at each place at which the other fits, from the lowest up.

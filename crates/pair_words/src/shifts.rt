@@ -3,7 +3,7 @@
 
 ghost use Rattle.std.specs.Prelude.{◌≡◌, ℕ, ◌^◌, ◌+◌, ◌-◌, ◌*◌, ◌<◌, ◌≤◌, IfOk, length, min, if◌then◌else◌};
 ghost use Rattle.std.specs.List.{All};
-ghost use Rattle.aig.specs.Graph.{IsIn};
+ghost use Rattle.aig.specs.Graph.{holds, IsIn};
 ghost use Rattle.aig_words.specs.Words.{number, Grew, IsWord, Obeyed};
 ghost use Rattle.fourvec.specs.Bits as vectors;
 ghost use Rattle.fourvec.specs.Bits.{is_known, all_x};
@@ -74,6 +74,28 @@ fn doubled(k: usize, most: usize) -> usize
     if k <= most - k { k + k } else { most }
 }
 
+// The vector, moved by k places where a condition is true.
+fn moved_where(
+    alloc: Global,
+    aig: &mut Aig,
+    way: Way,
+    a: &[Pair],
+    k: usize,
+    c: Lit,
+) -> Result<Vec<Pair>, AllocError>
+    requires far { k ≤ length a.now }
+    requires node { 0 < length aig.old }
+    requires way_in { FillsFrom aig.old way }
+    requires a_in { All (IsWired aig.old) a.now }
+    requires c_in { IsIn aig.old c }
+    ensures grew { Grew (6 * length a.now) aig.old aig.new }
+    ensures word { IfOk result (λ r. IsVector aig.new (length a.now) r.items) }
+    ensures value { IfOk result (λ r. Obeyed aig.new (λ v. bits v r.items ≡ (if holds v c then moved_bits v way k (bits v a.now) else bits v a.now))) }
+{
+    let moved = move_by(alloc, way, a, k)?;
+    pick_vector(alloc, aig, c, &moved, a)
+}
+
 // The vector moved by the number of a word: by each bit's weight in turn.
 fn shifted(
     alloc: Global,
@@ -93,8 +115,7 @@ fn shifted(
     let mut word = Vec::from_slice(alloc, a)?;
     let mut k: usize = 1;
     for j in 0..b.len() {
-        let moved = move_by(alloc, way, &word, k)?;
-        word = pick_vector(alloc, aig, b[j], &moved, &word)?;
+        word = moved_where(alloc, aig, way, &word, k, b[j])?;
         k = doubled(k, a.len());
     }
     Ok(word)
@@ -174,6 +195,5 @@ pub fn shift(
     let fine = known(aig, b)?;
     let by = uppers(alloc, b)?;
     let plain = moved_far(alloc, aig, way, a, &by)?;
-    let word = vector_or_x(alloc, aig, fine, &plain)?;
-    Ok(word)
+    vector_or_x(alloc, aig, fine, &plain)
 }

@@ -8,7 +8,8 @@ ghost use Rattle.fourvec.specs.declared.Bit.{Bit};
 ghost use Rattle.fourvec.specs.Bits.{each, each_pair, over, is_known, is_known_bit, xor_bit};
 ghost use Rattle.pair_words.specs.Rails.{bit_at, bits, IsWired, IsVector, one_value, two_value, two_nodes};
 
-use crate::pairs::{One, Pair, Two, one_bit, two_bits};
+use crate::pairs::{One, Pair, Two, two_bits};
+use crate::steps::{Step, each_place};
 use aig::{Aig, Lit};
 use aig_words::xor;
 use std::alloc::{AllocError, Global};
@@ -20,12 +21,7 @@ pub fn on_each(alloc: Global, aig: &mut Aig, op: One, a: &[Pair]) -> Result<Vec<
     ensures word { IfOk result (λ r. IsVector aig.new (length a.now) r.items) }
     ensures value { IfOk result (λ r. Obeyed aig.new (λ v. bits v r.items ≡ each (one_value op) (bits v a.now))) }
 {
-    let mut word = Vec::new(alloc);
-    for i in 0..a.len() {
-        let next = one_bit(aig, op, a[i])?;
-        word.push(next)?;
-    }
-    Ok(word)
+    each_place(alloc, aig, Step::Apply(op), a, a)
 }
 
 /// An operator on each pair of bits at one place.
@@ -43,12 +39,7 @@ pub fn on_both(
     ensures word { IfOk result (λ r. IsVector aig.new (length a.now) r.items) }
     ensures value { IfOk result (λ r. Obeyed aig.new (λ v. bits v r.items ≡ each_pair (two_value op) (bits v a.now) (bits v b.now))) }
 {
-    let mut word = Vec::new(alloc);
-    for i in 0..a.len() {
-        let next = two_bits(aig, op, a[i], b[i])?;
-        word.push(next)?;
-    }
-    Ok(word)
+    each_place(alloc, aig, Step::Join(op), a, b)
 }
 
 // The same in turn, from the last bit to the first.
@@ -81,8 +72,7 @@ fn parity(aig: &mut Aig, a: &[Pair]) -> Result<Pair, AllocError>
     let half = a.len() / 2;
     let first = parity(aig, &a[..half])?;
     let second = parity(aig, &a[half..])?;
-    let both = two_bits(aig, Two::Xor, first, second)?;
-    Ok(both)
+    two_bits(aig, Two::Xor, first, second)
 }
 
 // The operator `xor` over all bits, from a bit on.
@@ -97,8 +87,7 @@ fn xor_all(aig: &mut Aig, start: Pair, a: &[Pair]) -> Result<Pair, AllocError>
         return Ok(start);
     }
     let all = parity(aig, a)?;
-    let word = two_bits(aig, Two::Xor, all, start)?;
-    Ok(word)
+    two_bits(aig, Two::Xor, all, start)
 }
 
 /// An operator over all bits, from a bit on.
@@ -124,8 +113,7 @@ fn known_bit(aig: &mut Aig, a: Pair, last: Lit) -> Result<Lit, AllocError>
     ensures value { IfOk result (λ r. Obeyed aig.new (λ v. holds v r ≡ (is_known_bit (bit_at v a) && holds v last))) }
 {
     let apart = xor(aig, a.up, a.low)?;
-    let more = aig.and(!apart, last)?;
-    Ok(more)
+    aig.and(!apart, last)
 }
 
 /// Whether no bit is unknown.

@@ -1,49 +1,31 @@
-use Rattle.std.proofs.lemmas.Result.{IfOk-from_err}
-use Rattle.std.proofs.Common.{◌+◌, ◌*◌, List, [], take, cond, ap, ◌∙◌, arith}
-use Rattle.std.proofs.lemmas.List.{take_all}
+use Rattle.std.proofs.Common.{sym, ◌∙◌}
+use Rattle.std.proofs.lemmas.List.{length-map}
 use Rattle.aig.specs.Graph.{holds}
-use Rattle.aig.proofs.Growth.{Obeys-older}
-use Rattle.aig_words.proofs.Grown.{Grew-refl, Grew-then}
-use Rattle.pair_words.specs.declared.pairs.Pair.{Pair}
-use Rattle.pair_words.specs.Rails.{bits}
-use Rattle.pair_words.proofs.Growing.{IsVector-nil, IsVector-push}
-use Rattle.pair_words.proofs.Picking.{pick_none, pick_more}
+use Rattle.aig_words.proofs.Grown.{if_ok}
+use Rattle.pair_words.specs.Rails.{bit_at, bits}
+use Rattle.pair_words.proofs.Picking.{pick_each}
 use Rattle.pair_words.proofs.choices.pick_vector.Goals as goal
 
-pub loop-i-init : goal.loop-i-init
-loop-i-init c = rw c.new-word.ensures.items (record {
-  grew = Grew-refl 0 c.args.aig.now;
-  word = IsVector-nil c.args.aig.now;
-  value = λ v o. pick_none (holds v c.args.c) [];
-})
+pub each_place-requires-clause-same : goal.each_place-requires-clause-same
+each_place-requires-clause-same c = c.requires.same
 
-pub loop-i-preserved : goal.loop-i-preserved
-loop-i-preserved c =
-    let i = c.loop-i.i in
-    let grew = c.in_ok-next.ensures.grew in
-    rw c.in_ok-push.ensures.items (record {
-      grew = Grew-then (6 * i) 6 (6 * (i + 1)) c.args.aig.now c.loop-i.aig _ (omega arith) c.loop-i.invariant.grew grew;
-      word = IsVector-push c.loop-i.aig _ i c.loop-i.word.items _ grew.grows c.loop-i.invariant.word c.in_ok-next.ensures.within;
-      value = λ v o. pick_more v (holds v c.args.c) c.args.a.now c.args.b.now c.loop-i.word.items i _ _ _ c.requires.same c.loop-i-test.true
-          (c.loop-i.invariant.value v (Obeys-older v _ _ grew.grows o)) (c.in_ok-next.ensures.value v o);
-    })
+pub each_place-requires-clause-step_in : goal.each_place-requires-clause-step_in
+each_place-requires-clause-step_in c = c.requires.c_in
+
+pub each_place-requires-clause-a_in : goal.each_place-requires-clause-a_in
+each_place-requires-clause-a_in c = c.requires.a_in
+
+pub each_place-requires-clause-b_in : goal.each_place-requires-clause-b_in
+each_place-requires-clause-b_in c = c.requires.b_in
+
+pub returns-clause-grew : goal.returns-clause-grew
+returns-clause-grew c = c.each_place.ensures.grew
+
+pub returns-clause-word : goal.returns-clause-word
+returns-clause-word c = c.each_place.ensures.word
 
 pub returns-clause-value : goal.returns-clause-value
-returns-clause-value c = λ v o.
+returns-clause-value c = if_ok c.each_place.result _ _ c.each_place.ensures.value (λ r h v o.
     let a = c.args.a.now in
     let b = c.args.b.now in
-    c.loop-i.invariant.value v o ∙
-    ap (λ (xs : List Pair). cond (holds v c.args.c) (bits v xs) (bits v (take c.loop-i.i b))) (take_all c.loop-i.i a (omega arith)) ∙
-    ap (λ (xs : List Pair). cond (holds v c.args.c) (bits v a) (bits v xs)) (take_all c.loop-i.i b (omega (arith, c.requires.same)))
-
-pub returns-in_err-next-clause-value : goal.returns-in_err-next-clause-value
-returns-in_err-next-clause-value c = IfOk-from_err _ _ c.from_residual.ensures.0
-
-pub returns-in_err-next-clause-word : goal.returns-in_err-next-clause-word
-returns-in_err-next-clause-word c = IfOk-from_err _ _ c.from_residual.ensures.0
-
-pub returns-in_err-push-clause-value : goal.returns-in_err-push-clause-value
-returns-in_err-push-clause-value c = IfOk-from_err _ _ c.from_residual-in_err-push.ensures.0
-
-pub returns-in_err-push-clause-word : goal.returns-in_err-push-clause-word
-returns-in_err-push-clause-word c = IfOk-from_err _ _ c.from_residual-in_err-push.ensures.0
+    h v o ∙ pick_each (holds v c.args.c) (bits v a) (bits v b) (length-map a (bit_at v) ∙ c.requires.same ∙ sym (length-map b (bit_at v))))

@@ -1,10 +1,10 @@
 use Rattle.std.proofs.lemmas.Result.{IfOk-from_err}
-use Rattle.std.proofs.Common.{◌≡◌, ◌+◌, ◌%◌, false, eqb, get_or, ap, ◌∙◌, arith}
+use Rattle.std.proofs.Common.{◌≡◌, ◌+◌, ◌%◌, false, eqb, get_or, ap, ◌∙◌, arith, length}
 use Rattle.aig.specs.declared.gate.Lit.{Lit}
 use Rattle.aig.specs.Graph.{holds, constant_lit}
 use Rattle.aig.proofs.Growth.{Obeys-older}
 use Rattle.aig_words.proofs.Numbers.{holds-zero, holds-one}
-use Rattle.aig_words.proofs.Grown.{Grew-refl, Grew-then}
+use Rattle.aig_words.proofs.Grown.{Grew-refl, Grew-then, Grew-wider}
 use Rattle.pair_words.proofs.Starting.{flipped_is, number_start, number_more, rest_start, rest_more, number_past}
 use Rattle.aig_words.specs.Words.{Grew}
 use Rattle.pair_words.proofs.indexes.is_number.Goals as goal
@@ -40,3 +40,20 @@ returns-in_err-last-clause-value c = IfOk-from_err _ _ c.from_residual.ensures.0
 
 pub returns-in_err-last-clause-within : goal.returns-in_err-last-clause-within
 returns-in_err-last-clause-within c = IfOk-from_err _ _ c.from_residual.ensures.0
+
+pub and-requires-clause-a_in : goal.and-requires-clause-a_in
+and-requires-clause-a_in c = c.loop-i.invariant.within
+
+pub returns-then-rest-eq0-clause-within : goal.returns-then-rest-eq0-clause-within
+returns-then-rest-eq0-clause-within c = c.loop-i.invariant.within
+
+pub returns-in_err-last-clause-grew : goal.returns-in_err-last-clause-grew
+returns-in_err-last-clause-grew c =
+    let s1 : Grew 1 _ _ = record { grows = c.in_err-last.ensures.grows; nodes = c.in_err-last.ensures.nodes; flat = c.in_err-last.ensures.flat } in
+    Grew-then c.loop-i.i 1 (length c.args.word.now) c.args.aig.now c.loop-i.aig _ (let lt = c.loop-i-test.true in omega (arith, lt)) c.loop-i.invariant.grew s1
+
+pub returns-then-rest-eq0-clause-grew : goal.returns-then-rest-eq0-clause-grew
+returns-then-rest-eq0-clause-grew c = Grew-wider c.loop-i.i (length c.args.word.now) c.args.aig.now c.loop-i.aig (omega arith) c.loop-i.invariant.grew
+
+pub returns-else-rest-eq0-clause-grew : goal.returns-else-rest-eq0-clause-grew
+returns-else-rest-eq0-clause-grew c = Grew-wider c.loop-i.i (length c.args.word.now) c.args.aig.now c.loop-i.aig (omega arith) c.loop-i.invariant.grew

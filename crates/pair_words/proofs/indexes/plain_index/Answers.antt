@@ -36,3 +36,6 @@ returns-in_err-far-clause-far c = IfOk-from_err _ _ c.from_residual.ensures.0
 
 pub returns-in_err-far-clause-word : goal.returns-in_err-far-clause-word
 returns-in_err-far-clause-word c = IfOk-from_err _ _ c.from_residual.ensures.0
+
+pub returns-in_err-far-clause-fine : goal.returns-in_err-far-clause-fine
+returns-in_err-far-clause-fine c = IfOk-from_err _ _ c.from_residual.ensures.0

@@ -9,6 +9,7 @@ use Rattle.fourvec.specs.Bits as vectors
 use Rattle.pair_words.specs.Truths.{truths}
 use Rattle.pair_words.proofs.Truths.{negative_is, magnitude_is}
 use Rattle.pair_words.proofs.Starting.{flipped_is}
+use Rattle.pair_words.proofs.Growing.{top_in}
 use Rattle.pair_words.proofs.indexes.signed_index.Goals as goal
 
 pub returns-clause-back : goal.returns-clause-back
@@ -37,3 +38,24 @@ returns-in_err-far-clause-far c = IfOk-from_err _ _ c.from_residual.ensures.0
 
 pub returns-in_err-far-clause-word : goal.returns-in_err-far-clause-word
 returns-in_err-far-clause-word c = IfOk-from_err _ _ c.from_residual.ensures.0
+
+pub returns-in_err-far-clause-fine : goal.returns-in_err-far-clause-fine
+returns-in_err-far-clause-fine c = IfOk-from_err _ _ c.from_residual.ensures.0
+
+pub turned-requires-clause-some : goal.turned-requires-clause-some
+turned-requires-clause-some c = c.requires.some
+
+pub turned-requires-clause-a_in : goal.turned-requires-clause-a_in
+turned-requires-clause-a_in c = c.requires.at_in
+
+pub turned-requires-clause-c_in : goal.turned-requires-clause-c_in
+turned-requires-clause-c_in c = top_in c.args.aig.now c.args.at.now (constant_lit false) c.requires.some c.requires.at_in
+
+pub returns-clause-grew : goal.returns-clause-grew
+returns-clause-grew c = c.in_ok-far.ensures.grew
+
+pub returns-clause-word : goal.returns-clause-word
+returns-clause-word c = c.in_ok-far.ensures.word
+
+pub returns-in_err-far-clause-grew : goal.returns-in_err-far-clause-grew
+returns-in_err-far-clause-grew c = c.in_err-far.ensures.grew

@@ -1,47 +1,49 @@
 use Rattle.std.proofs.lemmas.Result.{IfOk-from_err}
-use Rattle.std.proofs.Common.{◌+◌, ◌*◌, List, map, cond, refl, ap, ◌∙◌, arith}
-use Rattle.std.proofs.lemmas.List.{take_all}
-use Rattle.aig.specs.declared.gate.Lit.{Lit}
+use Rattle.std.proofs.Common.{◌≡◌, ◌*◌, List, length, map, cond, ap, ◌∙◌}
+use Rattle.std.proofs.lemmas.List.{length-map}
 use Rattle.aig.specs.Graph.{holds}
-use Rattle.aig.proofs.Growth.{Obeys-older}
-use Rattle.aig_words.proofs.Grown.{Grew-refl, Grew-then}
-use Rattle.fourvec.specs.declared.Bit.TheVariants.{Unknown}
-use Rattle.fourvec.specs.Bits.{truth_bit}
-use Rattle.pair_words.proofs.Growing.{IsVector-nil, IsVector-push}
-use Rattle.pair_words.proofs.Truths.{guarded_word, guarded_more}
+use Rattle.aig_words.proofs.Grown.{Grew-refl, if_ok}
+use Rattle.fourvec.specs.Bits.{all_x}
+use Rattle.pair_words.specs.declared.pairs.Pair.{Pair}
+use Rattle.pair_words.specs.Rails.{bits}
+use Rattle.pair_words.specs.Truths.{known_pair}
+use Rattle.pair_words.proofs.Growing.{vector_at, wired_at, Grew_at}
+use Rattle.pair_words.proofs.Truths.{pairs_are, pairs_in}
 use Rattle.pair_words.proofs.numbers.guarded.Goals as goal
 
-pub loop-i-init : goal.loop-i-init
-loop-i-init c = rw c.new-vector.ensures.items (record {
-  grew = Grew-refl 0 c.args.aig.now;
-  word = IsVector-nil c.args.aig.now;
-  value = λ v o. refl;
-})
+pub vector_or_x-requires-clause-c_in : goal.vector_or_x-requires-clause-c_in
+vector_or_x-requires-clause-c_in c = c.requires.c_in
 
-pub loop-i-preserved : goal.loop-i-preserved
-loop-i-preserved c =
-    let i = c.loop-i.i in
-    let grew = c.in_ok-next.ensures.grew in
-    rw c.in_ok-push.ensures.items (record {
-      grew = Grew-then (2 * i) 2 (2 * (i + 1)) c.args.aig.now c.loop-i.aig _ (omega arith) c.loop-i.invariant.grew grew;
-      word = IsVector-push c.loop-i.aig _ i c.loop-i.vector.items _ grew.grows c.loop-i.invariant.word c.in_ok-next.ensures.within;
-      value = λ v o. guarded_more v (holds v c.args.c) c.args.word.now c.loop-i.vector.items i _ _ c.loop-i-test.true
-          (c.loop-i.invariant.value v (Obeys-older v _ _ grew.grows o)) (c.in_ok-next.ensures.value v o);
-    })
+pub vector_or_x-requires-clause-a_in : goal.vector_or_x-requires-clause-a_in
+vector_or_x-requires-clause-a_in c =
+    let same : c.deref.result.now ≡ map known_pair c.args.word.now = c.deref.ensures.value ∙ c.in_ok-vector.ensures in
+    wired_at c.args.aig.now (map known_pair c.args.word.now) c.deref.result.now same (pairs_in c.args.aig.now c.args.word.now c.requires.word_in)
+
+pub returns-in_err-vector-clause-grew : goal.returns-in_err-vector-clause-grew
+returns-in_err-vector-clause-grew c = Grew-refl _ c.args.aig.now
+
+pub returns-clause-grew : goal.returns-clause-grew
+returns-clause-grew c =
+    let same : c.deref.result.now ≡ map known_pair c.args.word.now = c.deref.ensures.value ∙ c.in_ok-vector.ensures in
+    let long : length c.deref.result.now ≡ length c.args.word.now = ap (λ (t : List Pair). length t) same ∙ length-map c.args.word.now known_pair in
+    Grew_at (2 * length c.deref.result.now) (2 * length c.args.word.now) c.args.aig.now _ (ap (λ n. 2 * n) long) c.vector_or_x.ensures.grew
+
+pub returns-clause-word : goal.returns-clause-word
+returns-clause-word c =
+    let same : c.deref.result.now ≡ map known_pair c.args.word.now = c.deref.ensures.value ∙ c.in_ok-vector.ensures in
+    let long : length c.deref.result.now ≡ length c.args.word.now = ap (λ (t : List Pair). length t) same ∙ length-map c.args.word.now known_pair in
+    if_ok c.vector_or_x.result _ _ c.vector_or_x.ensures.word (λ r h. vector_at _ _ (length c.args.word.now) r.items long h)
 
 pub returns-clause-value : goal.returns-clause-value
-returns-clause-value c = λ v o.
-    c.loop-i.invariant.value v o ∙ ap (λ (xs : List Lit). map (λ m. cond (holds v c.args.c) (truth_bit (holds v m)) Unknown) xs) (take_all c.loop-i.i c.args.word.now (omega arith)) ∙
-    guarded_word v (holds v c.args.c) c.args.word.now
+returns-clause-value c =
+    let same : c.deref.result.now ≡ map known_pair c.args.word.now = c.deref.ensures.value ∙ c.in_ok-vector.ensures in
+    let long : length c.deref.result.now ≡ length c.args.word.now = ap (λ (t : List Pair). length t) same ∙ length-map c.args.word.now known_pair in
+    if_ok c.vector_or_x.result _ _ c.vector_or_x.ensures.value (λ r h v o.
+    h v o ∙ ap (λ (t : List Pair). cond (holds v c.args.c) (bits v t) (all_x (length t))) same ∙
+    (λ i. cond (holds v c.args.c) (pairs_are v c.args.word.now i) (all_x (length-map c.args.word.now known_pair i))))
 
-pub returns-in_err-next-clause-value : goal.returns-in_err-next-clause-value
-returns-in_err-next-clause-value c = IfOk-from_err _ _ c.from_residual.ensures.0
+pub returns-in_err-vector-clause-value : goal.returns-in_err-vector-clause-value
+returns-in_err-vector-clause-value c = IfOk-from_err _ _ c.from_residual.ensures.0
 
-pub returns-in_err-next-clause-word : goal.returns-in_err-next-clause-word
-returns-in_err-next-clause-word c = IfOk-from_err _ _ c.from_residual.ensures.0
-
-pub returns-in_err-push-clause-value : goal.returns-in_err-push-clause-value
-returns-in_err-push-clause-value c = IfOk-from_err _ _ c.from_residual-in_err-push.ensures.0
-
-pub returns-in_err-push-clause-word : goal.returns-in_err-push-clause-word
-returns-in_err-push-clause-word c = IfOk-from_err _ _ c.from_residual-in_err-push.ensures.0
+pub returns-in_err-vector-clause-word : goal.returns-in_err-vector-clause-word
+returns-in_err-vector-clause-word c = IfOk-from_err _ _ c.from_residual.ensures.0

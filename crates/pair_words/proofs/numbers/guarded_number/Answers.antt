@@ -4,10 +4,10 @@ use Rattle.aig.specs.declared.gate.Lit.{Lit}
 use Rattle.aig.specs.Graph.{holds}
 use Rattle.aig.proofs.Growth.{Obeys-older}
 use Rattle.aig_words.specs.Words.{Grew, number}
-use Rattle.aig_words.proofs.Grown.{Grew-then, Grew-wider, All-later}
+use Rattle.aig_words.proofs.Grown.{Grew-then, Grew-wider, All-later, IsIn-later}
 use Rattle.pair_words.specs.Rails.{bits}
 use Rattle.pair_words.specs.Truths.{truths, number_value, number_width, is_defined}
-use Rattle.pair_words.proofs.Growing.{vector_at}
+use Rattle.pair_words.proofs.Growing.{vector_at, literals_at}
 use Rattle.pair_words.proofs.Truths.{guarded_by, narrow}
 use Rattle.pair_words.proofs.numbers.guarded_number.Goals as goal
 
@@ -71,3 +71,27 @@ computed-requires-clause-a_in c = All-later c.defined.new.aig _ c.args.a.now c.i
 
 pub computed-requires-clause-b_in : goal.computed-requires-clause-b_in
 computed-requires-clause-b_in c = All-later c.defined.new.aig _ c.args.b.now c.in_ok-all.ensures.grows (All-later c.args.aig.now c.defined.new.aig c.args.b.now c.in_ok-fine.ensures.grew.grows c.requires.b_in)
+
+pub defined-requires-clause-some : goal.defined-requires-clause-some
+defined-requires-clause-some c = let some = c.requires.some in omega (arith, some, c.requires.same)
+
+pub defined-requires-clause-b_in : goal.defined-requires-clause-b_in
+defined-requires-clause-b_in c = c.requires.b_in
+
+pub and-requires-clause-a_in : goal.and-requires-clause-a_in
+and-requires-clause-a_in c = IsIn-later c.args.aig.now c.defined.new.aig c.args.c c.in_ok-fine.ensures.grew.grows c.requires.c_in
+
+pub and-requires-clause-b_in : goal.and-requires-clause-b_in
+and-requires-clause-b_in c = c.in_ok-fine.ensures.within
+
+pub computed-requires-clause-some : goal.computed-requires-clause-some
+computed-requires-clause-some c = c.requires.some
+
+pub computed-requires-clause-same : goal.computed-requires-clause-same
+computed-requires-clause-same c = c.requires.same
+
+pub guarded-requires-clause-c_in : goal.guarded-requires-clause-c_in
+guarded-requires-clause-c_in c = IsIn-later c.and.new.self c.computed.new.aig c.in_ok-all.all c.in_ok-word.ensures.grew.grows c.in_ok-all.ensures.within
+
+pub guarded-requires-clause-word_in : goal.guarded-requires-clause-word_in
+guarded-requires-clause-word_in c = literals_at c.computed.new.aig c.in_ok-word.word.items c.deref.result.now c.deref.ensures.value c.in_ok-word.ensures.word.inside

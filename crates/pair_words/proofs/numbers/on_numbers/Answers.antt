@@ -98,3 +98,12 @@ returns-in_err-y-clause-value c = IfOk-from_err _ _ c.from_residual-in_err-y.ens
 
 pub returns-in_err-y-clause-word : goal.returns-in_err-y-clause-word
 returns-in_err-y-clause-word c = IfOk-from_err _ _ c.from_residual-in_err-y.ensures.0
+
+pub both_known-requires-clause-a_in : goal.both_known-requires-clause-a_in
+both_known-requires-clause-a_in c = c.requires.a_in
+
+pub both_known-requires-clause-b_in : goal.both_known-requires-clause-b_in
+both_known-requires-clause-b_in c = c.requires.b_in
+
+pub guarded_number-requires-clause-c_in : goal.guarded_number-requires-clause-c_in
+guarded_number-requires-clause-c_in c = c.in_ok-both.ensures.within

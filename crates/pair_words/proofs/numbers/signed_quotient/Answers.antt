@@ -1,29 +1,92 @@
 use Rattle.std.proofs.lemmas.Result.{IfOk-from_err}
-use Rattle.std.proofs.Common.{◌≡◌, ◌<◌, Bool, List, length, cond, refl, ap, subst, ◌∙◌}
+use Rattle.std.proofs.Common.{◌≡◌, ℕ, ◌+◌, ◌*◌, ◌<◌, false, List, length, sym, ap, subst, ◌∙◌, arith}
 use Rattle.aig.specs.declared.gate.Lit.{Lit}
-use Rattle.aig.proofs.Growth.{Obeys-older}
-use Rattle.aig_words.specs.Words.{number}
-use Rattle.fourvec.specs.Bits.{neg_of}
-use Rattle.pair_words.specs.Truths.{truths}
-use Rattle.pair_words.proofs.Truths.{negative_is, signed_quotient_is}
+use Rattle.aig.specs.Graph.{constant_lit}
+use Rattle.aig.proofs.Growth.{Obeys-older, Grows-trans}
+use Rattle.aig_words.specs.Words.{Grew, number}
+use Rattle.aig_words.proofs.Grown.{Grew-then, Grew-wider, Grew-both, All-later, if_ok}
+use Rattle.pair_words.proofs.Growing.{word_at, literals_at, top_in}
+use Rattle.pair_words.proofs.Truths.{negative_is, divisor_is, sdiv_by}
 use Rattle.pair_words.proofs.numbers.signed_quotient.Goals as goal
 
+pub magnitude-requires-clause-some : goal.magnitude-requires-clause-some
+magnitude-requires-clause-some c = c.requires.some
+
+pub magnitude-requires-clause-a_in : goal.magnitude-requires-clause-a_in
+magnitude-requires-clause-a_in c = c.requires.a_in
+
+pub magnitude-requires-2-clause-some : goal.magnitude-requires-2-clause-some
+magnitude-requires-2-clause-some c = subst (λ m. 0 < m) c.requires.same c.requires.some
+
+pub magnitude-requires-2-clause-a_in : goal.magnitude-requires-2-clause-a_in
+magnitude-requires-2-clause-a_in c = All-later c.args.aig.now c.magnitude.new.aig c.args.b.now c.in_ok-first.ensures.grew.grows c.requires.b_in
+
+pub quotient_by_signs-requires-clause-some : goal.quotient_by_signs-requires-clause-some
+quotient_by_signs-requires-clause-some c =
+    let n : ℕ = length c.args.a.now in
+    let same : n ≡ length c.args.b.now = c.requires.same in
+    let first : length c.deref.result.now ≡ n = ap (λ (xs : List Lit). length xs) c.deref.ensures.value ∙ c.in_ok-first.ensures.word.long in
+    subst (λ m. 0 < m) (sym first) c.requires.some
+
+pub quotient_by_signs-requires-clause-same : goal.quotient_by_signs-requires-clause-same
+quotient_by_signs-requires-clause-same c =
+    let n : ℕ = length c.args.a.now in
+    let same : n ≡ length c.args.b.now = c.requires.same in
+    let first : length c.deref.result.now ≡ n = ap (λ (xs : List Lit). length xs) c.deref.ensures.value ∙ c.in_ok-first.ensures.word.long in
+    let second : length c.deref-2.result.now ≡ length c.args.b.now = ap (λ (xs : List Lit). length xs) c.deref-2.ensures.value ∙ c.in_ok-second.ensures.word.long in
+    first ∙ same ∙ sym second
+
+pub quotient_by_signs-requires-clause-first_in : goal.quotient_by_signs-requires-clause-first_in
+quotient_by_signs-requires-clause-first_in c = All-later c.magnitude.new.aig c.magnitude-2.new.aig c.deref.result.now c.in_ok-second.ensures.grew.grows (literals_at c.magnitude.new.aig c.in_ok-first.first.items c.deref.result.now c.deref.ensures.value c.in_ok-first.ensures.word.inside)
+
+pub quotient_by_signs-requires-clause-second_in : goal.quotient_by_signs-requires-clause-second_in
+quotient_by_signs-requires-clause-second_in c = literals_at c.magnitude-2.new.aig c.in_ok-second.second.items c.deref-2.result.now c.deref-2.ensures.value c.in_ok-second.ensures.word.inside
+
+pub quotient_by_signs-requires-clause-sign_in : goal.quotient_by_signs-requires-clause-sign_in
+quotient_by_signs-requires-clause-sign_in c = top_in c.magnitude-2.new.aig c.args.a.now _ c.requires.some (All-later c.args.aig.now c.magnitude-2.new.aig c.args.a.now (Grows-trans c.args.aig.now c.magnitude.new.aig c.magnitude-2.new.aig c.in_ok-first.ensures.grew.grows c.in_ok-second.ensures.grew.grows) c.requires.a_in)
+
+pub quotient_by_signs-requires-clause-other_in : goal.quotient_by_signs-requires-clause-other_in
+quotient_by_signs-requires-clause-other_in c = top_in c.magnitude-2.new.aig c.args.b.now _ (subst (λ m. 0 < m) c.requires.same c.requires.some) (All-later c.args.aig.now c.magnitude-2.new.aig c.args.b.now (Grows-trans c.args.aig.now c.magnitude.new.aig c.magnitude-2.new.aig c.in_ok-first.ensures.grew.grows c.in_ok-second.ensures.grew.grows) c.requires.b_in)
+
+pub returns-in_err-first-clause-grew : goal.returns-in_err-first-clause-grew
+returns-in_err-first-clause-grew c = let n : ℕ = length c.args.a.now in Grew-wider (10 * n) (11 * n * n + 40 * n) c.args.aig.now c.magnitude.new.aig (omega arith) c.in_err-first.ensures.grew
+
+pub returns-in_err-second-clause-grew : goal.returns-in_err-second-clause-grew
+returns-in_err-second-clause-grew c =
+    let n : ℕ = length c.args.a.now in
+    let same : n ≡ length c.args.b.now = c.requires.same in
+    Grew-then (10 * n) (10 * length c.args.b.now) (11 * n * n + 40 * n) c.args.aig.now c.magnitude.new.aig c.magnitude-2.new.aig (omega (arith, same)) c.in_ok-first.ensures.grew c.in_err-second.ensures.grew
+
+pub returns-clause-grew : goal.returns-clause-grew
+returns-clause-grew c =
+    let n : ℕ = length c.args.a.now in
+    let same : n ≡ length c.args.b.now = c.requires.same in
+    let first : length c.deref.result.now ≡ n = ap (λ (xs : List Lit). length xs) c.deref.ensures.value ∙ c.in_ok-first.ensures.word.long in
+    let some : 0 < n = c.requires.some in
+    let last : Grew (11 * n * n + 3 + 10 * n) c.magnitude-2.new.aig c.quotient_by_signs.new.aig = subst (λ (m : ℕ). Grew (11 * m * m + 3 + 10 * m) c.magnitude-2.new.aig c.quotient_by_signs.new.aig) first c.quotient_by_signs.ensures.grew in
+    Grew-then (10 * n + 10 * length c.args.b.now) (11 * n * n + 3 + 10 * n) (11 * n * n + 40 * n) c.args.aig.now c.magnitude-2.new.aig c.quotient_by_signs.new.aig (omega (arith, same, some)) (Grew-both (10 * n) (10 * length c.args.b.now) c.args.aig.now c.magnitude.new.aig c.magnitude-2.new.aig c.in_ok-first.ensures.grew c.in_ok-second.ensures.grew) last
+
+pub returns-clause-word : goal.returns-clause-word
+returns-clause-word c =
+    let n : ℕ = length c.args.a.now in
+    let same : n ≡ length c.args.b.now = c.requires.same in
+    let first : length c.deref.result.now ≡ n = ap (λ (xs : List Lit). length xs) c.deref.ensures.value ∙ c.in_ok-first.ensures.word.long in
+    if_ok c.quotient_by_signs.result _ _ c.quotient_by_signs.ensures.word (λ r h. word_at _ _ n r.items first h)
+
 pub returns-clause-value : goal.returns-clause-value
-returns-clause-value c = λ v o some.
+returns-clause-value c =
+    let n : ℕ = length c.args.a.now in
+    let same : n ≡ length c.args.b.now = c.requires.same in
+    let first : length c.deref.result.now ≡ n = ap (λ (xs : List Lit). length xs) c.deref.ensures.value ∙ c.in_ok-first.ensures.word.long in
+    if_ok c.quotient_by_signs.result _ _ c.quotient_by_signs.ensures.value (λ r h v o some.
     let a = c.args.a.now in
     let b = c.args.b.now in
-    let p = c.deref.result.now in
-    let q = c.deref-2.result.now in
-    let d = c.deref-3.result.now in
-    let o4 = Obeys-older v _ _ c.in_ok-word.ensures.grew.grows o in
-    let o3 = Obeys-older v _ _ c.in_ok-opposite.ensures.grew.grows o4 in
-    let o2 = Obeys-older v _ _ c.in_ok-plain.ensures.grew.grows o3 in
+    let o2 = Obeys-older v _ _ c.quotient_by_signs.ensures.grew.grows o in
     let o1 = Obeys-older v _ _ c.in_ok-second.ensures.grew.grows o2 in
-    let long : length d ≡ length a = ap (λ (xs : List Lit). length xs) c.deref-3.ensures.value ∙ c.in_ok-plain.ensures.word.long ∙ ap (λ (xs : List Lit). length xs) c.deref.ensures.value ∙ c.in_ok-first.ensures.word.long in
-    signed_quotient_is v a b p q d c.in_ok-word.word.items (length a) _ _ refl long (negative_is v a _ c.requires.some) (negative_is v b _ (subst (λ n. 0 < n) c.requires.same c.requires.some)) some
-    (ap (λ (xs : List Lit). truths v xs) c.deref.ensures.value ∙ c.in_ok-first.ensures.value v o1) (ap (λ (xs : List Lit). truths v xs) c.deref-2.ensures.value ∙ c.in_ok-second.ensures.value v o2)
-    (λ more. ap (λ (xs : List Lit). number v xs) c.deref-3.ensures.value ∙ c.in_ok-plain.ensures.value.obeyed v o3 more)
-    (c.in_ok-word.ensures.value v o ∙ ap (λ (t : Bool). cond t (neg_of (truths v d)) (truths v d)) (c.in_ok-opposite.ensures.value.obeyed v o4))
+    let far = ap (λ (xs : List Lit). number v xs) c.deref.ensures.value ∙ c.in_ok-first.ensures.value v o1 in
+    let by = ap (λ (xs : List Lit). number v xs) c.deref-2.ensures.value ∙ c.in_ok-second.ensures.value v o2 in
+    let more : 0 < number v c.deref-2.result.now = subst (λ m. 0 < m) (sym by) (divisor_is v b some) in
+    sdiv_by v a b r.items _ _ _ _ _ first (negative_is v a (constant_lit false) c.requires.some) (negative_is v b (constant_lit false) (subst (λ m. 0 < m) same c.requires.some)) some far by (h v o more))
 
 pub returns-in_err-first-clause-value : goal.returns-in_err-first-clause-value
 returns-in_err-first-clause-value c = IfOk-from_err _ _ c.from_residual.ensures.0
@@ -31,26 +94,8 @@ returns-in_err-first-clause-value c = IfOk-from_err _ _ c.from_residual.ensures.
 pub returns-in_err-first-clause-word : goal.returns-in_err-first-clause-word
 returns-in_err-first-clause-word c = IfOk-from_err _ _ c.from_residual.ensures.0
 
-pub returns-in_err-opposite-clause-value : goal.returns-in_err-opposite-clause-value
-returns-in_err-opposite-clause-value c = IfOk-from_err _ _ c.from_residual-in_err-opposite.ensures.0
-
-pub returns-in_err-opposite-clause-word : goal.returns-in_err-opposite-clause-word
-returns-in_err-opposite-clause-word c = IfOk-from_err _ _ c.from_residual-in_err-opposite.ensures.0
-
-pub returns-in_err-plain-clause-value : goal.returns-in_err-plain-clause-value
-returns-in_err-plain-clause-value c = IfOk-from_err _ _ c.from_residual-in_err-plain.ensures.0
-
-pub returns-in_err-plain-clause-word : goal.returns-in_err-plain-clause-word
-returns-in_err-plain-clause-word c = IfOk-from_err _ _ c.from_residual-in_err-plain.ensures.0
-
 pub returns-in_err-second-clause-value : goal.returns-in_err-second-clause-value
 returns-in_err-second-clause-value c = IfOk-from_err _ _ c.from_residual-in_err-second.ensures.0
 
 pub returns-in_err-second-clause-word : goal.returns-in_err-second-clause-word
 returns-in_err-second-clause-word c = IfOk-from_err _ _ c.from_residual-in_err-second.ensures.0
-
-pub returns-in_err-word-clause-value : goal.returns-in_err-word-clause-value
-returns-in_err-word-clause-value c = IfOk-from_err _ _ c.from_residual-in_err-word.ensures.0
-
-pub returns-in_err-word-clause-word : goal.returns-in_err-word-clause-word
-returns-in_err-word-clause-word c = IfOk-from_err _ _ c.from_residual-in_err-word.ensures.0

@@ -1,22 +1,25 @@
-use Rattle.std.proofs.lemmas.Result.{IfOk-from_err}
 use Rattle.aig.specs.Graph.{holds}
-use Rattle.aig.proofs.Growth.{Obeys-older}
+use Rattle.aig_words.proofs.Grown.{if_ok}
 use Rattle.pair_words.proofs.Tables.{res_by}
 use Rattle.pair_words.proofs.pairs.resolved.Goals as goal
 
+pub or_and-requires-clause-w_in : goal.or_and-requires-clause-w_in
+or_and-requires-clause-w_in c = c.requires.a_in.up
+
+pub or_and-requires-clause-x_in : goal.or_and-requires-clause-x_in
+or_and-requires-clause-x_in c = c.requires.b_in.up
+
+pub or_and-requires-clause-y_in : goal.or_and-requires-clause-y_in
+or_and-requires-clause-y_in c = c.requires.a_in.low
+
+pub or_and-requires-clause-z_in : goal.or_and-requires-clause-z_in
+or_and-requires-clause-z_in c = c.requires.b_in.low
+
+pub returns-clause-grew : goal.returns-clause-grew
+returns-clause-grew c = c.or_and.ensures.grew
+
+pub returns-clause-within : goal.returns-clause-within
+returns-clause-within c = c.or_and.ensures.within
+
 pub returns-clause-value : goal.returns-clause-value
-returns-clause-value c = λ v o.
-    let o1 = Obeys-older v _ _ c.in_ok-low.ensures.grows o in
-    res_by (holds v c.args.a.up) (holds v c.args.a.low) (holds v c.args.b.up) (holds v c.args.b.low) _ _ (c.in_ok-up.ensures.value.obeyed v o1) (c.in_ok-low.ensures.value.obeyed v o)
-
-pub returns-in_err-low-clause-value : goal.returns-in_err-low-clause-value
-returns-in_err-low-clause-value c = IfOk-from_err _ _ c.from_residual-in_err-low.ensures.0
-
-pub returns-in_err-low-clause-within : goal.returns-in_err-low-clause-within
-returns-in_err-low-clause-within c = IfOk-from_err _ _ c.from_residual-in_err-low.ensures.0
-
-pub returns-in_err-up-clause-value : goal.returns-in_err-up-clause-value
-returns-in_err-up-clause-value c = IfOk-from_err _ _ c.from_residual.ensures.0
-
-pub returns-in_err-up-clause-within : goal.returns-in_err-up-clause-within
-returns-in_err-up-clause-within c = IfOk-from_err _ _ c.from_residual.ensures.0
+returns-clause-value c = if_ok c.or_and.result _ _ c.or_and.ensures.value (λ r h v o. let both = h v o in res_by (holds v c.args.a.up) (holds v c.args.a.low) (holds v c.args.b.up) (holds v c.args.b.low) _ _ both.0 both.1)

@@ -1,27 +1,22 @@
-use Rattle.std.proofs.lemmas.Result.{IfOk-from_err}
-use Rattle.aig.proofs.Growth.{Obeys-older}
 use Rattle.pair_words.proofs.pairs.unfloat.Goals as goal
 
-pub returns-clause-up : goal.returns-clause-up
-returns-clause-up c = λ v o. c.in_ok-up.ensures.value.obeyed v (Obeys-older v _ _ c.in_ok-low.ensures.grows o)
+pub or_and-requires-clause-w_in : goal.or_and-requires-clause-w_in
+or_and-requires-clause-w_in c = c.requires.a_in.up
 
-pub returns-clause-low : goal.returns-clause-low
-returns-clause-low c = λ v o. c.in_ok-low.ensures.value.obeyed v o
+pub or_and-requires-clause-x_in : goal.or_and-requires-clause-x_in
+or_and-requires-clause-x_in c = c.requires.a_in.low
 
-pub returns-in_err-low-clause-low : goal.returns-in_err-low-clause-low
-returns-in_err-low-clause-low c = IfOk-from_err _ _ c.from_residual-in_err-low.ensures.0
+pub or_and-requires-clause-y_in : goal.or_and-requires-clause-y_in
+or_and-requires-clause-y_in c = c.requires.a_in.up
 
-pub returns-in_err-low-clause-up : goal.returns-in_err-low-clause-up
-returns-in_err-low-clause-up c = IfOk-from_err _ _ c.from_residual-in_err-low.ensures.0
+pub or_and-requires-clause-z_in : goal.or_and-requires-clause-z_in
+or_and-requires-clause-z_in c = c.requires.a_in.low
 
-pub returns-in_err-low-clause-within : goal.returns-in_err-low-clause-within
-returns-in_err-low-clause-within c = IfOk-from_err _ _ c.from_residual-in_err-low.ensures.0
+pub returns-clause-grew : goal.returns-clause-grew
+returns-clause-grew c = c.or_and.ensures.grew
 
-pub returns-in_err-up-clause-low : goal.returns-in_err-up-clause-low
-returns-in_err-up-clause-low c = IfOk-from_err _ _ c.from_residual.ensures.0
+pub returns-clause-within : goal.returns-clause-within
+returns-clause-within c = c.or_and.ensures.within
 
-pub returns-in_err-up-clause-up : goal.returns-in_err-up-clause-up
-returns-in_err-up-clause-up c = IfOk-from_err _ _ c.from_residual.ensures.0
-
-pub returns-in_err-up-clause-within : goal.returns-in_err-up-clause-within
-returns-in_err-up-clause-within c = IfOk-from_err _ _ c.from_residual.ensures.0
+pub returns-clause-value : goal.returns-clause-value
+returns-clause-value c = c.or_and.ensures.value

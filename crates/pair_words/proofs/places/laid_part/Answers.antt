@@ -7,8 +7,5 @@ returns-in_err-extend_from_slice c = IfOk-from_err _ _ c.from_residual-in_err-ex
 pub returns-in_err-extend_from_slice-2 : goal.returns-in_err-extend_from_slice-2
 returns-in_err-extend_from_slice-2 c = IfOk-from_err _ _ c.from_residual-in_err-extend_from_slice-2.ensures.0
 
-pub returns-in_err-part : goal.returns-in_err-part
-returns-in_err-part c = IfOk-from_err _ _ c.from_residual-in_err-part.ensures.0
-
 pub returns-in_err-word : goal.returns-in_err-word
 returns-in_err-word c = IfOk-from_err _ _ c.from_residual.ensures.0

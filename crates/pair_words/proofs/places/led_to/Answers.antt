@@ -1,13 +1,13 @@
 use Rattle.std.proofs.lemmas.Result.{IfOk-from_err}
-use Rattle.std.proofs.Common.{◌≡◌, ℕ, ◌+◌, ◌*◌, ◌≤◌, Bool, cond, List, [], length, get_or, map, ap, ◌∙◌, arith}
+use Rattle.std.proofs.Common.{◌≡◌, ℕ, ◌+◌, ◌*◌, ◌≤◌, Bool, cond, List, [], length, get_or, map, ap, ◌∙◌, arith, sym}
 use Rattle.aig.specs.Graph.{holds}
-use Rattle.aig.proofs.Growth.{Obeys-older}
+use Rattle.aig.proofs.Growth.{Obeys-older, Grows-trans}
 use Rattle.aig_words.specs.Words.{number}
-use Rattle.aig_words.proofs.Grown.{Grew-refl, Grew-then, Grew-wider}
+use Rattle.aig_words.proofs.Grown.{Grew-refl, Grew-then, Grew-wider, IsIn-later, All-later}
 use Rattle.pair_words.specs.declared.pairs.Pair.{Pair}
 use Rattle.pair_words.specs.Rails.{bits}
 use Rattle.pair_words.specs.Starts.{picked, begin_at}
-use Rattle.pair_words.proofs.Growing.{vector_at}
+use Rattle.pair_words.proofs.Growing.{vector_at, wired_at, wired-later}
 use Rattle.pair_words.proofs.Starting.{led_start, led_more}
 use Rattle.std.proofs.lemmas.List.{take_all}
 use Rattle.std.proofs.lemmas.Nat.{mul-le}
@@ -104,3 +104,35 @@ returns-clause-grew c =
     let m : ℕ = 2 * length c.args.far.now + 3 in
     let n : ℕ = length c.args.none.now in
     Grew-wider ((m + 6 * n) * t) ((m + 6 * n) * count) _ _ (mul-le (m + 6 * n) t (m + 6 * n) count (omega arith) (omega arith)) c.loop-t.invariant.grew
+
+pub leads-requires-clause-node : goal.leads-requires-clause-node
+leads-requires-clause-node c = let longer = c.loop-t.invariant.grew.grows.longer in omega (arith, c.requires.node, longer)
+
+pub leads-requires-clause-near : goal.leads-requires-clause-near
+leads-requires-clause-near c = c.requires.near
+
+pub leads-requires-clause-back_in : goal.leads-requires-clause-back_in
+leads-requires-clause-back_in c = IsIn-later c.args.aig.now c.loop-t.aig c.args.back c.loop-t.invariant.grew.grows c.requires.back_in
+
+pub leads-requires-clause-far_in : goal.leads-requires-clause-far_in
+leads-requires-clause-far_in c = All-later c.args.aig.now c.loop-t.aig c.args.far.now c.loop-t.invariant.grew.grows c.requires.far_in
+
+pub pick_vector-requires-clause-same : goal.pick_vector-requires-clause-same
+pick_vector-requires-clause-same c =
+    let part = ap (λ (xs : List Pair). length xs) c.nth.ensures ∙ (c.requires.parts_in c.loop-t.t [] c.loop-t-test.true).long in
+    part ∙ sym (ap (λ (xs : List Pair). length xs) c.deref.ensures.value ∙ c.loop-t.invariant.word.long)
+
+pub pick_vector-requires-clause-c_in : goal.pick_vector-requires-clause-c_in
+pick_vector-requires-clause-c_in c = c.in_ok-there.ensures.within
+
+pub pick_vector-requires-clause-a_in : goal.pick_vector-requires-clause-a_in
+pick_vector-requires-clause-a_in c =
+    let grows = Grows-trans c.args.aig.now c.loop-t.aig c.leads.new.aig c.loop-t.invariant.grew.grows c.in_ok-there.ensures.grew.grows in
+    let part = (c.requires.parts_in c.loop-t.t [] c.loop-t-test.true).inside in
+    wired_at c.leads.new.aig (get_or c.args.parts.now c.loop-t.t []) c.nth.result.now c.nth.ensures (wired-later c.args.aig.now c.leads.new.aig _ grows part)
+
+pub pick_vector-requires-clause-b_in : goal.pick_vector-requires-clause-b_in
+pick_vector-requires-clause-b_in c = wired_at c.leads.new.aig c.loop-t.word.items c.deref.result.now c.deref.ensures.value (wired-later c.loop-t.aig c.leads.new.aig c.loop-t.word.items c.in_ok-there.ensures.grew.grows c.loop-t.invariant.word.inside)
+
+pub returns-clause-word : goal.returns-clause-word
+returns-clause-word c = c.loop-t.invariant.word

@@ -3,15 +3,15 @@ use Rattle.std.specs.List.{All}
 use Rattle.std.proofs.lemmas.Result.{IfOk-from_err, IfOk-weaker}
 use Rattle.aig.specs.declared.gate.Lit.{Lit}
 use Rattle.aig.specs.Graph.{holds}
-use Rattle.aig.proofs.Growth.{Obeys-older}
+use Rattle.aig.proofs.Growth.{Obeys-older, Grows-trans}
 use Rattle.aig_words.specs.Words.{number}
-use Rattle.aig_words.proofs.Grown.{Grew-then, Grew-wider}
+use Rattle.aig_words.proofs.Grown.{Grew-then, Grew-wider, IsIn-later}
 use Rattle.fourvec.specs.Bits.{each}
 use Rattle.fourvec.specs.Spots.{kept_bit}
 use Rattle.pair_words.specs.declared.pairs.Pair.{Pair}
 use Rattle.pair_words.specs.Rails.{bits, IsVector}
 use Rattle.pair_words.specs.Starts.{picked, begin_at, padded, laid_of}
-use Rattle.pair_words.proofs.Growing.{wired-later, Grew_at}
+use Rattle.pair_words.proofs.Growing.{wired-later, Grew_at, literals_at}
 use Rattle.pair_words.proofs.Windows.{length-padded, padded_in}
 use Rattle.pair_words.proofs.Laying.{length-laid, laid_in, put_by}
 use Rattle.pair_words.proofs.places.put_at.Goals as goal
@@ -133,3 +133,51 @@ returns-in_err-plain-clause-word c = IfOk-from_err _ _ c.from_residual-in_err-pl
 
 pub returns-in_err-plain-clause-value : goal.returns-in_err-plain-clause-value
 returns-in_err-plain-clause-value c = IfOk-from_err _ _ c.from_residual-in_err-plain.ensures.0
+
+pub sought-requires-clause-node : goal.sought-requires-clause-node
+sought-requires-clause-node c = c.requires.node
+
+pub sought-requires-clause-some : goal.sought-requires-clause-some
+sought-requires-clause-some c = c.requires.some_at
+
+pub sought-requires-clause-at_in : goal.sought-requires-clause-at_in
+sought-requires-clause-at_in c = c.requires.at_in
+
+pub led_to-requires-clause-node : goal.led_to-requires-clause-node
+led_to-requires-clause-node c = let longer = c.in_ok-fine.ensures.grew.grows.longer in omega (arith, c.requires.node, longer)
+
+pub led_to-requires-clause-near : goal.led_to-requires-clause-near
+led_to-requires-clause-near c = c.start_of-start.ensures.near
+
+pub led_to-requires-clause-back_in : goal.led_to-requires-clause-back_in
+led_to-requires-clause-back_in c = c.in_ok-fine.ensures.back_in
+
+pub led_to-requires-clause-far_in : goal.led_to-requires-clause-far_in
+led_to-requires-clause-far_in c = literals_at c.sought.new.aig _ c.deref.result.now c.deref.ensures.value c.in_ok-fine.ensures.word.inside
+
+pub led_to-requires-clause-none_in : goal.led_to-requires-clause-none_in
+led_to-requires-clause-none_in c = wired-later c.args.aig.now c.sought.new.aig c.args.a.now c.in_ok-fine.ensures.grew.grows c.requires.a_in
+
+pub put_where-requires-clause-same : goal.put_where-requires-clause-same
+put_where-requires-clause-same c = c.in_ok-plain.ensures.word.long
+
+pub put_where-requires-clause-fine_in : goal.put_where-requires-clause-fine_in
+put_where-requires-clause-fine_in c = IsIn-later c.sought.new.aig c.led_to.new.aig c.in_ok-fine.field-0.fine c.in_ok-plain.ensures.grew.grows c.in_ok-fine.ensures.fine_in
+
+pub put_where-requires-clause-plain_in : goal.put_where-requires-clause-plain_in
+put_where-requires-clause-plain_in c = c.in_ok-plain.ensures.word.inside
+
+pub put_where-requires-clause-a_in : goal.put_where-requires-clause-a_in
+put_where-requires-clause-a_in c = wired-later c.args.aig.now c.led_to.new.aig c.args.a.now (Grows-trans c.args.aig.now c.sought.new.aig c.led_to.new.aig c.in_ok-fine.ensures.grew.grows c.in_ok-plain.ensures.grew.grows) c.requires.a_in
+
+pub put_where-requires-clause-put_in : goal.put_where-requires-clause-put_in
+put_where-requires-clause-put_in c = wired-later c.args.aig.now c.led_to.new.aig c.args.put.now (Grows-trans c.args.aig.now c.sought.new.aig c.led_to.new.aig c.in_ok-fine.ensures.grew.grows c.in_ok-plain.ensures.grew.grows) c.requires.put_in
+
+pub layings-requires-clause-some : goal.layings-requires-clause-some
+layings-requires-clause-some c = c.requires.some
+
+pub layings-requires-clause-some_put : goal.layings-requires-clause-some_put
+layings-requires-clause-some_put c = c.requires.some_put
+
+pub returns-clause-word : goal.returns-clause-word
+returns-clause-word c = c.put_where.ensures.word

@@ -5,13 +5,13 @@ use Rattle.aig.specs.declared.gate.Lit.{Lit}
 use Rattle.aig.specs.Graph.{holds}
 use Rattle.aig.proofs.Growth.{Obeys-older}
 use Rattle.aig_words.specs.Words.{number}
-use Rattle.aig_words.proofs.Grown.{Grew-then, Grew-wider}
+use Rattle.aig_words.proofs.Grown.{Grew-then, Grew-wider, IsIn-later}
 use Rattle.fourvec.specs.Bits.{all_x}
 use Rattle.pair_words.specs.declared.pairs.Pair.{Pair}
 use Rattle.pair_words.specs.Rails.{bits, IsVector}
 use Rattle.pair_words.specs.Truths.{truths}
 use Rattle.pair_words.specs.Starts.{picked, begin_at, padded, parts_of}
-use Rattle.pair_words.proofs.Growing.{wired-later, vector_at, Grew_at}
+use Rattle.pair_words.proofs.Growing.{wired-later, vector_at, Grew_at, literals_at, wired_at}
 use Rattle.pair_words.proofs.Starting.{back_plain}
 use Rattle.pair_words.proofs.Windows.{length-padded, length-parts, padded_in, parts_in, slice_by}
 use Rattle.pair_words.proofs.places.slice_at.Goals as goal
@@ -132,3 +132,36 @@ returns-in_err-plain-clause-word c = IfOk-from_err _ _ c.from_residual-in_err-pl
 
 pub returns-in_err-plain-clause-value : goal.returns-in_err-plain-clause-value
 returns-in_err-plain-clause-value c = IfOk-from_err _ _ c.from_residual-in_err-plain.ensures.0
+
+pub sought-requires-clause-node : goal.sought-requires-clause-node
+sought-requires-clause-node c = c.requires.node
+
+pub sought-requires-clause-some : goal.sought-requires-clause-some
+sought-requires-clause-some c = c.requires.some_at
+
+pub sought-requires-clause-at_in : goal.sought-requires-clause-at_in
+sought-requires-clause-at_in c = c.requires.at_in
+
+pub led_part-requires-clause-node : goal.led_part-requires-clause-node
+led_part-requires-clause-node c = let longer = c.in_ok-fine.ensures.grew.grows.longer in omega (arith, c.requires.node, longer)
+
+pub led_part-requires-clause-near : goal.led_part-requires-clause-near
+led_part-requires-clause-near c = c.start_of-start.ensures.near
+
+pub led_part-requires-clause-back_in : goal.led_part-requires-clause-back_in
+led_part-requires-clause-back_in c = c.in_ok-fine.ensures.back_in
+
+pub led_part-requires-clause-far_in : goal.led_part-requires-clause-far_in
+led_part-requires-clause-far_in c = literals_at c.sought.new.aig _ c.deref.result.now c.deref.ensures.value c.in_ok-fine.ensures.word.inside
+
+pub led_part-requires-clause-each_is : goal.led_part-requires-clause-each_is
+led_part-requires-clause-each_is c = c.requires.each_is
+
+pub windows-requires-clause-some : goal.windows-requires-clause-some
+windows-requires-clause-some c = c.requires.some
+
+pub vector_or_x-requires-clause-c_in : goal.vector_or_x-requires-clause-c_in
+vector_or_x-requires-clause-c_in c = IsIn-later c.sought.new.aig c.led_part.new.aig c.in_ok-fine.field-0.fine c.in_ok-plain.ensures.grew.grows c.in_ok-fine.ensures.fine_in
+
+pub vector_or_x-requires-clause-a_in : goal.vector_or_x-requires-clause-a_in
+vector_or_x-requires-clause-a_in c = wired_at c.led_part.new.aig c.in_ok-plain.plain.items c.deref-3.result.now c.deref-3.ensures.value c.in_ok-plain.ensures.word.inside

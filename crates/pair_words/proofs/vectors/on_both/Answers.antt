@@ -1,56 +1,22 @@
-use Rattle.std.proofs.lemmas.Result.{IfOk-from_err}
-use Rattle.std.proofs.Common.{◌≡◌, ◌+◌, ◌*◌, ℕ, List, length, take, sym, ap, subst, ◌∙◌, arith}
-use Rattle.std.proofs.lemmas.List.{take_all}
-use Rattle.aig.proofs.Growth.{Obeys-older}
-use Rattle.aig_words.proofs.Grown.{Grew-refl, Grew-then, Grew-wider}
-use Rattle.aig_words.specs.Words.{Grew}
-use Rattle.fourvec.specs.Bits.{each_pair}
-use Rattle.pair_words.specs.declared.pairs.Pair.{Pair}
-use Rattle.pair_words.specs.Rails.{bits, two_value, two_nodes}
-use Rattle.pair_words.proofs.Growing.{IsVector-nil, IsVector-push}
-use Rattle.pair_words.proofs.Lists.{each_pair_none, each_pair_more}
 use Rattle.pair_words.proofs.vectors.on_both.Goals as goal
 
-pub loop-i-init : goal.loop-i-init
-loop-i-init c = rw c.new-word.ensures.items (record {
-  grew = Grew-wider 0 (two_nodes c.args.op * 0) _ _ (omega arith) (Grew-refl 0 c.args.aig.now);
-  word = IsVector-nil c.args.aig.now;
-  value = λ v o. sym (each_pair_none (two_value c.args.op));
-})
+pub each_place-requires-clause-same : goal.each_place-requires-clause-same
+each_place-requires-clause-same c = c.requires.same
 
-pub loop-i-preserved : goal.loop-i-preserved
-loop-i-preserved c =
-    let i = c.loop-i.i in
-    let m : ℕ = two_nodes c.args.op in
-    let grew = c.in_ok-next.ensures.grew in
-    rw c.in_ok-push.ensures.items (record {
-      grew = Grew-then (m * i) m (m * (i + 1)) c.args.aig.now c.loop-i.aig _ (grind arith) c.loop-i.invariant.grew grew;
-      word = IsVector-push c.loop-i.aig _ i c.loop-i.word.items _ grew.grows c.loop-i.invariant.word c.in_ok-next.ensures.within;
-      value = λ v o. each_pair_more v (two_value c.args.op) c.args.a.now c.args.b.now c.loop-i.word.items i _ _ _ c.requires.same c.loop-i-test.true
-          (c.loop-i.invariant.value v (Obeys-older v _ _ grew.grows o)) (c.in_ok-next.ensures.value v o);
-    })
+pub each_place-requires-clause-step_in : goal.each_place-requires-clause-step_in
+each_place-requires-clause-step_in c = tt
+
+pub each_place-requires-clause-a_in : goal.each_place-requires-clause-a_in
+each_place-requires-clause-a_in c = c.requires.a_in
+
+pub each_place-requires-clause-b_in : goal.each_place-requires-clause-b_in
+each_place-requires-clause-b_in c = c.requires.b_in
 
 pub returns-clause-grew : goal.returns-clause-grew
-returns-clause-grew c =
-    let e : c.loop-i.i ≡ length c.args.a.now = omega arith in
-    subst (λ (n : ℕ). Grew (two_nodes c.args.op * n) c.args.aig.now c.loop-i.aig) e c.loop-i.invariant.grew
+returns-clause-grew c = c.each_place.ensures.grew
+
+pub returns-clause-word : goal.returns-clause-word
+returns-clause-word c = c.each_place.ensures.word
 
 pub returns-clause-value : goal.returns-clause-value
-returns-clause-value c = λ v o.
-    let a = c.args.a.now in
-    let b = c.args.b.now in
-    c.loop-i.invariant.value v o ∙
-    ap (λ (xs : List Pair). each_pair (two_value c.args.op) (bits v xs) (bits v (take c.loop-i.i b))) (take_all c.loop-i.i a (omega arith)) ∙
-    ap (λ (xs : List Pair). each_pair (two_value c.args.op) (bits v a) (bits v xs)) (take_all c.loop-i.i b (omega (arith, c.requires.same)))
-
-pub returns-in_err-next-clause-value : goal.returns-in_err-next-clause-value
-returns-in_err-next-clause-value c = IfOk-from_err _ _ c.from_residual.ensures.0
-
-pub returns-in_err-next-clause-word : goal.returns-in_err-next-clause-word
-returns-in_err-next-clause-word c = IfOk-from_err _ _ c.from_residual.ensures.0
-
-pub returns-in_err-push-clause-value : goal.returns-in_err-push-clause-value
-returns-in_err-push-clause-value c = IfOk-from_err _ _ c.from_residual-in_err-push.ensures.0
-
-pub returns-in_err-push-clause-word : goal.returns-in_err-push-clause-word
-returns-in_err-push-clause-word c = IfOk-from_err _ _ c.from_residual-in_err-push.ensures.0
+returns-clause-value c = c.each_place.ensures.value
