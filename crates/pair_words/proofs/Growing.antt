@@ -57,10 +57,7 @@ Grew_at m n old new e h = record { grows = h.grows; nodes = omega (arith, h.node
 pub one_place : (m i n : ℕ) → i < n → m * i + m ≤ m * n
 one_place m i n lt = let h : m * i + m ≡ m * (i + 1) = grind arith in let k = mul-le m (i + 1) m n (omega arith) (omega (arith, lt)) in omega (arith, h, k)
 
-pub at_literal : (gates : List Gate) (k l : Lit) → l ≡ k → IsIn gates k → IsIn gates l
-at_literal gates k l e h = subst (λ (m : Lit). IsIn gates m) (sym e) h
-
--- what a slice of a vector is
+-- an equal list is in the graph too
 pub wired_at : (gates : List Gate) (a b : List Pair) → b ≡ a → All (IsWired gates) a → All (IsWired gates) b
 wired_at gates a b e h = subst (λ (t : List Pair). All (IsWired gates) t) (sym e) h
 

@@ -6,11 +6,6 @@ use Rattle.fourvec.specs.Bits.{each, each_pair, over, is_known, is_known_bit}
 use Rattle.pair_words.specs.declared.pairs.Pair.{Pair}
 use Rattle.pair_words.specs.Rails.{bit_at, bits}
 
-pub each-push : (f : Bit → Bit) (xs : List Bit) (x : Bit) → each f (xs ++ x ∷ []) ≡ each f xs ++ f x ∷ []
-unfolding each
-each-push f [] x = refl
-each-push f (y ∷ xs) x = ap (λ (t : List Bit). f y ∷ t) (each-push f xs x)
-
 pub each_pair-push : (f : Bit → Bit → Bit) (xs ys : List Bit) (x y : Bit) → length xs ≡ length ys → each_pair f (xs ++ x ∷ []) (ys ++ y ∷ []) ≡ each_pair f xs ys ++ f x y ∷ []
 unfolding each_pair
 each_pair-push f [] [] x y e = refl
@@ -18,25 +13,11 @@ each_pair-push f [] (b ∷ ys) x y e = absurd (omega (arith, e))
 each_pair-push f (a ∷ xs) [] x y e = absurd (omega (arith, e))
 each_pair-push f (a ∷ xs) (b ∷ ys) x y e = ap (λ (t : List Bit). f a b ∷ t) (each_pair-push f xs ys x y (omega (arith, e)))
 
-pub each_none : (f : Bit → Bit) → each f [] ≡ []
-unfolding each
-each_none f = refl
-
 pub each_pair_none : (f : Bit → Bit → Bit) → each_pair f [] [] ≡ []
 unfolding each_pair
 each_pair_none f = refl
 
--- one pair more of one vector
-pub each_more : (v : ℕ → Bool) (f : Bit → Bit) (a word : List Pair) (i : ℕ) (d p : Pair) → i < length a →
-    bits v word ≡ each f (bits v (take i a)) → bit_at v p ≡ f (bit_at v (get_or a i d)) → bits v (word ++ p ∷ []) ≡ each f (bits v (take (i + 1) a))
-each_more v f a word i d p lt before here =
-    map_push (bit_at v) word p ∙
-    ap (λ (t : List Bit). t ++ bit_at v p ∷ []) before ∙
-    ap (λ (t : Bit). each f (bits v (take i a)) ++ t ∷ []) here ∙
-    sym (each-push f (bits v (take i a)) (bit_at v (get_or a i d))) ∙
-    ap (λ (t : List Bit). each f t) (sym (map_more (bit_at v) a i d lt))
-
--- and of two
+-- one pair more of two vectors
 pub each_pair_more : (v : ℕ → Bool) (f : Bit → Bit → Bit) (a b word : List Pair) (i : ℕ) (d e p : Pair) → length a ≡ length b → i < length a →
     bits v word ≡ each_pair f (bits v (take i a)) (bits v (take i b)) → bit_at v p ≡ f (bit_at v (get_or a i d)) (bit_at v (get_or b i e)) →
     bits v (word ++ p ∷ []) ≡ each_pair f (bits v (take (i + 1) a)) (bits v (take (i + 1) b))
