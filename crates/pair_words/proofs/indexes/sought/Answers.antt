@@ -1,4 +1,4 @@
-use Rattle.std.proofs.Common.{◌≡◌, ℕ, ◌*◌, List, length, ap, sym, subst, ◌∙◌, arith}
+use Rattle.std.proofs.Common.{◌≡◌, ℕ, ◌*◌, ◌<◌, List, length, ap, sym, subst, ◌∙◌, arith}
 use Rattle.std.proofs.lemmas.List.{length-map}
 use Rattle.std.proofs.lemmas.Result.{IfOk-from_err}
 use Rattle.aig.specs.declared.gate.Lit.{Lit}
@@ -90,3 +90,8 @@ known-requires-clause-a_in c = c.requires.at_in
 
 pub returns-clause-back_in : goal.returns-clause-back_in
 returns-clause-back_in c = c.index_of.ensures.back_in
+
+pub index_of-requires-clause-some : goal.index_of-requires-clause-some
+index_of-requires-clause-some c =
+    let long = ap (λ (xs : List Lit). length xs) (c.deref.ensures.value ∙ c.in_ok-x.ensures) ∙ length-map c.args.at.now (λ (p : Pair). p.up) in
+    subst (λ n. 0 < n) (sym long) c.requires.some

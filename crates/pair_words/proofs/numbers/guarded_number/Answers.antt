@@ -1,5 +1,5 @@
 use Rattle.std.proofs.Common.{◌≡◌, ℕ, ◌+◌, ◌*◌, ◌≤◌, Bool, ◌&&◌, List, length, ap, ◌∙◌, arith}
-use Rattle.std.proofs.lemmas.Result.{IfOk-weaker}
+use Rattle.std.proofs.lemmas.Result.{IfOk-weaker, IfOk-from_err}
 use Rattle.aig.specs.declared.gate.Lit.{Lit}
 use Rattle.aig.specs.Graph.{holds}
 use Rattle.aig.proofs.Growth.{Obeys-older}
@@ -95,3 +95,21 @@ guarded-requires-clause-c_in c = IsIn-later c.and.new.self c.computed.new.aig c.
 
 pub guarded-requires-clause-word_in : goal.guarded-requires-clause-word_in
 guarded-requires-clause-word_in c = literals_at c.computed.new.aig c.in_ok-word.word.items c.deref.result.now c.deref.ensures.value c.in_ok-word.ensures.word.inside
+
+pub returns-in_err-all-clause-value : goal.returns-in_err-all-clause-value
+returns-in_err-all-clause-value c = IfOk-from_err _ _ c.from_residual-in_err-all.ensures.0
+
+pub returns-in_err-all-clause-word : goal.returns-in_err-all-clause-word
+returns-in_err-all-clause-word c = IfOk-from_err _ _ c.from_residual-in_err-all.ensures.0
+
+pub returns-in_err-fine-clause-value : goal.returns-in_err-fine-clause-value
+returns-in_err-fine-clause-value c = IfOk-from_err _ _ c.from_residual.ensures.0
+
+pub returns-in_err-fine-clause-word : goal.returns-in_err-fine-clause-word
+returns-in_err-fine-clause-word c = IfOk-from_err _ _ c.from_residual.ensures.0
+
+pub returns-in_err-word-clause-value : goal.returns-in_err-word-clause-value
+returns-in_err-word-clause-value c = IfOk-from_err _ _ c.from_residual-in_err-word.ensures.0
+
+pub returns-in_err-word-clause-word : goal.returns-in_err-word-clause-word
+returns-in_err-word-clause-word c = IfOk-from_err _ _ c.from_residual-in_err-word.ensures.0

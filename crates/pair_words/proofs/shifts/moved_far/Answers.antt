@@ -1,6 +1,6 @@
 use Rattle.std.proofs.Common.{◌≡◌, ℕ, ◌+◌, ◌*◌, ◌^◌, ◌≤◌, min, List, length, ap, subst, sym, ◌∙◌, arith}
 use Rattle.std.proofs.lemmas.Nat.{mul-le}
-use Rattle.std.proofs.lemmas.Result.{IfOk-weaker}
+use Rattle.std.proofs.lemmas.Result.{IfOk-weaker, IfOk-from_err}
 use Rattle.std.proofs.lemmas.List.{length-map}
 use Rattle.aig.specs.declared.gate.Lit.{Lit}
 use Rattle.aig.proofs.Growth.{Obeys-older}
@@ -36,3 +36,36 @@ returns-in_err-by-clause-grew c =
     let m : ℕ = length c.args.a.now in
     let n : ℕ = length c.args.b.now in
     Grew-wider (4 * n) (6 * m * n + 4 * n) _ _ (omega arith) c.in_err-by.ensures.grew
+
+pub returns-in_err-by-clause-value : goal.returns-in_err-by-clause-value
+returns-in_err-by-clause-value c = IfOk-from_err _ _ c.from_residual.ensures.0
+
+pub returns-in_err-by-clause-word : goal.returns-in_err-by-clause-word
+returns-in_err-by-clause-word c = IfOk-from_err _ _ c.from_residual.ensures.0
+
+pub shifted-requires-clause-some : goal.shifted-requires-clause-some
+shifted-requires-clause-some c = c.requires.some
+
+pub shifted-requires-clause-way_in : goal.shifted-requires-clause-way_in
+shifted-requires-clause-way_in c = c.requires.way_in
+
+pub shifted-requires-clause-a_in : goal.shifted-requires-clause-a_in
+shifted-requires-clause-a_in c = c.requires.a_in
+
+pub shifted-requires-clause-b_in : goal.shifted-requires-clause-b_in
+shifted-requires-clause-b_in c = c.requires.b_in
+
+pub capped-requires-clause-b_in : goal.capped-requires-clause-b_in
+capped-requires-clause-b_in c = c.requires.b_in
+
+pub shifted-requires-2-clause-some : goal.shifted-requires-2-clause-some
+shifted-requires-2-clause-some c = c.requires.some
+
+pub returns-then-b-near-clause-word : goal.returns-then-b-near-clause-word
+returns-then-b-near-clause-word c = c.shifted.ensures.word
+
+pub returns-then-b-near-clause-value : goal.returns-then-b-near-clause-value
+returns-then-b-near-clause-value c = c.shifted.ensures.value
+
+pub returns-clause-word : goal.returns-clause-word
+returns-clause-word c = c.shifted-2.ensures.word
