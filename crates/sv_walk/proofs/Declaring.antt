@@ -1,14 +1,12 @@
 -- Walks one after the other, and the declarations of a scope.
-use Rattle.std.proofs.Common.{◌≡◌, ℕ, suc, ◌+◌, ◌<◌, ◌≤◌, Bool, true, false, ◌||◌, not, List, [], ◌∷◌, ◌++◌, length, map, drop, get_or, Result, Ok, Err, refl, sym, ap, ◌∙◌, subst, arith, Vec, Global}
+use Rattle.std.proofs.Common.{◌≡◌, ℕ, suc, ◌+◌, ◌<◌, ◌≤◌, true, false, ◌||◌, not, List, [], ◌∷◌, ◌++◌, length, map, drop, get_or, Result, Ok, Err, refl, sym, ap, ◌∙◌, subst, arith, Vec, Global}
 use Rattle.std.proofs.lemmas.List.{length-append}
 use Rattle.std.specs.Result.{IsErrAnd}
 use Rattle.sv_outside.specs.declared.refusal.Place.{Place}
 use Rattle.sv_outside.specs.declared.refusal.Refusal.{Refusal}
 use Rattle.sv_outside.specs.declared.refusal.TextErr.{TextErr}
 use Rattle.sv_outside.specs.declared.refusal.TextErr.TheVariants.{No, Memory}
-use Rattle.sv_tree.specs.declared.word.Word.{Word}
 use Rattle.sv_meaning.specs.Faults.{Judged, ◌>>=◌, provided, or_then, fault, fault_if, bad_token, twice}
-use Rattle.sv_meaning.specs.Layouts as layouts
 use Rattle.sv_meaning.specs.Layouts.{Name}
 use Rattle.sv_meaning.specs.Names.{has_name}
 use Rattle.sv_names.specs.declared.layout.What.{What}
@@ -29,6 +27,11 @@ use Rattle.sv_walk.specs.Walks.{state_of}
 pub out_of_memory : {A B : Type 0} (r : A → B → Type 0) (j : Judged A) → Answers r j (Err Memory)
 out_of_memory r (Ok x) = tt
 out_of_memory r (Err all) = tt
+
+-- what `?` hands on where memory is out
+pub ran_out : {A D : Type 0} (s : A → D → Type 0) (j : Judged A) (q : Result D TextErr) → IsErrAnd q (λ y. y ≡ Memory) → Answers s j q
+ran_out s j (Ok x) i = absurd i
+ran_out s j (Err y) i = subst (λ z. Answers s j (Err z)) (sym i) (out_of_memory s j)
 
 -- what is refused first is refused
 pub refused_then : {A B C D : Type 0} (r : A → C → Type 0) (s : B → D → Type 0) (j : Judged A) (f : A → Judged B) (e : TextErr) → Answers r j (Err e) → Answers s (j >>= f) (Err e)

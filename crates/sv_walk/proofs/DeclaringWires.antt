@@ -1,6 +1,6 @@
 -- Types, and nets and variables of a layout.
 use Rattle.std.proofs.Common.{◌≡◌, ℕ, ◌+◌, Bool, List, [], ◌∷◌, ◌++◌, length, Result, Ok, Err, refl, sym, ap, ◌∙◌, subst}
-use Rattle.std.specs.Result.{IfOk, IfErr, IsErrAnd}
+use Rattle.std.specs.Result.{IsErrAnd}
 use Rattle.sv_outside.specs.declared.refusal.Place.{Place}
 use Rattle.sv_outside.specs.declared.refusal.TextErr.{TextErr}
 use Rattle.sv_outside.specs.declared.refusal.TextErr.TheVariants.{No, Memory}
@@ -32,7 +32,7 @@ use Rattle.sv_walk.proofs.Declaring.{Leads, after, refused, refused_then, refuse
 abbrev pub Forms : Judged (layouts.Layout × m.State) → Walker → Open → Result Layout TextErr → Type 0
 Forms j w o result = Answers (λ (found : layouts.Layout × m.State) (x : Layout). (found.0 ≡ layout_is x) × (found.1 ≡ state_of w o)) j result
 
-formed_is : (t : TypeTree) (w v : Walker) (o p : Open) (x : Layout) (all : List Declared) (u : Unit {0}) → form (m.seen (state_of w o)) t ≡ Ok (layout_is x, all) → Leads (m.add_constants all (state_of w o)) v p (Ok u) →
+pub formed_is : (t : TypeTree) (w v : Walker) (o p : Open) (x : Layout) (all : List Declared) (u : Unit {0}) → form (m.seen (state_of w o)) t ≡ Ok (layout_is x, all) → Leads (m.add_constants all (state_of w o)) v p (Ok u) →
     Forms (m.formed t (state_of w o)) v p (Ok x)
 formed_is t w v o p x all u h g =
     subst (λ (j : Judged (layouts.Layout × List Declared)). Forms (j >>= λ y. (m.add_constants y.1 (state_of w o) >>= λ s. Ok (y.0, s))) v p (Ok x)) (sym h)
@@ -45,24 +45,13 @@ unformed t w v o p (Err y) e i h =
     (refused_then (λ (x : layouts.Layout × List Declared) (y : Unit {0}). Unit {0}) (λ (found : layouts.Layout × m.State) (y : Layout). (found.0 ≡ layout_is y) × (found.1 ≡ state_of v p)) (form (m.seen (state_of w o)) t)
     (λ y. (m.add_constants y.1 (state_of w o) >>= λ s. Ok (y.0, s))) e (refused_by (λ (x : layouts.Layout × List Declared) (y : Unit {0}). Unit {0}) (form (m.seen (state_of w o)) t) e h))
 
-unlisted : (t : TypeTree) (w v : Walker) (o p : Open) (x : Layout) (all : List Declared) (q : Result Layout TextErr) (e : TextErr) → IsErrAnd q (λ y. y ≡ e) → form (m.seen (state_of w o)) t ≡ Ok (layout_is x, all) →
+pub unlisted : (t : TypeTree) (w v : Walker) (o p : Open) (x : Layout) (all : List Declared) (q : Result Layout TextErr) (e : TextErr) → IsErrAnd q (λ y. y ≡ e) → form (m.seen (state_of w o)) t ≡ Ok (layout_is x, all) →
     Leads (m.add_constants all (state_of w o)) v p (Err e) → Forms (m.formed t (state_of w o)) v p q
 unlisted t w v o p x all (Ok y) e i h g = absurd i
 unlisted t w v o p x all (Err y) e i h g =
     subst (λ z. Forms (m.formed t (state_of w o)) v p (Err z)) (sym i)
     (subst (λ (j : Judged (layouts.Layout × List Declared)). Forms (j >>= λ y. (m.add_constants y.1 (state_of w o) >>= λ s. Ok (y.0, s))) v p (Err e)) (sym h)
     (refused_then (λ (st : m.State) (u : Unit {0}). st ≡ state_of v p) (λ (found : layouts.Layout × m.State) (y : Layout). (found.0 ≡ layout_is y) × (found.1 ≡ state_of v p)) (m.add_constants all (state_of w o)) (λ s. Ok (layout_is x, s)) e g))
-
--- a layout whose constants are added, if they are
-pub formed_after : (t : TypeTree) (w v : Walker) (o p : Open) (x : Layout) (all : List Declared) (added : Result (Unit {0}) TextErr) (q : Result Layout TextErr) → form (m.seen (state_of w o)) t ≡ Ok (layout_is x, all) → Leads (m.add_constants all (state_of w o)) v p added →
-    IfOk q (λ y. (y ≡ x) × (added ≡ Ok (tt {0}))) → IfErr q (λ e. added ≡ Err e) → Forms (m.formed t (state_of w o)) v p q
-formed_after t w v o p x all added (Ok y) h g a e =
-    subst (λ (z : Layout). Forms (m.formed t (state_of w o)) v p (Ok z)) (sym a.0) (formed_is t w v o p x all (tt {0}) h (subst (λ r. Leads (m.add_constants all (state_of w o)) v p r) a.1 g))
-formed_after t w v o p x all added (Err y) h g a e = unlisted t w v o p x all (Err y) y refl h (subst (λ r. Leads (m.add_constants all (state_of w o)) v p r) e g)
-
-pub sound_after : (x : Layout) (added : Result (Unit {0}) TextErr) (q : Result Layout TextErr) → IsSound x → IfOk q (λ y. (y ≡ x) × (added ≡ Ok (tt {0}))) → IfOk q (λ y. IsSound y)
-sound_after x added (Ok y) s a = subst (λ (z : Layout). IsSound z) (sym a.0) s
-sound_after x added (Err e) s a = tt
 
 found_at : (j : Judged (layouts.Layout × m.State)) (w : Walker) (o : Open) (x : Layout) → Forms j w o (Ok x) → j ≡ Ok (layout_is x, state_of w o)
 found_at (Ok found) w o x h = ap Ok (λ i. (h.0 i, h.1 i))
@@ -80,14 +69,14 @@ with_unformed t f st w v o p (Err y) e i h =
 
 -- ---- wires
 
-pub wire_put : (w : Walker) (o : Open) (levels : Levels) (wires : List Signal) (tally : Tally) (input : Bool) (x y : Layout) (n name path bytes : Name) (k : ℕ) → IsSound x → name ≡ n → bytes ≡ n → y ≡ x → k ≡ length w.wires →
-    path ≡ m.prefix_of (m.level_at (levels_are w.levels) o.level).path ++ bytes → levels_are levels ≡ m.with_level o.level (m.with_net (entry_is (name, Wire k y))) (levels_are w.levels) →
-    wires ≡ w.wires ++ record { path = path; width = x.width; input = input } ∷ [] → tally.bits ≡ w.tally.bits + layouts.width (layout_is x) → tally.turns ≡ w.tally.turns →
+pub wire_put : (w : Walker) (o : Open) (level : ℕ) (levels : Levels) (wires : List Signal) (tally : Tally) (input : Bool) (x y : Layout) (n name path bytes : Name) (k : ℕ) → IsSound x → name ≡ n → bytes ≡ n → y ≡ x → k ≡ length w.wires →
+    path ≡ m.prefix_of (m.level_at (levels_are w.levels) level).path ++ bytes → levels_are levels ≡ m.with_level level (m.with_net (entry_is (name, Wire k y))) (levels_are w.levels) →
+    wires ≡ w.wires ++ record { path = path; width = x.width; input = input } ∷ [] → o.level ≡ level → tally.bits ≡ w.tally.bits + layouts.width (layout_is x) → tally.turns ≡ w.tally.turns →
     m.with_wire input (layout_is x) n (state_of w o) ≡ state_of (record w { levels = levels; wires = wires; tally = tally }) o
-wire_put w o levels wires tally input x y n name path bytes k sound a b c d e f g h l =
+wire_put w o level levels wires tally input x y n name path bytes k sound a b c d e f g q h l =
     let l1 : m.with_level o.level (m.with_net (n, layouts.signal_is layouts.of_wires (length w.wires) (layout_is x))) (levels_are w.levels) ≡ levels_are levels =
-    (λ i. m.with_level o.level (m.with_net (sym a i, layouts.signal_is layouts.of_wires (sym d i) (layout_is (sym c i)))) (levels_are w.levels)) ∙ sym f in
-    let p1 : m.prefix_of (m.level_at (levels_are w.levels) o.level).path ++ n ≡ path = ap (λ (z : Name). m.prefix_of (m.level_at (levels_are w.levels) o.level).path ++ z) (sym b) ∙ sym e in
+    (λ i. m.with_level (q i) (m.with_net (sym a i, layouts.signal_is layouts.of_wires (sym d i) (layout_is (sym c i)))) (levels_are w.levels)) ∙ sym f in
+    let p1 : m.prefix_of (m.level_at (levels_are w.levels) o.level).path ++ n ≡ path = (λ i. m.prefix_of (m.level_at (levels_are w.levels) (q i)).path ++ sym b i) ∙ sym e in
     let w1 : w.wires ++ record { path = m.prefix_of (m.level_at (levels_are w.levels) o.level).path ++ n; width = layouts.width (layout_is x); input = input } ∷ [] ≡ wires =
     (λ i. w.wires ++ record { path = p1 i; width = sym (sound_is x sound) i; input = input } ∷ []) ∙ sym g in
     λ i. record (state_of w o) { levels = l1 i; bits = sym h i; turns = sym l i; wires = w1 i }

@@ -283,12 +283,6 @@ pub file_begun : {E : Type 0} (w : Walker) (levels : Levels) (x : Level) (r : Re
 file_begun w levels x (Ok o) none h p n q a e c b = file_is w levels o x none h p n q a e c b.level_is b.constructs b.overridden b.taken
 file_begun w levels x (Err e) none h p n q a f c b = tt
 
--- an instance of the same path and the same that is given
-pub begun_as : {B E : Type 0} (g : B → m.State) (k : m.Known) (path name : Name) (parent : ℕ) (given all : List m.Given) (st : m.State) (r : Result B E) → path ≡ name → given ≡ all →
-    IfOk r (λ own. g own ≡ m.begun k path parent given st) → IfOk r (λ own. g own ≡ m.begun k name parent all st)
-begun_as g k path name parent given all st (Ok own) e f h = h ∙ λ i. m.begun k (e i) parent (f i) st
-begun_as g k path name parent given all st (Err why) e f h = tt
-
 -- ---- what an instance has without its children
 
 pub instance_no_params : {B D : Type 0} (r : m.State → B → Type 0) (s : m.State → D → Type 0) (top : Bool) (t : Module) (at : m.Front) (pins : List Connection) (st : m.State) (list : List ParPort) (e : TextErr) → list ≡ t.params →

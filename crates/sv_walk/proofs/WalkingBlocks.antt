@@ -16,7 +16,7 @@ use Rattle.sv_meaning.specs.Layouts.{Name, Entry, Scope, What, find, number_is, 
 use Rattle.sv_meaning.specs.Names.{has_name}
 use Rattle.sv_meaning.specs.Deeds.{index_entry, turn_faults, turns}
 use Rattle.sv_loops.specs.Answers.{Answers, Gives}
-use Rattle.sv_hierarchy.specs.Scopes.{State, Walk, Level, walk_all, name_faults, declare_at, block_place, block_name, block_walk, enclosed, inner, outer, mine, here, path_of, fronts_at, turn_walk, turn_name, count_turn, turns_walk, body_of, under, next_construct, genvar_faults, seen}
+use Rattle.sv_hierarchy.specs.Scopes.{State, Walk, Level, walk_all, name_faults, declare_at, block_place, block_name, block_walk, enclosed, inner, outer, turn_walk, turn_name, count_turn, turns_walk, body_of, under, next_construct, genvar_faults, seen}
 use Rattle.sv_walk.specs.declared.walker.Walker.{Walker}
 use Rattle.sv_walk.specs.declared.walker.Open.{Open}
 use Rattle.sv_levels.specs.Levels.{block_in, level_is, levels_are}

@@ -95,23 +95,10 @@ impl<'a> Walker<'a> {
         ensures { (item : Tree) → item ≡ it.For place header variable.now start.now test.now next.now body.now → OpensLoop item place variable.now body.now self.now current.old current.new result }
     {
         let values = self.loop_values(current, place, header, variable, start, test, next)?;
-        self.begin_loop(current, place, values, body)
-    }
-
-    // A loop at a place with these values of its variable is a construct more, whose name is declared where there are turns; or E13.
-    fn begin_loop(
-        &self,
-        current: &mut Open<'a>,
-        place: Place,
-        values: Items<Four>,
-        body: &Gen,
-    ) -> Result<Turns, TextErr>
-        ensures { BeginsLoop body.now values self.now current.old current.new result }
-    {
         current.next_construct(place)?;
-        let (label, start) = head_of(body);
+        let (label, begin) = head_of(body);
         let name = block_name(self.alloc, label, current.constructs.len())?;
-        declare_turns(current, block_place(label, start), name.bytes(), &values)?;
+        declare_turns(current, block_place(label, begin), name.bytes(), &values)?;
         Ok(Turns { name, values })
     }
 

@@ -7,7 +7,7 @@ ghost use Rattle.sv_walk.specs.Walks.{Walks};
 use crate::walker::{Open, Walker};
 use sv_levels::{Child, Task};
 use sv_outside::TextErr;
-use sv_tree::{AssignPair, Inst, One, Pins};
+use sv_tree::{AssignPair, Inst, Pins};
 
 // The parameters of an instantiation, where it has some.
 fn params_of(inst: &Inst) -> Option<&Pins>
@@ -34,32 +34,7 @@ impl<'a> Walker<'a> {
         Ok(())
     }
 
-    // An instance that is to be opened, or E13 at its name.
-    fn add_child(
-        &mut self,
-        current: &mut Open<'a>,
-        inst: &'a Inst,
-        one: &'a One,
-    ) -> Result<(), TextErr>
-        ensures { Walks (add_child inst.now one.now) self.old current.old self.new current.new result }
-    {
-        current.declare_at(one.name.place, one.name.text.bytes())?;
-        let at = self.here(current);
-        let path = self
-            .levels
-            .path(self.alloc, current.level, one.name.text.bytes())?;
-        self.children.push(Child {
-            at,
-            of_module: &inst.of_module,
-            name: &one.name,
-            path,
-            params: params_of(inst),
-            pins: one.pins.as_ref(),
-        })?;
-        Ok(())
-    }
-
-    /// The instances of an instantiation (23.3.2).
+    /// The instances of an instantiation (23.3.2), which are to be opened; or E13 at a name.
     pub(crate) fn add_children(
         &mut self,
         current: &mut Open<'a>,
@@ -68,7 +43,19 @@ impl<'a> Walker<'a> {
         ensures { Walks (walk_all (add_child inst.now) inst.now.list) self.old current.old self.new current.new result }
     {
         'list: for one in inst.list.as_slice() {
-            self.add_child(current, inst, one)?;
+            current.declare_at(one.name.place, one.name.text.bytes())?;
+            let at = self.here(current);
+            let path = self
+                .levels
+                .path(self.alloc, current.level, one.name.text.bytes())?;
+            self.children.push(Child {
+                at,
+                of_module: &inst.of_module,
+                name: &one.name,
+                path,
+                params: params_of(inst),
+                pins: one.pins.as_ref(),
+            })?;
         }
         Ok(())
     }

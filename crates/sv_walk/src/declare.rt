@@ -5,21 +5,22 @@
 ghost use Rattle.std.specs.Prelude.{◌≡◌, ◌+◌, false, IfOk, OnOk};
 ghost use Rattle.std.specs.Option.{option_copied};
 ghost use Rattle.sv_names.specs.Kinds.{IsSound, WhatIsSound, layout_is, what_is};
-ghost use Rattle.sv_types.specs.Types.{JudgesForm, all_declared, declared_is};
-ghost use Rattle.sv_meaning.specs.Forms.{form};
 ghost use Rattle.sv_meaning.specs.Layouts as layouts;
 ghost use Rattle.sv_meaning.specs.Layouts.{width};
-ghost use Rattle.sv_hierarchy.specs.Scopes.{add_constant, add_constants, add_genvar, add_typedef, add_wire, formed, seen, walk_all, with_form, with_form_or_bit, with_wire};
+ghost use Rattle.sv_hierarchy.specs.Scopes.{add_constant, add_genvar, add_typedef, add_wire, formed, walk_all, with_form, with_form_or_bit, with_wire};
+ghost use Rattle.sv_levels.specs.declared.tally.Tally.{Tally as Counted};
+ghost use Rattle.sv_walk.specs.declared.walker.Open.{Open as Opened};
+ghost use Rattle.sv_walk.specs.declared.walker.Walker.{Walker as Walking};
 ghost use Rattle.sv_walk.specs.Walks.{Finds, Walks, state_of};
 
-use crate::held::{after, let_go};
+use crate::held::let_go;
 use crate::walker::{Open, Walker};
-use std::alloc::AllocError;
-use sv_levels::Tally;
+use std::alloc::{AllocError, Global};
+use sv_levels::{Levels, Wires};
 use sv_names::{Form, Layout, What};
 use sv_outside::{Name, Place, Signal, TextErr};
 use sv_tree::{TypeTree, Typedef, Word};
-use sv_types::{Enumerator, Formed, copy, form_of};
+use sv_types::{Formed, copy, form_of};
 
 /// One bit.
 pub(crate) fn scalar() -> Layout
@@ -31,6 +32,34 @@ pub(crate) fn scalar() -> Layout
         signed: false,
         form: Form::Scalar,
     }
+}
+
+// A wire more, of the scope of a number. It is told of the parts that it changes alone, and its bits are counted by the caller.
+fn put_wire(
+    alloc: Global,
+    levels: &mut Levels,
+    wires: &mut Wires,
+    level: usize,
+    input: bool,
+    layout: &Layout,
+    word: &Word,
+) -> Result<(), AllocError>
+    requires { IsSound layout.now }
+    ensures { OnOk result ((w : Walking) (o : Opened) (t : Counted) → o.level ≡ level → t.bits ≡ w.tally.bits + width (layout_is layout.now) → t.turns ≡ w.tally.turns → with_wire input (layout_is layout.now) word.now.text (state_of (record w { levels = levels.old; wires = wires.old }) o) ≡ state_of (record w { levels = levels.new; wires = wires.new; tally = t }) o) }
+{
+    let path = levels.path(alloc, level, word.text.bytes())?;
+    let name = word.text.copy()?;
+    let layout_of_wire = copy(alloc, layout)?;
+    let what = What::Wire {
+        number: wires.len(),
+        layout: layout_of_wire,
+    };
+    levels.add_net(level, name, what)?;
+    wires.push(Signal {
+        path,
+        width: layout.width,
+        input,
+    })
 }
 
 impl<'a> Walker<'a> {
@@ -51,16 +80,6 @@ impl<'a> Walker<'a> {
         Ok(())
     }
 
-    // The constants of an enumeration.
-    fn add_constants(&mut self, current: &mut Open<'a>, list: &[Enumerator]) -> Result<(), TextErr>
-        ensures { Walks (add_constants (all_declared list.now)) self.old current.old self.new current.new result }
-    {
-        'list: for label in list {
-            self.add_constant(current, label.place, &label.name, What::Number(label.value))?;
-        }
-        Ok(())
-    }
-
     /// The layout of a type, whose enumerators become names.
     pub(crate) fn formed(
         &mut self,
@@ -70,22 +89,16 @@ impl<'a> Walker<'a> {
         ensures is { Finds (λ x layout. x ≡ layout_is layout) (formed tree.now) self.old current.old self.new current.new result }
         ensures sound { IfOk result (λ layout. IsSound layout) }
     {
-        let found = self.form_here(current, tree)?;
-        let Formed { layout, declared } = found;
-        let added = self.add_constants(current, declared.as_slice());
-        let_go(declared);
-        after(layout, added)
-    }
-
-    // The layout of a type and the constants that it declares, by what is declared above.
-    fn form_here(&self, current: &Open<'a>, tree: &TypeTree) -> Result<Formed, TextErr>
-        ensures { JudgesForm (form (seen (state_of self.now current.now)) tree.now) result }
-    {
         let at = self.here(current);
         let mut names = self.levels.seen(self.alloc, at)?;
-        let found = form_of(self.alloc, tree, &mut names);
+        let judged = form_of(self.alloc, tree, &mut names);
         let_go(names);
-        found
+        let found = judged?;
+        let Formed { layout, declared } = found;
+        'list: for label in declared.as_slice() {
+            self.add_constant(current, label.place, &label.name, What::Number(label.value))?;
+        }
+        Ok(layout)
     }
 
     /// A type with a name.
@@ -114,39 +127,15 @@ impl<'a> Walker<'a> {
     {
         current.declare_at(word.place, word.text.bytes())?;
         let tally = self.tally.with_bits(word.place, layout.width as u64)?;
-        self.put_wire(current, input, layout, word, tally)?;
-        Ok(())
-    }
-
-    // A wire more, by which so much is counted.
-    fn put_wire(
-        &mut self,
-        current: &Open<'a>,
-        input: bool,
-        layout: &Layout,
-        word: &Word,
-        tally: Tally,
-    ) -> Result<(), AllocError>
-        requires sound { IsSound layout.now }
-        requires bits { tally.bits ≡ self.old.tally.bits + width (layout_is layout.now) }
-        requires turns { tally.turns ≡ self.old.tally.turns }
-        ensures { OnOk result (with_wire input (layout_is layout.now) word.now.text (state_of self.old current.now) ≡ state_of self.new current.now) }
-    {
-        let path = self
-            .levels
-            .path(self.alloc, current.level, word.text.bytes())?;
-        let name = word.text.copy()?;
-        let layout_of_wire = copy(self.alloc, layout)?;
-        let what = What::Wire {
-            number: self.wires.len(),
-            layout: layout_of_wire,
-        };
-        self.levels.add_net(current.level, name, what)?;
-        self.wires.push(Signal {
-            path,
-            width: layout.width,
+        put_wire(
+            self.alloc,
+            &mut self.levels,
+            &mut self.wires,
+            current.level,
             input,
-        })?;
+            layout,
+            word,
+        )?;
         self.tally = tally;
         Ok(())
     }
@@ -167,22 +156,7 @@ impl<'a> Walker<'a> {
         Ok(())
     }
 
-    /// Variables of a type.
-    pub(crate) fn add_variables(
-        &mut self,
-        current: &mut Open<'a>,
-        tree: &TypeTree,
-        words: &[Word],
-    ) -> Result<(), TextErr>
-        ensures { Walks (with_form tree.now (λ x. walk_all (add_wire false x) words.now)) self.old current.old self.new current.new result }
-    {
-        let layout = self.formed(current, tree)?;
-        let added = self.add_wires(current, &layout, words);
-        let_go(layout);
-        added
-    }
-
-    /// Nets of a type, or of one bit.
+    /// Nets or variables of a type, or nets of one bit.
     pub(crate) fn add_nets(
         &mut self,
         current: &mut Open<'a>,
@@ -192,7 +166,12 @@ impl<'a> Walker<'a> {
         ensures { Walks (with_form_or_bit (option_copied tree.entry) (λ x. walk_all (add_wire false x) words.now)) self.old current.old self.new current.new result }
     {
         match tree {
-            Some(tree) => self.add_variables(current, tree, words),
+            Some(tree) => {
+                let layout = self.formed(current, tree)?;
+                let added = self.add_wires(current, &layout, words);
+                let_go(layout);
+                added
+            }
             None => self.add_wires(current, &scalar(), words),
         }
     }

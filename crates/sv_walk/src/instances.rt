@@ -9,7 +9,6 @@ ghost use Rattle.sv_levels.specs.Levels.{front_is};
 ghost use Rattle.sv_levels.specs.Library.{IsLibrary, child_alone, known_is};
 ghost use Rattle.sv_walk.specs.declared.walker.Open.{Open as Opened};
 ghost use Rattle.sv_levels.specs.Tasks.{child_is, given_is};
-ghost use Rattle.sv_walk.specs.Instances.{behind_wiring};
 ghost use Rattle.sv_walk.specs.Walks.{Walks, state_of};
 
 use crate::held::{after, let_go};
@@ -71,7 +70,9 @@ impl<'a> Walker<'a> {
     {
         self.header_params(current, tree.params.as_slice())?;
         let ports = self.header_ports(current, top, ports_of(tree))?;
-        add_port_works(self.alloc, at, pins, &ports, &mut self.works)?;
+        let joined = add_port_works(self.alloc, at, pins, &ports, &mut self.works);
+        let_go(ports);
+        joined?;
         self.items(current, tree.items.as_slice())
     }
 
@@ -113,43 +114,17 @@ impl<'a> Walker<'a> {
         done
     }
 
-    // An instance without its children, connected as its pins say.
+    // An instance more without its children, connected as its pins say; or E22.
     fn open_child(&mut self, known: Known<'a>, child: &Child<'a>) -> Result<Open<'a>, TextErr>
         ensures { (current : Opened) → Answers (λ st own. st ≡ state_of self.new own) (child_alone (known_is known.entry) (child_is child.now) (state_of self.old current)) result }
     {
         let wiring = wiring_of(self.alloc, known.tree, child)?;
-        let own = self.open_wired(known, child, &wiring.params, &wiring.pins);
-        let_go(wiring);
-        own
-    }
-
-    // An instance more, with such connections; or E22.
-    fn open_wired(
-        &mut self,
-        known: Known<'a>,
-        child: &Child<'a>,
-        params: &[Connection<'a>],
-        pins: &[Connection<'a>],
-    ) -> Result<Open<'a>, TextErr>
-        ensures { (current : Opened) → Answers (λ st own. st ≡ state_of self.new own) (behind_wiring (known_is known.entry) (child_is child.now) (state_of self.old current) (map connection_is params.now, map connection_is pins.now)) result }
-    {
         self.tally = self.tally.with_bits(child.name.place, 1)?;
-        let mut own = self.begin_child(known, child, params)?;
-        let done = self.instance(&mut own, false, known.tree, child.at, pins);
-        after(own, done)
-    }
-
-    // An instance below another is begun, with what it gives to parameters.
-    fn begin_child(
-        &mut self,
-        known: Known<'a>,
-        child: &Child<'a>,
-        params: &[Connection<'a>],
-    ) -> Result<Open<'a>, AllocError>
-        ensures { (current : Opened) → IfOk result (λ own. state_of self.new own ≡ m.begun (known_is known.entry) (child_is child.now).path child.now.at.level (m.given_by (front_is child.now.at) (map connection_is params.now)) (state_of self.old current)) }
-    {
         let path = child.path.copy()?;
-        let given = given_by(self.alloc, child.at, params)?;
-        self.begin_instance(known, path, child.at.level, given)
+        let given = given_by(self.alloc, child.at, &wiring.params)?;
+        let mut own = self.begin_instance(known, path, child.at.level, given)?;
+        let done = self.instance(&mut own, false, known.tree, child.at, &wiring.pins);
+        let_go(wiring);
+        after(own, done)
     }
 }

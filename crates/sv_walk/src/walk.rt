@@ -22,7 +22,7 @@ impl<'a> Walker<'a> {
     {
         match item {
             Item::Net(_, form, words) => self.add_nets(current, form.as_ref(), words.as_slice()),
-            Item::Variable(form, words) => self.add_variables(current, form, words.as_slice()),
+            Item::Variable(form, words) => self.add_nets(current, Some(form), words.as_slice()),
             Item::Typedef(tree) => self.add_typedef(current, tree),
             Item::Param(tree) => self.add_params(current, tree),
             Item::Genvar(words) => self.add_genvars(current, words.as_slice()),

@@ -1,7 +1,7 @@
 use Rattle.sv_hierarchy.specs.Scopes as m
 use Rattle.sv_names.specs.Kinds.{what_is}
 use Rattle.sv_walk.specs.Walks.{state_of}
-use Rattle.sv_walk.proofs.Declaring.{const_done, const_refused, handed}
+use Rattle.sv_walk.proofs.Declaring.{const_done, const_refused, handed, ran_out}
 use Rattle.sv_walk.proofs.walker.Walker.add_constant.Goals as goal
 
 pub returns-in_err-declare_at : goal.returns-in_err-declare_at
@@ -17,3 +17,9 @@ pub returns : goal.returns
 returns c =
     const_done c.args.self.now c.add_const.new.self c.args.current.now c.declare_at.new.self c.args.place c.args.name.now c.bytes.result.now c.in_ok-text.text c.args.what tt c.bytes.ensures c.in_ok-text.ensures (c.in_ok-declare_at.ensures c.args.self.now)
     c.in_ok-add_const.ensures
+
+pub returns-in_err-text : goal.returns-in_err-text
+returns-in_err-text c = ran_out _ (m.add_constant (record { text = c.args.name.now; place = c.args.place }, what_is c.args.what) (state_of c.args.self.now c.args.current.now)) c.from_residual-in_err-text.result c.from_residual-in_err-text.ensures.1
+
+pub returns-in_err-add_const : goal.returns-in_err-add_const
+returns-in_err-add_const c = ran_out _ (m.add_constant (record { text = c.args.name.now; place = c.args.place }, what_is c.args.what) (state_of c.args.self.now c.args.current.now)) c.from_residual-in_err-add_const.result c.from_residual-in_err-add_const.ensures.1

@@ -46,5 +46,5 @@ returns c =
     (sym (instance_opened c.args.top c.args.tree.now at pins st first second c.as_slice.result.now c.ports_of.result.now c.as_slice-2.result.now (map port_is c.in_ok-ports.ports.items) _ c.as_slice.ensures c.ports_of.ensures c.as_slice-2.ensures
     (walked_to (m.header_params (param_word.Parameter, None) c.as_slice.result.now st) first c.in_ok-header_params.field-0 c.in_ok-header_params.ensures)
     (found_with (λ (v : Vec OpenPort Global). map port_is v.items) (m.header_ports c.args.top way.Input (scalar false) c.ports_of.result.now first) second c.in_ok-ports.ports c.in_ok-ports.ensures.is)
-    (c.in_ok-add_port_works.ensures ∙ ap (λ (ps : List OpenPort). second.works ++ m.port_works at pins (map port_is ps)) c.deref.ensures.value)))
+    (c.in_ok-joined.ensures ∙ ap (λ (ps : List OpenPort). second.works ++ m.port_works at pins (map port_is ps)) c.deref.ensures.value)))
     c.items.ensures

@@ -11,7 +11,7 @@ returns-in-Net c =
 
 pub returns-in-Variable : goal.returns-in-Variable
 returns-in-Variable c =
-    same_walk (act c.args.item.now).item _ c.args.self.now c.args.current.now c.add_variables.new.self c.add_variables.new.current c.add_variables.result (ap (λ (x : Item). (act x).item) c.in-Variable.is ∙ variable_walk c.in-Variable.form c.in-Variable.words ∙ sym (λ i. with_form c.in-Variable.form (λ x. walk_all (add_wire false x) (c.as_slice-in-Variable.ensures i)))) c.add_variables.ensures
+    same_walk (act c.args.item.now).item _ c.args.self.now c.args.current.now c.add_nets-in-Variable.new.self c.add_nets-in-Variable.new.current c.add_nets-in-Variable.result (ap (λ (x : Item). (act x).item) c.in-Variable.is ∙ variable_walk c.in-Variable.form c.in-Variable.words ∙ sym (λ i. with_form c.in-Variable.form (λ x. walk_all (add_wire false x) (c.as_slice-in-Variable.ensures i)))) c.add_nets-in-Variable.ensures
 
 pub returns-in-Typedef : goal.returns-in-Typedef
 returns-in-Typedef c =
