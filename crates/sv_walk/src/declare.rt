@@ -34,7 +34,7 @@ pub(crate) fn scalar() -> Layout
     }
 }
 
-// A wire more, of the scope of a number. It is told of the parts that it changes alone, and its bits are counted by the caller.
+// A wire more in the scope of a number. It is given only the parts that it changes, and the caller counts its bits.
 fn put_wire(
     alloc: Global,
     levels: &mut Levels,
