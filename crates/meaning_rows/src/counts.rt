@@ -25,8 +25,8 @@ pub fn fault_of(error: TextErr) -> Fault {
     }
 }
 
-// Whether a design takes at most so many nodes and drivers.
-fn takes(alloc: Global, text: &[u8], nodes: usize, drivers: usize) -> Result<bool, TextErr> {
+// Whether the nodes and drivers that a design takes are at most so many.
+fn is_within(alloc: Global, text: &[u8], nodes: usize, drivers: usize) -> Result<bool, TextErr> {
     let tokens = tokens_of(alloc, text)?;
     let source = parse(alloc, &tokens)?;
     let flat = elaborate(alloc, &source, None)?;
@@ -44,7 +44,7 @@ impl Judge for Takes<'_> {
     fn row(&mut self, question: &[u8], _wanted: &[u8], said: &mut Vec<u8>) -> Result<(), Fault> {
         let nodes = size_at(question, 0)?;
         let drivers = size_at(question, 1)?;
-        match takes(self.alloc, self.text, nodes, drivers) {
+        match is_within(self.alloc, self.text, nodes, drivers) {
             Ok(true) => put(said, b"yes"),
             Ok(false) => put(said, b"no"),
             Err(error) => Err(fault_of(error)),
