@@ -462,6 +462,15 @@ def variables(size):
 
 
 @kind
+def variables_with_alike_names(size):
+    """The same with names that begin at one place; not of that size, as the search for them grows with the square, but of a hundredth."""
+    names = alike_names(size // 700)
+    design = b"module m(" + counted("input i%d,", len(names)) + b"output y); assign y = 1; endmodule\n"
+    table = "".join("in,i%d,%s\n" % (n, name) for n, name in enumerate(names)).encode() + b"out,y,s\n"
+    return sim(design, table, "".join("%s,1\n" % name for name in names).encode())
+
+
+@kind
 def inputs_of_64_phases(size):
     """Many inputs over 64 phases that turn over."""
     count = size // 140
