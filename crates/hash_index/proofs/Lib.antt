@@ -1,0 +1,4 @@
+pub mod Ways
+pub mod Trees
+pub mod Linking
+pub mod Keeping
