@@ -1,7 +1,7 @@
 -- Values over a cone.
-use Rattle.std.proofs.Common.{◌≡◌, ℕ, ◌+◌, ◌<◌, ⊎_elim, Bool, true, false, not, ◌&&◌, cond, List, [], ◌∷◌, ◌++◌, length, get_or, take, refl, sym, ap, subst, ◌∙◌, arith}
+use Rattle.std.proofs.Common.{◌≡◌, ℕ, ◌+◌, ◌<◌, ⊎_elim, Bool, true, false, not, ◌&&◌, cond, List, [], ◌∷◌, ◌++◌, length, get_or, take, drop, refl, sym, ap, subst, ◌∙◌, arith}
 use Rattle.std.proofs.lemmas.Bool.{cases_eq}
-use Rattle.std.proofs.lemmas.List.{get_or_append_left, get_or_push}
+use Rattle.std.proofs.lemmas.List.{append-nil, drop_all, take_all, get_or_append_left, get_or_push}
 use Rattle.aig.specs.declared.gate.Gate.{Gate}
 use Rattle.aig.specs.declared.gate.Gate.TheVariants.{False, Input, And}
 use Rattle.aig.specs.Graph.{gate_at, gate_value, values, is_placed, count_inputs, IsGraph}
@@ -31,3 +31,10 @@ cone_more inputs gates marks nodes k x h lt closed n before is j below m = ⊎_e
     rw e (get_or_push nodes x false k n ∙ ex))
     (λ ne. get_or_append_left nodes (x ∷ []) false j (omega arith) ∙ before j (omega arith) m)
     (cases_eq j k)
+
+-- ---- a list that was changed as a slice
+
+pub slice_back : {A : Type 0} → (n : ℕ) (new items was : List A) → n ≡ length items → length new ≡ length was → was ≡ items → take n (new ++ drop (length new) items) ≡ new
+slice_back n new items was e same is =
+    let l : length new ≡ length items = same ∙ ap length is in
+    ap (λ r. take n (new ++ r)) (drop_all (length new) items (omega arith)) ∙ ap (take n) (append-nil new) ∙ take_all n new (omega arith)

@@ -1,5 +1,5 @@
 pub mod Values
 pub mod Growth
-pub mod Chains
+pub mod Finding
 pub mod Linked
 pub mod Cones

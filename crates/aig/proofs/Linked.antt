@@ -1,18 +1,17 @@
 -- What a graph and its table keep as they grow.
-use Rattle.std.proofs.Common.{◌≡◌, ◌≢◌, ℕ, Result, Ok, Err, IfOk, IfErr, zero, suc, ◌+◌, ◌<◌, ◌≤◌, ◌⊎◌, inl, inr, ⊎_elim, Bool, true, false, not, ◌&&◌, cond, List, [], ◌∷◌, ◌++◌, length, get_or, replicate, refl, sym, ap, subst, ◌∙◌, arith}
+use Rattle.std.proofs.Common.{◌≡◌, ◌≢◌, ℕ, Result, Ok, Err, IfOk, IfErr, zero, suc, ◌+◌, ◌<◌, ◌≤◌, ◌⊎◌, inl, inr, ⊎_elim, Bool, true, false, not, ◌&&◌, cond, List, [], ◌∷◌, ◌++◌, length, get_or, map, refl, sym, ap, subst, ◌∙◌, arith}
 use Rattle.std.proofs.lemmas.Bool.{cases_eq, cases_lt}
-use Rattle.std.proofs.lemmas.List.{length_push, length-replicate, get_or_append_left, get_or_push, get_or_past}
+use Rattle.std.proofs.lemmas.List.{length_push, get_or_append_left, get_or_push, get_or_past}
 use Rattle.aig.specs.declared.gate.Lit.{Lit}
 use Rattle.aig.specs.declared.gate.Gate.{Gate}
 use Rattle.aig.specs.declared.gate.Gate.TheVariants.{False, Input, And}
 use Rattle.aig.specs.Graph.{gate_at, holds, Says, values, count_inputs, IsGraph, Grows, KeepsValues, IsIn}
 use Rattle.aig.specs.Conjunction.{IsBoth, NeedsNoGate, IsSimplified, IsMadePlain, IsGateOf}
-use Rattle.aig.specs.Table.{IsChained, HasNone, IsHashed, IsLinked, IsKept, IsNodeOf, gate_slot}
+use Rattle.aig.specs.Table.{hash_of, HasNone, IsHashed, IsLinked, IsKept, IsNodeOf}
 use Rattle.aig.proofs.Growth.{IsGraph-push_and, IsGraph-push_input, start, none_counted, Grows-refl, Grows-push, count_inputs-push_input}
 use Rattle.aig.proofs.Values.{always_from, kept_values, value_input}
-use Rattle.aig.proofs.Chains.{chained_same, chained_past, chained_none}
 
--- ---- the table
+-- ---- what is hashed
 
 -- the gates below the end stay as one is pushed
 pushed_same : (gates : List Gate) (g : Gate) (k : ℕ) → k < length gates → gate_at (gates ++ g ∷ []) k ≡ gate_at gates k
@@ -73,41 +72,24 @@ hashed_and gates a b some lt none h = record {
 
 -- ---- what an `Aig` keeps
 
-pub kept_start : (slots : ℕ) (newest : List ℕ) → 0 < slots → newest ≡ replicate slots 0 → IsKept 0 (False ∷ []) [] newest
-kept_start slots newest some e =
-    let long : length newest ≡ slots = ap (λ (xs : List ℕ). length xs) e ∙ length-replicate slots 0 in
-    record {
-      linked = record {
-        graph = start;
-        hashed = hashed_start;
-        slots = omega arith;
-        chained = chained_past 0 (False ∷ []) [] newest refl (chained_none (False ∷ []) [] newest (rw long e) (λ k above. absurd (omega arith)));
-      };
-      counted = none_counted;
-    }
+pub kept_start : (gates : List Gate) (hashes : List ℕ) → gates ≡ False ∷ [] → hashes ≡ map hash_of gates → IsKept 0 gates hashes
+kept_start gates hashes is e = record {
+  linked = record {
+    graph = subst (λ (g : List Gate). IsGraph g) (sym is) start;
+    hashed = subst (λ (g : List Gate). IsHashed g) (sym is) hashed_start;
+    indexed = e;
+  };
+  counted = subst (λ (g : List Gate). 0 ≡ count_inputs g) (sym is) none_counted;
+}
 
-pub kept_input : (inputs : ℕ) (gates : List Gate) (older newest : List ℕ) → IsKept inputs gates older newest → IsKept (inputs + 1) (gates ++ Input inputs ∷ []) older newest
-kept_input inputs gates older newest h =
-    let new : List Gate = gates ++ Input inputs ∷ [] in
-    let long : length gates + 1 ≡ length new = sym (length_push gates (Input inputs)) in
-    record {
-      linked = record {
-        graph = IsGraph-push_input gates inputs h.linked.graph h.counted;
-        hashed = hashed_input gates inputs h.linked.hashed;
-        slots = h.linked.slots;
-        chained = subst (λ (n : ℕ). IsChained n new older newest) long (chained_past (length gates) new older newest (ap (λ (g : Gate). gate_slot (length newest) g) (pushed_last gates (Input inputs)))
-            (chained_same (length gates) gates new older newest (λ k lt. pushed_same gates (Input inputs) k lt) h.linked.chained));
-      };
-      counted = ap (λ n. n + 1) h.counted ∙ sym (count_inputs-push_input gates inputs);
-    }
-
-pub linked_and : (gates : List Gate) (a b : Lit) (older newest older' newest' : List ℕ) → IsLinked gates older newest → 0 < a.node → a.node < b.node → b.node < length gates → HasNone gates (And a b) →
-    0 < length newest' → IsChained (length (gates ++ And a b ∷ [])) (gates ++ And a b ∷ []) older' newest' → IsLinked (gates ++ And a b ∷ []) older' newest'
-linked_and gates a b older newest older' newest' h some lt within none slots c = record {
-  graph = IsGraph-push_and gates a b h.graph (omega arith) within;
-  hashed = hashed_and gates a b some lt none h.hashed;
-  slots = slots;
-  chained = c;
+pub kept_input : (inputs : ℕ) (gates new : List Gate) (hashes hashes' : List ℕ) → new ≡ gates ++ Input inputs ∷ [] → hashes' ≡ map hash_of new → IsKept inputs gates hashes → IsKept (inputs + 1) new hashes'
+kept_input inputs gates new hashes hashes' is e h = record {
+  linked = record {
+    graph = subst (λ (g : List Gate). IsGraph g) (sym is) (IsGraph-push_input gates inputs h.linked.graph h.counted);
+    hashed = subst (λ (g : List Gate). IsHashed g) (sym is) (hashed_input gates inputs h.linked.hashed);
+    indexed = e;
+  };
+  counted = ap (λ n. n + 1) h.counted ∙ sym (count_inputs-push_input gates inputs) ∙ ap (λ (g : List Gate). count_inputs g) (sym is);
 }
 
 pub kept_pushed : (gates : List Gate) (g : Gate) → IsGraph gates → KeepsValues gates (gates ++ g ∷ [])
@@ -250,22 +232,28 @@ open_right a b open_pair = let some : b.node ≢ 0 = λ e. open_pair (inr (inl e
 pub open_apart : (a b : Lit) → (NeedsNoGate a b → ⊥) → b.node ≤ a.node → b.node < a.node
 open_apart a b open_pair h = let apart : a.node ≢ b.node = λ e. open_pair (inr (inr e)) in omega arith
 
--- ---- a gate that is pushed and then linked
+-- ---- a gate that is pushed
 
-pub node_pushed : (gates new : List Gate) (a b : Lit) (k : ℕ) → new ≡ gates ++ And a b ∷ [] → k ≡ length gates → HasNone gates (And a b) → IsNodeOf gates a b new k
+node_pushed : (gates new : List Gate) (a b : Lit) (k : ℕ) → new ≡ gates ++ And a b ∷ [] → k ≡ length gates → HasNone gates (And a b) → IsNodeOf gates a b new k
 node_pushed gates new a b k is e none = record {
   within = omega (arith, e, ap (λ (g : List Gate). length g) is, length_push gates (And a b));
   is = ap (λ (g : List Gate). gate_at g k) is ∙ get_or_push gates (And a b) False k (sym e);
   grown = inr (is, none);
 }
 
-pub chained_pushed : (gates new : List Gate) (g : Gate) (older newest : List ℕ) (k : ℕ) → new ≡ gates ++ g ∷ [] → k ≡ length gates → IsChained (length gates) gates older newest → IsChained k new older newest
-chained_pushed gates new g older newest k is e h =
-    subst (λ (n : ℕ). IsChained n new older newest) (sym e)
-    (subst (λ (x : List Gate). IsChained (length gates) x older newest) (sym is)
-    (chained_same (length gates) gates (gates ++ g ∷ []) older newest (λ j lt. pushed_same gates g j lt) h))
+pub linked_pushed : {E : Type 0} (r : Result ℕ E) (gates new : List Gate) (a b : Lit) (hashes hashes' : List ℕ) → IfOk r (λ k. new ≡ gates ++ And a b ∷ []) → IfErr r (λ _. new ≡ gates) → hashes' ≡ map hash_of new →
+    IsLinked gates hashes → 0 < a.node → a.node < b.node → b.node < length gates → HasNone gates (And a b) → IsLinked new hashes'
+linked_pushed (Ok k) gates new a b hashes hashes' is kept e h some lt within none = record {
+  graph = subst (λ (g : List Gate). IsGraph g) (sym is) (IsGraph-push_and gates a b h.graph (omega arith) within);
+  hashed = subst (λ (g : List Gate). IsHashed g) (sym is) (hashed_and gates a b some lt none h.hashed);
+  indexed = e;
+}
+linked_pushed (Err e') gates new a b hashes hashes' is kept e h some lt within none = record {
+  graph = subst (λ (g : List Gate). IsGraph g) (sym kept) h.graph;
+  hashed = subst (λ (g : List Gate). IsHashed g) (sym kept) h.hashed;
+  indexed = e;
+}
 
-pub linked_pushed : (gates new : List Gate) (a b : Lit) (older newest older' newest' : List ℕ) → new ≡ gates ++ And a b ∷ [] → IsLinked gates older newest → 0 < a.node → a.node < b.node → b.node < length gates → HasNone gates (And a b) → 0 < length newest' → IsChained (length new) new older' newest' → IsLinked new older' newest'
-linked_pushed gates new a b older newest older' newest' is h some lt within none slots c =
-    subst (λ (g : List Gate). IsLinked g older' newest') (sym is)
-    (linked_and gates a b older newest older' newest' h some lt within none slots (subst (λ (g : List Gate). IsChained (length g) g older' newest') is c))
+pub node_made : {E : Type 0} (r : Result ℕ E) (gates new : List Gate) (a b : Lit) → IfOk r (λ k. new ≡ gates ++ And a b ∷ []) → IfOk r (λ k. k ≡ length gates) → HasNone gates (And a b) → IfOk r (IsNodeOf gates a b new)
+node_made (Ok k) gates new a b is e none = node_pushed gates new a b k is e none
+node_made (Err e') gates new a b is e none = tt

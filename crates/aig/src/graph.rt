@@ -1,5 +1,5 @@
-//! The graph, and the calls that grow it. Beside the gates stands a table of chains, by which a conjunction of the same two
-//! operands is found again and not made twice; the operand with the lower node comes first, so that both orders are one.
+//! The graph, and the calls that grow it. Beside the gates stands an index of their hashes, by which a conjunction of the same
+//! two operands is found again and not made twice; the operand with the lower node comes first, so that both orders are one.
 //! Operands that decide the value make no gate. Where memory runs out the graph is as before.
 
 ghost use Rattle.std.specs.Prelude.{◌≡◌, ℕ, ◌+◌, ◌<◌, ◌≤◌, IfOk, IfErr, Bool, false, [], ◌∷◌, ◌++◌, length, List, slice_index_or};
@@ -11,22 +11,19 @@ ghost use Rattle.aig.specs.Table.{IsHashed, IsNodeOf};
 
 use crate::eval::value_at;
 use crate::gate::{Gate, Lit, without_gate};
-use crate::table::node_of;
+use crate::table::{node_of, push_gate};
+use hash_index::HashIndex;
 use std::alloc::{AllocError, Global};
 use std::marker::Model;
 
-// The slots of the table of a new graph.
-const FIRST_SLOTS: usize = 65;
-
 /// An and-inverter graph. Contracts see the list of its gates, by the numbers of the nodes.
 ///
-/// Beside the gates it keeps a table of chains by number, by which a conjunction is found again.
+/// Beside the gates it keeps an index of their hashes, by which a conjunction is found again.
 #[derive(Drop)]
 pub struct Aig {
     gates: Vec<Gate>,
     inputs: usize,
-    older: Vec<usize>,
-    newest: Vec<usize>,
+    index: HashIndex,
 }
 
 impl Model for Aig {
@@ -38,7 +35,7 @@ impl Model for Aig {
 
     ghost view = { λ a. a.gates.items };
 
-    ghost invariant = { λ a. IsKept a.inputs a.gates.items a.older.items a.newest.items };
+    ghost invariant = { λ a. IsKept a.inputs a.gates.items a.index };
 }
 
 impl Aig {
@@ -47,13 +44,12 @@ impl Aig {
         ensures { IfOk result (λ aig. aig ≡ False ∷ []) }
     {
         let mut gates = Vec::new(alloc);
-        gates.push(Gate::False)?;
-        let newest = vec![in alloc; 0; FIRST_SLOTS]?;
+        let mut index = HashIndex::new(alloc);
+        push_gate(&mut gates, &mut index, Gate::False)?;
         Ok(Aig {
             gates,
             inputs: 0,
-            older: Vec::new(alloc),
-            newest,
+            index,
         })
     }
 
@@ -92,8 +88,8 @@ impl Aig {
         ensures graph { IsGraph self.new }
         ensures refused { IfErr result (λ e. self.new ≡ self.old) }
     {
-        let node = self.gates.len();
-        self.gates.push(Gate::Input(self.inputs))?;
+        let gate = Gate::Input(self.inputs);
+        let node = push_gate(&mut self.gates, &mut self.index, gate)?;
         self.inputs += 1;
         Ok(Lit {
             node,
@@ -113,7 +109,7 @@ impl Aig {
         ensures graph { IsGraph self.new }
         ensures hashed { IsHashed self.old }
     {
-        let node = node_of(&mut self.gates, &mut self.older, &mut self.newest, a, b)?;
+        let node = node_of(&mut self.gates, &mut self.index, a, b)?;
         Ok(Lit {
             node,
             negated: false,

@@ -1,7 +1,7 @@
 use Rattle.std.proofs.Common.{◌≡◌, ◌+◌, ◌∙◌, ◌++◌, ◌∷◌, [], List, Bool, true, false, length, get_or, sym, ap, subst, arith}
 use Rattle.std.proofs.lemmas.Result.{IfOk-from_err}
 use Rattle.std.proofs.lemmas.List.{length_push, get_or_push}
-use Rattle.aig.proofs.Chains.{slice_back}
+use Rattle.aig.proofs.Cones.{slice_back}
 use Rattle.aig.proofs.eval.cone_of.Goals as goal
 
 pub returns-in_err-resize : goal.returns-in_err-resize
