@@ -1,12 +1,12 @@
 -- What an index keeps as its lists grow and shrink.
-use Rattle.std.proofs.Common.{◌≡◌, ℕ, zero, suc, ◌<◌, ◌≤◌, inl, inr, List, [], ◌∷◌, ◌++◌, take, drop, length, refl, sym, ap, ◌∙◌, subst, arith}
+use Rattle.std.proofs.Common.{◌≡◌, ℕ, Result, Ok, Err, zero, suc, ◌<◌, ◌≤◌, inl, inr, List, [], ◌∷◌, ◌++◌, take, drop, length, replicate, refl, sym, ap, ◌∙◌, subst, arith}
 use Rattle.std.proofs.lemmas.Bool.{cases_lt}
 use Rattle.std.proofs.lemmas.List.{append-nil, drop_all, take_all, length_push, get_or_append_left, get_or_past, get_or-take, length-take-le}
-use Rattle.std.specs.Prelude.{slice_index}
+use Rattle.std.specs.Prelude.{slice_index, OnErr}
 use Rattle.hash_index.specs.declared.tree.Place.{Place}
 use Rattle.hash_index.specs.declared.tree.Place.TheVariants.{Root, Low, High}
 use Rattle.hash_index.specs.Tree.{link_at, IsRising, IsTree, IsLinked, IsKept}
-use Rattle.hash_index.proofs.Trees.{tree_same}
+use Rattle.hash_index.proofs.Trees.{tree_none, tree_same}
 
 pub kept_linked : (hashes low high roots : List ℕ) → IsKept hashes low high roots → IsLinked (length hashes) hashes low high roots
 kept_linked hashes low high roots k = record { low_room = omega (arith, k.low_len); high_room = omega (arith, k.high_len); tree = k.tree }
@@ -17,6 +17,30 @@ linked_kept n hashes low high roots is low_is high_is l = record {
   high_len = high_is ∙ sym is;
   tree = subst (λ m. IsTree m (length roots) hashes (link_at low high roots)) (sym is) l.tree;
 }
+
+-- ---- no entry
+
+none_at : (n k : ℕ) → slice_index (replicate n 0) k ≡ 0
+none_at zero k = refl
+none_at (suc n) zero = refl
+none_at (suc n) (suc k) = none_at n k
+
+pub linked_none : (hashes low high roots : List ℕ) (n m b : ℕ) → low ≡ replicate n 0 → high ≡ replicate m 0 → roots ≡ replicate b 0 → IsLinked 0 hashes low high roots
+linked_none hashes low high roots n m b l h r = record {
+  low_room = omega arith;
+  high_room = omega arith;
+  tree = tree_none (length roots) hashes (link_at low high roots) none;
+}
+  where
+    none : (p : Place) → link_at low high roots p ≡ 0
+    none (Root k) = ap (λ (xs : List ℕ). slice_index xs k) r ∙ none_at b k
+    none (Low k) = ap (λ (xs : List ℕ). slice_index xs k) l ∙ none_at n k
+    none (High k) = ap (λ (xs : List ℕ). slice_index xs k) h ∙ none_at m k
+
+-- what stays where a call fails
+pub on_err : {T E : Type 0} (r : Result T E) (P : Type 0) → P → OnErr r P
+on_err (Ok x) P h = tt
+on_err (Err y) P h = h
 
 -- ---- a list that was changed as a slice
 
