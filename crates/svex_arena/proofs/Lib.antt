@@ -5,7 +5,8 @@ pub mod Widths
 pub mod Lifted
 pub mod Marking
 pub mod Evaluating
-pub mod Chains
+pub mod Looking
+pub mod Spreading
 pub mod Keeping
 pub mod Substituting
 pub mod Cutting

@@ -1,8 +1,8 @@
 -- What holds of every arena, and how one grows.
-use Rattle.std.specs.Prelude.{◌≡◌, ℕ, ◌<◌, ◌≤◌, List, [], ◌∷◌, ◌++◌, length, ◌⊎◌, slice_index}
+use Rattle.std.specs.Prelude.{◌≡◌, ℕ, ◌<◌, ◌≤◌, List, [], ◌∷◌, ◌++◌, length, map, ◌⊎◌, slice_index}
 use Rattle.svex_shape.specs.declared.shape.Shape.{Shape}
 use Rattle.svex_shape.specs.Shapes.{shape_at, ChildrenBelow, FitsWidths, width_at}
-use Rattle.svex_arena.specs.Buckets.{IsChained}
+use Rattle.svex_arena.specs.Hashes.{hash_of}
 
 -- children are earlier nodes, widths fit, and no two shapes are equal
 pub record IsArena (shapes : List Shape) : Type 0 where
@@ -22,10 +22,9 @@ abbrev pub Interned : List Shape → Shape → List Shape → ℕ → Type 0
 Interned old shape new node =
     (node < length new) × (shape_at new node ≡ shape) × ((new ≡ old) ⊎ ((new ≡ old ++ shape ∷ []) × (node ≡ length old)))
 
--- what an arena keeps: the widths of its nodes and the buckets of their shapes
-pub record IsKept (shapes : List Shape) (widths older newest : List ℕ) : Type 0 where
+-- what an arena keeps: the widths of its nodes and the hashes of their shapes
+pub record IsKept (shapes : List Shape) (widths hashes : List ℕ) : Type 0 where
   pub arena : IsArena shapes
   pub wide : length widths ≡ length shapes
   pub sized : (k : ℕ) → k < length shapes → slice_index widths k ≡ width_at shapes k
-  pub linked : length older ≡ length shapes
-  pub chained : IsChained (length shapes) shapes older newest
+  pub hashed : hashes ≡ map hash_of shapes

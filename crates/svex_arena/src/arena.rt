@@ -1,33 +1,31 @@
-//! The arena: nodes by number, no two with equal shapes. Shapes, widths and chains are lists of their own with one place for
-//! each node, so that contracts see the list of shapes alone. Buckets are made anew, twice as many as nodes, whenever the nodes
-//! reach their number, so a shape is found in constant time on average. Room in all three lists is made before a node is put
-//! into them, so that none is left half added.
+//! The arena: nodes by number, no two with equal shapes. Shapes and widths are lists of their own with one place for each node, so
+//! that contracts see the list of shapes alone. Beside them stands an index of the hashes of the shapes in the same order: a look
+//! for a shape passes at most 64 nodes of other hashes there, whatever the design was written for. Room in both lists is made
+//! before a node is put into them and the index, so that none is left half added.
 
-ghost use Rattle.std.specs.Prelude.{◌≡◌, ℕ, ◌<◌, ◌≤◌, ◌+◌, [], ◌∷◌, ◌++◌, length, take, slice_index, IfOk, IfSome, OnOk, OnErr, IsTrue};
+ghost use Rattle.std.specs.Prelude.{◌≡◌, ℕ, ◌<◌, ◌≤◌, ◌+◌, [], ◌∷◌, ◌++◌, length, map, take, slice_index, IfOk, IfSome, IfNone, OnOk, OnErr, IsTrue};
 ghost use Rattle.svex_shape.specs.Shapes.{ChildrenBelow, FitsWidths, IsWidth, OnChildren, shape_at, width_at, width_of};
 ghost use Rattle.svex_shape.specs.Values.{value_at, read, held, has_variable, each_variable};
 ghost use Rattle.svex_arena.specs.Arenas.{IsArena, IsKept, Interned, Extends};
-ghost use Rattle.svex_arena.specs.Buckets.{IsChained, HasNone};
+ghost use Rattle.svex_arena.specs.Hashes.{hash_of};
+ghost use Rattle.svex_arena.specs.Looks.{HasNone};
 ghost use Rattle.svex_arena.specs.Marks.{IsClosed, HasRoots, OnlyReached};
 
-use crate::buckets::{find, link, link_all, unlink_from};
 use crate::eval::node_value;
+use crate::hashing::hash;
 use crate::marks::marks_of;
 use fourvec::Four;
+use hash_index::HashIndex;
 use std::alloc::{AllocError, Global};
 use std::marker::Model;
-use svex_shape::{Env, Node, Shape, shape_width};
+use svex_shape::{Env, Node, Shape, same, shape_width};
 
 /// A graph of expressions in which no two nodes have equal shapes. Contracts see the list of its shapes, by the numbers of the
 /// nodes; children have lower numbers.
-///
-/// Nodes whose hashes fall into one bucket are chained: a bucket has one more than the number of its newest node, and a node one
-/// more than that of the next older node of its bucket; 0 ends the chain.
 pub struct Arena {
     shapes: Vec<Shape>,
     widths: Vec<u8>,
-    older: Vec<usize>,
-    newest: Vec<usize>,
+    index: HashIndex,
 }
 
 impl Drop for Arena {
@@ -35,8 +33,7 @@ impl Drop for Arena {
         let Arena {
             shapes: _,
             widths: _,
-            older: _,
-            newest: _,
+            index: _,
         } = self;
     }
 }
@@ -50,82 +47,49 @@ impl Model for Arena {
 
     ghost view = { λ a. a.shapes.items };
 
-    ghost invariant = { λ a. IsKept a.shapes.items a.widths.items a.older.items a.newest.items };
+    ghost invariant = { λ a. IsKept a.shapes.items a.widths.items a.index };
 }
 
-// Makes new buckets, about two for each node.
-fn grow(
-    alloc: Global,
-    shapes: &[Shape],
-    older: &mut [usize],
-    newest: &mut Vec<usize>,
-) -> Result<(), AllocError>
-    requires room { length shapes.now ≤ length older.old }
-    ensures chained { OnOk result (IsChained (length shapes.now) shapes.now older.new newest.new.items) }
-    ensures some { OnOk result (0 < length newest.new.items) }
-    ensures older { OnErr result (older.new ≡ older.old) }
-    ensures newest { OnErr result (newest.new.items ≡ newest.old.items) }
+// The node that has a shape.
+fn find(shapes: &[Shape], index: &HashIndex, shape: &Shape) -> Option<usize>
+    requires hashed { index.now ≡ map hash_of shapes.now }
+    ensures within { IfSome result (λ k. k < length shapes.now) }
+    ensures found { IfSome result (λ k. shape_at shapes.now k ≡ shape.now) }
+    ensures none { IfNone result (HasNone shapes.now shape.now (length shapes.now)) }
 {
-    let buckets = shapes.len().saturating_mul(2).saturating_add(17);
-    let mut made = vec![in alloc; 0; buckets]?;
-    link_all(shapes, older, &mut made);
-    *newest = made;
-    Ok(())
-}
-
-// Makes sure that there are more buckets than nodes.
-fn make_room(
-    alloc: Global,
-    shapes: &[Shape],
-    older: &mut Vec<usize>,
-    newest: &mut Vec<usize>,
-) -> Result<(), AllocError>
-    requires room { length shapes.now ≤ length older.old.items }
-    requires chained { IsChained (length shapes.now) shapes.now older.old.items newest.old.items }
-    ensures chained { IsChained (length shapes.now) shapes.now older.new.items newest.new.items }
-    ensures linked { length older.new.items ≡ length older.old.items }
-    ensures some { OnOk result (0 < length newest.new.items) }
-{
-    if newest.len() <= shapes.len() {
-        grow(alloc, shapes, older.as_mut_slice(), newest)?;
+    let wanted = hash(shape);
+    let mut from = 0;
+    while let Some(node) = index.at_or_after(wanted, from) {
+        if same(&shapes[node], shape) {
+            return Some(node);
+        }
+        from = node + 1;
     }
-    Ok(())
+    None
 }
 
-// Adds a node that is not linked yet.
+// Adds a node.
 fn push_node(
+    alloc: Global,
     shapes: &mut Vec<Shape>,
     widths: &mut Vec<u8>,
-    older: &mut Vec<usize>,
+    index: &mut HashIndex,
     shape: &Shape,
     width: u8,
 ) -> Result<(), AllocError>
     ensures shapes { OnOk result (shapes.new.items ≡ shapes.old.items ++ shape.now ∷ []) }
     ensures widths { OnOk result (widths.new.items ≡ widths.old.items ++ width ∷ []) }
-    ensures older { OnOk result (older.new.items ≡ older.old.items ++ 0 ∷ []) }
+    ensures index { OnOk result (index.new ≡ index.old ++ hash_of shape.now ∷ []) }
     ensures shapes_kept { OnErr result (shapes.new.items ≡ shapes.old.items) }
     ensures widths_kept { OnErr result (widths.new.items ≡ widths.old.items) }
-    ensures older_kept { OnErr result (older.new.items ≡ older.old.items) }
+    ensures index_kept { OnErr result (index.new ≡ index.old) }
 {
     shapes.reserve(1)?;
     widths.reserve(1)?;
-    older.reserve(1)?;
+    index.push(alloc, hash(shape))?;
     shapes.push_reserved(*shape);
     widths.push_reserved(width);
-    older.push_reserved(0);
     Ok(())
-}
-
-// Links the last node.
-fn link_last(shapes: &[Shape], node: usize, older: &mut Vec<usize>, newest: &mut Vec<usize>)
-    requires within { node < length shapes.now }
-    requires some { 0 < length newest.old.items }
-    requires chained { IsChained node shapes.now older.old.items newest.old.items }
-    requires room { node < length older.old.items }
-    ensures chained { IsChained (node + 1) shapes.now older.new.items newest.new.items }
-    ensures len { length older.new.items ≡ length older.old.items }
-{
-    link(shapes, node, older, newest);
 }
 
 // The width of a shape over an arena's nodes.
@@ -149,62 +113,23 @@ fn intern_in(
     alloc: Global,
     shapes: &mut Vec<Shape>,
     widths: &mut Vec<u8>,
-    older: &mut Vec<usize>,
-    newest: &mut Vec<usize>,
+    index: &mut HashIndex,
     shape: &Shape,
 ) -> Result<usize, AllocError>
-    requires kept { IsKept shapes.old.items widths.old.items older.old.items newest.old.items }
+    requires kept { IsKept shapes.old.items widths.old.items index.old }
     requires children { ChildrenBelow (length shapes.old.items) shape.now }
     requires fits { FitsWidths (width_at shapes.old.items) shape.now }
-    ensures kept { IsKept shapes.new.items widths.new.items older.new.items newest.new.items }
+    ensures kept { IsKept shapes.new.items widths.new.items index.new }
     ensures is { IfOk result (λ n. Interned shapes.old.items shape.now shapes.new.items n) }
     ensures err { OnErr result (shapes.new.items ≡ shapes.old.items) }
 {
-    make_room(alloc, shapes, older, newest)?;
-    if let Some(node) = find(shapes, older, newest, shape) {
+    if let Some(node) = find(shapes, index, shape) {
         return Ok(node);
     }
     let width = width_over(shapes, widths, shape);
     let node = shapes.len();
-    push_node(shapes, widths, older, shape, width)?;
-    link_last(shapes, node, older, newest);
+    push_node(alloc, shapes, widths, index, shape, width)?;
     Ok(node)
-}
-
-// Takes the nodes from a number on away.
-#[tactic(auto, using(crate::proofs::Cutting::some_bucket))]
-fn cut_from(
-    len: usize,
-    shapes: &mut Vec<Shape>,
-    widths: &mut Vec<u8>,
-    older: &mut Vec<usize>,
-    newest: &mut Vec<usize>,
-)
-    requires within { len < length shapes.old.items }
-    requires linked { length older.old.items ≡ length shapes.old.items }
-    requires chained { IsChained (length shapes.old.items) shapes.old.items older.old.items newest.old.items }
-    ensures shapes { shapes.new.items ≡ take len shapes.old.items }
-    ensures widths { widths.new.items ≡ take len widths.old.items }
-    ensures older { older.new.items ≡ take len older.old.items }
-    ensures chained { IsChained len shapes.old.items older.old.items newest.new.items }
-{
-    unlink_from(shapes, len, older, newest);
-    shapes.truncate(len);
-    widths.truncate(len);
-    older.truncate(len);
-}
-
-// Copies of the lists that chain nodes.
-fn chains_copied(
-    alloc: Global,
-    older: &[usize],
-    newest: &[usize],
-) -> Result<(Vec<usize>, Vec<usize>), AllocError>
-    ensures { IfOk result (λ p. (p.0.items ≡ older.now) × (p.1.items ≡ newest.now)) }
-{
-    let older = older.to_vec(alloc)?;
-    let newest = newest.to_vec(alloc)?;
-    Ok((older, newest))
 }
 
 impl Arena {
@@ -216,8 +141,7 @@ impl Arena {
         Arena {
             shapes: Vec::new(alloc),
             widths: Vec::new(alloc),
-            older: Vec::new(alloc),
-            newest: Vec::new(alloc),
+            index: HashIndex::new(alloc),
         }
     }
 
@@ -249,7 +173,9 @@ impl Arena {
         self.widths[node.index()]
     }
 
-    /// The node of a shape: the one that has it, or else a new one, numbered by the old length. Takes constant time on average.
+    /// The node of a shape: the one that has it, or else a new one, numbered by the old length.
+    ///
+    /// The look for it passes at most 64 nodes of other hashes, and those of its own hash.
     pub fn intern(&mut self, alloc: Global, shape: Shape) -> Result<Node, AllocError>
         requires children { ChildrenBelow (length self.old) shape }
         requires fits { FitsWidths (width_at self.old) shape }
@@ -262,28 +188,20 @@ impl Arena {
             alloc,
             &mut self.shapes,
             &mut self.widths,
-            &mut self.older,
-            &mut self.newest,
+            &mut self.index,
             &shape,
         )?;
         Ok(Node::new(node))
     }
 
     /// Takes the nodes from a number on away. The others keep their numbers and shapes.
-    #[tactic(auto, using(crate::proofs::Cutting::kept_less))]
     pub fn cut(&mut self, len: usize)
         requires { len ≤ length self.old }
         ensures { self.new ≡ take len self.old }
     {
-        if len < self.shapes.len() {
-            cut_from(
-                len,
-                &mut self.shapes,
-                &mut self.widths,
-                &mut self.older,
-                &mut self.newest,
-            );
-        }
+        self.shapes.truncate(len);
+        self.widths.truncate(len);
+        self.index.truncate(len);
     }
 
     /// An arena with the same nodes and shapes.
@@ -292,12 +210,11 @@ impl Arena {
     {
         let shapes = self.shapes.as_slice().to_vec(alloc)?;
         let widths = self.widths.as_slice().to_vec(alloc)?;
-        let (older, newest) = chains_copied(alloc, self.older.as_slice(), self.newest.as_slice())?;
+        let index = self.index.copy(alloc)?;
         Ok(Arena {
             shapes,
             widths,
-            older,
-            newest,
+            index,
         })
     }
 

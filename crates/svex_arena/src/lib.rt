@@ -5,9 +5,9 @@
 #![tactic(auto)]
 
 mod arena;
-mod buckets;
 mod eval;
 mod fitting;
+mod hashing;
 mod laws;
 mod marks;
 mod subst;

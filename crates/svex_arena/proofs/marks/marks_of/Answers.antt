@@ -2,7 +2,7 @@ use Rattle.std.proofs.Common.{◌∙◌, List, Bool, false, length, sym, ap, sub
 use Rattle.std.proofs.lemmas.Result.{IfOk-from_err}
 use Rattle.std.proofs.lemmas.List.{length-replicate}
 use Rattle.svex_arena.specs.Marks.{IsClosed, HasRoots, OnlyReached}
-use Rattle.svex_arena.proofs.Chains.{slice_back}
+use Rattle.svex_arena.proofs.Marking.{slice_back}
 use Rattle.svex_arena.proofs.marks.marks_of.Goals as goal
 
 pub returns-in_err-marks : goal.returns-in_err-marks

@@ -7,5 +7,5 @@ returns-in_err-shapes c = IfOk-from_err _ _ c.from_residual.ensures.0
 pub returns-in_err-widths : goal.returns-in_err-widths
 returns-in_err-widths c = IfOk-from_err _ _ c.from_residual-in_err-widths.ensures.0
 
-pub returns-in_err-older : goal.returns-in_err-older
-returns-in_err-older c = IfOk-from_err _ _ c.from_residual-in_err-older.ensures.0
+pub returns-in_err-index : goal.returns-in_err-index
+returns-in_err-index c = IfOk-from_err _ _ c.from_residual-in_err-index.ensures.0
