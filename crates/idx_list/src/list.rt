@@ -41,9 +41,9 @@ impl IdxList {
     pub fn new(alloc: Global, room: usize) -> Result<IdxList, AllocError>
         ensures { IfOk result (λ list. list ≡ record { room = room; items = [] }) }
     {
-        let count = room.checked_add(1).ok_or(AllocError)?;
-        let mut links = Vec::with_capacity(alloc, count)?;
-        for number in 0..count {
+        // No vector has room for 2 ^ 63 links, so that the sum is exact wherever the room is had.
+        let mut links = Vec::with_capacity(alloc, room.saturating_add(1))?;
+        for number in 0..room + 1 {
             links.push(Link {
                 prev: number,
                 next: number,
