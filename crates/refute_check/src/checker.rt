@@ -40,22 +40,21 @@ impl Model for Checker {
     ghost invariant = { λ c. c.marks ≡ replicate (length c.marks) None };
 }
 
-/// Above each variable that the clauses name, and at least `vars`. No room for 2 ^ 64 variables can be had.
-fn width_of(vars: usize, clauses: &[Vec<Dim>]) -> Result<usize, AllocError>
-    ensures { IfOk result (λ width. (vars ≤ width) × AllBelow width (map (λ v. v.items) clauses.now)) }
+/// At least `vars`, and above each variable that the clauses name, unless it is the greatest `usize`: room for so many can not
+/// be had.
+fn width_of(vars: usize, clauses: &[Vec<Dim>]) -> usize
+    ensures least { vars ≤ result }
+    ensures above { result < usize.MAX → AllBelow result (map (λ v. v.items) clauses.now) }
 {
     let mut width = vars;
     for clause in clauses {
         for d in clause {
-            if d.var == usize::MAX {
-                return Err(AllocError);
-            }
             if d.var >= width {
-                width = d.var + 1;
+                width = d.var.saturating_add(1);
             }
         }
     }
-    Ok(width)
+    width
 }
 
 #[tactic(auto, using(crate::proofs::Derivations::empty_at))]
@@ -126,7 +125,7 @@ impl Checker {
     pub fn new(alloc: Global, cnf: &Cnf, _log: &Log) -> Result<Checker, AllocError>
         ensures { IfOk result (λ checker. Fits checker cnf.now) }
     {
-        let width = width_of(cnf.vars, cnf.clauses.as_slice())?;
+        let width = width_of(cnf.vars, cnf.clauses.as_slice());
         Ok(Checker {
             marks: Marks::new(alloc, width)?,
         })

@@ -2,7 +2,7 @@
 //! taking them back costs what was set and not the number of variables. The trail has room for all variables from the
 //! beginning, since none is set twice, so only `new` takes memory.
 
-ghost use Rattle.std.specs.Prelude.{◌≡◌, ◌<◌, ◌≤◌, ◌↔◌, None, length, IsTrue, IfOk, replicate, vec_capacity};
+ghost use Rattle.std.specs.Prelude.{◌≡◌, ◌^◌, ◌<◌, ◌≤◌, ◌↔◌, None, length, IsTrue, IfOk, OnOk, replicate, vec_capacity};
 ghost use Rattle.std.specs.Bool.{OnTrue};
 ghost use Rattle.cnf.specs.Clauses.{AreBelow, valuation, all_open, assume, denied, IsOpen};
 ghost use Rattle.cnf.specs.State.{IsState};
@@ -59,9 +59,10 @@ fn state_in(values: &[Option<bool>], literals: &mut Literals<'_>) -> ClauseState
 }
 
 impl Marks {
-    /// Marks for the variables below `width`, which are open.
+    /// Marks for the variables below `width`, which are open. No vector has room for 2 ^ 63 of them.
     pub fn new(alloc: Global, width: usize) -> Result<Marks, AllocError>
-        ensures { IfOk result (λ marks. marks ≡ replicate width None) }
+        ensures open { IfOk result (λ marks. marks ≡ replicate width None) }
+        ensures width { OnOk result (width < 2 ^ 63) }
     {
         let open: Option<bool> = None;
         Ok(Marks {
