@@ -7,7 +7,7 @@ use Rattle.refute_check.specs.declared.number.Number.{Number}
 use Rattle.refute_check.specs.Groups.{value}
 use Rattle.cnf.specs.declared.Dim.{Dim}
 use Rattle.refute_check.specs.Entry.{Entry}
-use Rattle.refute_check.specs.Packed.{literal_of, entry_from}
+use Rattle.refute_check.specs.Packed.{literal_of, place_at, places_at, entry_from}
 
 -- ---- readers
 
@@ -23,11 +23,13 @@ taken_more left after rest later n lt e is =
     let s : left ≡ suc after = omega arith in
     ap (λ l. map literal_of (take left l)) is ∙ ap (λ k. map literal_of (take k (n ∷ later))) s
 
-pub hints_end : (rest : List Number) → rest ≡ [] → map value rest ≡ []
-hints_end rest e = ap (λ l. map value l) e
+pub hints_end : (last : ℕ) (rest : List Number) → rest ≡ [] → places_at last (map literal_of rest) ≡ []
+hints_end last rest e = ap (λ l. places_at last (map literal_of l)) e
 
-pub hints_more : (rest later : List Number) (n : Number) → rest ≡ n ∷ later → map value rest ≡ value n ∷ map value later
-hints_more rest later n e = ap (λ l. map value l) e
+pub hints_more : (last h : ℕ) (rest later : List Number) (n : Number) → rest ≡ n ∷ later → h ≡ place_at last (literal_of n) →
+    places_at last (map literal_of rest) ≡ h ∷ places_at h (map literal_of later)
+hints_more last h rest later n e is =
+    ap (λ l. places_at last (map literal_of l)) e ∙ ap (λ (k : ℕ). k ∷ places_at k (map literal_of later)) (sym is)
 
 -- ---- the parts of a row
 
@@ -39,13 +41,13 @@ pub clause_some : (row rest : List Number) (n : Number) → row ≡ n ∷ rest �
 unfolding entry_from
 clause_some row rest n e = sym (ap (λ l. (entry_from l).clause) e)
 
-pub hints_none : (row rest : List Number) → row ≡ [] → rest ≡ [] → map value rest ≡ (entry_from row).hints
+pub hints_none : (row rest : List Number) → row ≡ [] → rest ≡ [] → places_at 0 (map literal_of rest) ≡ (entry_from row).hints
 unfolding entry_from
-hints_none row rest e f = ap (λ l. map value l) f ∙ sym (ap (λ l. (entry_from l).hints) e)
+hints_none row rest e f = ap (λ l. places_at 0 (map literal_of l)) f ∙ sym (ap (λ l. (entry_from l).hints) e)
 
-pub hints_some : (row rest left : List Number) (n : Number) → row ≡ n ∷ rest → left ≡ drop (value n) rest → map value left ≡ (entry_from row).hints
+pub hints_some : (row rest left : List Number) (n : Number) → row ≡ n ∷ rest → left ≡ drop (value n) rest → places_at 0 (map literal_of left) ≡ (entry_from row).hints
 unfolding entry_from
-hints_some row rest left n e f = ap (λ l. map value l) f ∙ sym (ap (λ l. (entry_from l).hints) e)
+hints_some row rest left n e f = ap (λ l. places_at 0 (map literal_of l)) f ∙ sym (ap (λ l. (entry_from l).hints) e)
 
 -- ---- a loop over what is left
 

@@ -1,9 +1,9 @@
-//! Literals and hints as numbers of a row.
+//! Literals and hints as numbers of a row. Of a hint the row has how far it is from the one before it, which is a smaller number.
 
 ghost use Rattle.std.specs.Prelude.{◌≡◌, ◌≤◌, ◌++◌, ◌∷◌, IfOk, OnOk, length, map, if◌then◌else◌};
 ghost use Rattle.cnf.specs.declared.Dim.{Dim};
 ghost use Rattle.refute_check.specs.Groups.{value, whole};
-ghost use Rattle.refute_check.specs.Packed.{literal_of, number_of};
+ghost use Rattle.refute_check.specs.Packed.{distance, hint_numbers, literal_of, number_of, place_at, places_at};
 
 use crate::Number;
 use cnf::Dim;
@@ -54,23 +54,57 @@ fn put_literals(numbers: &mut Vec<Number>, clause: &[Dim]) -> Result<(), AllocEr
     Ok(())
 }
 
+// How far a number is from another.
+#[tactic(auto, unfolding(crate::specs::Packed::distance))]
+fn distance(from: usize, to: usize) -> Dim
+    ensures is { result ≡ distance from to }
+    ensures back { place_at from (distance from to) ≡ to }
+{
+    if from <= to {
+        Dim {
+            var: to - from,
+            negated: false,
+        }
+    } else {
+        Dim {
+            var: from - to,
+            negated: true,
+        }
+    }
+}
+
+/// The number that is so far from another.
+#[tactic(auto, unfolding(crate::specs::Packed::place_at))]
+pub fn place_at(from: usize, d: Dim) -> usize
+    ensures { result ≡ place_at from d }
+{
+    if d.negated {
+        from.wrapping_sub(d.var)
+    } else {
+        from.wrapping_add(d.var)
+    }
+}
+
 // Puts hints behind numbers.
 fn put_hints(numbers: &mut Vec<Number>, hints: &[usize]) -> Result<(), AllocError>
-    ensures put { OnOk result (numbers.new.items ≡ numbers.old.items ++ map whole hints.now) }
-    ensures back { OnOk result (map value (map whole hints.now) ≡ hints.now) }
+    ensures put { OnOk result (numbers.new.items ≡ numbers.old.items ++ hint_numbers hints.now) }
+    ensures back { OnOk result (places_at 0 (map literal_of (hint_numbers hints.now)) ≡ hints.now) }
 {
+    let mut last: usize = 0;
     for hint in hints {
-        numbers.push(Number::of(*hint))?;
+        let d = distance(last, *hint);
+        numbers.push(packed(d.var, d.negated))?;
+        last = *hint;
     }
     Ok(())
 }
 
 /// A step as numbers.
 pub fn numbers_of(alloc: Global, clause: &[Dim], hints: &[usize]) -> Result<Vec<Number>, AllocError>
-    ensures numbers { IfOk result (λ numbers. numbers.items ≡ whole (length clause.now) ∷ (map number_of clause.now ++ map whole hints.now)) }
+    ensures numbers { IfOk result (λ numbers. numbers.items ≡ whole (length clause.now) ∷ (map number_of clause.now ++ hint_numbers hints.now)) }
     ensures count { OnOk result (value (whole (length clause.now)) ≡ length clause.now) }
     ensures literals { OnOk result (map literal_of (map number_of clause.now) ≡ clause.now) }
-    ensures hints { OnOk result (map value (map whole hints.now) ≡ hints.now) }
+    ensures hints { OnOk result (places_at 0 (map literal_of (hint_numbers hints.now)) ≡ hints.now) }
 {
     let room = clause.len().saturating_add(hints.len()).saturating_add(1);
     let mut numbers = Vec::with_capacity(alloc, room)?;

@@ -1,11 +1,10 @@
 //! The literals and the hints of a step, as they are read from its row. Readers take no memory.
 
 ghost use Rattle.std.specs.Prelude.{◌≡◌, ◌∷◌, [], ◌↔◌, IfNone, IfOk, IfSome, IsTrue, drop, map, take};
-ghost use Rattle.refute_check.specs.Groups.{value};
-ghost use Rattle.refute_check.specs.Packed.{literal_of};
+ghost use Rattle.refute_check.specs.Packed.{literal_of, places_at};
 
 use crate::Reader;
-use crate::packing::literal;
+use crate::packing::{literal, place_at};
 use cnf::Dim;
 use std::alloc::{AllocError, Global};
 use std::marker::Model;
@@ -30,16 +29,18 @@ impl<'a> Model for Literals<'a> {
 /// The hints of a step that are left. Contracts see their list.
 #[derive(Drop)]
 pub struct Hints<'a> {
+    // The newest hint that was read, or 0.
+    last: usize,
     rest: Reader<'a>,
 }
 
 impl<'a> Model for Hints<'a> {
     ghost use Rattle.std.specs.Prelude.{List, ℕ, map};
-    ghost use Rattle.refute_check.specs.Groups.{value};
+    ghost use Rattle.refute_check.specs.Packed.{literal_of, places_at};
 
     ghost Value = { List ℕ };
 
-    ghost view = { λ h. map value h.rest };
+    ghost view = { λ h. places_at h.last (map literal_of h.rest) };
 }
 
 impl<'a> Literals<'a> {
@@ -85,9 +86,9 @@ impl<'a> Literals<'a> {
 impl<'a> Hints<'a> {
     /// The numbers that are left, as hints.
     pub fn of(rest: Reader<'a>) -> Hints<'a>
-        ensures { result ≡ map value rest.entry }
+        ensures { result ≡ places_at 0 (map literal_of rest.entry) }
     {
-        Hints { rest }
+        Hints { last: 0, rest }
     }
 
     /// The next hint, if one is left.
@@ -98,7 +99,10 @@ impl<'a> Hints<'a> {
     {
         match self.rest.next() {
             None => None,
-            Some(number) => Some(number.value()),
+            Some(number) => {
+                self.last = place_at(self.last, literal(number));
+                Some(self.last)
+            }
         }
     }
 
