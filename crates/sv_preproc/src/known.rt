@@ -2,12 +2,13 @@
 use crate::macros::Macros;
 use sv_outside::Name;
 
-/// The macros, the files that were read, in order, and how many tokens were counted.
+/// The macros, the files that were read, in order, how many tokens were counted, and how many bytes were read.
 #[derive(Drop)]
 pub struct Known {
     pub macros: Macros,
     pub files: Vec<Name>,
     pub counted: usize,
+    pub read: usize,
 }
 
 /// A conditional that is open: whether the branch round it counts, whether one of its branches was taken, and
