@@ -1,9 +1,10 @@
 -- A step of a round follows from all clauses, and the steps stay derived where one more, or a whole log, comes behind them.
-use Rattle.std.proofs.Common.{◌≡◌, ℕ, ◌<◌, ◌≤◌, ◌+◌, ◌-◌, Bool, false, not, List, [], ◌∷◌, ◌++◌, length, get_or, map, take, drop, Option, None, sym, refl, ap, ◌∙◌, arith, subst, ⊎_elim, length-append, append_assoc}
+-- (By these the contracts of a round are proved, which the proof files of its functions only put together.)
+use Rattle.std.proofs.Common.{◌≡◌, ℕ, ◌<◌, ◌≤◌, ◌+◌, ◌-◌, ◌*◌, ◌^◌, Bool, false, not, List, [], ◌∷◌, ◌++◌, length, get_or, map, take, drop, Option, None, sym, refl, ap, ◌∙◌, arith, subst, ⊎_elim, length-append, append_assoc}
 use Rattle.std.specs.Prelude.{unwrap_or}
 use Rattle.std.specs.List.{All}
 use Rattle.std.proofs.lemmas.List.{take-append-le, take-append-drop, take_all, length-take-le, get_or_append_left, get_or-append-add, get_or_default, length-map, map-append}
-use Rattle.std.proofs.lemmas.List.Elements.{All-append, All-map}
+use Rattle.std.proofs.lemmas.List.Elements.{All-append, All-map, All-weaker}
 use Rattle.std.proofs.lemmas.Bool.{cases_lt}
 use Rattle.std.proofs.Math.Seq.{get_or-append_seam, take-append-add}
 use Rattle.cnf.specs.declared.Dim.{Dim}
@@ -11,6 +12,7 @@ use Rattle.cnf.specs.Formula.{Formula, formula_of}
 use Rattle.cnf.specs.Clauses.{AllBelow, AreBelow, ClauseHolds, Solves, IsConflict, IsUnit, Valuation, assume, denied, valuation}
 use Rattle.refute_check.specs.Entry.{Entry, no_entry}
 use Rattle.refute_check.specs.Accepted.{AllDerived, Derives, IsDerived, IsAccepted, clause_at, known, known_of, entry_at}
+use Rattle.sat_state.specs.Narrow.{AreNarrow}
 use Rattle.sat_state.specs.Trail.{all_of}
 use Rattle.sat_state.specs.Watch.{HasTrue}
 use Rattle.sat_search.proofs.Learned.{known_push}
@@ -151,6 +153,17 @@ all_below vars cl log given each =
 pub named_below : (vars : ℕ) (all round : List (List Dim)) (names : List ℕ) → AllBelow vars all → IsNamed all names round → AllBelow vars round
 named_below vars all round names below n k d lt =
     subst (λ (c : List Dim). AreBelow vars c) (n.same k lt ∙ get_or_default round k [] d lt) (below (name_at names k) [] (n.known k lt))
+
+-- ---- literals that fit a store
+
+narrow_below : (vars : ℕ) (c : List Dim) → 2 * vars < 2 ^ 64 → AreBelow vars c → AreNarrow c
+narrow_below vars c width below = All-weaker (λ d. d.var < vars) (λ d. 2 * d.var + 1 < 2 ^ 64) (λ d lt. omega (arith, lt, width)) c below
+
+pub narrow_at : (vars : ℕ) (db : List (List Dim)) (k : ℕ) → 2 * vars < 2 ^ 64 → AllBelow vars db → k < length db → AreNarrow (clause_at db k)
+narrow_at vars db k width below lt = narrow_below vars (clause_at db k) width (below k [] lt)
+
+pub all_narrow : (vars : ℕ) (db : List (List Dim)) → 2 * vars < 2 ^ 64 → AllBelow vars db → All AreNarrow db
+all_narrow vars db width below = All-weaker (AreBelow vars) AreNarrow (λ c b. narrow_below vars c width b) db below
 
 -- ---- two logs, one behind the other
 

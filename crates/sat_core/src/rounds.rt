@@ -6,11 +6,11 @@
 //! A solution of a round is tried on each given clause. Where one does not hold, or after some conflicts, another round comes.
 //! There are only so many rounds, and behind the last one a search over all clauses, so the whole ends.
 
-ghost use Rattle.std.specs.Prelude.{◌≡◌, ℕ, ◌*◌, ◌+◌, ◌<◌, ◌≤◌, ◌++◌, ◌∷◌, [], None, Option, List, length, map, IfOk, IfSome, OnOk, IsTrue, unwrap_or, false, not, Some};
+ghost use Rattle.std.specs.Prelude.{◌≡◌, ℕ, ◌*◌, ◌^◌, ◌+◌, ◌<◌, ◌≤◌, ◌++◌, ◌∷◌, [], None, Option, List, length, map, IfOk, IfSome, OnOk, IsTrue, unwrap_or, false, not, Some};
 ghost use Rattle.std.specs.List.{All};
 ghost use Rattle.cnf.specs.Formula.{formula_of};
 ghost use Rattle.cnf.specs.Clauses.{AllBelow, AreBelow, all_open, valuation};
-ghost use Rattle.refute_check.specs.Entry.{Entry};
+ghost use Rattle.refute_check.specs.Entry.{Entry, entry_of};
 ghost use Rattle.refute_check.specs.Accepted.{AllDerived, clause_at};
 ghost use Rattle.sat_state.specs.Trail.{Tracks, all_of};
 ghost use Rattle.sat_state.specs.Watch.{HasTrue, rows};
@@ -22,13 +22,13 @@ ghost use Rattle.sat_core.specs.Rounds.{IsBetween, IsNamed, IsRightTurn, name_at
 use crate::trim::trim;
 use crate::{Stop, search_whole, solution};
 use cnf::{Cnf, Dim};
-use refute_check::{Step, clause_of};
+use refute_check::{Draft, Step, clause_of};
 use sat_rests::Rests;
 use sat_search::back::{cut, restart};
-use sat_search::learn::{Notes, learn};
+use sat_search::learn::{Lesson, Notes, learn};
 use sat_search::search::conflict_of;
 use sat_search::start::start;
-use sat_state::lists::{empty_lists, make_all_room};
+use sat_state::lists::empty_lists;
 use sat_state::store::Store;
 use sat_state::trail::Trail;
 use sat_state::watch::{Pair, Watch};
@@ -106,38 +106,31 @@ fn names_of(alloc: Global, names: &[usize], hints: &[usize]) -> Result<Vec<usize
     hints.iter().map(|h| name_of(names, *h)).collect(alloc)
 }
 
-/// A step of the round, with the numbers among all for hints.
-fn named(alloc: Global, names: &[usize], step: &Step) -> Result<Step, AllocError>
-    ensures { IfOk result (λ s. s ≡ named_step names.now step.now) }
+/// A step with other hints.
+fn with_hints(alloc: Global, draft: &Draft, hints: &[usize]) -> Result<Step, AllocError>
+    ensures { IfOk result (λ s. s ≡ entry_of draft.now.clause hints.now) }
 {
-    let clause = step.clause(alloc)?;
-    let hints = step.hint_list(alloc)?;
-    let named = names_of(alloc, names, hints.as_slice())?;
-    Step::of(alloc, clause.as_slice(), named.as_slice())
+    Step::of(alloc, draft.clause.as_slice(), hints)
 }
 
-/// Takes the one step of the round, and puts it behind the log. Its clause has the number behind all others.
+/// Puts a step of the round behind the log, with the numbers among all for hints. Its clause has the number behind all others.
 fn write_down(
     alloc: Global,
     clauses: &[Vec<Dim>],
     names: &mut Vec<usize>,
-    learned: &mut Vec<Step>,
+    draft: &Draft,
     steps: &mut Vec<Step>,
+    rests: &mut Rests,
 ) -> Result<(), AllocError>
-    ensures step { (s : Entry) → learned.old.items ≡ s ∷ [] → OnOk result (steps.new.items ≡ steps.old.items ++ named_step names.old.items s ∷ []) }
-    ensures name { (s : Entry) → learned.old.items ≡ s ∷ [] →
-        OnOk result (names.new.items ≡ names.old.items ++ (length clauses.now + length steps.old.items) ∷ []) }
-    ensures taken { (s : Entry) → learned.old.items ≡ s ∷ [] → OnOk result (learned.new.items ≡ []) }
+    ensures step { OnOk result (steps.new.items ≡ steps.old.items ++ named_step names.old.items draft.now ∷ []) }
+    ensures name { OnOk result (names.new.items ≡ names.old.items ++ (length clauses.now + length steps.old.items) ∷ []) }
 {
-    match learned.pop() {
-        None => Ok(()),
-        Some(step) => {
-            let named = named(alloc, names, &step)?;
-            names.push(clauses.len() + steps.len())?;
-            steps.push(named)?;
-            Ok(())
-        }
-    }
+    let hints = names_of(alloc, names, draft.hints.as_slice())?;
+    rests.use_hints(clauses.len(), hints.as_slice());
+    let step = with_hints(alloc, draft, hints.as_slice())?;
+    names.push(clauses.len() + steps.len())?;
+    steps.push(step)?;
+    Ok(())
 }
 
 /// The end of a round whose clauses all hold.
@@ -185,6 +178,7 @@ fn rested(
     ensures { IfOk result (IsRightTurn (formula_of (length trail.old.values) (map (λ v. v.items) clauses.now)) steps.now trail.new) }
 {
     rests.plan(alloc, clauses, steps, names, trail)?;
+    trail.choose_by_scores(alloc)?;
     begin_anew(trail, rests);
     clear(trail);
     Ok(Turn::Rested)
@@ -200,7 +194,6 @@ fn learn_round(
     lists: &mut [Vec<Watch>],
     store: &mut Store,
     names: &mut Vec<usize>,
-    learned: &mut Vec<Step>,
     steps: &mut Vec<Step>,
     rests: &mut Rests,
     notes: &mut Notes,
@@ -208,7 +201,6 @@ fn learn_round(
 ) -> Result<Turn, AllocError>
     requires clauses { AllBelow (length trail.old.values) (map (λ v. v.items) clauses.now) }
     requires seen { length seen.old ≡ length trail.old.values }
-    requires learned { learned.old.items ≡ [] }
     requires ready { IsReady (length trail.old.values) store.old pairs.old.items (rows lists.old) trail.old }
     requires found { IsFound store.old (valuation trail.old.values) first (IsHalfway store.old pairs.old.items trail.old 0) }
     requires named { IsNamed (all_of (map (λ v. v.items) clauses.now) steps.old.items) names.old.items store.old }
@@ -221,14 +213,14 @@ fn learn_round(
         match conflict_of(alloc, trail, pairs, lists, found, from, store)? {
             None => return full(alloc, clauses, trail, names, rests),
             Some(conflict) => {
-                let next = learn(
-                    alloc, trail, seen, pairs, lists, store, learned, notes, conflict,
+                let Lesson { step, next } = learn(
+                    alloc, trail, seen, pairs, lists, store, notes, conflict,
                 )?;
-                write_down(alloc, clauses, names, learned, steps)?;
+                write_down(alloc, clauses, names, &step, steps, rests)?;
                 match next {
                     None => return Ok(Turn::Refuted),
                     Some(place) => {
-                        if rests.is_over(alloc, clauses.len(), trail.newest_levels(), steps)? {
+                        if rests.is_over(trail.newest_levels())? {
                             return rested(alloc, clauses, trail, names, steps, rests);
                         }
                         from = restart(trail, place);
@@ -244,7 +236,6 @@ fn learn_round(
 fn watch_round(
     alloc: Global,
     clauses: &[Vec<Dim>],
-    round: &[Vec<Dim>],
     trail: &mut Trail,
     seen: &mut [bool],
     lists: &mut [Vec<Watch>],
@@ -255,79 +246,70 @@ fn watch_round(
     notes: &mut Notes,
 ) -> Result<Turn, AllocError>
     requires clauses { AllBelow (length trail.old.values) (map (λ v. v.items) clauses.now) }
-    requires round { AllBelow (length trail.old.values) (map (λ v. v.items) round.now) }
+    requires round { AllBelow (length trail.old.values) store.old }
     requires seen { length seen.old ≡ length trail.old.values }
     requires count { length (rows lists.old) ≡ 2 * length trail.old.values }
     requires lists { All (λ row. row ≡ []) (rows lists.old) }
-    requires store { store.old ≡ map (λ v. v.items) round.now }
-    requires named { IsNamed (all_of (map (λ v. v.items) clauses.now) steps.old.items) names.old.items (map (λ v. v.items) round.now) }
+    requires named { IsNamed (all_of (map (λ v. v.items) clauses.now) steps.old.items) names.old.items store.old }
     requires between { IsBetween (formula_of (length trail.old.values) (map (λ v. v.items) clauses.now)) steps.old.items trail.old }
     ensures { IfOk result (IsRightTurn (formula_of (length trail.old.values) (map (λ v. v.items) clauses.now)) steps.new.items trail.new) }
 {
-    make_all_room(lists, &mut notes.uses, store)?;
-    let mut pairs: Vec<Pair> = Vec::new(alloc);
-    let found = start(trail, &mut pairs, lists, round)?;
-    let mut learned: Vec<Step> = Vec::new(alloc);
+    let mut pairs: Vec<Pair> = Vec::with_capacity(alloc, store.len())?;
+    let found = start(trail, &mut pairs, lists, store)?;
     learn_round(
-        alloc,
-        clauses,
-        trail,
-        seen,
-        &mut pairs,
-        lists,
-        store,
-        names,
-        &mut learned,
-        steps,
-        rests,
-        notes,
-        found,
+        alloc, clauses, trail, seen, &mut pairs, lists, store, names, steps, rests, notes, found,
     )
 }
 
-/// Puts a copy of the clause of a number behind others.
+/// Puts the clause of a number behind others.
 fn push_clause(
     alloc: Global,
+    vars: usize,
     clauses: &[Vec<Dim>],
     steps: &[Step],
     name: usize,
-    found: &mut Vec<Vec<Dim>>,
+    store: &mut Store,
 ) -> Result<(), AllocError>
-    requires { name < length clauses.now + length steps.now }
-    ensures { OnOk result (map (λ v. v.items) found.new.items
-        ≡ map (λ v. v.items) found.old.items ++ clause_at (all_of (map (λ v. v.items) clauses.now) steps.now) name ∷ []) }
+    requires name { name < length clauses.now + length steps.now }
+    requires below { AllBelow vars (all_of (map (λ v. v.items) clauses.now) steps.now) }
+    requires width { 2 * vars < 2 ^ 64 }
+    ensures { OnOk result (store.new ≡ store.old ++ clause_at (all_of (map (λ v. v.items) clauses.now) steps.now) name ∷ []) }
 {
     let clause = clause_of(alloc, clauses, steps, steps.len(), name)?;
-    found.push(clause)?;
+    store.push(clause.as_slice())?;
     Ok(())
 }
 
 /// The clauses of the next round, and their numbers.
 fn gather(
     alloc: Global,
+    vars: usize,
     clauses: &[Vec<Dim>],
     steps: &[Step],
     rests: &Rests,
     names: &mut Vec<usize>,
-) -> Result<Vec<Vec<Dim>>, AllocError>
-    requires { names.old.items ≡ [] }
-    ensures { IfOk result (λ round. IsNamed (all_of (map (λ v. v.items) clauses.now) steps.now) names.new.items (map (λ v. v.items) round.items)) }
+) -> Result<Store, AllocError>
+    requires names { names.old.items ≡ [] }
+    requires below { AllBelow vars (all_of (map (λ v. v.items) clauses.now) steps.now) }
+    requires width { 2 * vars < 2 ^ 64 }
+    ensures { IfOk result (IsNamed (all_of (map (λ v. v.items) clauses.now) steps.now) names.new.items) }
 {
-    let mut round = Vec::new(alloc);
+    let room = rests.room(clauses, steps);
+    let mut store = Store::with_room(alloc, room.clauses, room.literals)?;
     for name in 0..clauses.len() + steps.len() {
         if rests.is_wanted(name) {
             names.push(name)?;
-            push_clause(alloc, clauses, steps, name, &mut round)?;
+            push_clause(alloc, vars, clauses, steps, name, &mut store)?;
         }
     }
-    Ok(round)
+    Ok(store)
 }
 
 /// Makes the lists of a round, and goes through it.
 fn run_round(
     alloc: Global,
     clauses: &[Vec<Dim>],
-    round: &[Vec<Dim>],
+    store: &mut Store,
     trail: &mut Trail,
     seen: &mut [bool],
     names: &mut Vec<usize>,
@@ -335,24 +317,22 @@ fn run_round(
     rests: &mut Rests,
 ) -> Result<Turn, AllocError>
     requires clauses { AllBelow (length trail.old.values) (map (λ v. v.items) clauses.now) }
-    requires round { AllBelow (length trail.old.values) (map (λ v. v.items) round.now) }
+    requires round { AllBelow (length trail.old.values) store.old }
     requires seen { length seen.old ≡ length trail.old.values }
-    requires named { IsNamed (all_of (map (λ v. v.items) clauses.now) steps.old.items) names.old.items (map (λ v. v.items) round.now) }
+    requires named { IsNamed (all_of (map (λ v. v.items) clauses.now) steps.old.items) names.old.items store.old }
     requires between { IsBetween (formula_of (length trail.old.values) (map (λ v. v.items) clauses.now)) steps.old.items trail.old }
     ensures { IfOk result (IsRightTurn (formula_of (length trail.old.values) (map (λ v. v.items) clauses.now)) steps.new.items trail.new) }
 {
-    let count = trail.values().len().checked_mul(2).ok_or(AllocError)?;
-    let mut lists = empty_lists(alloc, count)?;
-    let mut notes = Notes::new(alloc, count)?;
-    let mut store = Store::from_clauses(alloc, round)?;
+    let vars = trail.values().len();
+    let mut lists = empty_lists(alloc, vars * 2)?;
+    let mut notes = Notes::new(alloc, vars)?;
     watch_round(
         alloc,
         clauses,
-        round,
         trail,
         seen,
         lists.as_mut_slice(),
-        &mut store,
+        store,
         names,
         steps,
         rests,
@@ -375,16 +355,10 @@ fn round(
     ensures { IfOk result (IsRightTurn (formula_of (length trail.old.values) (map (λ v. v.items) clauses.now)) steps.new.items trail.new) }
 {
     let mut names = Vec::new(alloc);
-    let round = gather(alloc, clauses, steps, rests, &mut names)?;
+    let vars = trail.values().len();
+    let mut store = gather(alloc, vars, clauses, steps, rests, &mut names)?;
     run_round(
-        alloc,
-        clauses,
-        round.as_slice(),
-        trail,
-        seen,
-        &mut names,
-        steps,
-        rests,
+        alloc, clauses, &mut store, trail, seen, &mut names, steps, rests,
     )
 }
 
@@ -425,7 +399,8 @@ fn all_clauses(
 {
     let mut all = Vec::new(alloc);
     for name in 0..clauses.len() + steps.len() {
-        push_clause(alloc, clauses, steps, name, &mut all)?;
+        let clause = clause_of(alloc, clauses, steps, steps.len(), name)?;
+        all.push(clause)?;
     }
     Ok(all)
 }

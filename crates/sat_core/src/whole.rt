@@ -17,10 +17,10 @@ ghost use Rattle.sat_core.specs.Stop.{IsRightStop};
 use cnf::Dim;
 use refute_check::Step;
 use sat_search::back::restart;
-use sat_search::learn::{Notes, learn};
+use sat_search::learn::{Lesson, Notes, learn, write};
 use sat_search::search::conflict_of;
 use sat_search::start::start;
-use sat_state::lists::{empty_lists, make_all_room};
+use sat_state::lists::empty_lists;
 use sat_state::store::Store;
 use sat_state::trail::Trail;
 use sat_state::watch::{Pair, Watch};
@@ -82,15 +82,17 @@ fn learn_all(
                 return Ok(Stop::Solved(solution(alloc, trail.values())?));
             }
             Some(conflict) => {
-                match learn(
-                    alloc, trail, seen, pairs, lists, store, steps, notes, conflict,
-                )? {
+                let Lesson { step, next } = learn(
+                    alloc, trail, seen, pairs, lists, store, notes, conflict,
+                )?;
+                write(alloc, steps, &step)?;
+                match next {
                     None => return Ok(Stop::Refuted),
-                    Some(next) => {
+                    Some(place) => {
                         if is_spent(budget, steps.len()) {
                             return Ok(Stop::UsedUp);
                         }
-                        from = restart(trail, next);
+                        from = restart(trail, place);
                         found = None;
                     }
                 }
@@ -99,10 +101,9 @@ fn learn_all(
     }
 }
 
-/// Watches the clauses, which the store has, and learns until the end.
+/// Watches the clauses, and learns until the end.
 fn run_on(
     alloc: Global,
-    clauses: &[Vec<Dim>],
     budget: Option<u64>,
     trail: &mut Trail,
     seen: &mut [bool],
@@ -111,7 +112,7 @@ fn run_on(
     steps: &mut Vec<Step>,
     notes: &mut Notes,
 ) -> Result<Stop, AllocError>
-    requires clauses { AllBelow (length trail.old.values) (map (λ v. v.items) clauses.now) }
+    requires clauses { AllBelow (length trail.old.values) store.old }
     requires budget { IfSome budget (λ n. 0 < n) }
     requires steps { steps.old.items ≡ [] }
     requires open { valuation trail.old.values ≡ all_open }
@@ -119,14 +120,41 @@ fn run_on(
     requires seen { length seen.old ≡ length trail.old.values }
     requires count { length (rows lists.old) ≡ 2 * length trail.old.values }
     requires lists { All (λ row. row ≡ []) (rows lists.old) }
-    requires store { store.old ≡ map (λ v. v.items) clauses.now }
-    ensures { IfOk result (IsRightStop (formula_of (length trail.old.values) (map (λ v. v.items) clauses.now)) budget steps.new.items) }
+    ensures { IfOk result (IsRightStop (formula_of (length trail.old.values) store.old) budget steps.new.items) }
 {
-    make_all_room(lists, &mut notes.uses, store)?;
-    let mut pairs: Vec<Pair> = Vec::new(alloc);
-    let found = start(trail, &mut pairs, lists, clauses)?;
+    let mut pairs: Vec<Pair> = Vec::with_capacity(alloc, store.len())?;
+    let found = start(trail, &mut pairs, lists, store)?;
     learn_all(
         alloc, budget, trail, seen, &mut pairs, lists, store, steps, notes, found,
+    )
+}
+
+/// Makes the lists and the trail, and runs.
+fn search_with(
+    alloc: Global,
+    budget: Option<u64>,
+    seen: &mut [bool],
+    store: &mut Store,
+    steps: &mut Vec<Step>,
+    notes: &mut Notes,
+) -> Result<Stop, AllocError>
+    requires clauses { AllBelow (length seen.old) store.old }
+    requires budget { IfSome budget (λ n. 0 < n) }
+    requires steps { steps.old.items ≡ [] }
+    ensures { IfOk result (IsRightStop (formula_of (length seen.old) store.old) budget steps.new.items) }
+{
+    let vars = seen.len();
+    let mut lists = empty_lists(alloc, vars * 2)?;
+    let mut trail = Trail::new(alloc, vars)?;
+    run_on(
+        alloc,
+        budget,
+        &mut trail,
+        seen,
+        lists.as_mut_slice(),
+        store,
+        steps,
+        notes,
     )
 }
 
@@ -135,58 +163,17 @@ fn run_with(
     alloc: Global,
     clauses: &[Vec<Dim>],
     budget: Option<u64>,
-    trail: &mut Trail,
     seen: &mut [bool],
-    lists: &mut [Vec<Watch>],
     steps: &mut Vec<Step>,
-    notes: &mut Notes,
 ) -> Result<Stop, AllocError>
-    requires clauses { AllBelow (length trail.old.values) (map (λ v. v.items) clauses.now) }
+    requires clauses { AllBelow (length seen.old) (map (λ v. v.items) clauses.now) }
     requires budget { IfSome budget (λ n. 0 < n) }
     requires steps { steps.old.items ≡ [] }
-    requires open { valuation trail.old.values ≡ all_open }
-    requires empty { trail.old.entries ≡ [] }
-    requires seen { length seen.old ≡ length trail.old.values }
-    requires count { length (rows lists.old) ≡ 2 * length trail.old.values }
-    requires lists { All (λ row. row ≡ []) (rows lists.old) }
-    ensures { IfOk result (IsRightStop (formula_of (length trail.old.values) (map (λ v. v.items) clauses.now)) budget steps.new.items) }
+    ensures { IfOk result (IsRightStop (formula_of (length seen.old) (map (λ v. v.items) clauses.now)) budget steps.new.items) }
 {
+    let mut notes = Notes::new(alloc, seen.len())?;
     let mut store = Store::from_clauses(alloc, clauses)?;
-    run_on(
-        alloc, clauses, budget, trail, seen, lists, &mut store, steps, notes,
-    )
-}
-
-/// Makes the lists and the trail, and runs.
-fn search_with(
-    alloc: Global,
-    vars: usize,
-    count: usize,
-    clauses: &[Vec<Dim>],
-    budget: Option<u64>,
-    seen: &mut [bool],
-    steps: &mut Vec<Step>,
-    notes: &mut Notes,
-) -> Result<Stop, AllocError>
-    requires count { count ≡ 2 * vars }
-    requires clauses { AllBelow vars (map (λ v. v.items) clauses.now) }
-    requires budget { IfSome budget (λ n. 0 < n) }
-    requires steps { steps.old.items ≡ [] }
-    requires seen { length seen.old ≡ vars }
-    ensures { IfOk result (IsRightStop (formula_of vars (map (λ v. v.items) clauses.now)) budget steps.new.items) }
-{
-    let mut lists = empty_lists(alloc, count)?;
-    let mut trail = Trail::new(alloc, vars)?;
-    run_with(
-        alloc,
-        clauses,
-        budget,
-        &mut trail,
-        seen,
-        lists.as_mut_slice(),
-        steps,
-        notes,
-    )
+    search_with(alloc, budget, seen, &mut store, steps, &mut notes)
 }
 
 /// Finds a solution, or steps that the checker accepts, each of which is new but for the empty one; or gives up after as many new
@@ -203,17 +190,6 @@ pub fn search_whole(
     requires steps { steps.old.items ≡ [] }
     ensures { IfOk result (IsRightStop (formula_of vars (map (λ v. v.items) clauses.now)) budget steps.new.items) }
 {
-    let count = vars.checked_mul(2).ok_or(AllocError)?;
     let mut seen = vec![in alloc; false; vars]?;
-    let mut notes = Notes::new(alloc, count)?;
-    search_with(
-        alloc,
-        vars,
-        count,
-        clauses,
-        budget,
-        seen.as_mut_slice(),
-        steps,
-        &mut notes,
-    )
+    run_with(alloc, clauses, budget, seen.as_mut_slice(), steps)
 }

@@ -14,7 +14,7 @@ use refute_check::{Checker, Log};
 use sat_core::{SatEnd, solve};
 use std::alloc::{AllocError, Global};
 use std::io::Read;
-use std::{io, mem, str};
+use std::{io, str};
 
 fn is_below(vars: usize, clause: &[Dim]) -> bool
     ensures { IsTrue result → All (λ d. d.var < vars) clause.now }
@@ -98,7 +98,8 @@ impl Reader {
         match n.checked_sub(1) {
             Some(var) => self.clause.push(Dim { var, negated })?,
             None => {
-                let clause = mem::replace(&mut self.clause, Vec::new(self.alloc));
+                let clause = Vec::from_slice(self.alloc, self.clause.as_slice())?;
+                self.clause.clear();
                 self.clauses.push(clause)?;
             }
         }

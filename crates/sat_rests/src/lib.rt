@@ -8,4 +8,4 @@ mod tries;
 mod trim;
 
 pub use eliminate::Uses;
-pub use rests::Rests;
+pub use rests::{Rests, Room};

@@ -7,7 +7,7 @@ use crate::tries::likenesses;
 use crate::trim::{kept, kept_flags, kept_numbers, need_all};
 use cnf::Dim;
 use refute_check::Step;
-use sat_state::likeness::Likeness;
+use sat_order::likeness::Likeness;
 use sat_state::trail::Trail;
 use std::alloc::{AllocError, Global};
 use std::mem;
@@ -67,6 +67,26 @@ impl Drop for Rests {
             trim: _,
         } = self;
     }
+}
+
+/// How many clauses there are, and how many literals they have together.
+#[derive(Clone, Copy)]
+pub struct Room {
+    pub clauses: usize,
+    pub literals: usize,
+}
+
+impl Room {
+    // Counts a clause.
+    fn add(&mut self, literals: usize) {
+        self.clauses = self.clauses.saturating_add(1);
+        self.literals = self.literals.saturating_add(literals);
+    }
+}
+
+// How many steps a log has that is trimmed next, where it has so many now: half as many again.
+fn grown(steps: usize) -> usize {
+    steps.saturating_add(steps / 2).max(TRIM)
 }
 
 // Sets the flag at a place, if there is one.
@@ -135,7 +155,7 @@ impl Rests {
             whole: false,
             order,
             pairs,
-            trim: steps.saturating_mul(2).max(TRIM),
+            trim: grown(steps),
         })
     }
 
@@ -154,26 +174,41 @@ impl Rests {
         self.wanted.get(name).copied().unwrap_or(true)
     }
 
-    /// Notes the newest step, whose clause has so many levels, where so many clauses are given. Answers whether the round is over.
-    pub fn is_over(
-        &mut self,
-        alloc: Global,
-        given: usize,
-        levels: u64,
-        steps: &[Step],
-    ) -> Result<bool, AllocError> {
-        self.levels.push(levels)?;
-        self.used.push(false)?;
-        if steps.len() > 0 {
-            let hints = steps[steps.len() - 1].hint_list(alloc)?;
-            for hint in hints.as_slice() {
-                if let Some(place) = hint.checked_sub(given) {
-                    set_at(&mut self.used, place);
-                }
+    /// Notes that steps were of use as hints, where so many clauses are given.
+    pub fn use_hints(&mut self, given: usize, hints: &[usize]) {
+        for hint in hints {
+            if let Some(place) = hint.checked_sub(given) {
+                set_at(&mut self.used, place);
             }
         }
+    }
+
+    /// Notes the newest step, whose clause has so many levels. Answers whether the round is over.
+    pub fn is_over(&mut self, levels: u64) -> Result<bool, AllocError> {
+        self.levels.push(levels)?;
+        self.used.push(false)?;
         self.left = self.left.saturating_sub(1);
         Ok(self.left == 0)
+    }
+
+    /// How many clauses the next round begins with, and how many literals these have, with some room for what it learns.
+    pub fn room(&self, clauses: &[Vec<Dim>], steps: &[Step]) -> Room {
+        let mut found = Room {
+            clauses: 0,
+            literals: 0,
+        };
+        for (name, clause) in clauses.iter().enumerate() {
+            if self.is_wanted(name) {
+                found.add(clause.len());
+            }
+        }
+        for (place, step) in steps.iter().enumerate() {
+            if self.is_wanted(clauses.len().saturating_add(place)) {
+                let literals = step.literals();
+                found.add(literals.most());
+            }
+        }
+        found
     }
 
     // Takes the clauses by which literals are true with no decision. Answers the values that there are then.
@@ -295,7 +330,7 @@ impl Rests {
         Ok(())
     }
 
-    /// Whether a log of so many steps is to be trimmed: it has twice as many as when it was trimmed last.
+    /// Whether a log of so many steps is to be trimmed: it has half as many again as when it was trimmed last.
     pub fn is_trim_due(&self, steps: usize) -> bool {
         steps >= self.trim
     }
@@ -335,7 +370,7 @@ impl Rests {
         let needed = self.needed(alloc, given, steps.as_slice())?;
         self.keep_notes(alloc, given, needed.as_slice())?;
         let kept = kept(alloc, given, needed.as_slice(), steps)?;
-        self.trim = kept.len().saturating_mul(2).max(TRIM);
+        self.trim = grown(kept.len());
         Ok(kept)
     }
 }

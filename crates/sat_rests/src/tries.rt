@@ -9,7 +9,7 @@
 
 use crate::eliminate::Uses;
 use cnf::Dim;
-use sat_state::likeness::Likeness;
+use sat_order::likeness::Likeness;
 use std::alloc::{AllocError, Global};
 
 /// How many words of tries there are: as many as look at so many clauses together, but neither more nor fewer than these.

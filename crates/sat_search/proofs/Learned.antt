@@ -208,3 +208,8 @@ taken_up vars db s pairs rows rows2 t0 t1 t2 seen n k p e ready taught tracks1 w
         half = half_push db pairs c p low high ready.paired.count half1 new_half;
       },
     )
+
+-- a clause that was just put behind all others, as it is read
+pub stored_last : (db now : List (List Dim)) (clause read : List Dim) (k : ℕ) → now ≡ db ++ clause ∷ [] → k ≡ length db → read ≡ clause_at now k → read ≡ clause
+stored_last db now clause read k is e r =
+    r ∙ ap (λ (d : List (List Dim)). clause_at d k) is ∙ ap (λ (n : ℕ). clause_at (db ++ clause ∷ []) n) e ∙ get_or-append_seam db clause [] []

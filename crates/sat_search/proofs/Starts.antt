@@ -1,7 +1,7 @@
 -- The given clauses are watched one after another.
-use Rattle.std.proofs.Common.{◌≡◌, ◌≢◌, ℕ, ◌<◌, ◌≤◌, ◌+◌, ◌*◌, ◌⊎◌, inl, inr, Bool, true, false, not, Option, Some, None, List, [], ◌∷◌, ◌++◌, length, take, map, reverse, MatchOption, sym, refl, ap, ◌∙◌, arith, subst, ⊎_elim, Vec, Global}
+use Rattle.std.proofs.Common.{◌≡◌, ◌≢◌, ℕ, ◌<◌, ◌≤◌, ◌+◌, ◌*◌, ◌⊎◌, inl, inr, Bool, true, false, not, Option, Some, None, List, [], ◌∷◌, ◌++◌, length, take, reverse, MatchOption, sym, refl, ap, ◌∙◌, arith, subst, ⊎_elim}
 use Rattle.std.specs.List.{All, Contains}
-use Rattle.std.proofs.lemmas.List.{take_more, take_all, length-take-le, length-map}
+use Rattle.std.proofs.lemmas.List.{take_more, take_all, length-take-le}
 use Rattle.std.proofs.lemmas.List.Elements.{All-nil, All-head, All-contains, All-weaker}
 use Rattle.std.proofs.lemmas.Option.{none-some}
 use Rattle.cnf.specs.declared.Dim.{Dim}
@@ -135,13 +135,10 @@ started_force vars db k pairs rows t t2 found p lt same by width grown end h =
     }
 
 -- all are watched
-pub started_all : (vars : ℕ) (clauses : List (Vec Dim Global)) (pairs : List Pair) (rows : List (List Watch)) (t : TrailLists) (found : Option ℕ) →
-    AllBelow vars (map (λ v. v.items) clauses) → IsStarted vars (map (λ v. v.items) clauses) (length clauses) pairs rows t found →
-    IsReady vars (map (λ v. v.items) clauses) pairs rows t × MatchOption found (IsHalfway (map (λ v. v.items) clauses) pairs t 0) (λ k. (k < length (map (λ v. v.items) clauses)) × IsConflict (valuation t.values) (clause_at (map (λ v. v.items) clauses) k))
-started_all vars clauses pairs rows t found below h0 =
-    let db : List (List Dim) = map (λ v. v.items) clauses in
-    let len : length clauses ≡ length db = sym (length-map clauses (λ v. v.items)) in
-    let h : IsStarted vars db (length db) pairs rows t found = subst (λ (n : ℕ). IsStarted vars db n pairs rows t found) len h0 in
+pub started_all : (vars : ℕ) (db : List (List Dim)) (pairs : List Pair) (rows : List (List Watch)) (t : TrailLists) (found : Option ℕ) → AllBelow vars db →
+    IsStarted vars db (length db) pairs rows t found →
+    IsReady vars db pairs rows t × MatchOption found (IsHalfway db pairs t 0) (λ k. (k < length db) × IsConflict (valuation t.values) (clause_at db k))
+started_all vars db pairs rows t found below h =
     let whole : take (length db) db ≡ db = take_all (length db) db (omega arith) in
     let P : Option ℕ → Type 0 = λ o. MatchOption o (AllHalf (take (length db) db) pairs (before t.entries 0) (valuation t.values)) (λ j. (j < length db) × IsConflict (valuation t.values) (clause_at db j)) →
     MatchOption o (IsHalfway db pairs t 0) (λ k. (k < length db) × IsConflict (valuation t.values) (clause_at db k)) in

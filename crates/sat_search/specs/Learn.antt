@@ -1,5 +1,6 @@
 -- How a conflict is traced back along the trail.
 use Rattle.std.specs.Prelude.{cond, ◌++◌, ◌≡◌, ◌≢◌, ℕ, ◌⊎◌, Bool, true, false, Some, None, List, [], ◌∷◌, reverse, slice_index_or, length}
+use Rattle.std.specs.List.{Contains}
 use Rattle.cnf.specs.declared.Dim.{Dim}
 use Rattle.cnf.specs.Clauses.{Valuation, denied}
 use Rattle.refute_check.specs.Accepted.{Derives}
@@ -12,6 +13,10 @@ no_assigned = record { dim = record { var = 0; negated = false }; reason = None 
 
 abbrev pub seen_at : List Bool → ℕ → Bool
 seen_at seen var = slice_index_or seen var false
+
+-- some literal of the clause is of the variable
+abbrev pub HasVariable : List Dim → ℕ → Type 0
+HasVariable clause v = (d : Dim) × Contains clause d × (d.var ≡ v)
 
 -- Back to the last decision, which there is, no variable is seen. (The newest first, here and below.)
 abbrev pub IsClear : List Bool → List Assigned → Type 0
@@ -41,6 +46,12 @@ IsBelow a b = (v : ℕ) (t : Bool) → a v ≡ Some t → b v ≡ Some t
 abbrev pub Explains : List (List Dim) → List Assigned → List Bool → List ℕ → Type 0
 Explains db es seen hints = (a : Valuation) → IsBelow a (denied (dims es)) →
     ((v : ℕ) → seen_at seen v ≡ true → a v ≡ denied (dims es) v) → Derives db a (reverse hints)
+
+-- The hints lead to a conflict from the values of the seen variables and any others of the literals that are older; `all` are the
+-- literals of the trail, and `older` its last ones.
+abbrev pub ExplainsOver : List (List Dim) → List Assigned → List Assigned → List Bool → List ℕ → Type 0
+ExplainsOver db all older seen hints = (a : Valuation) → ((v : ℕ) → seen_at seen v ≡ true → a v ≡ denied (dims all) v) →
+    ((v : ℕ) (t : Bool) → a v ≡ Some t → (seen_at seen v ≡ true) ⊎ (denied (dims older) v ≡ Some t)) → Derives db a (reverse hints)
 
 -- The front of the whole ends right below a decision.
 abbrev pub StopsBelow : List Assigned → List Assigned → Type 0

@@ -3,7 +3,7 @@
 //! left; then literals that the others imply are dropped. What is marked is written down, so that marks are taken away by that
 //! list and not by a walk over all variables.
 
-ghost use Rattle.std.specs.Prelude.{◌≢◌, ◌≡◌, ℕ, ◌+◌, ◌*◌, ◌<◌, ◌≤◌, Bool, true, false, Option, Some, None, length, OnOk, IfOk, MatchBool, IsTrue, List, [], ◌∷◌, ◌++◌, reverse, take, IfNone, IfSome};
+ghost use Rattle.std.specs.Prelude.{◌≢◌, ◌≡◌, ℕ, ◌+◌, ◌*◌, ◌<◌, ◌≤◌, Bool, true, false, Option, Some, None, length, OnOk, IfOk, MatchBool, IsTrue, List, [], ◌∷◌, ◌++◌, reverse, take, IfNone, IfSome, ◌⊎◌};
 ghost use Rattle.std.specs.List.{All, filter};
 ghost use Rattle.cnf.specs.Clauses.{AllBelow, AreBelow, IsConflict, all_open, valuation};
 ghost use Rattle.refute_check.specs.Entry.{Entry};
@@ -14,12 +14,13 @@ ghost use Rattle.sat_state.specs.declared.trail.Assigned.{Assigned};
 ghost use Rattle.sat_state.specs.Trail.{falses, Tracks, IsSound};
 ghost use Rattle.sat_search.specs.Lesson.{IsHalfway, IsLast, IsReady, IsTaught};
 ghost use Rattle.sat_state.specs.Watch.{first_pair, rows, with_pair};
-ghost use Rattle.sat_search.specs.Learn.{seen_at, IsClear, IsAnchored, IsAlone, IsTraced, Explains, StopsBelow, Suffices};
+ghost use Rattle.sat_search.specs.Learn.{seen_at, HasVariable, IsClear, IsAnchored, IsAlone, IsTraced, Explains, ExplainsOver, StopsBelow, Suffices};
 
 use crate::back::{go_back, is_clear};
+use crate::redundant::Redundancy;
 use cnf::Dim;
 use refute_check::{Draft, Step};
-use sat_state::lists::{Uses, add_to, make_room};
+use sat_state::lists::add_to;
 use sat_state::packed::PackedDim;
 use sat_state::store::Store;
 use sat_state::trail::{Assigned, Trail};
@@ -32,8 +33,8 @@ pub struct Notes {
     walked: Vec<usize>,
     /// Its hints, which the log gets a copy of.
     hints: Vec<usize>,
-    /// How many clauses contain each literal.
-    pub uses: Uses,
+    /// Which literals others imply.
+    redundancy: Redundancy,
 }
 
 impl Drop for Notes {
@@ -41,18 +42,18 @@ impl Drop for Notes {
         let Notes {
             walked: _,
             hints: _,
-            uses: _,
+            redundancy: _,
         } = self;
     }
 }
 
 impl Notes {
-    /// Before the first conflict, with no clause, for so many literals.
-    pub fn new(alloc: Global, literals: usize) -> Result<Notes, AllocError> {
+    /// Before the first conflict, for so many variables.
+    pub fn new(alloc: Global, vars: usize) -> Result<Notes, AllocError> {
         Ok(Notes {
             walked: Vec::new(alloc),
             hints: Vec::new(alloc),
-            uses: Uses::new(alloc, literals)?,
+            redundancy: Redundancy::new(alloc, vars)?,
         })
     }
 }
@@ -158,29 +159,20 @@ fn trace(
     Ok(0)
 }
 
-// Whether it is the variable of this literal, or that one is seen.
-fn is_covered(seen: &[bool], d: Dim, var: usize) -> bool
-    requires { d.var < length seen.now }
-    ensures { IsTrue result → d.var ≢ var → seen_at seen.now d.var ≡ true }
-{
-    d.var == var || seen[d.var]
-}
-
-/// Whether each other variable of a clause is seen.
-fn is_implied(seen: &[bool], clause: &[PackedDim], var: usize) -> bool
-    requires { AreBelow (length seen.now) clause.now }
-    ensures { IsTrue result → All (λ d. d.var ≢ var → seen_at seen.now d.var ≡ true) clause.now }
+/// Marks the variables of a clause, and no others.
+fn mark_all(seen: &mut [bool], clause: &[PackedDim])
+    requires { AreBelow (length seen.old) clause.now }
+    ensures marked { All (λ d. seen_at seen.new d.var ≡ true) clause.now }
+    ensures more { (v : ℕ) → seen_at seen.old v ≡ true → seen_at seen.new v ≡ true }
+    ensures only { (v : ℕ) → seen_at seen.new v ≡ true → (seen_at seen.old v ≡ true) ⊎ HasVariable clause.now v }
 {
     for d in clause {
-        if !is_covered(seen, d.dim(), var) {
-            return false;
-        }
+        seen[d.dim().var] = true;
     }
-    true
 }
 
-/// Notes the literal at a place of the trail, which is not the last of the first `left`, if it is seen, and drops it if the
-/// others imply it.
+/// Notes the literal at a place of the trail, which is not the last of the first `left`, if it is seen, and replaces it by the
+/// others of the clause that made it false where these are implied by what else is seen.
 fn drop_implied(
     trail: &Trail,
     seen: &mut [bool],
@@ -189,15 +181,16 @@ fn drop_implied(
     i: usize,
     store: &Store,
     hints: &mut Vec<usize>,
+    redundancy: &mut Redundancy,
 ) -> Result<(), AllocError>
     requires width { AllBelow (length trail.now.values) store.now }
     requires sound { IsSound store.now trail.now.values trail.now.entries }
     requires seen { length seen.old ≡ length trail.now.values }
     requires place { i + 1 < left }
     requires range { left ≤ length trail.now.entries }
-    requires enough { Suffices store.now (reverse (take left trail.now.entries)) seen.old hints.old.items }
+    requires enough { ExplainsOver store.now (reverse (take left trail.now.entries)) (reverse (take (i + 1) trail.now.entries)) seen.old hints.old.items }
     requires traced { IsTraced seen.old (reverse (take left trail.now.entries)) }
-    ensures enough { OnOk result (Suffices store.now (reverse (take left trail.now.entries)) seen.new hints.new.items) }
+    ensures enough { OnOk result (ExplainsOver store.now (reverse (take left trail.now.entries)) (reverse (take i trail.now.entries)) seen.new hints.new.items) }
     ensures traced { OnOk result (IsTraced seen.new (reverse (take left trail.now.entries))) }
 {
     let e = trail.entries()[i];
@@ -208,9 +201,10 @@ fn drop_implied(
     match e.reason {
         None => Ok(()),
         Some(r) => {
-            if !is_implied(seen, store.clause(r), e.dim.var) {
+            if !redundancy.is_redundant(trail, store, seen, e.dim.var)? {
                 return Ok(());
             }
+            mark_all(seen, store.clause(r));
             seen[e.dim.var] = false;
             hints.push(r)?;
             Ok(())
@@ -226,20 +220,31 @@ fn shorten(
     left: usize,
     store: &Store,
     hints: &mut Vec<usize>,
+    redundancy: &mut Redundancy,
 ) -> Result<(), AllocError>
     requires width { AllBelow (length trail.now.values) store.now }
     requires sound { IsSound store.now trail.now.values trail.now.entries }
     requires seen { length seen.old ≡ length trail.now.values }
     requires range { left ≤ length trail.now.entries }
-    requires enough { Suffices store.now (reverse (take left trail.now.entries)) seen.old hints.old.items }
+    requires explains { Explains store.now (reverse (take left trail.now.entries)) seen.old hints.old.items }
     requires traced { IsTraced seen.old (reverse (take left trail.now.entries)) }
     ensures enough { OnOk result (Suffices store.now (reverse (take left trail.now.entries)) seen.new hints.new.items) }
     ensures traced { OnOk result (IsTraced seen.new (reverse (take left trail.now.entries))) }
 {
+    redundancy.begin(trail, &trail.entries()[..left], seen);
     let mut next = left;
     while next > 1 {
         next -= 1;
-        drop_implied(trail, seen, walked, left, next - 1, store, hints)?;
+        drop_implied(
+            trail,
+            seen,
+            walked,
+            left,
+            next - 1,
+            store,
+            hints,
+            redundancy,
+        )?;
     }
     Ok(())
 }
@@ -280,6 +285,7 @@ fn teach(
     seen: &mut [bool],
     walked: &mut Vec<usize>,
     hints: &mut Vec<usize>,
+    redundancy: &mut Redundancy,
     store: &Store,
     conflict: usize,
 ) -> Result<Taught, AllocError>
@@ -295,7 +301,7 @@ fn teach(
     walked.clear();
     hints.clear();
     let left = trace(trail, seen, walked, store, conflict, hints)?;
-    shorten(trail, seen, walked, left, store, hints)?;
+    shorten(trail, seen, walked, left, store, hints, redundancy)?;
     // Of each variable that was walked over there is a hint, or its literal stays; and the conflict is a hint.
     let room = walked.len().saturating_sub(hints.len()).saturating_add(1);
     let clause = collect(alloc, &trail.entries()[..left], seen, room)?;
@@ -311,13 +317,13 @@ fn teach(
 }
 
 /// The first two literals of a clause that is not empty, or twice the only one.
-fn first_two(clause: &[Dim]) -> Result<Pair, AllocError>
+fn first_two(clause: &[PackedDim]) -> Pair
     requires { 0 < length clause.now }
-    ensures { IfOk result (λ pair. pair ≡ first_pair clause.now) }
+    ensures { result ≡ first_pair clause.now }
 {
     let a = clause[0];
     let b = clause.get(1).copied().unwrap_or(a);
-    Pair::of(a, b)
+    Pair { a, b }
 }
 
 /// Watches the pair of the clause k.
@@ -359,7 +365,6 @@ fn add_clause(
     pairs: &mut Vec<Pair>,
     lists: &mut [Vec<Watch>],
     store: &mut Store,
-    uses: &mut Uses,
     clause: &[Dim],
 ) -> Result<usize, AllocError>
     requires some { 0 < length clause.now }
@@ -370,15 +375,14 @@ fn add_clause(
     ensures lists { OnOk result (rows lists.new ≡ with_pair (rows lists.old) (first_pair clause.now) (length store.old)) }
 {
     let number = store.len();
-    let pair = first_two(clause)?;
     store.push(clause)?;
-    make_room(lists, uses, store.clause(number))?;
+    let pair = first_two(store.clause(number));
     watch_pair(pairs, lists, pair, number)?;
     Ok(number)
 }
 
 /// Puts a step behind the log.
-fn write(alloc: Global, steps: &mut Vec<Step>, draft: &Draft) -> Result<(), AllocError>
+pub fn write(alloc: Global, steps: &mut Vec<Step>, draft: &Draft) -> Result<(), AllocError>
     ensures { OnOk result (steps.new.items ≡ steps.old.items ++ draft.now ∷ []) }
 {
     let step = Step::of(alloc, draft.clause.as_slice(), draft.hints.as_slice())?;
@@ -389,31 +393,26 @@ fn write(alloc: Global, steps: &mut Vec<Step>, draft: &Draft) -> Result<(), Allo
 /// Takes the trail back to where the new clause has one open literal, adds the clause, and makes that literal true. Answers
 /// from where to propagate.
 fn take_up(
-    alloc: Global,
     trail: &mut Trail,
     seen: &[bool],
     pairs: &mut Vec<Pair>,
     lists: &mut [Vec<Watch>],
     store: &mut Store,
-    steps: &mut Vec<Step>,
-    uses: &mut Uses,
     left: usize,
-    step: Draft,
+    step: &Draft,
 ) -> Result<usize, AllocError>
     requires ready { IsReady (length trail.old.values) store.old pairs.old.items (rows lists.old) trail.old }
     requires seen { length seen.now ≡ length trail.old.values }
     requires some { 0 < left }
     requires range { left ≤ length trail.old.entries }
-    requires taught { IsTaught (length trail.old.values) store.old trail.old.entries seen.now left step }
-    ensures step { OnOk result (steps.new.items ≡ steps.old.items ++ step ∷ []) }
-    ensures store { OnOk result (store.new ≡ store.old ++ step.clause ∷ []) }
+    requires taught { IsTaught (length trail.old.values) store.old trail.old.entries seen.now left step.now }
+    ensures store { OnOk result (store.new ≡ store.old ++ step.now.clause ∷ []) }
     ensures ready { OnOk result (IsReady (length trail.old.values) store.new pairs.new.items (rows lists.new) trail.new) }
     ensures half { IfOk result (λ from. IsHalfway store.new pairs.new.items trail.new from) }
 {
     let top = trail.entries()[left - 1].dim;
     go_back(trail, seen, left);
-    let reason = add_clause(pairs, lists, store, uses, step.clause.as_slice())?;
-    write(alloc, steps, &step)?;
+    let reason = add_clause(pairs, lists, store, step.clause.as_slice())?;
     let from = trail.entries().len();
     trail.assign(Assigned {
         dim: Dim {
@@ -434,8 +433,15 @@ fn clear_marks(seen: &mut [bool], walked: &[usize]) {
     }
 }
 
-/// Learns a clause from a conflict, and makes its first literal true. Answers from where to propagate; or None where the clauses
-/// are refuted, and then the last step is empty.
+/// What was learned from a conflict: a step, and from where to propagate; that is nowhere where the clauses are refuted, and then
+/// the step is empty.
+#[derive(Drop)]
+pub struct Lesson {
+    pub step: Draft,
+    pub next: Option<usize>,
+}
+
+/// Learns a clause from a conflict, and makes its first literal true.
 pub fn learn(
     alloc: Global,
     trail: &mut Trail,
@@ -443,22 +449,20 @@ pub fn learn(
     pairs: &mut Vec<Pair>,
     lists: &mut [Vec<Watch>],
     store: &mut Store,
-    steps: &mut Vec<Step>,
     notes: &mut Notes,
     conflict: usize,
-) -> Result<Option<usize>, AllocError>
+) -> Result<Lesson, AllocError>
     requires ready { IsReady (length trail.old.values) store.old pairs.old.items (rows lists.old) trail.old }
     requires seen { length seen.old ≡ length trail.old.values }
     requires known { conflict < length store.old }
     requires conflict { IsConflict (valuation trail.old.values) (clause_at store.old conflict) }
-    ensures refuted { IfOk result (λ from. IfNone from ((s : Entry) × (steps.new.items ≡ steps.old.items ++ s ∷ [])
-        × IsLast (length trail.old.values) store.old s)) }
-    ensures learned { IfOk result (λ from. IfSome from (λ _. (s : Entry) × (steps.new.items ≡ steps.old.items ++ s ∷ [])
-        × (store.new ≡ store.old ++ s.clause ∷ []) × IsNew (length trail.old.values) store.old s)) }
-    ensures less { IfOk result (λ from. IfSome from (λ _. free_count (length trail.old.values) store.new all_open
+    ensures refuted { IfOk result (λ l. IfNone l.next (IsLast (length trail.old.values) store.old l.step)) }
+    ensures store { IfOk result (λ l. IfSome l.next (λ _. store.new ≡ store.old ++ l.step.clause ∷ [])) }
+    ensures learned { IfOk result (λ l. IfSome l.next (λ _. IsNew (length trail.old.values) store.old l.step)) }
+    ensures less { IfOk result (λ l. IfSome l.next (λ _. free_count (length trail.old.values) store.new all_open
         < free_count (length trail.old.values) store.old all_open)) }
-    ensures ready { IfOk result (λ from. IfSome from (λ _. IsReady (length trail.old.values) store.new pairs.new.items (rows lists.new) trail.new)) }
-    ensures half { IfOk result (λ from. IfSome from (λ n. IsHalfway store.new pairs.new.items trail.new n)) }
+    ensures ready { IfOk result (λ l. IfSome l.next (λ _. IsReady (length trail.old.values) store.new pairs.new.items (rows lists.new) trail.new)) }
+    ensures half { IfOk result (λ l. IfSome l.next (λ n. IsHalfway store.new pairs.new.items trail.new n)) }
 {
     let Taught { left, step } = teach(
         alloc,
@@ -466,30 +470,22 @@ pub fn learn(
         seen,
         &mut notes.walked,
         &mut notes.hints,
+        &mut notes.redundancy,
         store,
         conflict,
     )?;
     if left == 0 {
-        write(alloc, steps, &step)?;
-        return Ok(None);
+        return Ok(Lesson { step, next: None });
     }
     trail.after_conflict(
         &mut notes.walked,
         step.clause.as_slice(),
         store.len().saturating_add(1),
     )?;
-    let from = take_up(
-        alloc,
-        trail,
-        seen,
-        pairs,
-        lists,
-        store,
-        steps,
-        &mut notes.uses,
-        left,
-        step,
-    )?;
+    let from = take_up(trail, seen, pairs, lists, store, left, &step)?;
     clear_marks(seen, &notes.walked);
-    Ok(Some(from))
+    Ok(Lesson {
+        step,
+        next: Some(from),
+    })
 }

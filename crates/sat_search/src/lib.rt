@@ -3,6 +3,7 @@
 
 pub mod back;
 pub mod learn;
+mod redundant;
 pub mod search;
 pub mod start;
 mod walk;

@@ -3,7 +3,7 @@
 //! conflict that is answered, and the search needs no case for short clauses. A clause that is false already is only noted, and
 //! the rest is set up all the same.
 
-ghost use Rattle.std.specs.Prelude.{◌≡◌, ◌≢◌, ℕ, ◌+◌, ◌<◌, ◌≤◌, Option, None, length, OnOk, IfOk, MatchBool, MatchOption, map};
+ghost use Rattle.std.specs.Prelude.{◌≡◌, ◌≢◌, ℕ, ◌+◌, ◌<◌, ◌≤◌, Option, None, length, OnOk, IfOk, MatchBool, MatchOption};
 ghost use Rattle.std.specs.List.{All, Contains};
 ghost use Rattle.cnf.specs.Clauses.{AllBelow, IsConflict, valuation};
 ghost use Rattle.refute_check.specs.Accepted.{clause_at};
@@ -12,9 +12,11 @@ ghost use Rattle.sat_state.specs.Watch.{HasTrue, rows};
 ghost use Rattle.sat_search.specs.Start.{first_of, IsForcedBy, IsStarted, IsTwoOf};
 
 use crate::learn::watch_pair;
-use cnf::{ClauseState, Dim, state_of};
+use cnf::{ClauseState, Dim};
+use sat_state::packed::PackedDim;
+use sat_state::store::Store;
 use sat_state::trail::{Assigned, Trail};
-use sat_state::watch::{Pair, Watch};
+use sat_state::watch::{Pair, Watch, packed_state};
 use std::alloc::AllocError;
 
 // Whether the literals are not the same.
@@ -25,60 +27,54 @@ fn differ(a: Dim, b: Dim) -> bool
 }
 
 /// The first literal of a clause, if there is one.
-fn first_of(clause: &[Dim]) -> Dim
+fn first_of(clause: &[PackedDim]) -> PackedDim
     ensures { result ≡ first_of clause.now }
 {
-    clause.first().copied().unwrap_or(Dim {
+    let none = PackedDim::of(Dim {
         var: 0,
         negated: false,
-    })
+    });
+    clause.first().copied().unwrap_or(none)
 }
 
 /// Two literals of a clause that are not the same, if there are two.
-fn two_of(clause: &[Dim]) -> Result<Option<Pair>, AllocError>
-    ensures { IfOk result (IsTwoOf clause.now) }
+fn two_of(clause: &[PackedDim]) -> Option<Pair>
+    ensures { IsTwoOf clause.now result }
 {
     let a = first_of(clause);
     for b in clause {
-        if differ(*b, a) {
-            return Ok(Some(Pair::of(a, *b)?));
+        if differ(b.dim(), a.dim()) {
+            let b = *b;
+            return Some(Pair { a, b });
         }
     }
-    Ok(None)
-}
-
-/// A given clause.
-fn given(clauses: &[Vec<Dim>], k: usize) -> &[Dim]
-    requires { k < length clauses.now }
-    ensures { result.now ≡ clause_at (map (λ v. v.items) clauses.now) k }
-{
-    clauses[k].as_slice()
+    None
 }
 
 /// A pair of a clause of which no two literals are watched.
-fn no_two() -> Result<Pair, AllocError>
-    ensures { IfOk result (λ pair. pair.a ≡ pair.b) }
+fn no_two() -> Pair
+    ensures { result.a ≡ result.b }
 {
-    let d = Dim {
+    let a = PackedDim::of(Dim {
         var: 0,
         negated: false,
-    };
-    Pair::of(d, d)
+    });
+    Pair { a, b: a }
 }
 
 /// Makes the one literal of the clause k true, unless it is false.
-fn force(trail: &mut Trail, clauses: &[Vec<Dim>], k: usize) -> Result<Option<usize>, AllocError>
-    requires k { k < length clauses.now }
-    requires width { AllBelow (length trail.old.values) (map (λ v. v.items) clauses.now) }
-    requires same { All (λ b. b ≡ first_of (clause_at (map (λ v. v.items) clauses.now) k)) (clause_at (map (λ v. v.items) clauses.now) k) }
-    requires forced { IsForcedBy (map (λ v. v.items) clauses.now) trail.old }
-    ensures forced { OnOk result (IsForcedBy (map (λ v. v.items) clauses.now) trail.new) }
+fn force(trail: &mut Trail, store: &Store, k: usize) -> Result<Option<usize>, AllocError>
+    requires k { k < length store.now }
+    requires width { AllBelow (length trail.old.values) store.now }
+    requires same { All (λ b. b ≡ first_of (clause_at store.now k)) (clause_at store.now k) }
+    requires forced { IsForcedBy store.now trail.old }
+    ensures forced { OnOk result (IsForcedBy store.now trail.new) }
     ensures width { OnOk result (length trail.new.values ≡ length trail.old.values) }
     ensures grown { OnOk result (IsBelow (valuation trail.old.values) (valuation trail.new.values)) }
-    ensures found { IfOk result (λ found. MatchOption found (HasTrue (valuation trail.new.values) (clause_at (map (λ v. v.items) clauses.now) k))
-        (λ j. (j ≡ k) × IsConflict (valuation trail.new.values) (clause_at (map (λ v. v.items) clauses.now) k))) }
+    ensures found { IfOk result (λ found. MatchOption found (HasTrue (valuation trail.new.values) (clause_at store.now k))
+        (λ j. (j ≡ k) × IsConflict (valuation trail.new.values) (clause_at store.now k))) }
 {
-    match state_of(trail.values(), given(clauses, k)) {
+    match packed_state(trail.values(), store.clause(k)) {
         ClauseState::Conflict => Ok(Some(k)),
         ClauseState::Unit(d) => {
             trail.assign(Assigned {
@@ -99,28 +95,27 @@ fn start_one(
     trail: &mut Trail,
     pairs: &mut Vec<Pair>,
     lists: &mut [Vec<Watch>],
-    clauses: &[Vec<Dim>],
+    store: &Store,
     k: usize,
     found: Option<usize>,
 ) -> Result<Option<usize>, AllocError>
-    requires k { k < length clauses.now }
-    requires width { AllBelow (length trail.old.values) (map (λ v. v.items) clauses.now) }
-    requires started { IsStarted (length trail.old.values) (map (λ v. v.items) clauses.now) k pairs.old.items (rows lists.old) trail.old found }
+    requires k { k < length store.now }
+    requires width { AllBelow (length trail.old.values) store.now }
+    requires started { IsStarted (length trail.old.values) store.now k pairs.old.items (rows lists.old) trail.old found }
     ensures width { OnOk result (length trail.new.values ≡ length trail.old.values) }
-    ensures started { IfOk result (IsStarted (length trail.old.values) (map (λ v. v.items) clauses.now) (k + 1) pairs.new.items (rows lists.new) trail.new) }
+    ensures started { IfOk result (IsStarted (length trail.old.values) store.now (k + 1) pairs.new.items (rows lists.new) trail.new) }
 {
-    match two_of(given(clauses, k))? {
+    match two_of(store.clause(k)) {
         Some(pair) => {
             watch_pair(pairs, lists, pair, k)?;
             Ok(found)
         }
         None => {
-            let same = no_two()?;
-            pairs.push(same)?;
+            pairs.push(no_two())?;
             match found {
                 Some(j) => Ok(Some(j)),
                 None => {
-                    let forced = force(trail, clauses, k)?;
+                    let forced = force(trail, store, k)?;
                     Ok(forced)
                 }
             }
@@ -134,15 +129,15 @@ pub fn start(
     trail: &mut Trail,
     pairs: &mut Vec<Pair>,
     lists: &mut [Vec<Watch>],
-    clauses: &[Vec<Dim>],
+    store: &Store,
 ) -> Result<Option<usize>, AllocError>
-    requires width { AllBelow (length trail.old.values) (map (λ v. v.items) clauses.now) }
-    requires started { IsStarted (length trail.old.values) (map (λ v. v.items) clauses.now) 0 pairs.old.items (rows lists.old) trail.old None }
-    ensures started { IfOk result (IsStarted (length trail.old.values) (map (λ v. v.items) clauses.now) (length clauses.now) pairs.new.items (rows lists.new) trail.new) }
+    requires width { AllBelow (length trail.old.values) store.now }
+    requires started { IsStarted (length trail.old.values) store.now 0 pairs.old.items (rows lists.old) trail.old None }
+    ensures started { IfOk result (IsStarted (length trail.old.values) store.now (length store.now) pairs.new.items (rows lists.new) trail.new) }
 {
     let mut found = None;
-    for k in 0..clauses.len() {
-        found = start_one(trail, pairs, lists, clauses, k, found)?;
+    for k in 0..store.len() {
+        found = start_one(trail, pairs, lists, store, k, found)?;
     }
     Ok(found)
 }

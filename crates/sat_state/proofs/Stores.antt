@@ -1,11 +1,12 @@
 -- Clauses whose literals stand one after another.
-use Rattle.std.proofs.Common.{◌≡◌, ℕ, ◌+◌, ◌-◌, ◌≤◌, List, [], ◌∷◌, ◌++◌, length, take, drop, sym, refl, ap, ◌∙◌, arith, length-append}
+use Rattle.std.proofs.Common.{◌≡◌, ℕ, ◌+◌, ◌-◌, ◌≤◌, List, [], ◌∷◌, ◌++◌, length, take, drop, sym, refl, ap, ◌∙◌, arith, length-append, map, get_or, subst, ◌<◌, Vec, Global}
 use Rattle.std.specs.List.{All}
-use Rattle.std.proofs.lemmas.List.{take_all, take-append-le, drop-append-le, length-drop, map-append, take-append-drop}
+use Rattle.std.proofs.lemmas.List.{take_all, take-append-le, drop-append-le, length-drop, map-append, take-append-drop, get_or-map, length-map}
 use Rattle.std.proofs.lemmas.List.Elements.{All-head, All-tail, All-weaker}
 use Rattle.cnf.specs.declared.Dim.{Dim}
 use Rattle.sat_state.specs.declared.store.Span.{Span}
 use Rattle.sat_state.specs.Store.{IsInside, clause_in, clauses_in}
+use Rattle.sat_state.specs.Narrow.{AreNarrow}
 
 one_kept : (dims more : List Dim) (p : Span) → IsInside (length dims) p → clause_in (dims ++ more) p ≡ clause_in dims p
 one_kept dims more p h =
@@ -47,3 +48,10 @@ added dims more dims2 spans spans2 s h is start end is2 =
     let here : drop s.start dims2 ≡ more = ap (λ n. drop n dims2) start ∙ ap (drop (length dims)) is ∙ drop_front dims more in
     let one : clause_in dims2 s ≡ more = ap (take (s.end - s.start)) here ∙ take_all (s.end - s.start) more (omega (arith, long, start, end)) in
     ap (clauses_in dims2) is2 ∙ map-append (clause_in dims2) spans (s ∷ []) ∙ ap (λ cs. cs ++ clause_in dims2 s ∷ []) (ap (λ d. clauses_in d spans) is ∙ all_kept dims more spans h) ∙ ap (λ c. clauses_in dims spans ++ c ∷ []) one
+
+-- a clause of a vector of clauses whose literals have numbers that fit
+pub narrow_at : (clauses : List (Vec Dim Global)) (i : ℕ) (v : Vec Dim Global) (slice : List Dim) → i < length clauses → v ≡ get_or clauses i v → slice ≡ v.items →
+    All AreNarrow (map (λ v. v.items) clauses) → AreNarrow slice
+narrow_at clauses i v slice lt is e h =
+    let at : get_or (map (λ v. v.items) clauses) i [] ≡ slice = get_or-map (λ v. v.items) clauses i v [] lt ∙ sym (ap (λ v. v.items) is) ∙ sym e in
+    subst AreNarrow at (h i [] (let l = length-map clauses (λ v. v.items) in omega (arith, lt, l)))

@@ -4,3 +4,4 @@ pub mod Watch
 pub mod Visited
 pub mod Queue
 pub mod Store
+pub mod Narrow

@@ -2,9 +2,7 @@
 //! the order of decisions. A literal is a `Dim` of `cnf` everywhere in contracts; the clauses and the watches hold it packed (`PackedDim`).
 #![tactic(auto)]
 
-pub mod likeness;
 pub mod lists;
-pub mod order;
 pub mod packed;
 mod queue;
 pub mod store;

@@ -1,9 +1,11 @@
 //! All clauses in one piece of memory: the literals one after another, and for each clause where they begin and end. The search
-//! reads clauses all the time, and so they lie close together and packed in 8 bytes a literal; variables of 2^32 and more are
-//! want of memory. Clauses never change and are never taken out, so that a number names one clause for ever.
+//! reads clauses all the time, and so they lie close together and packed in 8 bytes a literal. Clauses never change and are never
+//! taken out, so that a number names one clause for ever.
 
-ghost use Rattle.std.specs.Prelude.{◌≡◌, ◌<◌, ◌≤◌, ◌++◌, ◌∷◌, [], length, map, take, OnOk, OnErr, IfOk};
+ghost use Rattle.std.specs.Prelude.{◌≡◌, ◌*◌, ◌+◌, ◌<◌, ◌^◌, ◌≤◌, ◌++◌, ◌∷◌, [], length, map, take, OnOk, OnErr, IfOk};
+ghost use Rattle.std.specs.List.{All};
 ghost use Rattle.refute_check.specs.Accepted.{clause_at};
+ghost use Rattle.sat_state.specs.Narrow.{AreNarrow};
 
 use crate::packed::PackedDim;
 use cnf::Dim;
@@ -44,16 +46,18 @@ impl Model for Store {
 
 // Appends a literal.
 fn write_one(lits: &mut Vec<PackedDim>, d: Dim) -> Result<(), AllocError>
+    requires { 2 * d.var + 1 < 2 ^ 64 }
     ensures added { OnOk result (lits.new.items ≡ lits.old.items ++ d ∷ []) }
     ensures unchanged { OnErr result (lits.new.items ≡ lits.old.items) }
 {
-    let lit = PackedDim::of(d)?;
+    let lit = PackedDim::of(d);
     lits.push(lit)?;
     Ok(())
 }
 
 /// Appends these literals, or, where there is no memory for all, some.
 fn write(lits: &mut Vec<PackedDim>, clause: &[Dim]) -> Result<(), AllocError>
+    requires { AreNarrow clause.now }
     ensures all { OnOk result (lits.new.items ≡ lits.old.items ++ clause.now) }
     ensures front { take (length lits.old.items) lits.new.items ≡ lits.old.items }
     ensures longer { length lits.old.items ≤ length lits.new.items }
@@ -64,22 +68,32 @@ fn write(lits: &mut Vec<PackedDim>, clause: &[Dim]) -> Result<(), AllocError>
     Ok(())
 }
 
+// How many literals the clauses have together.
+fn literal_count(clauses: &[Vec<Dim>]) -> usize {
+    let mut count: usize = 0;
+    for clause in clauses {
+        count = count.saturating_add(clause.len());
+    }
+    count
+}
+
 impl Store {
-    /// No clause.
-    fn new(alloc: Global) -> Store
-        ensures { result ≡ [] }
+    /// No clause, with room for so many clauses, and for so many literals of all.
+    pub fn with_room(alloc: Global, clauses: usize, literals: usize) -> Result<Store, AllocError>
+        ensures { IfOk result (λ store. store ≡ []) }
     {
-        Store {
-            lits: Vec::new(alloc),
-            spans: Vec::new(alloc),
-        }
+        Ok(Store {
+            lits: Vec::with_capacity(alloc, literals)?,
+            spans: Vec::with_capacity(alloc, clauses)?,
+        })
     }
 
     /// These clauses, in this order.
     pub fn from_clauses(alloc: Global, clauses: &[Vec<Dim>]) -> Result<Store, AllocError>
+        requires { All AreNarrow (map (λ v. v.items) clauses.now) }
         ensures { IfOk result (λ store. store ≡ map (λ v. v.items) clauses.now) }
     {
-        let mut store = Store::new(alloc);
+        let mut store = Store::with_room(alloc, clauses.len(), literal_count(clauses))?;
         for clause in clauses {
             store.push(clause.as_slice())?;
         }
@@ -105,6 +119,7 @@ impl Store {
     /// Puts a clause behind all others. Where there is no memory for it, the clauses stay as they are.
     #[tactic(auto, using(crate::proofs::Stores::kept, crate::proofs::Stores::inside_more))]
     pub fn push(&mut self, clause: &[Dim]) -> Result<(), AllocError>
+        requires { AreNarrow clause.now }
         ensures added { OnOk result (self.new ≡ self.old ++ clause.now ∷ []) }
         ensures unchanged { OnErr result (self.new ≡ self.old) }
     {

@@ -7,10 +7,11 @@ ghost use Rattle.std.specs.List.{All};
 ghost use Rattle.cnf.specs.Clauses.{all_open, valuation};
 ghost use Rattle.sat_state.specs.Trail.{Tracks, open_count};
 
-use crate::likeness::{Attempts, Likeness, Wish};
-use crate::order::Order;
 use crate::queue::Queue;
 use cnf::Dim;
+use sat_order::likeness::{Attempts, Likeness, Wish};
+use sat_order::order::Order;
+use sat_order::scores::Scores;
 use std::alloc::{AllocError, Global};
 use std::marker::Model;
 
@@ -23,7 +24,8 @@ pub struct Assigned {
 
 /// Values of variables, and the literals that they make false in the order in which they came. Contracts see these two
 /// lists. Beside them it keeps a queue of the variables, and, for the choice of decisions alone, the level at which each variable
-/// had a value last, that value, what the newest conflicts were like, and the place of each clause at which a literal was found last.
+/// had a value last, that value, the place on the trail that it had, scores of the variables, what the newest conflicts were like,
+/// and the place of each clause at which a literal was found last.
 pub struct Trail {
     values: Vec<Option<bool>>,
     entries: Vec<Assigned>,
@@ -33,7 +35,9 @@ pub struct Trail {
     queue: Queue,
     order: Order,
     attempts: Attempts,
+    scores: Scores,
     places: Vec<usize>,
+    spots: Vec<usize>,
 }
 
 impl Drop for Trail {
@@ -47,7 +51,9 @@ impl Drop for Trail {
             queue: _,
             order: _,
             attempts: _,
+            scores: _,
             places: _,
+            spots: _,
         } = self;
     }
 }
@@ -110,6 +116,13 @@ fn set_all(flags: &mut Vec<bool>, value: bool)
     }
 }
 
+// Sets the number of a variable, if there is one.
+fn note_at(numbers: &mut [usize], var: usize, number: usize) {
+    if let Some(old) = numbers.get_mut(var) {
+        *old = number;
+    }
+}
+
 // Sets the flag of a variable, if there is one.
 fn set_at(flags: &mut Vec<bool>, wish: Wish)
     ensures { length flags.new.items ≡ length flags.old.items }
@@ -135,7 +148,9 @@ impl Trail {
             queue: Queue::new(alloc, vars)?,
             order: Order::new(alloc, vars)?,
             attempts: Attempts::new(alloc),
+            scores: Scores::new(alloc),
             places: Vec::new(alloc),
+            spots: vec![in alloc; 0; vars]?,
         })
     }
 
@@ -165,6 +180,18 @@ impl Trail {
         self.levels[var]
     }
 
+    /// The level at which the variable had a value last, if there is such a variable, or 0.
+    pub fn last_level(&self, var: usize) -> usize {
+        self.levels.get(var).copied().unwrap_or(0)
+    }
+
+    /// The clause by which a variable has its value, if it has one by a clause.
+    pub fn reason_of(&self, var: usize) -> Option<usize> {
+        let spot = self.spots.get(var).copied()?;
+        let e = self.entries.get(spot)?;
+        if e.dim.var == var { e.reason } else { None }
+    }
+
     /// The value that the variable had last.
     pub fn phase_of(&self, var: usize) -> bool
         requires { var < length self.now.values }
@@ -178,11 +205,22 @@ impl Trail {
         ensures unchanged { self.new ≡ self.old }
     {
         match self.attempts.wish(&self.values) {
-            None => self.queue.choose(&self.values),
+            None => self.next_open(),
             Some(wish) => {
                 set_at(&mut self.phases, wish);
                 Some(wish.var)
             }
+        }
+    }
+
+    // A variable that has no value: that with the greatest score, where there are scores, or else the first one of the queue.
+    fn next_open(&mut self) -> Option<usize>
+        ensures open { MatchOption result (All (λ o. o ≡ None → ⊥) self.old.values) (λ v. (v < length self.old.values) × (valuation self.old.values v ≡ None)) }
+        ensures unchanged { self.new ≡ self.old }
+    {
+        match self.scores.choose(&self.values) {
+            None => self.queue.choose(&self.values),
+            Some(var) => Some(var),
         }
     }
 
@@ -211,7 +249,8 @@ impl Trail {
         ensures { self.new ≡ self.old }
     {
         self.order.arrange(self.queue.stamps(), walked)?;
-        self.order.count(&self.levels, clause);
+        self.order.count(&self.levels, clause, walked.len());
+        self.scores.bump_all(walked);
         self.queue.bump_all(&self.values, walked);
         if self.attempts.after_conflict() {
             self.order.ask();
@@ -240,6 +279,20 @@ impl Trail {
         set_all(&mut self.phases, value);
     }
 
+    /// Chooses variables by scores from now on, and tries no pairs any more, where conflicts walk over many variables; or no longer
+    /// by scores where they do not.
+    pub fn choose_by_scores(&mut self, alloc: Global) -> Result<(), AllocError>
+        ensures { self.new ≡ self.old }
+    {
+        if !self.order.is_long() {
+            self.scores.end();
+        } else if !self.scores.is_begun() {
+            self.scores.begin(alloc, self.values.len())?;
+            self.attempts.begin(Vec::new(alloc));
+        }
+        Ok(())
+    }
+
     /// How many levels the clause of the newest conflict has.
     pub fn newest_levels(&self) -> u64 {
         self.order.levels()
@@ -249,7 +302,7 @@ impl Trail {
     pub fn is_restart_due(&mut self) -> bool
         ensures { self.new ≡ self.old }
     {
-        self.order.is_restart_due()
+        self.order.is_restart_due(self.entries.len())
     }
 
     /// Makes an open literal false.
@@ -263,6 +316,8 @@ impl Trail {
         ensures width { OnOk result (length self.new.values ≡ length self.old.values) }
         ensures fewer { OnOk result (open_count self.new.values + 1 ≡ open_count self.old.values) }
     {
+        note_at(&mut self.spots, e.dim.var, self.entries.len());
+        self.order.give();
         self.entries.push(e)?;
         self.values[e.dim.var] = Some(e.dim.negated);
         self.level = level_with(self.level, e);
@@ -283,6 +338,7 @@ impl Trail {
         self.values[e.dim.var] = None;
         self.level = level_without(self.level, e);
         self.queue.reopen(e.dim.var);
+        self.scores.reopen(e.dim.var);
         e
     }
 }

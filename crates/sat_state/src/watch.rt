@@ -3,33 +3,21 @@
 //! beside is looked at first, and another one is looked for from the place at which one was found last, and then before it, so
 //! that long clauses are not read from the front each time.
 
-ghost use Rattle.std.specs.Prelude.{◌≡◌, ◌≢◌, ℕ, ◌<◌, ◌≤◌, ◌⊎◌, ◌↔◌, Option, Some, None, not, length, MatchOption, IsTrue, IfOk};
+ghost use Rattle.std.specs.Prelude.{◌≡◌, ◌≢◌, ℕ, ◌<◌, ◌≤◌, ◌⊎◌, ◌↔◌, Option, Some, None, not, length, MatchOption, IsTrue};
 ghost use Rattle.std.specs.List.{All, Contains};
 ghost use Rattle.cnf.specs.Clauses.{AreBelow, IsFalsified, Valuation, valuation};
-ghost use Rattle.sat_state.specs.Watch.{HasTrue, IsHalf, IsBeside, Watches, pair_of};
+ghost use Rattle.cnf.specs.State.{IsState};
+ghost use Rattle.sat_state.specs.Watch.{HasTrue, IsHalf, IsBeside, Watches};
 ghost use Rattle.sat_state.specs.Visited.{IsFreeAt, IsVisited};
 
 use crate::packed::PackedDim;
-use cnf::Dim;
-use std::alloc::AllocError;
+use cnf::{ClauseState, Dim, look, looked};
 
 /// The two literals of a clause that are watched. A clause of which none is watched has twice the same.
 #[derive(Clone, Copy)]
 pub struct Pair {
     pub a: PackedDim,
     pub b: PackedDim,
-}
-
-impl Pair {
-    /// The pair of these literals. There is no memory for 2^32 variables.
-    pub fn of(a: Dim, b: Dim) -> Result<Pair, AllocError>
-        ensures { IfOk result (λ pair. pair ≡ pair_of a b) }
-    {
-        Ok(Pair {
-            a: PackedDim::of(a)?,
-            b: PackedDim::of(b)?,
-        })
-    }
 }
 
 /// The number of a clause, and one of its literals: while that one is true, the clause need not be looked at.
@@ -74,6 +62,20 @@ pub fn is_true(values: &[Option<bool>], lit: PackedDim) -> bool
         None => false,
         Some(value) => value != d.negated,
     }
+}
+
+/// What the clause is under these values, by the number of the variable. A literal that stands twice counts once.
+pub fn packed_state(values: &[Option<bool>], clause: &[PackedDim]) -> ClauseState
+    requires { AreBelow (length values.now) clause.now }
+    ensures { IsState (valuation values.now) clause.now result }
+{
+    let mut found: Option<Dim> = None;
+    for d in clause {
+        if !look(values, d.dim(), &mut found) {
+            return ClauseState::Neither;
+        }
+    }
+    looked(found)
 }
 
 /// The first place of a literal that is not false, and not `other`.

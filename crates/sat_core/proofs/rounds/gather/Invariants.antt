@@ -5,5 +5,5 @@ use Rattle.sat_core.proofs.rounds.gather.Given as goal
 
 abbrev pub invariant-loop-name : goal.invariant-loop-name
 invariant-loop-name l = record {
-  named : IsNamed (all_of (map (λ v. v.items) l.clauses) l.steps) l.names.items (map (λ v. v.items) l.round.items);
+  named : IsNamed (all_of (map (λ v. v.items) l.clauses) l.steps) l.names.items l.store;
 }

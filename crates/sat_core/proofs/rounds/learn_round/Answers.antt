@@ -1,4 +1,4 @@
-use Rattle.std.proofs.Common.{◌≡◌, ◌+◌, ◌∙◌, ℕ, length, List, [], ◌∷◌, ◌++◌, map, sym, subst, ap, Option}
+use Rattle.std.proofs.Common.{◌≡◌, ◌+◌, ◌∙◌, ℕ, length, List, [], ◌∷◌, ◌++◌, map, sym, subst, Option}
 use Rattle.std.specs.Prelude.{IfOk, IfSome, IfNone}
 use Rattle.std.proofs.lemmas.List.{length-map}
 use Rattle.std.proofs.lemmas.Result.{IfOk-from_err}
@@ -16,7 +16,7 @@ use Rattle.sat_core.proofs.Names.{written, refuted}
 use Rattle.sat_core.proofs.rounds.learn_round.Goals as goal
 
 pub conflicts-init : goal.conflicts-init
-conflicts-init c = record { ready = c.requires.ready; state = c.requires.found; learned = c.requires.learned; named = c.requires.named; derived = c.requires.derived }
+conflicts-init c = record { ready = c.requires.ready; state = c.requires.found; named = c.requires.named; derived = c.requires.derived }
 
 pub conflict_of-requires-clause-ready : goal.conflict_of-requires-clause-ready
 conflict_of-requires-clause-ready c = ready_here (length c.args.trail.now.values) c.conflicts.store c.conflicts.pairs.items (rows c.conflicts.lists) c.conflicts.trail c.conflicts.invariant.ready
@@ -34,30 +34,31 @@ returns-in-None-next c =
     let vars = length c.args.trail.now.values in
     let cl : List (List Dim) = map (λ v. v.items) c.args.clauses.now in
     let wide : length c.conflict_of.new.trail.values ≡ vars = c.in_ok-conflict_of.ensures.ready.width ∙ c.conflicts.invariant.ready.width in
-    let before = c.conflicts.learned.items in
-    let end : (s : Entry) × (c.learn.new.steps.items ≡ before ++ s ∷ []) × IsLast (length c.conflict_of.new.trail.values) c.conflicts.store s =
-    subst (λ (o : Option ℕ). IfNone o ((s : Entry) × (c.learn.new.steps.items ≡ before ++ s ∷ []) × IsLast (length c.conflict_of.new.trail.values) c.conflicts.store s)) c.in-None-next.is c.in_ok-next-in-Some.ensures.refuted in
-    let one : c.learn.new.steps.items ≡ end.0 ∷ [] = end.1 ∙ ap (λ (l : List Entry). l ++ end.0 ∷ []) c.conflicts.invariant.learned in
-    let derived : IsDerived vars c.conflicts.store end.0 = subst (λ (m : ℕ). IsDerived m c.conflicts.store end.0) wide end.2.1 in
-    refuted vars cl c.conflicts.steps.items c.write_down.new.steps.items c.conflicts.names.items c.conflicts.store end.0 c.conflicts.invariant.derived c.conflicts.invariant.named derived end.2.0
-    (c.in_ok-write_down-in-Some.ensures.step end.0 one)
+    let s : Entry = c.in_ok-step-in-Some.field-0.step in
+    let end : IsLast (length c.conflict_of.new.trail.values) c.conflicts.store s =
+    subst (λ (o : Option ℕ). IfNone o (IsLast (length c.conflict_of.new.trail.values) c.conflicts.store s)) c.in-None-next.is c.in_ok-step-in-Some.ensures.refuted in
+    let derived : IsDerived vars c.conflicts.store s = subst (λ (m : ℕ). IsDerived m c.conflicts.store s) wide end.1 in
+    refuted vars cl c.conflicts.steps.items c.write_down.new.steps.items c.conflicts.names.items c.conflicts.store s c.conflicts.invariant.derived c.conflicts.invariant.named derived end.0
+    c.in_ok-write_down-in-Some.ensures.step
 
 pub rested-requires-clause-derived : goal.rested-requires-clause-derived
 rested-requires-clause-derived c =
     let vars = length c.args.trail.now.values in
     let cl : List (List Dim) = map (λ v. v.items) c.args.clauses.now in
     let wide : length c.conflict_of.new.trail.values ≡ vars = c.in_ok-conflict_of.ensures.ready.width ∙ c.conflicts.invariant.ready.width in
-    let before = c.conflicts.learned.items in
-    let taught : (s : Entry) × (c.learn.new.steps.items ≡ before ++ s ∷ []) × (c.learn.new.store ≡ c.conflicts.store ++ s.clause ∷ []) × IsNew (length c.conflict_of.new.trail.values) c.conflicts.store s =
-    subst (λ (o : Option ℕ). IfSome o (λ _. (s : Entry) × (c.learn.new.steps.items ≡ before ++ s ∷ []) × (c.learn.new.store ≡ c.conflicts.store ++ s.clause ∷ []) × IsNew (length c.conflict_of.new.trail.values) c.conflicts.store s)) c.in-Some-next.is c.in_ok-next-in-Some.ensures.learned in
-    let one : c.learn.new.steps.items ≡ taught.0 ∷ [] = taught.1 ∙ ap (λ (l : List Entry). l ++ taught.0 ∷ []) c.conflicts.invariant.learned in
-    let derived : IsDerived vars c.conflicts.store taught.0 = subst (λ (m : ℕ). IsDerived m c.conflicts.store taught.0) wide taught.3.derived in
+    let s : Entry = c.in_ok-step-in-Some.field-0.step in
+    let learned = c.in_ok-step-in-Some.ensures in
+    let new : IsNew (length c.conflict_of.new.trail.values) c.conflicts.store s =
+    subst (λ (o : Option ℕ). IfSome o (λ _. IsNew (length c.conflict_of.new.trail.values) c.conflicts.store s)) c.in-Some-next.is learned.learned in
+    let grown : c.learn.new.store ≡ c.conflicts.store ++ s.clause ∷ [] =
+    subst (λ (o : Option ℕ). IfSome o (λ _. c.learn.new.store ≡ c.conflicts.store ++ s.clause ∷ [])) c.in-Some-next.is learned.store in
+    let derived : IsDerived vars c.conflicts.store s = subst (λ (m : ℕ). IsDerived m c.conflicts.store s) wide new.derived in
     let many : length cl ≡ length c.args.clauses.now = length-map c.args.clauses.now (λ v. v.items) in
     let down = c.in_ok-write_down-in-Some.ensures in
-    let both = written vars cl c.conflicts.steps.items c.write_down.new.steps.items c.conflicts.names.items c.write_down.new.names.items c.conflicts.store c.learn.new.store taught.0
-    c.conflicts.invariant.derived c.conflicts.invariant.named derived (down.step taught.0 one)
-    (subst (λ (n : ℕ). c.write_down.new.names.items ≡ c.conflicts.names.items ++ (n + length c.conflicts.steps.items) ∷ []) (sym many) (down.name taught.0 one)) taught.2 in
-    let now : length c.learn.new.trail.values ≡ vars = (subst (λ (o : Option ℕ). IfSome o (λ _. IsReady (length c.conflict_of.new.trail.values) c.learn.new.store c.learn.new.pairs.items (rows c.learn.new.lists) c.learn.new.trail)) c.in-Some-next.is c.in_ok-next-in-Some.ensures.ready).width ∙ wide in
+    let both = written vars cl c.conflicts.steps.items c.write_down.new.steps.items c.conflicts.names.items c.write_down.new.names.items c.conflicts.store c.learn.new.store s
+    c.conflicts.invariant.derived c.conflicts.invariant.named derived down.step
+    (subst (λ (n : ℕ). c.write_down.new.names.items ≡ c.conflicts.names.items ++ (n + length c.conflicts.steps.items) ∷ []) (sym many) down.name) grown in
+    let now : length c.learn.new.trail.values ≡ vars = (subst (λ (o : Option ℕ). IfSome o (λ _. IsReady (length c.conflict_of.new.trail.values) c.learn.new.store c.learn.new.pairs.items (rows c.learn.new.lists) c.learn.new.trail)) c.in-Some-next.is learned.ready).width ∙ wide in
     subst (λ (l : List Entry). AllDerived (formula_of (length c.learn.new.trail.values) cl) l (length l)) (sym c.deref-then-branch-2.ensures.value)
     (subst (λ (n : ℕ). AllDerived (formula_of n cl) c.write_down.new.steps.items (length c.write_down.new.steps.items)) (sym now) both.0)
 
@@ -65,7 +66,7 @@ pub returns-then-branch : goal.returns-then-branch
 returns-then-branch c =
     let cl : List (List Dim) = map (λ v. v.items) c.args.clauses.now in
     let wide : length c.conflict_of.new.trail.values ≡ length c.args.trail.now.values = c.in_ok-conflict_of.ensures.ready.width ∙ c.conflicts.invariant.ready.width in
-    let now : length c.learn.new.trail.values ≡ length c.args.trail.now.values = (subst (λ (o : Option ℕ). IfSome o (λ _. IsReady (length c.conflict_of.new.trail.values) c.learn.new.store c.learn.new.pairs.items (rows c.learn.new.lists) c.learn.new.trail)) c.in-Some-next.is c.in_ok-next-in-Some.ensures.ready).width ∙ wide in
+    let now : length c.learn.new.trail.values ≡ length c.args.trail.now.values = (subst (λ (o : Option ℕ). IfSome o (λ _. IsReady (length c.conflict_of.new.trail.values) c.learn.new.store c.learn.new.pairs.items (rows c.learn.new.lists) c.learn.new.trail)) c.in-Some-next.is c.in_ok-step-in-Some.ensures.ready).width ∙ wide in
     subst (λ (l : List Entry). IfOk c.rested.result (IsRightTurn (formula_of (length c.args.trail.now.values) cl) l c.rested.new.trail)) c.deref-then-branch-2.ensures.value
     (subst (λ (n : ℕ). IfOk c.rested.result (IsRightTurn (formula_of n cl) c.deref-then-branch-2.result.now c.rested.new.trail)) now c.rested.ensures)
 
@@ -74,31 +75,27 @@ conflicts-preserved c =
     let vars = length c.args.trail.now.values in
     let cl : List (List Dim) = map (λ v. v.items) c.args.clauses.now in
     let wide : length c.conflict_of.new.trail.values ≡ vars = c.in_ok-conflict_of.ensures.ready.width ∙ c.conflicts.invariant.ready.width in
-    let before = c.conflicts.learned.items in
-    let taught : (s : Entry) × (c.learn.new.steps.items ≡ before ++ s ∷ []) × (c.learn.new.store ≡ c.conflicts.store ++ s.clause ∷ []) × IsNew (length c.conflict_of.new.trail.values) c.conflicts.store s =
-    subst (λ (o : Option ℕ). IfSome o (λ _. (s : Entry) × (c.learn.new.steps.items ≡ before ++ s ∷ []) × (c.learn.new.store ≡ c.conflicts.store ++ s.clause ∷ []) × IsNew (length c.conflict_of.new.trail.values) c.conflicts.store s)) c.in-Some-next.is c.in_ok-next-in-Some.ensures.learned in
-    let one : c.learn.new.steps.items ≡ taught.0 ∷ [] = taught.1 ∙ ap (λ (l : List Entry). l ++ taught.0 ∷ []) c.conflicts.invariant.learned in
-    let derived : IsDerived vars c.conflicts.store taught.0 = subst (λ (m : ℕ). IsDerived m c.conflicts.store taught.0) wide taught.3.derived in
+    let s : Entry = c.in_ok-step-in-Some.field-0.step in
+    let learned = c.in_ok-step-in-Some.ensures in
+    let new : IsNew (length c.conflict_of.new.trail.values) c.conflicts.store s =
+    subst (λ (o : Option ℕ). IfSome o (λ _. IsNew (length c.conflict_of.new.trail.values) c.conflicts.store s)) c.in-Some-next.is learned.learned in
+    let grown : c.learn.new.store ≡ c.conflicts.store ++ s.clause ∷ [] =
+    subst (λ (o : Option ℕ). IfSome o (λ _. c.learn.new.store ≡ c.conflicts.store ++ s.clause ∷ [])) c.in-Some-next.is learned.store in
+    let derived : IsDerived vars c.conflicts.store s = subst (λ (m : ℕ). IsDerived m c.conflicts.store s) wide new.derived in
     let many : length cl ≡ length c.args.clauses.now = length-map c.args.clauses.now (λ v. v.items) in
     let down = c.in_ok-write_down-in-Some.ensures in
-    let both = written vars cl c.conflicts.steps.items c.write_down.new.steps.items c.conflicts.names.items c.write_down.new.names.items c.conflicts.store c.learn.new.store taught.0
-    c.conflicts.invariant.derived c.conflicts.invariant.named derived (down.step taught.0 one)
-    (subst (λ (n : ℕ). c.write_down.new.names.items ≡ c.conflicts.names.items ++ (n + length c.conflicts.steps.items) ∷ []) (sym many) (down.name taught.0 one)) taught.2 in
+    let both = written vars cl c.conflicts.steps.items c.write_down.new.steps.items c.conflicts.names.items c.write_down.new.names.items c.conflicts.store c.learn.new.store s
+    c.conflicts.invariant.derived c.conflicts.invariant.named derived down.step
+    (subst (λ (n : ℕ). c.write_down.new.names.items ≡ c.conflicts.names.items ++ (n + length c.conflicts.steps.items) ∷ []) (sym many) down.name) grown in
     let ready0 : IsReady (length c.conflict_of.new.trail.values) c.learn.new.store c.learn.new.pairs.items (rows c.learn.new.lists) c.learn.new.trail =
-    subst (λ (o : Option ℕ). IfSome o (λ _. IsReady (length c.conflict_of.new.trail.values) c.learn.new.store c.learn.new.pairs.items (rows c.learn.new.lists) c.learn.new.trail)) c.in-Some-next.is c.in_ok-next-in-Some.ensures.ready in
+    subst (λ (o : Option ℕ). IfSome o (λ _. IsReady (length c.conflict_of.new.trail.values) c.learn.new.store c.learn.new.pairs.items (rows c.learn.new.lists) c.learn.new.trail)) c.in-Some-next.is learned.ready in
     let ready : IsReady vars c.learn.new.store c.learn.new.pairs.items (rows c.learn.new.lists) c.learn.new.trail =
     subst (λ (m : ℕ). IsReady m c.learn.new.store c.learn.new.pairs.items (rows c.learn.new.lists) c.learn.new.trail) wide ready0 in
     let half : IsHalfway c.learn.new.store c.learn.new.pairs.items c.learn.new.trail c.in-Some-next.place =
-    subst (λ (o : Option ℕ). IfSome o (λ n. IsHalfway c.learn.new.store c.learn.new.pairs.items c.learn.new.trail n)) c.in-Some-next.is c.in_ok-next-in-Some.ensures.half in
+    subst (λ (o : Option ℕ). IfSome o (λ n. IsHalfway c.learn.new.store c.learn.new.pairs.items c.learn.new.trail n)) c.in-Some-next.is learned.half in
     let anew = restarted vars c.learn.new.store c.learn.new.pairs.items (rows c.learn.new.lists) c.learn.new.trail c.restart-from.new.trail c.in-Some-next.place c.restart-from.result ready half
     c.restart-from.ensures.tracks c.restart-from.ensures.width c.restart-from.ensures.back in
-    record {
-      ready = anew.0;
-      state = anew.1;
-      learned = down.taken taught.0 one;
-      named = both.1;
-      derived = both.0;
-    }
+    record { ready = anew.0; state = anew.1; named = both.1; derived = both.0 }
 
 pub returns-in_err-conflict_of : goal.returns-in_err-conflict_of
 returns-in_err-conflict_of c = IfOk-from_err _ _ c.from_residual.ensures.0
@@ -106,8 +103,8 @@ returns-in_err-conflict_of c = IfOk-from_err _ _ c.from_residual.ensures.0
 pub returns-in_err-is_over-in-Some-next : goal.returns-in_err-is_over-in-Some-next
 returns-in_err-is_over-in-Some-next c = IfOk-from_err _ _ c.from_residual-in_err-is_over-in-Some-next.ensures.0
 
-pub returns-in_err-next-in-Some : goal.returns-in_err-next-in-Some
-returns-in_err-next-in-Some c = IfOk-from_err _ _ c.from_residual-in_err-next-in-Some.ensures.0
+pub returns-in_err-step-in-Some : goal.returns-in_err-step-in-Some
+returns-in_err-step-in-Some c = IfOk-from_err _ _ c.from_residual-in_err-step-in-Some.ensures.0
 
 pub returns-in_err-write_down-in-Some : goal.returns-in_err-write_down-in-Some
 returns-in_err-write_down-in-Some c = IfOk-from_err _ _ c.from_residual-in_err-write_down-in-Some.ensures.0

@@ -1,4 +1,4 @@
-use Rattle.std.proofs.Common.{◌≡◌, [], length, map}
+use Rattle.std.proofs.Common.{length, map}
 use Rattle.cnf.specs.Formula.{formula_of}
 use Rattle.cnf.specs.Clauses.{all_open, valuation}
 use Rattle.refute_check.specs.Accepted.{AllDerived}
@@ -14,7 +14,6 @@ abbrev pub invariant-conflicts : goal.invariant-conflicts
 invariant-conflicts l = let vars = length l.fn.trail.values in let cl = map (λ v. v.items) l.fn.clauses in record {
   ready : IsReady vars l.store l.pairs.items (rows l.lists) l.trail;
   state : IsFound l.store (valuation l.trail.values) l.found (IsHalfway l.store l.pairs.items l.trail l.from);
-  learned : l.learned.items ≡ [];
   named : IsNamed (all_of cl l.steps.items) l.names.items l.store;
   derived : AllDerived (formula_of vars cl) l.steps.items (length l.steps.items);
 }

@@ -1,11 +1,5 @@
 use Rattle.std.proofs.lemmas.Result.{IfOk-from_err}
 use Rattle.sat_core.proofs.whole.search_whole.Goals as goal
 
-pub returns-in_err-count : goal.returns-in_err-count
-returns-in_err-count c = IfOk-from_err _ _ c.from_residual.ensures.0
-
 pub returns-in_err-seen : goal.returns-in_err-seen
-returns-in_err-seen c = IfOk-from_err _ _ c.from_residual-in_err-seen.ensures.0
-
-pub returns-in_err-notes : goal.returns-in_err-notes
-returns-in_err-notes c = IfOk-from_err _ _ c.from_residual-in_err-notes.ensures.0
+returns-in_err-seen c = IfOk-from_err _ _ c.from_residual.ensures.0

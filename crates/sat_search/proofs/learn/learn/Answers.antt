@@ -13,17 +13,7 @@ returns-in_err-left c =
     let e = c.from_residual.ensures.0 in
     record {
       refuted = IfOk-from_err _ _ e;
-      learned = IfOk-from_err _ _ e;
-      less = IfOk-from_err _ _ e;
-      ready = IfOk-from_err _ _ e;
-      half = IfOk-from_err _ _ e;
-    }
-
-pub returns-in_err-write : goal.returns-in_err-write
-returns-in_err-write c =
-    let e = c.from_residual-in_err-write.ensures.0 in
-    record {
-      refuted = IfOk-from_err _ _ e;
+      store = IfOk-from_err _ _ e;
       learned = IfOk-from_err _ _ e;
       less = IfOk-from_err _ _ e;
       ready = IfOk-from_err _ _ e;
@@ -35,6 +25,7 @@ returns-in_err-after_conflict c =
     let e = c.from_residual-in_err-after_conflict.ensures.0 in
     record {
       refuted = IfOk-from_err _ _ e;
+      store = IfOk-from_err _ _ e;
       learned = IfOk-from_err _ _ e;
       less = IfOk-from_err _ _ e;
       ready = IfOk-from_err _ _ e;
@@ -46,6 +37,7 @@ returns-in_err-from c =
     let e = c.from_residual-in_err-from.ensures.0 in
     record {
       refuted = IfOk-from_err _ _ e;
+      store = IfOk-from_err _ _ e;
       learned = IfOk-from_err _ _ e;
       less = IfOk-from_err _ _ e;
       ready = IfOk-from_err _ _ e;
@@ -61,6 +53,9 @@ take_up-requires-clause-ready c =
 
 pub returns-then-left-eq0-clause-learned : goal.returns-then-left-eq0-clause-learned
 returns-then-left-eq0-clause-learned c = tt
+
+pub returns-then-left-eq0-clause-store : goal.returns-then-left-eq0-clause-store
+returns-then-left-eq0-clause-store c = tt
 
 pub returns-then-left-eq0-clause-less : goal.returns-then-left-eq0-clause-less
 returns-then-left-eq0-clause-less c = tt
@@ -78,7 +73,8 @@ returns c =
     let vars = length c.args.trail.now.values in
     record {
       refuted = tt;
-      learned = (_, made.step, made.store, taught.new);
+      store = made.store;
+      learned = taught.new;
       less = subst (λ (db : List (List Dim)). free_count vars db all_open < free_count vars c.args.store.now all_open) (sym made.store) taught.less;
       ready = subst (λ (t : TrailLists). IsReady (length t.values) c.take_up.new.store c.take_up.new.pairs.items (rows c.take_up.new.lists) c.take_up.new.trail) c.after_conflict.ensures made.ready;
       half = made.half;

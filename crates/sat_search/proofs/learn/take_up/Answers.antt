@@ -19,10 +19,10 @@ go_back-requires c = record { some = c.requires.some; range = c.requires.range; 
 
 pub add_clause-requires-clause-room : goal.add_clause-requires-clause-room
 add_clause-requires-clause-room c =
-    let is : c.as_slice.result.now ≡ c.args.step.clause = c.as_slice.ensures.value ∙ ap (λ (y : Entry). y.clause) c.step.view_is in
+    let is : c.as_slice.result.now ≡ c.args.step.now.clause = c.as_slice.ensures.value ∙ ap (λ (y : Entry). y.clause) c.step.view_is in
     subst (λ (cl : List Dim). All (λ d. 2 * d.var + 1 < length c.args.lists.now) cl) (sym is)
     (All-weaker (λ (d : Dim). d.var < length c.args.trail.now.values) (λ (d : Dim). 2 * d.var + 1 < length c.args.lists.now)
-    (λ d lt. has_list c.args.lists.now d.var (length c.args.trail.now.values) c.requires.ready.filed.count lt) c.args.step.clause c.requires.taught.new.derived.in_range)
+    (λ d lt. has_list c.args.lists.now d.var (length c.args.trail.now.values) c.requires.ready.filed.count lt) c.args.step.now.clause c.requires.taught.new.derived.in_range)
 
 pub assign-requires : goal.assign-requires
 assign-requires c = record {
@@ -38,7 +38,7 @@ returns-clause-store c = c.in_ok-reason.ensures.store ∙ ap (λ (cl : List Dim)
 pub returns-clause-ready : goal.returns-clause-ready
 returns-clause-ready c =
     let db = c.args.store.now in
-    let s : Entry = c.args.step in
+    let s : Entry = c.args.step.now in
     let x : Assigned = get_or c.args.trail.now.entries (c.args.left - 1) no_assigned in
     let same : (get_or c.entries.result.now (c.args.left - 1) no_assigned).dim ≡ x.dim = ap (λ (t : List Assigned). (get_or t (c.args.left - 1) no_assigned).dim) c.entries.ensures in
     let is : c.as_slice.result.now ≡ s.clause = c.as_slice.ensures.value ∙ ap (λ (y : Entry). y.clause) c.step.view_is in
@@ -57,7 +57,7 @@ returns-clause-ready c =
 pub returns-clause-half : goal.returns-clause-half
 returns-clause-half c =
     let db = c.args.store.now in
-    let s : Entry = c.args.step in
+    let s : Entry = c.args.step.now in
     let x : Assigned = get_or c.args.trail.now.entries (c.args.left - 1) no_assigned in
     let same : (get_or c.entries.result.now (c.args.left - 1) no_assigned).dim ≡ x.dim = ap (λ (t : List Assigned). (get_or t (c.args.left - 1) no_assigned).dim) c.entries.ensures in
     let is : c.as_slice.result.now ≡ s.clause = c.as_slice.ensures.value ∙ ap (λ (y : Entry). y.clause) c.step.view_is in
@@ -79,17 +79,6 @@ pub returns-in_err-reason : goal.returns-in_err-reason
 returns-in_err-reason c =
     let e = c.from_residual.ensures.0 in
     record {
-      step = IfOk-from_err _ _ e;
-      store = IfOk-from_err _ _ e;
-      ready = IfOk-from_err _ _ e;
-      half = IfOk-from_err _ _ e;
-    }
-
-pub returns-in_err-write : goal.returns-in_err-write
-returns-in_err-write c =
-    let e = c.from_residual-in_err-write.ensures.0 in
-    record {
-      step = IfOk-from_err _ _ e;
       store = IfOk-from_err _ _ e;
       ready = IfOk-from_err _ _ e;
       half = IfOk-from_err _ _ e;
@@ -99,7 +88,6 @@ pub returns-in_err-assign : goal.returns-in_err-assign
 returns-in_err-assign c =
     let e = c.from_residual-in_err-assign.ensures.0 in
     record {
-      step = IfOk-from_err _ _ e;
       store = IfOk-from_err _ _ e;
       ready = IfOk-from_err _ _ e;
       half = IfOk-from_err _ _ e;

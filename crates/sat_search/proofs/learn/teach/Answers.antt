@@ -6,13 +6,9 @@ use Rattle.sat_state.specs.Trail.{falses}
 use Rattle.sat_search.specs.Learn.{seen_at, Suffices}
 use Rattle.sat_search.proofs.Steps.{trail_range}
 use Rattle.sat_search.proofs.Learned.{taught}
-use Rattle.sat_search.proofs.Shorter.{suffices_first, nothing_left}
+use Rattle.sat_search.proofs.Shorter.{nothing_left}
 use Rattle.std.proofs.lemmas.Result.{IfOk-from_err}
 use Rattle.sat_search.proofs.learn.teach.Goals as goal
-
-pub shorten-requires-clause-enough : goal.shorten-requires-clause-enough
-shorten-requires-clause-enough c =
-    suffices_first c.args.store.now (reverse (take c.in_ok-left.left c.args.trail.now.entries)) c.trace.new.seen c.trace.new.hints.items c.in_ok-left.ensures.explains
 
 pub collect-requires : goal.collect-requires
 collect-requires c =

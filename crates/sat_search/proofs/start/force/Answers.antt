@@ -1,6 +1,5 @@
 use Rattle.std.proofs.Common.{◌≡◌, ◌<◌, List, [], length, map, refl, subst, ap, arith}
 use Rattle.std.specs.List.{Contains}
-use Rattle.std.proofs.lemmas.List.{length-map}
 use Rattle.std.proofs.lemmas.List.Elements.{All-contains}
 use Rattle.cnf.specs.declared.Dim.{Dim}
 use Rattle.cnf.specs.Clauses.{Valuation, valuation, IsUnit, IsConflict}
@@ -13,11 +12,11 @@ use Rattle.sat_search.proofs.start.force.Goals as goal
 
 pub assign-requires : goal.assign-requires
 assign-requires c =
-    let db = map (λ v. v.items) c.args.clauses.now in
+    let db = c.args.store.now in
     let d = c.in-Unit.d in
-    let lt : c.args.k < length db = let e : length db ≡ length c.args.clauses.now = length-map c.args.clauses.now (λ v. v.items) in omega (arith, c.requires.k, e) in
+    let lt : c.args.k < length db = c.requires.k in
     let unit : IsUnit (valuation c.args.trail.now.values) (clause_at db c.args.k) d = subst (λ (a : Valuation). IsUnit a (clause_at db c.args.k) d) (ap valuation c.values.ensures)
-    (subst (λ (l : List Dim). IsUnit (valuation c.values.result.now) l d) c.given.ensures c.in-Unit.ensures) in
+    (subst (λ (l : List Dim). IsUnit (valuation c.values.result.now) l d) c.clause.ensures c.in-Unit.ensures) in
     record {
       range = All-contains (λ (x : Dim). x.var < length c.args.trail.now.values) (clause_at db c.args.k) d (c.requires.width c.args.k [] lt) unit.inside;
       tracks = c.requires.forced.sound.tracks;
@@ -26,12 +25,12 @@ assign-requires c =
 
 pub returns-in-Conflict : goal.returns-in-Conflict
 returns-in-Conflict c =
-    let cl = clause_at (map (λ v. v.items) c.args.clauses.now) c.args.k in
+    let cl = clause_at c.args.store.now c.args.k in
     record {
       forced = c.requires.forced;
       width = refl;
       grown = λ v t h. h;
-      found = (refl, subst (λ (a : Valuation). IsConflict a cl) (ap valuation c.values.ensures) (subst (λ (l : List Dim). IsConflict (valuation c.values.result.now) l) c.given.ensures c.in-Conflict.ensures));
+      found = (refl, subst (λ (a : Valuation). IsConflict a cl) (ap valuation c.values.ensures) (subst (λ (l : List Dim). IsConflict (valuation c.values.result.now) l) c.clause.ensures c.in-Conflict.ensures));
     }
 
 pub returns-in-Neither-clause-forced : goal.returns-in-Neither-clause-forced
@@ -48,11 +47,11 @@ returns-in_ok-assign-in-Unit-clause-width c = c.in_ok-assign-in-Unit.ensures.wid
 
 pub returns-in_ok-assign-in-Unit-clause-forced : goal.returns-in_ok-assign-in-Unit-clause-forced
 returns-in_ok-assign-in-Unit-clause-forced c =
-    let db = map (λ v. v.items) c.args.clauses.now in
+    let db = c.args.store.now in
     let d = c.in-Unit.d in
-    let lt : c.args.k < length db = let e : length db ≡ length c.args.clauses.now = length-map c.args.clauses.now (λ v. v.items) in omega (arith, c.requires.k, e) in
+    let lt : c.args.k < length db = c.requires.k in
     let unit : IsUnit (valuation c.args.trail.now.values) (clause_at db c.args.k) d = subst (λ (a : Valuation). IsUnit a (clause_at db c.args.k) d) (ap valuation c.values.ensures)
-    (subst (λ (l : List Dim). IsUnit (valuation c.values.result.now) l d) c.given.ensures c.in-Unit.ensures) in
+    (subst (λ (l : List Dim). IsUnit (valuation c.values.result.now) l d) c.clause.ensures c.in-Unit.ensures) in
     forced_push db c.args.trail.now c.assign.new.self c.args.k d _ c.requires.forced lt unit refl c.in_ok-assign-in-Unit.ensures.tracks c.in_ok-assign-in-Unit.ensures.entries
 
 pub returns-in_ok-assign-in-Unit-clause-grown : goal.returns-in_ok-assign-in-Unit-clause-grown
@@ -61,19 +60,19 @@ returns-in_ok-assign-in-Unit-clause-grown c =
 
 pub returns-in_ok-assign-in-Unit-clause-found : goal.returns-in_ok-assign-in-Unit-clause-found
 returns-in_ok-assign-in-Unit-clause-found c =
-    let cl = clause_at (map (λ v. v.items) c.args.clauses.now) c.args.k in (
+    let cl = clause_at c.args.store.now c.args.k in (
       c.in-Unit.d,
-      subst (λ (l : List Dim). Contains l c.in-Unit.d) c.given.ensures c.in-Unit.ensures.inside,
+      subst (λ (l : List Dim). Contains l c.in-Unit.d) c.clause.ensures c.in-Unit.ensures.inside,
       now_assigned c.assign.new.self.values c.args.trail.now.entries c.assign.new.self.entries _ c.in_ok-assign-in-Unit.ensures.tracks c.in_ok-assign-in-Unit.ensures.entries,
     )
 
 pub returns-in-Neither-clause-found : goal.returns-in-Neither-clause-found
 returns-in-Neither-clause-found c =
-    let cl = clause_at (map (λ v. v.items) c.args.clauses.now) c.args.k in
+    let cl = clause_at c.args.store.now c.args.k in
     let see : valuation c.values.result.now ≡ valuation c.args.trail.now.values = ap valuation c.values.ensures in
     let neither : (IsConflict (valuation c.args.trail.now.values) cl → ⊥) × ((x : Dim) → IsUnit (valuation c.args.trail.now.values) cl x → ⊥) =
     subst (λ (a : Valuation). (IsConflict a cl → ⊥) × ((x : Dim) → IsUnit a cl x → ⊥)) see
-    (subst (λ (l : List Dim). (IsConflict (valuation c.values.result.now) l → ⊥) × ((x : Dim) → IsUnit (valuation c.values.result.now) l x → ⊥)) c.given.ensures c.in-Neither.ensures) in
+    (subst (λ (l : List Dim). (IsConflict (valuation c.values.result.now) l → ⊥) × ((x : Dim) → IsUnit (valuation c.values.result.now) l x → ⊥)) c.clause.ensures c.in-Neither.ensures) in
     one_true (valuation c.args.trail.now.values) cl (first_of cl) c.requires.same neither.0 neither.1
 
 pub returns-in_err-assign-in-Unit : goal.returns-in_err-assign-in-Unit

@@ -6,5 +6,5 @@ use Rattle.sat_search.proofs.start.start.Given as goal
 abbrev pub invariant-loop-k : goal.invariant-loop-k
 invariant-loop-k l = record {
   width : length l.trail.values ≡ length l.fn.trail.values;
-  started : IsStarted (length l.fn.trail.values) (map (λ v. v.items) l.clauses) l.k l.pairs.items (rows l.lists) l.trail l.found;
+  started : IsStarted (length l.fn.trail.values) l.store l.k l.pairs.items (rows l.lists) l.trail l.found;
 }

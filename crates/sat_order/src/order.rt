@@ -3,7 +3,8 @@
 //!
 //! The variables of a conflict are moved to the front in the order in which they stand, so that those of newer conflicts are
 //! decided first. The search starts anew where the newest clauses have more levels than clauses had in the mean: then it is on a
-//! path on which much is decided and little follows.
+//! path on which much is decided and little follows. Where conflicts walk over many variables, to start anew costs much, and it is
+//! not done before some times as many values were given as there are.
 
 ghost use Rattle.std.specs.Prelude.{◌<◌};
 
@@ -18,8 +19,19 @@ const NEWEST: u64 = 32;
 
 const MOST: u64 = 1_024;
 
-/// How many conflicts the search goes on at least before it starts anew.
+/// How many conflicts the search goes on at least before it starts anew, and how many times as many values as there are it gives
+/// where derivations are long.
 const PAUSE: u64 = 5;
+
+const WORK: usize = 10;
+
+/// From how many variables on that conflicts walk over in the mean derivations count as long, below how many they no longer do, and
+/// how many conflicts count in that mean.
+const LONG: u64 = 250;
+
+const SHORT: u64 = 150;
+
+const WALKS: u64 = 256;
 
 /// What the newest conflicts were like.
 pub struct Order {
@@ -35,6 +47,11 @@ pub struct Order {
     levels: u64,
     newest: u64,
     all: u64,
+    // How many values were given since the search was started anew last.
+    given: usize,
+    // How many variables a conflict walked over in the mean, and whether that counts as many.
+    walked: u64,
+    is_long: bool,
 }
 
 impl Drop for Order {
@@ -48,6 +65,9 @@ impl Drop for Order {
             levels: _,
             newest: _,
             all: _,
+            given: _,
+            walked: _,
+            is_long: _,
         } = self;
     }
 }
@@ -72,7 +92,22 @@ impl Order {
             levels: 0,
             newest: 0,
             all: 0,
+            given: 0,
+            walked: 0,
+            is_long: false,
         })
+    }
+
+    /// Counts a value that is given.
+    pub fn give(&mut self) {
+        self.given = self.given.saturating_add(1);
+    }
+
+    /// Whether conflicts walk over many variables, in the mean. Where they did, they still do unless they walk over far fewer.
+    pub fn is_long(&mut self) -> bool {
+        let least = if self.is_long { SHORT } else { LONG };
+        self.is_long = self.walked >= least.saturating_mul(SCALE);
+        self.is_long
     }
 
     /// Puts variables into the order of their stamps, the least first.
@@ -104,9 +139,11 @@ impl Order {
         }
     }
 
-    /// Counts a conflict and the levels of its clause, where these are the levels of the variables.
-    pub fn count(&mut self, levels: &[usize], clause: &[Dim]) {
+    /// Counts a conflict that walked over so many variables, and the levels of its clause, where these are the levels of the variables.
+    pub fn count(&mut self, levels: &[usize], clause: &[Dim], walked: usize) {
         self.conflicts = self.conflicts.saturating_add(1);
+        let walked = (walked as u64).saturating_mul(SCALE);
+        self.walked = renewed(self.walked, walked, self.conflicts.clamp(1, WALKS));
         let mut found: u64 = 0;
         for d in clause {
             if self.meets(levels, d.var) {
@@ -134,15 +171,22 @@ impl Order {
         self.is_asked = true;
     }
 
-    /// Whether the search is to start anew after this conflict: where it was asked for, or the newest clauses have many levels,
-    /// and it has not just been. Then it is taken to be so.
-    pub fn is_restart_due(&mut self) -> bool {
-        let is_early = self.conflicts.saturating_sub(self.restarted) < PAUSE;
+    // Whether the search has just been started anew, where so many variables have values.
+    fn is_early(&self, values: usize) -> bool {
+        self.conflicts.saturating_sub(self.restarted) < PAUSE
+            || (self.is_long && self.given < values.saturating_mul(WORK))
+    }
+
+    /// Whether the search is to start anew after this conflict, where so many variables have values: where it was asked for, or the
+    /// newest clauses have many levels, and it has not just been. Then it is taken to be so.
+    pub fn is_restart_due(&mut self, values: usize) -> bool {
+        let is_early = self.is_early(values);
         if !self.is_asked && (is_early || !self.is_worse()) {
             return false;
         }
         self.is_asked = false;
         self.restarted = self.conflicts;
+        self.given = 0;
         true
     }
 }
