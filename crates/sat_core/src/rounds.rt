@@ -6,12 +6,13 @@
 //! A solution of a round is tried on each given clause. Where one does not hold, or after some conflicts, another round comes.
 //! There are only so many rounds, and behind the last one a search over all clauses, so the whole ends.
 
-ghost use Rattle.std.specs.Prelude.{◌≡◌, ℕ, ◌*◌, ◌^◌, ◌+◌, ◌<◌, ◌≤◌, ◌++◌, ◌∷◌, [], None, Option, List, length, map, IfOk, IfSome, OnOk, IsTrue, unwrap_or, false, not, Some};
+ghost use Rattle.std.specs.Prelude.{◌≡◌, ℕ, ◌*◌, ◌+◌, ◌<◌, ◌≤◌, ◌++◌, ◌∷◌, [], None, Option, List, length, map, IfOk, IfSome, OnOk, IsTrue, unwrap_or, false, not, Some};
 ghost use Rattle.std.specs.List.{All};
 ghost use Rattle.cnf.specs.Formula.{formula_of};
 ghost use Rattle.cnf.specs.Clauses.{AllBelow, AreBelow, all_open, valuation};
 ghost use Rattle.refute_check.specs.Entry.{Entry, entry_of};
 ghost use Rattle.refute_check.specs.Accepted.{AllDerived, clause_at};
+ghost use Rattle.sat_state.specs.Narrow.{AreNarrow};
 ghost use Rattle.sat_state.specs.Trail.{Tracks, all_of};
 ghost use Rattle.sat_state.specs.Watch.{HasTrue, rows};
 ghost use Rattle.sat_search.specs.Found.{IsFound};
@@ -133,6 +134,24 @@ fn write_down(
     Ok(())
 }
 
+/// Writes down what was learned. Answers from where to propagate.
+fn keep(
+    alloc: Global,
+    clauses: &[Vec<Dim>],
+    names: &mut Vec<usize>,
+    lesson: Lesson,
+    steps: &mut Vec<Step>,
+    rests: &mut Rests,
+) -> Result<Option<usize>, AllocError>
+    ensures next { IfOk result (λ next. next ≡ lesson.next) }
+    ensures step { OnOk result (steps.new.items ≡ steps.old.items ++ named_step names.old.items lesson.step ∷ []) }
+    ensures name { OnOk result (names.new.items ≡ names.old.items ++ (length clauses.now + length steps.old.items) ∷ []) }
+{
+    let Lesson { step, next } = lesson;
+    write_down(alloc, clauses, names, &step, steps, rests)?;
+    Ok(next)
+}
+
 /// The end of a round whose clauses all hold.
 fn full(
     alloc: Global,
@@ -213,11 +232,8 @@ fn learn_round(
         match conflict_of(alloc, trail, pairs, lists, found, from, store)? {
             None => return full(alloc, clauses, trail, names, rests),
             Some(conflict) => {
-                let Lesson { step, next } = learn(
-                    alloc, trail, seen, pairs, lists, store, notes, conflict,
-                )?;
-                write_down(alloc, clauses, names, &step, steps, rests)?;
-                match next {
+                let lesson = learn(alloc, trail, seen, pairs, lists, store, notes, conflict)?;
+                match keep(alloc, clauses, names, lesson, steps, rests)? {
                     None => return Ok(Turn::Refuted),
                     Some(place) => {
                         if rests.is_over(trail.newest_levels())? {
@@ -264,15 +280,13 @@ fn watch_round(
 /// Puts the clause of a number behind others.
 fn push_clause(
     alloc: Global,
-    vars: usize,
     clauses: &[Vec<Dim>],
     steps: &[Step],
     name: usize,
     store: &mut Store,
 ) -> Result<(), AllocError>
     requires name { name < length clauses.now + length steps.now }
-    requires below { AllBelow vars (all_of (map (λ v. v.items) clauses.now) steps.now) }
-    requires width { 2 * vars < 2 ^ 64 }
+    requires narrow { All AreNarrow (all_of (map (λ v. v.items) clauses.now) steps.now) }
     ensures { OnOk result (store.new ≡ store.old ++ clause_at (all_of (map (λ v. v.items) clauses.now) steps.now) name ∷ []) }
 {
     let clause = clause_of(alloc, clauses, steps, steps.len(), name)?;
@@ -283,15 +297,13 @@ fn push_clause(
 /// The clauses of the next round, and their numbers.
 fn gather(
     alloc: Global,
-    vars: usize,
     clauses: &[Vec<Dim>],
     steps: &[Step],
     rests: &Rests,
     names: &mut Vec<usize>,
 ) -> Result<Store, AllocError>
     requires names { names.old.items ≡ [] }
-    requires below { AllBelow vars (all_of (map (λ v. v.items) clauses.now) steps.now) }
-    requires width { 2 * vars < 2 ^ 64 }
+    requires narrow { All AreNarrow (all_of (map (λ v. v.items) clauses.now) steps.now) }
     ensures { IfOk result (IsNamed (all_of (map (λ v. v.items) clauses.now) steps.now) names.new.items) }
 {
     let room = rests.room(clauses, steps);
@@ -299,7 +311,7 @@ fn gather(
     for name in 0..clauses.len() + steps.len() {
         if rests.is_wanted(name) {
             names.push(name)?;
-            push_clause(alloc, vars, clauses, steps, name, &mut store)?;
+            push_clause(alloc, clauses, steps, name, &mut store)?;
         }
     }
     Ok(store)
@@ -355,8 +367,7 @@ fn round(
     ensures { IfOk result (IsRightTurn (formula_of (length trail.old.values) (map (λ v. v.items) clauses.now)) steps.new.items trail.new) }
 {
     let mut names = Vec::new(alloc);
-    let vars = trail.values().len();
-    let mut store = gather(alloc, vars, clauses, steps, rests, &mut names)?;
+    let mut store = gather(alloc, clauses, steps, rests, &mut names)?;
     run_round(
         alloc, clauses, &mut store, trail, seen, &mut names, steps, rests,
     )

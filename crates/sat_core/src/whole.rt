@@ -4,7 +4,7 @@
 //! The parts that are borrowed (marks, notes, lists, trail, store) are made in functions around one another, so that each of
 //! these owns few things.
 
-ghost use Rattle.std.specs.Prelude.{◌≡◌, ℕ, ◌*◌, ◌+◌, ◌<◌, ◌≤◌, None, IfOk, IfSome, IsSomeAnd, IsTrue, ◌↔◌, unwrap_or, false, length, map, [], OnOk, Option};
+ghost use Rattle.std.specs.Prelude.{◌≡◌, ℕ, ◌*◌, ◌+◌, ◌<◌, ◌≤◌, ◌++◌, ◌∷◌, None, IfOk, IfSome, IsSomeAnd, IsTrue, ◌↔◌, unwrap_or, false, length, map, [], OnOk, Option};
 ghost use Rattle.std.specs.List.{All};
 ghost use Rattle.cnf.specs.Formula.{Formula, formula_of};
 ghost use Rattle.cnf.specs.Clauses.{AllBelow, all_open, valuation};
@@ -54,6 +54,16 @@ pub enum Stop {
     UsedUp,
 }
 
+/// Puts what was learned behind the log. Answers from where to propagate.
+fn keep(alloc: Global, steps: &mut Vec<Step>, lesson: Lesson) -> Result<Option<usize>, AllocError>
+    ensures next { IfOk result (λ next. next ≡ lesson.next) }
+    ensures step { OnOk result (steps.new.items ≡ steps.old.items ++ lesson.step ∷ []) }
+{
+    let Lesson { step, next } = lesson;
+    write(alloc, steps, &step)?;
+    Ok(next)
+}
+
 /// Learns a clause from each conflict, until there is none or the steps are as many as the budget.
 fn learn_all(
     alloc: Global,
@@ -82,11 +92,8 @@ fn learn_all(
                 return Ok(Stop::Solved(solution(alloc, trail.values())?));
             }
             Some(conflict) => {
-                let Lesson { step, next } = learn(
-                    alloc, trail, seen, pairs, lists, store, notes, conflict,
-                )?;
-                write(alloc, steps, &step)?;
-                match next {
+                let lesson = learn(alloc, trail, seen, pairs, lists, store, notes, conflict)?;
+                match keep(alloc, steps, lesson)? {
                     None => return Ok(Stop::Refuted),
                     Some(place) => {
                         if is_spent(budget, steps.len()) {

@@ -1,4 +1,4 @@
-use Rattle.std.proofs.Common.{◌≡◌, ℕ, length, List, map, sym, ◌∙◌, subst, None}
+use Rattle.std.proofs.Common.{ℕ, length, List, map, sym, ◌∙◌, subst, None}
 use Rattle.std.specs.Prelude.{IfOk}
 use Rattle.std.proofs.lemmas.Result.{IfOk-from_err}
 use Rattle.cnf.specs.declared.Dim.{Dim}

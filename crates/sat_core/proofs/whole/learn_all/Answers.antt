@@ -46,18 +46,18 @@ returns-in-None c =
     let done = sat_end values cl c.conflicts.steps.items c.in_ok-solution-in-None.field-0.items quieted quiet.1 below (c.in_ok-solution-in-None.ensures ∙ ap (map _) c.values.ensures) in
     (done.0 ∙ wide, done.1)
 
-pub returns-in-None-next : goal.returns-in-None-next
-returns-in-None-next c =
+pub returns-in-None-2 : goal.returns-in-None-2
+returns-in-None-2 c =
     let vars = length c.args.trail.now.values in
     let cl = c.args.store.now in
     let formula = formula_of vars cl in
     let wide : length c.conflict_of.new.trail.values ≡ vars = c.in_ok-conflict_of.ensures.ready.width ∙ c.conflicts.invariant.ready.width in
     let log = c.conflicts.steps.items in
-    let s : Entry = c.in_ok-step-in-Some.field-0.step in
+    let s : Entry = c.in_ok-lesson-in-Some.lesson.step in
     let end : IsLast (length c.conflict_of.new.trail.values) c.conflicts.store s =
-    subst (λ (o : Option ℕ). IfNone o (IsLast (length c.conflict_of.new.trail.values) c.conflicts.store s)) c.in-None-next.is c.in_ok-step-in-Some.ensures.refuted in
+    subst (λ (o : Option ℕ). IfNone o (IsLast (length c.conflict_of.new.trail.values) c.conflicts.store s)) (sym c.in_ok-keep-in-Some.ensures.next ∙ c.in-None-2.is) c.in_ok-lesson-in-Some.ensures.refuted in
     let derived : IsDerived vars (all_of cl log) s = subst (λ (db : List (List Dim)). IsDerived vars db s) c.conflicts.invariant.store (subst (λ (m : ℕ). IsDerived m c.conflicts.store s) wide end.1) in
-    subst (λ (t : List Entry). IsAccepted formula t) (sym c.in_ok-write-in-Some.ensures) (accepted_push formula log s c.conflicts.invariant.fresh derived end.0)
+    subst (λ (t : List Entry). IsAccepted formula t) (sym c.in_ok-keep-in-Some.ensures.step) (accepted_push formula log s c.conflicts.invariant.fresh derived end.0)
 
 pub returns-then-is_spent : goal.returns-then-is_spent
 returns-then-is_spent c =
@@ -66,15 +66,15 @@ returns-then-is_spent c =
     let formula = formula_of vars cl in
     let log = c.conflicts.steps.items in
     let wide : length c.conflict_of.new.trail.values ≡ vars = c.in_ok-conflict_of.ensures.ready.width ∙ c.conflicts.invariant.ready.width in
-    let s : Entry = c.in_ok-step-in-Some.field-0.step in
-    let step : c.write.new.steps.items ≡ log ++ s ∷ [] = c.in_ok-write-in-Some.ensures in
+    let s : Entry = c.in_ok-lesson-in-Some.lesson.step in
+    let step : c.keep.new.steps.items ≡ log ++ s ∷ [] = c.in_ok-keep-in-Some.ensures.step in
     let taught : IsNew (length c.conflict_of.new.trail.values) c.conflicts.store s =
-    subst (λ (o : Option ℕ). IfSome o (λ _. IsNew (length c.conflict_of.new.trail.values) c.conflicts.store s)) c.in-Some-next.is c.in_ok-step-in-Some.ensures.learned in
+    subst (λ (o : Option ℕ). IfSome o (λ _. IsNew (length c.conflict_of.new.trail.values) c.conflicts.store s)) (sym c.in_ok-keep-in-Some.ensures.next ∙ c.in-Some-2.is) c.in_ok-lesson-in-Some.ensures.learned in
     let new : IsNew vars (all_of cl log) s = subst (λ (db : List (List Dim)). IsNew vars db s) c.conflicts.invariant.store (subst (λ (m : ℕ). IsNew m c.conflicts.store s) wide taught) in
-    let fresh2 : IsFresh formula c.write.new.steps.items (length c.write.new.steps.items) = subst (λ (t : List Entry). IsFresh formula t (length t)) (sym step) (fresh_push formula log s c.conflicts.invariant.fresh new) in
-    let more : length c.write.new.steps.items ≡ length log + 1 = ap length step ∙ length-append log (s ∷ []) in
-    let len : c.len.result ≡ length c.write.new.steps.items = search rules in
-    spent c.args.budget formula c.write.new.steps.items (length log) c.len.result fresh2 more len c.conflicts.invariant.within (c.if-is_spent.ensures.0 refl)
+    let fresh2 : IsFresh formula c.keep.new.steps.items (length c.keep.new.steps.items) = subst (λ (t : List Entry). IsFresh formula t (length t)) (sym step) (fresh_push formula log s c.conflicts.invariant.fresh new) in
+    let more : length c.keep.new.steps.items ≡ length log + 1 = ap length step ∙ length-append log (s ∷ []) in
+    let len : c.len.result ≡ length c.keep.new.steps.items = search rules in
+    spent c.args.budget formula c.keep.new.steps.items (length log) c.len.result fresh2 more len c.conflicts.invariant.within (c.if-is_spent.ensures.0 refl)
 
 pub conflicts-preserved : goal.conflicts-preserved
 conflicts-preserved c =
@@ -83,24 +83,24 @@ conflicts-preserved c =
     let formula = formula_of vars cl in
     let log = c.conflicts.steps.items in
     let wide : length c.conflict_of.new.trail.values ≡ vars = c.in_ok-conflict_of.ensures.ready.width ∙ c.conflicts.invariant.ready.width in
-    let s : Entry = c.in_ok-step-in-Some.field-0.step in
-    let learned = c.in_ok-step-in-Some.ensures in
-    let step : c.write.new.steps.items ≡ log ++ s ∷ [] = c.in_ok-write-in-Some.ensures in
+    let s : Entry = c.in_ok-lesson-in-Some.lesson.step in
+    let learned = c.in_ok-lesson-in-Some.ensures in
+    let step : c.keep.new.steps.items ≡ log ++ s ∷ [] = c.in_ok-keep-in-Some.ensures.step in
     let taught : IsNew (length c.conflict_of.new.trail.values) c.conflicts.store s =
-    subst (λ (o : Option ℕ). IfSome o (λ _. IsNew (length c.conflict_of.new.trail.values) c.conflicts.store s)) c.in-Some-next.is learned.learned in
+    subst (λ (o : Option ℕ). IfSome o (λ _. IsNew (length c.conflict_of.new.trail.values) c.conflicts.store s)) (sym c.in_ok-keep-in-Some.ensures.next ∙ c.in-Some-2.is) learned.learned in
     let grown : c.learn.new.store ≡ c.conflicts.store ++ s.clause ∷ [] =
-    subst (λ (o : Option ℕ). IfSome o (λ _. c.learn.new.store ≡ c.conflicts.store ++ s.clause ∷ [])) c.in-Some-next.is learned.store in
+    subst (λ (o : Option ℕ). IfSome o (λ _. c.learn.new.store ≡ c.conflicts.store ++ s.clause ∷ [])) (sym c.in_ok-keep-in-Some.ensures.next ∙ c.in-Some-2.is) learned.store in
     let new : IsNew vars (all_of cl log) s = subst (λ (db : List (List Dim)). IsNew vars db s) c.conflicts.invariant.store (subst (λ (m : ℕ). IsNew m c.conflicts.store s) wide taught) in
-    let fresh2 : IsFresh formula c.write.new.steps.items (length c.write.new.steps.items) = subst (λ (t : List Entry). IsFresh formula t (length t)) (sym step) (fresh_push formula log s c.conflicts.invariant.fresh new) in
-    let more : length c.write.new.steps.items ≡ length log + 1 = ap length step ∙ length-append log (s ∷ []) in
-    let len : c.len.result ≡ length c.write.new.steps.items = search rules in
+    let fresh2 : IsFresh formula c.keep.new.steps.items (length c.keep.new.steps.items) = subst (λ (t : List Entry). IsFresh formula t (length t)) (sym step) (fresh_push formula log s c.conflicts.invariant.fresh new) in
+    let more : length c.keep.new.steps.items ≡ length log + 1 = ap length step ∙ length-append log (s ∷ []) in
+    let len : c.len.result ≡ length c.keep.new.steps.items = search rules in
     let ready0 : IsReady (length c.conflict_of.new.trail.values) c.learn.new.store c.learn.new.pairs.items (rows c.learn.new.lists) c.learn.new.trail =
-    subst (λ (o : Option ℕ). IfSome o (λ _. IsReady (length c.conflict_of.new.trail.values) c.learn.new.store c.learn.new.pairs.items (rows c.learn.new.lists) c.learn.new.trail)) c.in-Some-next.is learned.ready in
+    subst (λ (o : Option ℕ). IfSome o (λ _. IsReady (length c.conflict_of.new.trail.values) c.learn.new.store c.learn.new.pairs.items (rows c.learn.new.lists) c.learn.new.trail)) (sym c.in_ok-keep-in-Some.ensures.next ∙ c.in-Some-2.is) learned.ready in
     let ready : IsReady vars c.learn.new.store c.learn.new.pairs.items (rows c.learn.new.lists) c.learn.new.trail =
     subst (λ (m : ℕ). IsReady m c.learn.new.store c.learn.new.pairs.items (rows c.learn.new.lists) c.learn.new.trail) wide ready0 in
-    let half : IsHalfway c.learn.new.store c.learn.new.pairs.items c.learn.new.trail c.in-Some-next.place =
-    subst (λ (o : Option ℕ). IfSome o (λ n. IsHalfway c.learn.new.store c.learn.new.pairs.items c.learn.new.trail n)) c.in-Some-next.is learned.half in
-    let anew = restarted vars c.learn.new.store c.learn.new.pairs.items (rows c.learn.new.lists) c.learn.new.trail c.restart-from.new.trail c.in-Some-next.place c.restart-from.result ready half
+    let half : IsHalfway c.learn.new.store c.learn.new.pairs.items c.learn.new.trail c.in-Some-2.place =
+    subst (λ (o : Option ℕ). IfSome o (λ n. IsHalfway c.learn.new.store c.learn.new.pairs.items c.learn.new.trail n)) (sym c.in_ok-keep-in-Some.ensures.next ∙ c.in-Some-2.is) learned.half in
+    let anew = restarted vars c.learn.new.store c.learn.new.pairs.items (rows c.learn.new.lists) c.learn.new.trail c.restart-from.new.trail c.in-Some-2.place c.restart-from.result ready half
     c.restart-from.ensures.tracks c.restart-from.ensures.width c.restart-from.ensures.back in
     record {
       store = grown ∙ ap (λ (db : List (List Dim)). db ++ s.clause ∷ []) c.conflicts.invariant.store ∙ sym (known_push cl log s) ∙ ap (all_of cl) (sym step);
@@ -116,8 +116,8 @@ returns-in_err-conflict_of c = IfOk-from_err _ _ c.from_residual.ensures.0
 pub returns-in_err-solution-in-None : goal.returns-in_err-solution-in-None
 returns-in_err-solution-in-None c = IfOk-from_err _ _ c.from_residual-in_err-solution-in-None.ensures.0
 
-pub returns-in_err-step-in-Some : goal.returns-in_err-step-in-Some
-returns-in_err-step-in-Some c = IfOk-from_err _ _ c.from_residual-in_err-step-in-Some.ensures.0
+pub returns-in_err-lesson-in-Some : goal.returns-in_err-lesson-in-Some
+returns-in_err-lesson-in-Some c = IfOk-from_err _ _ c.from_residual-in_err-lesson-in-Some.ensures.0
 
-pub returns-in_err-write-in-Some : goal.returns-in_err-write-in-Some
-returns-in_err-write-in-Some c = IfOk-from_err _ _ c.from_residual-in_err-write-in-Some.ensures.0
+pub returns-in_err-keep-in-Some : goal.returns-in_err-keep-in-Some
+returns-in_err-keep-in-Some c = IfOk-from_err _ _ c.from_residual-in_err-keep-in-Some.ensures.0

@@ -1,5 +1,5 @@
 use Rattle.std.specs.Prelude.{IfOk}
-use Rattle.std.proofs.Common.{◌≡◌, ℕ, length, List, sym, ◌∙◌, subst, None}
+use Rattle.std.proofs.Common.{ℕ, length, List, sym, ◌∙◌, subst, None}
 use Rattle.cnf.specs.Formula.{formula_of}
 use Rattle.sat_state.specs.declared.watch.Pair.{Pair}
 use Rattle.sat_state.specs.Watch.{rows}
