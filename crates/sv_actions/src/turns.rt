@@ -8,21 +8,21 @@ use crate::statements::Acted;
 use sv_outside::{Place, TextErr};
 use sv_typing::refusal;
 
-/// How many turns all loops of a design make together at most.
+/// How much the turns of all loops of a design count together at most.
 const MOST_TURNS: u64 = 1_000_000;
 
-/// Whether the loop at a place may make a turn more, or E20.
-pub(crate) fn one_more(place: Place, made: u64) -> Result<(), TextErr>
-    ensures { JudgesFaults (turn_faults place made) result }
+/// Whether the loop at a place may make a turn more, which counts so much, or E20.
+pub(crate) fn one_more(place: Place, weight: u64, made: u64) -> Result<(), TextErr>
+    ensures { JudgesFaults (turn_faults place weight made) result }
 {
-    if MOST_TURNS <= made {
+    if made.saturating_add(weight) > MOST_TURNS {
         Err(TextErr::No(refusal(20, place)))
     } else {
         Ok(())
     }
 }
 
-/// How many turns were made behind what is typed. Where that is refused no loop makes a turn behind it.
+/// What the turns count that were made behind what is typed. Where that is refused no loop makes a turn behind it.
 pub(crate) fn made_behind(acted: &Result<Acted, TextErr>) -> u64
     ensures { result ≡ made_behind acted.now }
 {

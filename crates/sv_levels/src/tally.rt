@@ -1,5 +1,5 @@
 // How much a design has so far.
-ghost use Rattle.std.specs.Prelude.{◌≡◌, ◌+◌, ◌≤◌, suc};
+ghost use Rattle.std.specs.Prelude.{◌≡◌, ◌+◌, ◌≤◌};
 ghost use Rattle.sv_meaning.specs.Deeds.{turn_faults};
 ghost use Rattle.sv_meaning.specs.Faults.{provided};
 ghost use Rattle.sv_hierarchy.specs.Scopes.{size_faults};
@@ -8,13 +8,13 @@ ghost use Rattle.sv_loops.specs.Answers.{Answers};
 use sv_outside::{Place, TextErr};
 use sv_typing::refusal;
 
-/// The bits of all wires with the instances below the top, at most.
+/// The bits of all wires with what the instances below the top count, at most.
 const MOST_BITS: u64 = 1_048_576;
 
-/// The turns of all loops, at most.
+/// What the turns of all loops count, at most.
 const MOST_TURNS: u64 = 1_000_000;
 
-/// The bits of all wires with the instances below the top, and the turns of generate loops.
+/// The bits of all wires with what the instances below the top count, and what the turns of generate loops count.
 #[derive(Clone, Copy)]
 pub struct Tally {
     pub bits: u64,
@@ -31,12 +31,11 @@ impl Tally {
         Tally { bits: 0, turns: 0 }
     }
 
-    /// With so many bits more, or E22 at a place.
+    /// With so many bits more, or an instance that counts so much, or E22 at a place.
     pub fn with_bits(self, place: Place, more: u64) -> Result<Tally, TextErr>
-        requires { more ≤ 128 }
         ensures { Answers (λ n t. (t.bits ≡ n) × (t.turns ≡ self.turns)) (provided (size_faults place (self.bits + more)) (self.bits + more)) result }
     {
-        let bits = self.bits + more;
+        let bits = self.bits.saturating_add(more);
         if bits > MOST_BITS {
             return Err(TextErr::No(refusal(22, place)));
         }
@@ -46,16 +45,17 @@ impl Tally {
         })
     }
 
-    /// With one turn more, or E20 at a place.
-    pub fn with_turn(self, place: Place) -> Result<Tally, TextErr>
-        ensures { Answers (λ n t. (t.turns ≡ n) × (t.bits ≡ self.bits)) (provided (turn_faults place self.turns) (suc self.turns)) result }
+    /// With one turn more, which counts so much, or E20 at a place.
+    pub fn with_turn(self, place: Place, weight: u64) -> Result<Tally, TextErr>
+        ensures { Answers (λ n t. (t.turns ≡ n) × (t.bits ≡ self.bits)) (provided (turn_faults place weight self.turns) (self.turns + weight)) result }
     {
-        if self.turns >= MOST_TURNS {
+        let turns = self.turns.saturating_add(weight);
+        if turns > MOST_TURNS {
             return Err(TextErr::No(refusal(20, place)));
         }
         Ok(Tally {
             bits: self.bits,
-            turns: self.turns + 1,
+            turns,
         })
     }
 }

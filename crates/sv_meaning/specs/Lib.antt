@@ -7,6 +7,7 @@ pub mod Values
 pub mod Forms
 pub mod Params
 pub mod Targets
+pub mod Weights
 pub mod Deeds
 pub mod Blocks
 pub mod Designs

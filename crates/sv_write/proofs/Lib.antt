@@ -1,5 +1,6 @@
 pub mod Adding
 pub mod Chosen
+pub mod Counting
 pub mod DesignLaws
 pub mod DesignMade
 pub mod ExprsLaws
