@@ -1,11 +1,12 @@
 -- Labels of case statements as nodes.
-use Rattle.std.proofs.Common.{◌≡◌, ℕ, ◌+◌, ◌<◌, List, [], ◌∷◌, ◌++◌, length, drop, get_or, Option, Some, None, refl, sym, ap, ◌∙◌, inl, inr, subst, arith, IfSome}
+use Rattle.std.proofs.Common.{◌≡◌, ℕ, ◌+◌, ◌<◌, Bool, List, [], ◌∷◌, ◌++◌, length, drop, get_or, Option, Some, None, refl, sym, ap, ◌∙◌, inl, inr, subst, arith, IfSome}
 use Rattle.std.specs.List.{Contains}
 use Rattle.std.proofs.lemmas.List.Elements.{Contains-append_left, Contains-append_right, Contains-append_cases}
 use Rattle.std.proofs.lemmas.List.{drop_more, drop_all}
 use Rattle.fourvec.specs.declared.Bit.{Bit}
 use Rattle.fourvec.specs.declared.Bit.TheVariants.{Zero}
 use Rattle.fourvec.specs.Bits.{planes, eq_of, and_of, or_of}
+use Rattle.svex_shape.specs.declared.shape.VarName.{VarName}
 use Rattle.svex_shape.specs.declared.shape.Shape.{Shape}
 use Rattle.svex_shape.specs.Shapes.{width_at}
 use Rattle.svex_arena.specs.Arenas.{Extends}
@@ -20,9 +21,10 @@ use Rattle.sv_lower.specs.Nodes.{bits_at_node, IsConstant, FromTwo}
 use Rattle.sv_actions.specs.declared.action.Case.{Case}
 use Rattle.sv_actions.specs.Doing.{label_equals, label_matches}
 use Rattle.sv_stores.specs.declared.scene.Scene.{Scene}
-use Rattle.sv_stores.specs.Scenes.{store_of, reads_in, AreNodes, IsScene, Yields}
+use Rattle.sv_stores.specs.Scenes.{store_of, reads_in, HoldsIn, AreNodes, IsScene, Yields}
 use Rattle.sv_blocks.specs.Masks.{equal_masked}
-use Rattle.sv_stores.proofs.Yielding.{yields_two}
+use Rattle.sv_stores.proofs.Stores.{store_kept}
+use Rattle.sv_stores.proofs.Yielding.{yields_two, yields_later}
 
 -- ---- equality
 
@@ -63,6 +65,31 @@ yields_equal scene old new nodes f g a b w n e c h = record {
   value = λ bits. h.value bits ∙ e (reads_in scene bits (store_of scene old bits nodes));
   mentions = λ p q v. h.mentions p (λ s i. q s (c s i)) v;
 }
+
+-- ---- what is compared, which labels find in the arena as it is by then
+
+holds_back : (scene : Scene) (old new : List Shape) (p : VarName → ℕ → Bool) (nodes : List ℕ) → AreNodes scene old nodes → Extends old new → HoldsIn p new nodes → HoldsIn p old nodes
+holds_back scene old new p nodes are e h = λ i l. sym (variables-extends p old new (get_or nodes i 0) e (are.within i l)) ∙ h i l
+
+-- a node that was just made, over nodes that were there before it
+pub yields_made : (scene : Scene) (old new : List Shape) (nodes : List ℕ) (f : Read → List Bit) (names : List NamedSignal) (w n : ℕ) → IsScene scene → AreNodes scene old nodes → Extends old new
+    → Yields scene old new nodes f names w n → Yields scene new new nodes f names w n
+yields_made scene old new nodes f names w n sc are e h = record {
+  within = h.within;
+  width = h.width;
+  value = λ bits. h.value bits ∙ sym (ap (λ t. f (reads_in scene bits t)) (store_kept scene old new bits nodes sc are e));
+  mentions = λ p a v. h.mentions p a (holds_back scene old new p nodes are e v);
+}
+
+-- the same node, as the arena grows
+pub yields_kept : (scene : Scene) (old new : List Shape) (nodes : List ℕ) (f : Read → List Bit) (names : List NamedSignal) (w n : ℕ) → IsScene scene → AreNodes scene old nodes → Extends old new
+    → Yields scene old old nodes f names w n → Yields scene new new nodes f names w n
+yields_kept scene old new nodes f names w n sc are e h = yields_made scene old new nodes f names w n sc are e (yields_later scene old old new nodes f names w n e h)
+
+-- and over a state that has the same nodes by then
+pub yields_over : (scene : Scene) (old new : List Shape) (nodes others : List ℕ) (f : Read → List Bit) (names : List NamedSignal) (w n : ℕ) → others ≡ nodes → IsScene scene → AreNodes scene old nodes → Extends old new
+    → Yields scene old old nodes f names w n → Yields scene new new others f names w n
+yields_over scene old new nodes others f names w n is sc are e h = subst (λ xs. Yields scene new new xs f names w n) (sym is) (yields_kept scene old new nodes f names w n sc are e h)
 
 -- ---- one label
 

@@ -55,6 +55,13 @@ ran_later scene old mid new before during after f a sc are e is h =
       mentions = λ p q v. holds_kept scene mid new p during are e (h.mentions p q v);
     })
 
+-- a step, as the arena grows before it
+pub ran_sooner : (scene : Scene) (old mid new : List Shape) (before after : List ℕ) (f : (Store → Read) → Store → Store) (a : List NamedSignal) → IsScene scene → AreNodes scene old before → Extends old mid → Ran scene mid new before after f a → Ran scene old new before after f a
+ran_sooner scene old mid new before after f a sc are e h = record {
+  value = λ bits. h.value bits ∙ ap (f (reads_in scene bits)) (store_kept scene old mid bits before sc are e);
+  mentions = λ p q v. h.mentions p q (holds_kept scene old mid p before are e v);
+}
+
 -- ---- other functions and other names
 
 pub ran_as : (scene : Scene) (old new : List Shape) (before after : List ℕ) (f g : (Store → Read) → Store → Store) (a b : List NamedSignal) → ((look : Store → Read) (store : Store) → g look store ≡ f look store) → ((s : NamedSignal) → Contains a s → Contains b s)

@@ -1,13 +1,13 @@
 // Labels of case statements: whether one equals what is compared (IEEE 1800-2017, 12.5). In `casez` the Z bits of a label are
 // not compared: both sides are masked there. Only a literal shows its Z bits in the text, so only labels that are literals have
-// a mask. What is compared is lowered for each label anew, which gives the same node, since no two nodes have equal shapes.
+// a mask. What is compared is lowered once for each case statement, and its node is handed to all labels.
 ghost use Rattle.std.specs.Prelude.{◌≡◌, ◌<◌, ◌≤◌, ◌-◌, ◌^◌, ◌++◌, List, All, length, IfOk, IfSome};
 ghost use Rattle.fourvec.specs.declared.Bit.{Bit};
 ghost use Rattle.fourvec.specs.Bits.{each};
 ghost use Rattle.svex_shape.specs.Shapes.{width_at};
 ghost use Rattle.svex_arena.specs.Arenas.{Extends};
 ghost use Rattle.sv_meaning.specs.Deeds.{mask_bit, same_value};
-ghost use Rattle.sv_typed.specs.Typed.{names_of, names_together, literal_of};
+ghost use Rattle.sv_typed.specs.Typed.{worth, names_of, names_together, literal_of};
 ghost use Rattle.sv_lower.specs.Nodes.{FromTwo};
 ghost use Rattle.sv_actions.specs.Doing.{label_equals, label_matches, CaseFits, LabelFits};
 ghost use Rattle.sv_stores.specs.Scenes.{Narrow, IsScene, IsState, Yields};
@@ -91,25 +91,22 @@ fn equal(
     }
 }
 
-// Whether a label equals what is compared.
-fn label_equals(
+/// The node of what a case statement compares.
+pub fn compared(
     alloc: Global,
     arena: &mut Arena,
     scene: &Scene,
     state: &State,
     case: &Case,
-    label: &Typed,
 ) -> Result<Node, AllocError>
     requires scene { IsScene scene.now }
     requires state { IsState scene.now arena.old state.now }
     requires case { CaseFits case.now }
-    requires label { LabelFits case.now label.now }
     requires narrow { Narrow scene.now (names_of case.now.value) }
-    requires sits { LabelSits scene.now label.now }
     ensures stays { Extends arena.old arena.new }
-    ensures ok { IfOk result (λ n. Yields scene.now arena.old arena.new state.now.nodes (λ read. label_equals case.now read label.now) (names_of case.now.value ++ names_of label.now) 1 n) }
+    ensures ok { IfOk result (λ n. Yields scene.now arena.new arena.new state.now.nodes (λ read. worth case.now.value read case.now.width case.now.signed) (names_of case.now.value) case.now.width n) }
 {
-    let value = lowered(
+    lowered(
         alloc,
         arena,
         scene,
@@ -117,7 +114,28 @@ fn label_equals(
         &case.value,
         case.width,
         case.signed,
-    )?;
+    )
+}
+
+// Whether a label equals what is compared.
+fn label_equals(
+    alloc: Global,
+    arena: &mut Arena,
+    scene: &Scene,
+    state: &State,
+    case: &Case,
+    value: Node,
+    label: &Typed,
+) -> Result<Node, AllocError>
+    requires scene { IsScene scene.now }
+    requires state { IsState scene.now arena.old state.now }
+    requires case { CaseFits case.now }
+    requires label { LabelFits case.now label.now }
+    requires value { Yields scene.now arena.old arena.old state.now.nodes (λ read. worth case.now.value read case.now.width case.now.signed) (names_of case.now.value) case.now.width value }
+    requires sits { LabelSits scene.now label.now }
+    ensures stays { Extends arena.old arena.new }
+    ensures ok { IfOk result (λ n. Yields scene.now arena.old arena.new state.now.nodes (λ read. label_equals case.now read label.now) (names_of case.now.value ++ names_of label.now) 1 n) }
+{
     let other = lowered(alloc, arena, scene, state, label, case.width, case.signed)?;
     let node = equal(alloc, arena, mask_of(case, label), value, other)?;
     Ok(node)
@@ -130,13 +148,14 @@ pub fn label_matches(
     scene: &Scene,
     state: &State,
     case: &Case,
+    value: Node,
     labels: &[Typed],
 ) -> Result<Node, AllocError>
     requires scene { IsScene scene.now }
     requires state { IsState scene.now arena.old state.now }
     requires case { CaseFits case.now }
     requires labels { All (LabelFits case.now) labels.now }
-    requires narrow { Narrow scene.now (names_of case.now.value) }
+    requires value { Yields scene.now arena.old arena.old state.now.nodes (λ read. worth case.now.value read case.now.width case.now.signed) (names_of case.now.value) case.now.width value }
     requires sits { All (LabelSits scene.now) labels.now }
     ensures stays { Extends arena.old arena.new }
     ensures ok { IfOk result (λ n. Yields scene.now arena.old arena.new state.now.nodes (λ read. label_matches case.now read labels.now) (names_of case.now.value ++ names_together labels.now) 1 n) }
@@ -146,7 +165,7 @@ pub fn label_matches(
     'labels: while at > 0 {
         at -= 1;
         let more = node;
-        let here = label_equals(alloc, arena, scene, state, case, &labels[at])?;
+        let here = label_equals(alloc, arena, scene, state, case, value, &labels[at])?;
         node = binary(alloc, arena, Bin::Or, here, more)?;
     }
     Ok(node)

@@ -5,25 +5,25 @@
 // does not write. Actions hold actions, so that these functions are one cycle.
 ghost use Rattle.std.specs.Prelude.{◌≡◌, All, IfOk, OnOk};
 ghost use Rattle.svex_arena.specs.Arenas.{Extends};
-ghost use Rattle.sv_typed.specs.Typed.{names_of, IsSound};
+ghost use Rattle.sv_typed.specs.Typed.{worth, names_of, IsSound};
 ghost use Rattle.sv_actions.specs.declared.action.Action.{Action};
 ghost use Rattle.sv_actions.specs.declared.action.Action.TheVariants.{Choose};
 ghost use Rattle.sv_actions.specs.Doing.{run, run_all, names, names_all, Fits, CaseFits};
-ghost use Rattle.sv_stores.specs.Scenes.{Narrow, IsScene, IsState, AreNodes, Ran};
+ghost use Rattle.sv_stores.specs.Scenes.{Narrow, IsScene, IsState, AreNodes, Yields, Ran};
 ghost use Rattle.sv_blocks.specs.Fitting.{Sits, ArmSits};
 ghost use Rattle.sv_blocks.specs.Overlays.{over};
 ghost use Rattle.sv_blocks.specs.Running.{RanArm, RanArms, ArmFits};
 
 use crate::assigns::assign;
 use crate::choices::either;
-use crate::labels::label_matches;
+use crate::labels::{compared, label_matches};
 use crate::overlay::Overlay;
 use crate::states::put_all;
 use std::alloc::{AllocError, Global};
 use sv_actions::{Action, Arm, Case};
 use sv_stores::{Scene, State, truth};
 use sv_typed::Typed;
-use svex_arena::Arena;
+use svex_arena::{Arena, Node};
 
 #[cycle(run)]
 fn run_action(
@@ -60,8 +60,18 @@ fn run_action(
             )
         }
         Action::Match(case, arms, other) => {
+            let value = compared(alloc, arena, scene, state, case)?;
             let mut rest = run_apart(alloc, arena, scene, other.as_slice(), state)?;
-            run_arms(alloc, arena, scene, case, arms.as_slice(), state, &mut rest)?;
+            run_arms(
+                alloc,
+                arena,
+                scene,
+                case,
+                value,
+                arms.as_slice(),
+                state,
+                &mut rest,
+            )?;
             put_all(alloc, arena, scene, state, &rest, kept)
         }
     }
@@ -158,13 +168,15 @@ pub fn run_actions(
     Ok(())
 }
 
-// The arms of a case statement from the last backwards, each from the store at its start, over what is left where none is taken.
+// The arms of a case statement from the last backwards, each from the store at its start, over what is left where none is taken. The
+// node of what they compare is the same for all of them.
 #[cycle(run)]
 fn run_arms(
     alloc: Global,
     arena: &mut Arena,
     scene: &Scene,
     case: &Case,
+    value: Node,
     arms: &[Arm],
     state: &mut State,
     rest: &mut Overlay,
@@ -174,7 +186,7 @@ fn run_arms(
     requires rest { AreNodes scene.now arena.old (over rest.old state.old.nodes) }
     requires case { CaseFits case.now }
     requires arms { All (ArmFits case.now) arms.now }
-    requires narrow { Narrow scene.now (names_of case.now.value) }
+    requires value { Yields scene.now arena.old arena.old state.old.nodes (λ read. worth case.now.value read case.now.width case.now.signed) (names_of case.now.value) case.now.width value }
     requires sits { All (ArmSits scene.now) arms.now }
     ensures stays { Extends arena.old arena.new }
     ensures state { OnOk result (IsState scene.now arena.new state.new) }
@@ -185,7 +197,7 @@ fn run_arms(
     let mut at = arms.len();
     'arms: while at > 0 {
         at -= 1;
-        run_arm(alloc, arena, scene, case, &arms[at], state, rest)?;
+        run_arm(alloc, arena, scene, case, value, &arms[at], state, rest)?;
     }
     Ok(())
 }
@@ -196,6 +208,7 @@ fn run_arm(
     arena: &mut Arena,
     scene: &Scene,
     case: &Case,
+    value: Node,
     arm: &Arm,
     state: &mut State,
     rest: &mut Overlay,
@@ -205,7 +218,7 @@ fn run_arm(
     requires rest { AreNodes scene.now arena.old (over rest.old state.old.nodes) }
     requires case { CaseFits case.now }
     requires arm { ArmFits case.now arm.now }
-    requires narrow { Narrow scene.now (names_of case.now.value) }
+    requires value { Yields scene.now arena.old arena.old state.old.nodes (λ read. worth case.now.value read case.now.width case.now.signed) (names_of case.now.value) case.now.width value }
     requires sits { ArmSits scene.now arm.now }
     ensures stays { Extends arena.old arena.new }
     ensures state { OnOk result (IsState scene.now arena.new state.new) }
@@ -213,7 +226,15 @@ fn run_arm(
     ensures rest { OnOk result (AreNodes scene.now arena.new (over rest.new state.old.nodes)) }
     ensures ran { OnOk result (RanArm scene.now arena.old arena.new case.now arm.now state.old.nodes (over rest.old state.old.nodes) (over rest.new state.old.nodes)) }
 {
-    let truth = label_matches(alloc, arena, scene, state, case, arm.labels.as_slice())?;
+    let truth = label_matches(
+        alloc,
+        arena,
+        scene,
+        state,
+        case,
+        value,
+        arm.labels.as_slice(),
+    )?;
     let taken = run_apart(alloc, arena, scene, arm.body.as_slice(), state)?;
     let both = either(
         alloc,

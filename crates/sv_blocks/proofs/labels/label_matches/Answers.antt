@@ -4,7 +4,7 @@ use Rattle.svex_arena.proofs.Keeping.{extends_on}
 use Rattle.sv_lower.proofs.Lowered.{element}
 use Rattle.sv_blocks.specs.Fitting.{LabelSits}
 use Rattle.sv_stores.proofs.Stores.{state_kept}
-use Rattle.sv_blocks.proofs.Labeling.{labels_none, labels_more, ones_fit}
+use Rattle.sv_blocks.proofs.Labeling.{labels_none, labels_more, ones_fit, yields_kept}
 use Rattle.sv_blocks.proofs.labels.label_matches.Goals as goal
 
 pub labels-init : goal.labels-init
@@ -16,6 +16,9 @@ labels-init c = record {
 
 pub label_equals-requires-clause-state : goal.label_equals-requires-clause-state
 label_equals-requires-clause-state c = state_kept _ _ _ _ c.labels.invariant.stays c.requires.state
+
+pub label_equals-requires-clause-value : goal.label_equals-requires-clause-value
+label_equals-requires-clause-value c = yields_kept _ _ _ _ _ _ _ _ c.requires.scene c.requires.state.nodes c.labels.invariant.stays c.requires.value
 
 pub binary-requires-clause-fits : goal.binary-requires-clause-fits
 binary-requires-clause-fits c = ones_fit _ _ _ _ c.in_ok-here.ensures.stays c.labels.invariant.made.within c.in_ok-here.ensures.ok.width c.labels.invariant.made.width

@@ -10,8 +10,9 @@ use Rattle.sv_blocks.specs.Fitting.{LabelSits, Sits, ArmSits}
 use Rattle.sv_stores.proofs.Stores.{nodes_kept, state_kept}
 use Rattle.sv_blocks.proofs.Acting.{fits_assign_by, fits_choose_by, fits_match_by}
 use Rattle.sv_blocks.proofs.Falling.{all_size, choose_less, choose_as, match_other, match_arms, falls_by, falls_to, falls_apart, falls_arm, action_less, arm_less}
+use Rattle.sv_blocks.proofs.Labeling.{yields_over}
 use Rattle.sv_blocks.proofs.Overlaying.{over_none}
-use Rattle.sv_blocks.proofs.Running.{on_ok, kept_on, back_is, puts_are, nodes_over, ran_later, ran_assign, ran_choose_apart, ran_match_apart, ran_arm_apart, arm_over, some_none, some_more, some_end, arms_none, arms_more, arms_end}
+use Rattle.sv_blocks.proofs.Running.{on_ok, kept_on, back_is, puts_are, nodes_over, ran_later, ran_sooner, ran_assign, ran_choose_apart, ran_match_apart, ran_arm_apart, arm_over, some_none, some_more, some_end, arms_none, arms_more, arms_end}
 use Rattle.sv_blocks.proofs.Sitting.{sits_assign_by, sits_choose_by, sits_match_by}
 use Rattle.sv_blocks.proofs.run.+run.Goals as goal
 
@@ -199,12 +200,18 @@ run_apart-returns-in_err-put_all-clause-stays t c = extends_on _ _ _ c.in_ok-run
 
 -- ---- a case statement
 
+pub run_action-compared-requires-clause-case : goal.run_action-compared-requires-clause-case
+run_action-compared-requires-clause-case t c = (fits_match_by _ _ _ _ _ _ c.in-Match.is refl refl c.requires.fits).case
+
+pub run_action-compared-requires-clause-narrow : goal.run_action-compared-requires-clause-narrow
+run_action-compared-requires-clause-narrow t c = (sits_match_by _ _ _ _ _ _ _ c.in-Match.is refl refl c.requires.sits).value
+
 pub run_action-run_apart-requires : goal.run_action-run_apart-requires
 run_action-run_apart-requires t c = (
   falls_apart _ _ t (match_other _ _ _ _ _ _ c.in-Match.is c.as_slice-in-Match.ensures refl) c.decreases,
   (
     c.requires.scene,
-    (c.requires.state, ((fits_match_by _ _ _ _ _ _ c.in-Match.is refl c.as_slice-in-Match.ensures c.requires.fits).other, (sits_match_by _ _ _ _ _ _ _ c.in-Match.is refl c.as_slice-in-Match.ensures c.requires.sits).other)),
+    (state_kept _ _ _ _ c.in_ok-value-in-Match.ensures.stays c.requires.state, ((fits_match_by _ _ _ _ _ _ c.in-Match.is refl c.as_slice-in-Match.ensures c.requires.fits).other, (sits_match_by _ _ _ _ _ _ _ c.in-Match.is refl c.as_slice-in-Match.ensures c.requires.sits).other)),
   ),
 )
 
@@ -221,7 +228,7 @@ run_action-run_arms-requires t c = (
           (fits_match_by _ _ _ _ _ _ c.in-Match.is refl refl c.requires.fits).case,
           (
             (fits_match_by _ _ _ _ _ _ c.in-Match.is c.as_slice-in-Match-2.ensures refl c.requires.fits).each,
-            ((sits_match_by _ _ _ _ _ _ _ c.in-Match.is refl refl c.requires.sits).value, (sits_match_by _ _ _ _ _ _ _ c.in-Match.is c.as_slice-in-Match-2.ensures refl c.requires.sits).each),
+            (yields_over _ _ _ _ _ _ _ _ _ c.in_ok-rest-in-Match.ensures.nodes c.requires.scene (nodes_kept _ _ _ _ c.requires.state.nodes c.in_ok-value-in-Match.ensures.stays) c.in_ok-rest-in-Match.ensures.stays c.in_ok-value-in-Match.ensures.ok, (sits_match_by _ _ _ _ _ _ _ c.in-Match.is c.as_slice-in-Match-2.ensures refl c.requires.sits).each),
           ),
         ),
       ),
@@ -235,9 +242,10 @@ run_action-put_all-requires-clause-puts t c = nodes_over c.args.scene.now _ _ _ 
 pub run_action-returns-in_ok-run_arms-in-Match-clause-ran : goal.run_action-returns-in_ok-run_arms-in-Match-clause-ran
 run_action-returns-in_ok-run_arms-in-Match-clause-ran t c =
     on_ok _ _ _ (λ put.
-    ran_match_apart _ _ _ _ _ _ _ _ _ _ _ c.args.action.now _ _ _ _ _ c.requires.scene c.requires.state.nodes c.in_ok-rest-in-Match.ensures.nodes c.in_ok-run_arms-in-Match.ensures.nodes put
+    ran_sooner _ _ _ _ _ _ _ _ c.requires.scene c.requires.state.nodes c.in_ok-value-in-Match.ensures.stays
+    (ran_match_apart _ _ _ _ _ _ _ _ _ _ _ c.args.action.now _ _ _ _ _ c.requires.scene (nodes_kept _ _ _ _ c.requires.state.nodes c.in_ok-value-in-Match.ensures.stays) c.in_ok-rest-in-Match.ensures.nodes c.in_ok-run_arms-in-Match.ensures.nodes put
     c.in-Match.is c.as_slice-in-Match-2.ensures c.as_slice-in-Match.ensures c.in_ok-rest-in-Match.ensures.stays c.put_all.ensures.stays
-    c.in_ok-run_arms-in-Match.ensures.rest c.in_ok-rest-in-Match.ensures.ran c.in_ok-run_arms-in-Match.ensures.ran)
+    c.in_ok-run_arms-in-Match.ensures.rest c.in_ok-rest-in-Match.ensures.ran c.in_ok-run_arms-in-Match.ensures.ran))
     c.put_all.ensures.nodes
 
 pub run_action-returns-in_ok-run_arms-in-Match-clause-kept : goal.run_action-returns-in_ok-run_arms-in-Match-clause-kept
@@ -297,7 +305,7 @@ run_arms-run_arm-requires t c =
           i.state,
           (
             nodes_over c.args.scene.now _ _ _ _ (sym i.same) i.rest,
-            (c.requires.case, (element (ArmFits c.args.case.now) _ _ _ c.requires.arms l c.index-arms-at.is, (c.requires.narrow, element (ArmSits c.args.scene.now) _ _ _ c.requires.sits l c.index-arms-at.is))),
+            (c.requires.case, (element (ArmFits c.args.case.now) _ _ _ c.requires.arms l c.index-arms-at.is, (yields_over _ _ _ _ _ _ _ _ _ i.same c.requires.scene c.requires.state.nodes i.stays c.requires.value, element (ArmSits c.args.scene.now) _ _ _ c.requires.sits l c.index-arms-at.is))),
           ),
         ),
       ),
@@ -346,6 +354,9 @@ run_arm-label_matches-requires-clause-labels t c = subst (All (LabelFits c.args.
 
 pub run_arm-label_matches-requires-clause-sits : goal.run_arm-label_matches-requires-clause-sits
 run_arm-label_matches-requires-clause-sits t c = subst (All (LabelSits c.args.scene.now)) (sym c.as_slice.ensures) c.requires.sits.labels
+
+pub run_arm-label_matches-requires-clause-value : goal.run_arm-label_matches-requires-clause-value
+run_arm-label_matches-requires-clause-value t c = c.requires.value
 
 pub run_arm-run_apart-requires : goal.run_arm-run_apart-requires
 run_arm-run_apart-requires t c = (
@@ -400,14 +411,23 @@ run_action-returns-in-Choose-clause-state t c = c.run_choice.ensures.state
 pub run_action-returns-in-Choose-clause-stays : goal.run_action-returns-in-Choose-clause-stays
 run_action-returns-in-Choose-clause-stays t c = c.run_choice.ensures.stays
 
+pub run_action-returns-in_err-value-in-Match-clause-state : goal.run_action-returns-in_err-value-in-Match-clause-state
+run_action-returns-in_err-value-in-Match-clause-state t c = IfOk-from_err _ _ c.from_residual.ensures.0
+
 pub run_action-returns-in_err-rest-in-Match-clause-state : goal.run_action-returns-in_err-rest-in-Match-clause-state
-run_action-returns-in_err-rest-in-Match-clause-state t c = IfOk-from_err _ _ c.from_residual.ensures.0
+run_action-returns-in_err-rest-in-Match-clause-state t c = IfOk-from_err _ _ c.from_residual-in_err-rest-in-Match.ensures.0
+
+pub run_action-returns-in_err-value-in-Match-clause-ran : goal.run_action-returns-in_err-value-in-Match-clause-ran
+run_action-returns-in_err-value-in-Match-clause-ran t c = IfOk-from_err _ _ c.from_residual.ensures.0
 
 pub run_action-returns-in_err-rest-in-Match-clause-ran : goal.run_action-returns-in_err-rest-in-Match-clause-ran
-run_action-returns-in_err-rest-in-Match-clause-ran t c = IfOk-from_err _ _ c.from_residual.ensures.0
+run_action-returns-in_err-rest-in-Match-clause-ran t c = IfOk-from_err _ _ c.from_residual-in_err-rest-in-Match.ensures.0
+
+pub run_action-returns-in_err-value-in-Match-clause-kept : goal.run_action-returns-in_err-value-in-Match-clause-kept
+run_action-returns-in_err-value-in-Match-clause-kept t c = IfOk-from_err _ _ c.from_residual.ensures.0
 
 pub run_action-returns-in_err-rest-in-Match-clause-kept : goal.run_action-returns-in_err-rest-in-Match-clause-kept
-run_action-returns-in_err-rest-in-Match-clause-kept t c = IfOk-from_err _ _ c.from_residual.ensures.0
+run_action-returns-in_err-rest-in-Match-clause-kept t c = IfOk-from_err _ _ c.from_residual-in_err-rest-in-Match.ensures.0
 
 pub run_action-returns-in_err-run_arms-in-Match-clause-state : goal.run_action-returns-in_err-run_arms-in-Match-clause-state
 run_action-returns-in_err-run_arms-in-Match-clause-state t c = IfOk-from_err _ _ c.from_residual-in_err-run_arms-in-Match.ensures.0
@@ -418,14 +438,18 @@ run_action-returns-in_err-run_arms-in-Match-clause-ran t c = IfOk-from_err _ _ c
 pub run_action-returns-in_err-run_arms-in-Match-clause-kept : goal.run_action-returns-in_err-run_arms-in-Match-clause-kept
 run_action-returns-in_err-run_arms-in-Match-clause-kept t c = IfOk-from_err _ _ c.from_residual-in_err-run_arms-in-Match.ensures.0
 
+pub run_action-returns-in_err-value-in-Match-clause-stays : goal.run_action-returns-in_err-value-in-Match-clause-stays
+run_action-returns-in_err-value-in-Match-clause-stays t c = c.in_err-value-in-Match.ensures.stays
+
 pub run_action-returns-in_err-rest-in-Match-clause-stays : goal.run_action-returns-in_err-rest-in-Match-clause-stays
-run_action-returns-in_err-rest-in-Match-clause-stays t c = c.in_err-rest-in-Match.ensures.stays
+run_action-returns-in_err-rest-in-Match-clause-stays t c = extends_on _ _ _ c.in_ok-value-in-Match.ensures.stays c.in_err-rest-in-Match.ensures.stays
 
 pub run_action-returns-in_err-run_arms-in-Match-clause-stays : goal.run_action-returns-in_err-run_arms-in-Match-clause-stays
-run_action-returns-in_err-run_arms-in-Match-clause-stays t c = extends_on _ _ _ c.in_ok-rest-in-Match.ensures.stays c.in_err-run_arms-in-Match.ensures.stays
+run_action-returns-in_err-run_arms-in-Match-clause-stays t c = extends_on _ _ _ (extends_on _ _ _ c.in_ok-value-in-Match.ensures.stays c.in_ok-rest-in-Match.ensures.stays) c.in_err-run_arms-in-Match.ensures.stays
 
 pub run_action-returns-in_ok-run_arms-in-Match-clause-stays : goal.run_action-returns-in_ok-run_arms-in-Match-clause-stays
-run_action-returns-in_ok-run_arms-in-Match-clause-stays t c = extends_on _ _ _ (extends_on _ _ _ c.in_ok-rest-in-Match.ensures.stays c.in_ok-run_arms-in-Match.ensures.stays) c.put_all.ensures.stays
+run_action-returns-in_ok-run_arms-in-Match-clause-stays t c =
+    extends_on _ _ _ (extends_on _ _ _ (extends_on _ _ _ c.in_ok-value-in-Match.ensures.stays c.in_ok-rest-in-Match.ensures.stays) c.in_ok-run_arms-in-Match.ensures.stays) c.put_all.ensures.stays
 
 pub run_action-returns-in_ok-run_arms-in-Match-clause-state : goal.run_action-returns-in_ok-run_arms-in-Match-clause-state
 run_action-returns-in_ok-run_arms-in-Match-clause-state t c = c.put_all.ensures.state
