@@ -402,6 +402,32 @@ def instances_of_a_long_body(size):
     return dump(b"module e;\n" + body + b"endmodule module m; " + b"".join(b"e u%d();" % n for n in range(16)) + b"endmodule\n")
 
 
+def balanced(count, leaf="0"):
+    """A sum of so many leaves, in as few parentheses in one another as can be."""
+    return leaf if count == 1 else "(%s+%s)" % (balanced(count // 2, leaf), balanced(count - count // 2, leaf))
+
+
+@kind
+def instances_that_share_a_parameter(size):
+    """Half of the size is an expression that all instances are given."""
+    given = balanced(max(1, size // 8)).encode()
+    return dump(b"module e #(parameter P=0); endmodule module m; e #(" + given + b") u()" + numbered(",u%d()", size // 2) + b"; endmodule\n")
+
+
+@kind
+def parameters_that_share_a_type(size):
+    """Half of the size is the range of all parameters of a declaration."""
+    left = balanced(max(1, size // 8)).encode()
+    return dump(b"module m; localparam [" + left + b":0] p=0" + numbered(",p%d=0", size // 2) + b"; endmodule\n")
+
+
+@kind
+def arms_that_share_a_long_value(size):
+    """Half of the size is what is compared."""
+    value = balanced(max(1, size // 8), "a").encode()
+    return dump(b"module m(input [31:0] a, output logic y); always_comb begin y=0; case(" + value + b")\n" + numbered("%d:y=1;\n", size // 2) + b"endcase end endmodule\n")
+
+
 @kind
 def instances_that_double(size):
     """2^20 instances, which is one more than there may be; the size does not count."""
