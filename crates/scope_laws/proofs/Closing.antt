@@ -33,8 +33,8 @@ use Rattle.sv_meaning.specs.Forms.{Declared, Formed, entry_of, form}
 use Rattle.sv_meaning.specs.Values.{mean}
 use Rattle.sv_meaning.specs.Weights.{generate_weight}
 use Rattle.sv_meaning.specs.Deeds.{index_entry, turns, fixed_truth}
-use Rattle.sv_meaning.specs.Params.{Connection, connections, param_value}
-use Rattle.sv_hierarchy.specs.Scopes.{Level, Front, State, Walk, stay, then_walk, here, mine, Task, assigning, running, connecting, Standing, Child, fronts_at, seen_at, live_at, genvar_faults, open_params, port_texts, is_there, module_named, Given, walk_all, declare_at, declare, with_const, with_net, see_const, add_constant, add_constants, with_wire, add_wire, formed, with_form, with_form_or_bit, add_typedef, meant, given_to, seen, add_param, add_param_item, add_params, add_genvar, add_work, add_assignment, add_child, child_of, inner, enclosed, block_name, block_place, block_walk, turn_name, count_turn, turn_walk, Body, turns_walk, loop_walk, Act, Branch, act_of, chosen_branch, conditional, numbered, body_of, act, acts, under, under_else, Header, header_of, header_params, OpenPort, is_input, or_way, add_port, port_form, header_ports, ports_of, Known, Library, begun, port_works, instance_walk, given_by, module_of, count_instance, below, child, file_state, no_level, library, top_module, deepest, scopes}
+use Rattle.sv_meaning.specs.Params.{Connection, connections, ParamKind, kept, param_kind, value_as}
+use Rattle.sv_hierarchy.specs.Scopes.{Level, Front, State, Walk, stay, then_walk, here, mine, Task, assigning, running, connecting, Standing, Child, fronts_at, seen_at, live_at, genvar_faults, open_params, port_texts, is_there, module_named, Given, walk_all, declare_at, declare, with_const, with_net, see_const, add_constant, add_constants, with_wire, add_wire, formed, with_form, with_form_or_bit, add_typedef, meant, given_to, seen, add_param, add_param_item, add_params, add_genvar, add_work, add_assignment, add_child, child_of, inner, enclosed, block_name, block_place, block_walk, turn_name, count_turn, turn_walk, Body, turns_walk, loop_walk, Act, Branch, act_of, chosen_branch, conditional, numbered, body_of, act, acts, under, under_else, word_or, kind_or, header_params, OpenPort, is_input, or_way, add_port, port_form, header_ports, ports_of, Known, Library, begun, port_works, instance_walk, given_by, module_of, count_instance, below, child, file_state, no_level, library, top_module, deepest, scopes}
 use Rattle.scope_laws.proofs.Plain.{same_ok, bind_ok, provided_ok}
 use Rattle.scope_laws.proofs.Keeping.{Inv, header_keeps, library_keeps, instance_keeps, begun_good, formed_wires, wire_added, file_good}
 use Rattle.scope_laws.proofs.Seen.{live_good, seen_good}
@@ -94,14 +94,16 @@ form_or_bit_holds (Some t) f k = form_holds t f k
 typedef_holds : (d : TypedefTree) → Holds (add_typedef d)
 typedef_holds d = form_holds d.form (λ x. add_constant (d.name, type_is x)) (λ x. constant_holds (d.name, type_is x))
 
-param_holds : (word : ParamWord) (t : Option ParamType) (w : Word) (x : Expr) → Holds (add_param word t w x)
-param_holds word t w x base old st last i h =
-    let b = bind_ok (param_value (seen st) t (meant st.levels (given_to word w x st))) (λ v. add_constant (w, v) st) last h in
+param_holds : (word : ParamWord) (k : ParamKind) (w : Word) (x : Expr) → Holds (add_param word k w x)
+param_holds word k w x base old st last i h =
+    let b = bind_ok (value_as k (meant st.levels (given_to word w x st))) (λ v. add_constant (w, v) st) last h in
     let v : What = b.0 in
     constant_holds (w, v) base old st last i b.2
 
 params_hold : (p : ParamTree) → Holds (add_params p)
-params_hold p = all_hold (add_param_item p) p.list (λ i. param_holds p.word p.form i.name i.value)
+params_hold p base old st last i h =
+    let b = bind_ok (param_kind (seen st) p.form) _ last h in
+    all_hold (add_param_item p.word b.0) p.list (λ x. param_holds p.word b.0 x.name x.value) base old st last i b.2
 
 genvar_holds : (w : Word) → Holds (add_genvar w)
 genvar_holds w = constant_holds (w, genvar_is)
@@ -238,12 +240,13 @@ mutual
 
 -- ---- headers
 
-header_holds : (before : Header) (all : List ParPort) → Holds (header_params before all)
+header_holds : (w : ParamWord) (k : ParamKind) (all : List ParPort) → Holds (header_params w k all)
 unfolding header_params
-header_holds before [] base old st last i h = subst (Held base old) (same_ok st last h) i
-header_holds before (p ∷ more) base old st last i h =
-    let b = bind_ok (add_param (header_of before p).0 (header_of before p).1 p.name p.value st) _ last h in
-    header_holds (header_of before p) more base old b.0 last (param_holds (header_of before p).0 (header_of before p).1 p.name p.value base old st b.0 i b.1) b.2
+header_holds w k [] base old st last i h = subst (Held base old) (same_ok st last h) i
+header_holds w k (p ∷ more) base old st last i h =
+    let a = bind_ok (kind_or p.word p.form k (seen st)) _ last h in
+    let b = bind_ok (add_param (word_or p.word w) a.0 p.name p.value st) _ last a.2 in
+    header_holds (word_or p.word w) a.0 more base old b.0 last (param_holds (word_or p.word w) a.0 p.name p.value base old st b.0 i b.1) b.2
 
 abbrev Ported : List Level → List Level → State → OpenPort × State → Type 0
 Ported base old st y = Held base old y.1 × (length st.wires ≤ length y.1.wires) × (length st.wires ≤ y.0.wire)
@@ -302,11 +305,11 @@ ports_hold top before x (p ∷ more) base old st y i h =
 
 instance_holds : (top : Bool) (m : Module) (at : Front) (pins : List Connection) (old : List Level) (st last : State) → Held old old st → Inv st → NearAt old at → instance_walk top m at pins st ≡ Ok last → Held old old last
 instance_holds top m at pins old st last i good near h =
-    let a = bind_ok (header_params (param_word.Parameter, None) m.params st) _ last h in
+    let a = bind_ok (header_params param_word.Parameter kept m.params st) _ last h in
     let b = bind_ok (header_ports top way.Input (scalar false) (ports_of m) a.0) _ last a.2 in
-    let params = header_holds (param_word.Parameter, None) m.params old old st a.0 i a.1 in
+    let params = header_holds param_word.Parameter kept m.params old old st a.0 i a.1 in
     let found = ports_hold top way.Input (scalar false) (ports_of m) old old a.0 b.0 params b.1 in
-    let levels = (header_keeps (param_word.Parameter, None) m.params st a.0 good a.1).0 in
+    let levels = (header_keeps param_word.Parameter kept m.params st a.0 good a.1).0 in
     let seen : SeesBelow (length a.0.wires) (live_at a.0.levels at) = record {
       all = good_below a.0.wires (length a.0.wires) (live_at a.0.levels at).all (omega arith) (live_good a.0.wires a.0.levels (fronts_at a.0.levels at) levels);
       above = good_below a.0.wires (length a.0.wires) (live_at a.0.levels at).above (omega arith) (seen_good a.0.wires a.0.levels (fronts_at a.0.levels at) levels);

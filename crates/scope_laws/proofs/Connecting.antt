@@ -42,8 +42,8 @@ use Rattle.sv_meaning.specs.Forms.{Declared, Formed, entry_of, form}
 use Rattle.sv_meaning.specs.Values.{mean}
 use Rattle.sv_meaning.specs.Weights.{generate_weight}
 use Rattle.sv_meaning.specs.Deeds.{index_entry, turns, fixed_truth}
-use Rattle.sv_meaning.specs.Params.{Connection, connections, by_name, in_order, joined_pins, pin_faults, param_value}
-use Rattle.sv_hierarchy.specs.Scopes.{Front, State, Walk, stay, then_walk, here, Task, assigning, running, connecting, Standing, Child, seen_at, genvar_faults, open_params, port_texts, is_there, module_named, walk_all, is_name, name_faults, declare_at, declare, see_const, add_constant, add_constants, with_wire, add_wire, formed, with_form, with_form_or_bit, add_typedef, meant, given_to, seen, add_param, add_param_item, add_params, add_genvar, add_work, add_assignment, add_child, child_of, inner, outer, enclosed, block_name, block_place, block_walk, turn_name, count_turn, turn_walk, Body, turns_walk, loop_walk, Act, Branch, act_of, chosen_branch, conditional, numbered, body_of, act, acts, under, under_else, Header, header_of, header_params, OpenPort, is_input, or_way, add_port, port_form, header_ports, ports_of, Library, begun, port_named, connected, port_works, instance_walk, given_by, module_of, count_instance, below, child, file_state, library, top_module, deepest, scopes}
+use Rattle.sv_meaning.specs.Params.{Connection, connections, by_name, in_order, joined_pins, pin_faults, ParamKind, kept, param_kind, value_as}
+use Rattle.sv_hierarchy.specs.Scopes.{Front, State, Walk, stay, then_walk, here, Task, assigning, running, connecting, Standing, Child, seen_at, genvar_faults, open_params, port_texts, is_there, module_named, walk_all, is_name, name_faults, declare_at, declare, see_const, add_constant, add_constants, with_wire, add_wire, formed, with_form, with_form_or_bit, add_typedef, meant, given_to, seen, add_param, add_param_item, add_params, add_genvar, add_work, add_assignment, add_child, child_of, inner, outer, enclosed, block_name, block_place, block_walk, turn_name, count_turn, turn_walk, Body, turns_walk, loop_walk, Act, Branch, act_of, chosen_branch, conditional, numbered, body_of, act, acts, under, under_else, word_or, kind_or, header_params, OpenPort, is_input, or_way, add_port, port_form, header_ports, ports_of, Library, begun, port_named, connected, port_works, instance_walk, given_by, module_of, count_instance, below, child, file_state, library, top_module, deepest, scopes}
 use Rattle.scope_laws.specs.Wires.{port_wire, connected_wires}
 use Rattle.scope_laws.proofs.Pairs.{pairs_none, pairs_both}
 use Rattle.scope_laws.proofs.Good.{WorksAreGood, TaskIsGood}
@@ -167,14 +167,16 @@ form_or_bit_quiet (Some t) f k = form_quiet t f k
 typedef_quiet : (d : TypedefTree) → Quiet (add_typedef d)
 typedef_quiet d = form_quiet d.form (λ x. add_constant (d.name, type_is x)) (λ x. constant_quiet (d.name, type_is x))
 
-param_quiet : (word : ParamWord) (t : Option ParamType) (w : Word) (x : Expr) → Quiet (add_param word t w x)
-param_quiet word t w x st last h =
-    let b = bind_ok (param_value (seen st) t (meant st.levels (given_to word w x st))) (λ v. add_constant (w, v) st) last h in
+param_quiet : (word : ParamWord) (k : ParamKind) (w : Word) (x : Expr) → Quiet (add_param word k w x)
+param_quiet word k w x st last h =
+    let b = bind_ok (value_as k (meant st.levels (given_to word w x st))) (λ v. add_constant (w, v) st) last h in
     let v : What = b.0 in
     constant_quiet (w, v) st last b.2
 
 params_quiet : (p : ParamTree) → Quiet (add_params p)
-params_quiet p = all_quiet (add_param_item p) p.list (λ i. param_quiet p.word p.form i.name i.value)
+params_quiet p st last h =
+    let b = bind_ok (param_kind (seen st) p.form) _ last h in
+    all_quiet (add_param_item p.word b.0) p.list (λ x. param_quiet p.word b.0 x.name x.value) st last b.2
 
 genvar_quiet : (w : Word) → Quiet (add_genvar w)
 genvar_quiet w = constant_quiet (w, genvar_is)
@@ -284,12 +286,13 @@ mutual
   else_quiet None' n = stay_quiet
   else_quiet (Some' r (more_of-Gen x end_of-Gen)) n = (under_quiet x).branch n
 
-header_quiet : (before : Header) (all : List ParPort) → Quiet (header_params before all)
+header_quiet : (w : ParamWord) (k : ParamKind) (all : List ParPort) → Quiet (header_params w k all)
 unfolding header_params
-header_quiet before [] st last h = same_wired st last (same_ok st last h)
-header_quiet before (p ∷ more) st last h =
-    let b = bind_ok (add_param (header_of before p).0 (header_of before p).1 p.name p.value st) _ last h in
-    header_quiet (header_of before p) more b.0 last b.2 ∙ param_quiet (header_of before p).0 (header_of before p).1 p.name p.value st b.0 b.1
+header_quiet w k [] st last h = same_wired st last (same_ok st last h)
+header_quiet w k (p ∷ more) st last h =
+    let a = bind_ok (kind_or p.word p.form k (seen st)) _ last h in
+    let b = bind_ok (add_param (word_or p.word w) a.0 p.name p.value st) _ last a.2 in
+    header_quiet (word_or p.word w) a.0 more b.0 last b.2 ∙ param_quiet (word_or p.word w) a.0 p.name p.value st b.0 b.1
 
 -- ---- names that stay taken
 
@@ -576,7 +579,7 @@ Own st = Inv st × AllPairs ◌≢◌ (wired st)
 
 instance_own : (top : Bool) (m : Module) (at : Front) (list : List Connection) (st last : State) → Own st → (AreApart (port_texts (ports_of m)) → AreApart (names_of list)) → instance_walk top m at list st ≡ Ok last → Own last
 instance_own top m at list st last i once h =
-    let a = bind_ok (header_params (param_word.Parameter, None) m.params st) _ last h in
+    let a = bind_ok (header_params param_word.Parameter kept m.params st) _ last h in
     let b = bind_ok (header_ports top way.Input (scalar false) (ports_of m) a.0) _ last a.2 in
     let s : State = a.0 in
     let ports : List OpenPort = b.0.0 in
@@ -584,8 +587,8 @@ instance_own top m at list st last i once h =
     let now : State = record t { works = t.works ++ port_works at list ports } in
     let found = ports_found top way.Input (scalar false) (ports_of m) s b.0 b.1 in
     let new = connected_wires (port_works at list ports) in
-    let inv : Inv s = header_keeps (param_word.Parameter, None) m.params st s i.0 a.1 in
-    let before : wired s ≡ wired st = header_quiet (param_word.Parameter, None) m.params st s a.1 in
+    let inv : Inv s = header_keeps param_word.Parameter kept m.params st s i.0 a.1 in
+    let before : wired s ≡ wired st = header_quiet param_word.Parameter kept m.params st s a.1 in
     let apart : AllPairs ◌≢◌ (wired s ++ new) =
     pairs_both ◌≢◌ (wired s) new (subst (AllPairs ◌≢◌) (sym before) i.1) (ports_apart at (length s.wires) list ports found.ascend (once found.apart))
     (apart_at (length s.wires) (wired s) new (works_below s.wires s.works inv.1) (ports_above at (length s.wires) list ports found.ascend)) in

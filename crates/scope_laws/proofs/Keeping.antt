@@ -32,10 +32,10 @@ use Rattle.sv_meaning.specs.Forms.{Declared, Formed, entry_of, form}
 use Rattle.sv_meaning.specs.Values.{mean}
 use Rattle.sv_meaning.specs.Weights.{generate_weight}
 use Rattle.sv_meaning.specs.Deeds.{index_entry, turns, fixed_truth}
-use Rattle.sv_meaning.specs.Params.{Connection, connections, param_value}
-use Rattle.sv_hierarchy.specs.Scopes.{Front, State, Walk, stay, then_walk, here, Task, assigning, running, Child, seen_at, genvar_faults, open_params, port_texts, is_there, module_named, Given, walk_all, declare_at, declare, with_const, with_net, see_const, add_constant, add_constants, with_wire, add_wire, path_of, formed, with_form, with_form_or_bit, add_typedef, meant, given_to, seen, add_param, add_param_item, add_params, add_genvar, add_work, add_assignment, add_child, inner, enclosed, block_name, block_place, block_walk, turn_name, count_turn, turn_walk, Body, turns_walk, loop_walk, Act, Branch, act_of, chosen_branch, conditional, numbered, body_of, act, acts, under, under_else, Header, header_of, header_params, OpenPort, is_input, or_way, add_port, port_form, header_ports, ports_of, Known, Library, begun, port_works, instance_walk, given_by, module_of, count_instance, below, child, file_state, library, top_module, deepest, scopes}
+use Rattle.sv_meaning.specs.Params.{Connection, connections, ParamKind, kept, param_kind, value_as}
+use Rattle.sv_hierarchy.specs.Scopes.{Front, State, Walk, stay, then_walk, here, Task, assigning, running, Child, seen_at, genvar_faults, open_params, port_texts, is_there, module_named, Given, walk_all, declare_at, declare, with_const, with_net, see_const, add_constant, add_constants, with_wire, add_wire, path_of, formed, with_form, with_form_or_bit, add_typedef, meant, given_to, seen, add_param, add_param_item, add_params, add_genvar, add_work, add_assignment, add_child, inner, enclosed, block_name, block_place, block_walk, turn_name, count_turn, turn_walk, Body, turns_walk, loop_walk, Act, Branch, act_of, chosen_branch, conditional, numbered, body_of, act, acts, under, under_else, word_or, kind_or, header_params, OpenPort, is_input, or_way, add_port, port_form, header_ports, ports_of, Known, Library, begun, port_works, instance_walk, given_by, module_of, count_instance, below, child, file_state, library, top_module, deepest, scopes}
 use Rattle.scope_laws.proofs.Good.{IsGood, AreGood, LevelsAreGood, none_good, one_good, both_good, levels_wider, last_good, levels_push, levels_with, IsPort, ArePorts, TaskIsGood, WorksAreGood, port_wider, works_wider, works_both, works_one, port_works_good}
-use Rattle.scope_laws.proofs.Plain.{same_ok, bind_ok, provided_ok, IsPlain, ArePlain, form_plain, param_plain}
+use Rattle.scope_laws.proofs.Plain.{same_ok, bind_ok, provided_ok, IsPlain, ArePlain, form_plain, value_plain}
 
 abbrev pub Inv : State → Type 0
 Inv st = LevelsAreGood st.wires st.levels × WorksAreGood st.wires st.works
@@ -107,14 +107,16 @@ form_or_bit_keeps (Some t) f k = form_keeps t f k
 typedef_keeps : (d : TypedefTree) → Keeps (add_typedef d)
 typedef_keeps d = form_keeps d.form (λ x. add_constant (d.name, type_is x)) (λ x. constant_keeps (d.name, type_is x) (λ wires. tt))
 
-param_keeps : (word : ParamWord) (t : Option ParamType) (w : Word) (x : Expr) → Keeps (add_param word t w x)
-param_keeps word t w x st last i h =
-    let b = bind_ok (param_value (seen st) t (meant st.levels (given_to word w x st))) (λ v. add_constant (w, v) st) last h in
+param_keeps : (word : ParamWord) (k : ParamKind) (w : Word) (x : Expr) → Keeps (add_param word k w x)
+param_keeps word k w x st last i h =
+    let b = bind_ok (value_as k (meant st.levels (given_to word w x st))) (λ v. add_constant (w, v) st) last h in
     let v : What = b.0 in
-    constant_keeps (w, v) (param_plain (seen st) t (meant st.levels (given_to word w x st)) v b.1) st last i b.2
+    constant_keeps (w, v) (value_plain k (meant st.levels (given_to word w x st)) v b.1) st last i b.2
 
 params_keep : (p : ParamTree) → Keeps (add_params p)
-params_keep p = all_keep (add_param_item p) p.list (λ i. param_keeps p.word p.form i.name i.value)
+params_keep p st last i h =
+    let b = bind_ok (param_kind (seen st) p.form) _ last h in
+    all_keep (add_param_item p.word b.0) p.list (λ x. param_keeps p.word b.0 x.name x.value) st last i b.2
 
 genvar_keeps : (w : Word) → Keeps (add_genvar w)
 genvar_keeps w = constant_keeps (w, genvar_is) (λ wires. tt)
@@ -224,12 +226,13 @@ mutual
 
 -- ---- headers
 
-pub header_keeps : (before : Header) (all : List ParPort) → Keeps (header_params before all)
+pub header_keeps : (w : ParamWord) (k : ParamKind) (all : List ParPort) → Keeps (header_params w k all)
 unfolding header_params
-header_keeps before [] st last i h = subst Inv (same_ok st last h) i
-header_keeps before (p ∷ more) st last i h =
-    let b = bind_ok (add_param (header_of before p).0 (header_of before p).1 p.name p.value st) _ last h in
-    header_keeps (header_of before p) more b.0 last (param_keeps (header_of before p).0 (header_of before p).1 p.name p.value st b.0 i b.1) b.2
+header_keeps w k [] st last i h = subst Inv (same_ok st last h) i
+header_keeps w k (p ∷ more) st last i h =
+    let a = bind_ok (kind_or p.word p.form k (seen st)) _ last h in
+    let b = bind_ok (add_param (word_or p.word w) a.0 p.name p.value st) _ last a.2 in
+    header_keeps (word_or p.word w) a.0 more b.0 last (param_keeps (word_or p.word w) a.0 p.name p.value st b.0 i b.1) b.2
 
 -- ---- the wires of ports
 
@@ -336,9 +339,9 @@ begun_good m path parent params st i = (levels_push st.wires st.levels _ i.0 (re
 
 pub instance_keeps : (top : Bool) (m : Module) (at : Front) (pins : List Connection) → Keeps (instance_walk top m at pins)
 instance_keeps top m at pins st last i h =
-    let a = bind_ok (header_params (param_word.Parameter, None) m.params st) _ last h in
+    let a = bind_ok (header_params param_word.Parameter kept m.params st) _ last h in
     let b = bind_ok (header_ports top way.Input (scalar false) (ports_of m) a.0) _ last a.2 in
-    let found = ports_keep top way.Input (scalar false) (ports_of m) a.0 b.0 (header_keeps (param_word.Parameter, None) m.params st a.0 i a.1) b.1 in
+    let found = ports_keep top way.Input (scalar false) (ports_of m) a.0 b.0 (header_keeps param_word.Parameter kept m.params st a.0 i a.1) b.1 in
     all_keep (λ x. (act x).item) m.items (λ x. (act_keeps x).item) (record b.0.1 { works = b.0.1.works ++ port_works at pins b.0.0 }) last
     (found.0.0, works_both b.0.1.wires b.0.1.works (port_works at pins b.0.0) found.0.1 (port_works_good b.0.1.wires at pins b.0.0 found.2)) b.2
 

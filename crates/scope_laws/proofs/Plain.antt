@@ -14,7 +14,7 @@ use Rattle.sv_meaning.specs.Faults.{Faults, fault_if, or_then, Judged, provided,
 use Rattle.sv_meaning.specs.Layouts.{Name, Layout, Members, width, Scope, with_names, What, number_is, find}
 use Rattle.sv_meaning.specs.Meanings.{Meaning}
 use Rattle.sv_meaning.specs.Forms.{Declared, Formed, entry_of, entries_of, has_sign, option_to_list, vector_layout, struct_layout, named_layout, label_number, label_entry, labels, texts_of, bits_of, member_faults, some_member, alone, form, forms}
-use Rattle.sv_meaning.specs.Params.{typed, range_width, param_value}
+use Rattle.sv_meaning.specs.Params.{ParamKind, kept, signed_as, sized_as, value_as}
 use Rattle.scope_laws.proofs.Good.{IsGood}
 
 -- ---- what is judged
@@ -128,17 +128,7 @@ mutual
 number_plain : (all : Faults) (v : _) (s : Bool) (y : What) → provided all (number_is v s) ≡ Ok y → IsPlain y
 number_plain all v s y h = let p : IsPlain (number_is v s) = λ wires. tt in subst IsPlain (provided_ok all (number_is v s) y h) p
 
-ranged_plain : (j : Judged ℕ) (s : Bool) (m : Meaning) (y : What) → (j >>= λ w. typed w s m) ≡ Ok y → IsPlain y
-ranged_plain j s m y h = let a = bind_ok j (λ w. typed w s m) y h in number_plain _ _ s y a.2
-
-pub param_plain : (at : Scope) (t : Option ParamType) (m : Meaning) (y : What) → param_value at t m ≡ Ok y → IsPlain y
-param_plain at None m y h = number_plain _ _ _ y h
-param_plain at (Some (param_type.Whole word s)) m y h = number_plain _ _ _ y h
-param_plain at (Some (param_type.Bits None None None)) m y h = number_plain _ _ _ y h
-param_plain at (Some (param_type.Bits None (Some s) None)) m y h = number_plain _ _ _ y h
-param_plain at (Some (param_type.Bits (Some word) None None)) m y h = number_plain _ _ _ y h
-param_plain at (Some (param_type.Bits (Some word) (Some s) None)) m y h = number_plain _ _ _ y h
-param_plain at (Some (param_type.Bits None None (Some r))) m y h = ranged_plain (range_width at r) _ m y h
-param_plain at (Some (param_type.Bits None (Some s) (Some r))) m y h = ranged_plain (range_width at r) _ m y h
-param_plain at (Some (param_type.Bits (Some word) None (Some r))) m y h = ranged_plain (range_width at r) _ m y h
-param_plain at (Some (param_type.Bits (Some word) (Some s) (Some r))) m y h = ranged_plain (range_width at r) _ m y h
+pub value_plain : (k : ParamKind) (m : Meaning) (y : What) → value_as k m ≡ Ok y → IsPlain y
+value_plain kept m y h = number_plain _ _ _ y h
+value_plain (signed_as s) m y h = number_plain _ _ _ y h
+value_plain (sized_as w s) m y h = number_plain _ _ _ y h

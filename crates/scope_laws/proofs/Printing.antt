@@ -36,8 +36,8 @@ use Rattle.sv_meaning.specs.Forms.{Declared, Formed, entry_of, form}
 use Rattle.sv_meaning.specs.Values.{mean}
 use Rattle.sv_meaning.specs.Weights.{generate_weight}
 use Rattle.sv_meaning.specs.Deeds.{index_entry, turns, fixed_truth}
-use Rattle.sv_meaning.specs.Params.{Connection, connections, param_value}
-use Rattle.sv_hierarchy.specs.Scopes.{Level, Front, State, Walk, stay, then_walk, here, mine, level_at, with_level, no_level, fronts_at, Task, assigning, running, Standing, Child, seen_at, genvar_faults, open_params, port_texts, is_there, module_named, Given, walk_all, name_faults, declare_at, declare, with_const, with_net, see_const, add_constant, add_constants, with_wire, add_wire, path_of, formed, with_form, with_form_or_bit, add_typedef, meant, given_to, seen, add_param, add_param_item, add_params, add_genvar, add_work, add_assignment, add_child, child_of, inner, enclosed, block_name, block_place, block_walk, turn_name, count_turn, turn_walk, Body, turns_walk, loop_walk, Act, Branch, act_of, chosen_branch, conditional, numbered, body_of, act, acts, under, under_else, Header, header_of, header_params, OpenPort, is_input, or_way, add_port, port_form, header_ports, ports_of, Known, Library, begun, port_works, instance_walk, given_by, module_of, count_instance, below, child, file_state, library, top_module, deepest, scopes}
+use Rattle.sv_meaning.specs.Params.{Connection, connections, ParamKind, kept, param_kind, value_as}
+use Rattle.sv_hierarchy.specs.Scopes.{Level, Front, State, Walk, stay, then_walk, here, mine, level_at, with_level, no_level, fronts_at, Task, assigning, running, Standing, Child, seen_at, genvar_faults, open_params, port_texts, is_there, module_named, Given, walk_all, name_faults, declare_at, declare, with_const, with_net, see_const, add_constant, add_constants, with_wire, add_wire, path_of, formed, with_form, with_form_or_bit, add_typedef, meant, given_to, seen, add_param, add_param_item, add_params, add_genvar, add_work, add_assignment, add_child, child_of, inner, enclosed, block_name, block_place, block_walk, turn_name, count_turn, turn_walk, Body, turns_walk, loop_walk, Act, Branch, act_of, chosen_branch, conditional, numbered, body_of, act, acts, under, under_else, word_or, kind_or, header_params, OpenPort, is_input, or_way, add_port, port_form, header_ports, ports_of, Known, Library, begun, port_works, instance_walk, given_by, module_of, count_instance, below, child, file_state, library, top_module, deepest, scopes}
 use Rattle.scope_laws.specs.Wires.{IsPath, HavePaths}
 use Rattle.scope_laws.proofs.Plain.{same_ok, bind_ok, provided_ok, no_faults}
 use Rattle.scope_laws.proofs.Names.{IsByte, IsText, clear_name, turn_named, joined}
@@ -129,14 +129,16 @@ form_or_bit_keeps (Some t) f k = form_keeps t f k
 typedef_keeps : (d : TypedefTree) → Keeps (add_typedef d)
 typedef_keeps d = form_keeps d.form (λ x. add_constant (d.name, type_is x)) (λ x. constant_keeps (d.name, type_is x))
 
-param_keeps : (word : ParamWord) (t : Option ParamType) (w : Word) (x : Expr) → Keeps (add_param word t w x)
-param_keeps word t w x st last i h =
-    let b = bind_ok (param_value (seen st) t (meant st.levels (given_to word w x st))) (λ v. add_constant (w, v) st) last h in
+param_keeps : (word : ParamWord) (k : ParamKind) (w : Word) (x : Expr) → Keeps (add_param word k w x)
+param_keeps word k w x st last i h =
+    let b = bind_ok (value_as k (meant st.levels (given_to word w x st))) (λ v. add_constant (w, v) st) last h in
     let v : What = b.0 in
     constant_keeps (w, v) st last i b.2
 
 params_keep : (p : ParamTree) → Keeps (add_params p)
-params_keep p = all_keep (add_param_item p) p.list (λ i. param_keeps p.word p.form i.name i.value)
+params_keep p st last i h =
+    let b = bind_ok (param_kind (seen st) p.form) _ last h in
+    all_keep (add_param_item p.word b.0) p.list (λ x. param_keeps p.word b.0 x.name x.value) st last i b.2
 
 genvar_keeps : (w : Word) → Keeps (add_genvar w)
 genvar_keeps w = constant_keeps (w, genvar_is)
@@ -256,12 +258,13 @@ mutual
 
 -- ---- headers
 
-header_keeps : (before : Header) (all : List ParPort) → Keeps (header_params before all)
+header_keeps : (w : ParamWord) (k : ParamKind) (all : List ParPort) → Keeps (header_params w k all)
 unfolding header_params
-header_keeps before [] st last i h = subst Inv (same_ok st last h) i
-header_keeps before (p ∷ more) st last i h =
-    let b = bind_ok (add_param (header_of before p).0 (header_of before p).1 p.name p.value st) _ last h in
-    header_keeps (header_of before p) more b.0 last (param_keeps (header_of before p).0 (header_of before p).1 p.name p.value st b.0 i b.1) b.2
+header_keeps w k [] st last i h = subst Inv (same_ok st last h) i
+header_keeps w k (p ∷ more) st last i h =
+    let a = bind_ok (kind_or p.word p.form k (seen st)) _ last h in
+    let b = bind_ok (add_param (word_or p.word w) a.0 p.name p.value st) _ last a.2 in
+    header_keeps (word_or p.word w) a.0 more b.0 last (param_keeps (word_or p.word w) a.0 p.name p.value st b.0 i b.1) b.2
 
 port_keeps : (top : Bool) (d : Way) (x : Layout) (w : Word) (st : State) (y : OpenPort × State) → Inv st → add_port top d x w st ≡ Ok y → Inv y.1
 port_keeps top d x w st y i h =
@@ -311,9 +314,9 @@ begun_printed m path parent params st g i =
 
 instance_keeps : (top : Bool) (m : Module) (at : Front) (pins : List Connection) → Keeps (instance_walk top m at pins)
 instance_keeps top m at pins st last i h =
-    let a = bind_ok (header_params (param_word.Parameter, None) m.params st) _ last h in
+    let a = bind_ok (header_params param_word.Parameter kept m.params st) _ last h in
     let b = bind_ok (header_ports top way.Input (scalar false) (ports_of m) a.0) _ last a.2 in
-    let found = ports_keep top way.Input (scalar false) (ports_of m) a.0 b.0 (header_keeps (param_word.Parameter, None) m.params st a.0 i a.1) b.1 in
+    let found = ports_keep top way.Input (scalar false) (ports_of m) a.0 b.0 (header_keeps param_word.Parameter kept m.params st a.0 i a.1) b.1 in
     all_keep (λ x. (act x).item) m.items (λ x. (act_keeps x).item) (record b.0.1 { works = b.0.1.works ++ port_works at pins b.0.0 }) last found b.2
 
 children_keep : (f : Child → Walk) → ((c : Child) → OpensText c → Keeps (f c)) → (all : List Child) → All OpensText all → Keeps (walk_all f all)

@@ -41,7 +41,7 @@ use Rattle.sv_meaning.specs.Forms.{Declared, entry_of, form}
 use Rattle.sv_meaning.specs.Weights.{generate_weight, instance_weight}
 use Rattle.sv_meaning.specs.Deeds.{index_entry, turns, turn_faults, fixed_truth}
 use Rattle.sv_meaning.specs.Designs.{Work, assignment, block, port, Design, design_faults}
-use Rattle.sv_meaning.specs.Params.{param_value, Connection, connections, is_parameter}
+use Rattle.sv_meaning.specs.Params.{ParamKind, kept, param_kind, value_as, Connection, connections, is_parameter}
 
 -- ---- scopes, IEEE 1800-2017 section 23.9
 
@@ -268,14 +268,15 @@ meant levels g = mean (seen_at levels g.at) g.value
 abbrev pub given_to : ParamWord → Word → Expr → State → Given
 given_to word w x st = given_or w.text (overriding word st.overridden) (record { name = w.text; at = here st; value = x })
 
-abbrev pub add_param : ParamWord → Option ParamType → Word → Expr → Walk
-add_param word t w x st = param_value (seen st) t (meant st.levels (given_to word w x st)) >>= λ v. add_constant (w, v) st
+abbrev pub add_param : ParamWord → ParamKind → Word → Expr → Walk
+add_param word k w x st = value_as k (meant st.levels (given_to word w x st)) >>= λ v. add_constant (w, v) st
 
-abbrev pub add_param_item : ParamTree → ParamItem → Walk
-add_param_item p i st = add_param p.word p.form i.name i.value st
+abbrev pub add_param_item : ParamWord → ParamKind → ParamItem → Walk
+add_param_item word k i st = add_param word k i.name i.value st
 
+-- The type of a declaration is read once, where it stands, for all its parameters.
 abbrev pub add_params : ParamTree → Walk
-add_params p st = walk_all (add_param_item p) p.list st
+add_params p st = param_kind (seen st) p.form >>= λ k. walk_all (add_param_item p.word k) p.list st
 
 abbrev pub add_genvar : Word → Walk
 add_genvar w st = add_constant (w, genvar_is) st
@@ -433,22 +434,21 @@ unfoldable mutual
 
 -- ---- a module's header, section 23.2
 
--- what an entry of the parameter list takes over from the one before it
-abbrev pub Header : Type 0
-Header = ParamWord × Option ParamType
+-- what an entry of the parameter list takes over from the one before it: its word, and its type where neither is written
 
-abbrev pub header_of : Header → ParPort → Header
-header_of h p = pick p.word p.form
-  where
-    pick : Option ParamWord → Option ParamType → Header
-    pick None None = h
-    pick (Some w) None = (w, None)
-    pick None (Some t) = (h.0, Some t)
-    pick (Some w) (Some t) = (w, Some t)
+abbrev pub word_or : Option ParamWord → ParamWord → ParamWord
+word_or None before = before
+word_or (Some w) before = w
 
-unfoldable pub header_params : Header → List ParPort → Walk
-header_params h [] st = Ok st
-header_params h (p ∷ more) st = add_param (header_of h p).0 (header_of h p).1 p.name p.value st >>= header_params (header_of h p) more
+abbrev pub kind_or : Option ParamWord → Option ParamType → ParamKind → Scope → Judged ParamKind
+kind_or None None before at = Ok before
+kind_or (Some w) None before at = Ok kept
+kind_or w (Some t) before at = param_kind at (Some t)
+
+unfoldable pub header_params : ParamWord → ParamKind → List ParPort → Walk
+header_params w k [] st = Ok st
+header_params w k (p ∷ more) st =
+    kind_or p.word p.form k (seen st) >>= λ j. add_param (word_or p.word w) j p.name p.value st >>= header_params (word_or p.word w) j more
 
 pub record OpenPort : Type 0 where
   pub name : Name
@@ -588,7 +588,7 @@ port_works at (c ∷ more) ports = connected at (port_named c.0 ports) c.1 ++ po
 -- blocks in their place.
 abbrev pub instance_walk : Bool → Module → Front → List Connection → Walk
 instance_walk top m at pins st = do
-  s ← header_params (param_word.Parameter, None) m.params st
+  s ← header_params param_word.Parameter kept m.params st
   found ← header_ports top way.Input (scalar false) (ports_of m) s
   walk_all (λ x. (act x).item) m.items (record found.1 { works = found.1.works ++ port_works at pins found.0 })
 

@@ -1,5 +1,5 @@
 -- What is given to parameters.
-use Rattle.std.proofs.Common.{◌≡◌, ℕ, Bool, true, false, cond, List, [], ◌∷◌, map, bytes_eq, Option, Some, None, Result, refl, sym, ap, ◌∙◌, subst, if◌then◌else◌}
+use Rattle.std.proofs.Common.{◌≡◌, ℕ, Bool, true, false, cond, List, [], ◌∷◌, map, bytes_eq, Option, Some, None, Result, Ok, refl, sym, ap, ◌∙◌, subst, if◌then◌else◌}
 use Rattle.std.specs.List.{find, slice_get}
 use Rattle.std.specs.Option.{unwrap_or}
 use Rattle.std.specs.Cmp.Lexicographic.{nat_list_eq_equiv}
@@ -13,10 +13,12 @@ use Rattle.sv_tree.specs.declared.design.ParamWord.{ParamWord}
 use Rattle.sv_tree.specs.declared.design.ParamWord.TheVariants as param_word
 use Rattle.sv_tree.specs.declared.design.ParamType.{ParamType}
 use Rattle.sv_meaning.specs.Layouts.{Name, Scope}
-use Rattle.sv_meaning.specs.Params.{name_alone, param_value}
+use Rattle.sv_meaning.specs.Faults.{Judged}
+use Rattle.sv_meaning.specs.Params.{ParamKind, kept, name_alone, param_kind, value_as}
 use Rattle.sv_meaning.specs.Values.{mean}
 use Rattle.sv_names.specs.declared.layout.Known.{Known}
-use Rattle.sv_types.specs.Values.{JudgesValue}
+use Rattle.sv_types.specs.declared.kinds.ParamKind.{ParamKind as Kind}
+use Rattle.sv_types.specs.Values.{JudgesKind, JudgesValue}
 use Rattle.name_index.specs.declared.index.NameIndex.{NameIndex}
 use Rattle.name_index.specs.Indexing.{Indexes, number_under}
 use Rattle.sv_levels.proofs.PortsIndexed.{first_at, first_missing}
@@ -58,8 +60,23 @@ named_alone : (d : Word) → tree.Name d [] ≡ name_alone d
 unfolding shape-the_row-Select-0 hidden-the_row-Select-0 denote.Hole.Carrier.hidden
 named_alone d = refl
 
-pub value_alone : (names value_names : Scope) (form : Option ParamType) (d : Word) (text : Name) (none : List Select) (r : Result Known TextErr) → text ≡ d.text → none ≡ [] →
-    JudgesValue (param_value names form (mean value_names (tree.Name (record { text = text; place = d.place }) none))) r → JudgesValue (param_value names form (mean value_names (name_alone d))) r
-value_alone names value_names form d text none r a b h =
-    subst (λ (x : Expr). JudgesValue (param_value names form (mean value_names x)) r)
+pub value_alone : (names : Scope) (k : ParamKind) (d : Word) (text : Name) (none : List Select) (r : Result Known TextErr) → text ≡ d.text → none ≡ [] →
+    JudgesValue (value_as k (mean names (tree.Name (record { text = text; place = d.place }) none))) r → JudgesValue (value_as k (mean names (name_alone d))) r
+value_alone names k d text none r a b h =
+    subst (λ (x : Expr). JudgesValue (value_as k (mean names x)) r)
     ((λ i. tree.Name (record { text = a i; place = d.place }) (b i)) ∙ named_alone d) h
+
+-- ---- the kind of an entry
+
+pub kind_written : (w : Option ParamWord) (t : Option ParamType) (form : ParamType) (k : ParamKind) (at : Scope) (r : Result Kind TextErr) → t ≡ Some form → JudgesKind (param_kind at (Some form)) r → JudgesKind (m.kind_or w t k at) r
+kind_written w t form k at r e h = subst (λ (j : Judged ParamKind). JudgesKind j r) (sym (ap (λ (x : Option ParamType). m.kind_or w x k at) e ∙ written w)) h
+  where
+    written : (x : Option ParamWord) → m.kind_or x (Some form) k at ≡ param_kind at (Some form)
+    written None = refl
+    written (Some y) = refl
+
+pub kind_by_word : (w : Option ParamWord) (t : Option ParamType) (x : ParamWord) (k : ParamKind) (at : Scope) → t ≡ None → w ≡ Some x → m.kind_or w t k at ≡ Ok kept
+kind_by_word w t x k at e h = ap (λ (y : Option ParamType). m.kind_or w y k at) e ∙ ap (λ (y : Option ParamWord). m.kind_or y None k at) h
+
+pub kind_before : (w : Option ParamWord) (t : Option ParamType) (k : ParamKind) (at : Scope) → t ≡ None → w ≡ None → m.kind_or w t k at ≡ Ok k
+kind_before w t k at e h = ap (λ (y : Option ParamType). m.kind_or w y k at) e ∙ ap (λ (y : Option ParamWord). m.kind_or y None k at) h

@@ -22,7 +22,7 @@ pub use levels::{Front, Instance, Level, Levels};
 pub use library::{Known, Library, Wiring, wiring_of};
 pub use loops::{Turns, index_scope, is_loop_variable};
 pub use overrides::Overrides;
-pub use params::{entry_type, entry_word, given_to, value_at, value_of};
+pub use params::{entry_kind, entry_word, given_to, kind_at, value_at, value_of};
 pub use ports::{OpenPort, add_port_works, given_by, is_bare, is_read, ports_of};
 pub use tally::Tally;
 pub use tasks::{Actual, Child, Given, Task, Work};

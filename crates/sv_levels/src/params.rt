@@ -1,16 +1,13 @@
 // Parameters: which expression gives a value, of which type, at which names (IEEE 1800-2017, 6.20). An override keeps its
 // expression and the place where it is read and is evaluated only where the parameter is declared, since the type stands there.
 // Overrides are found by a hash index of their names, so that a list of parameters takes linear time.
-ghost use Rattle.std.specs.Prelude.{◌≡◌, [], Option, IfOk, map};
+ghost use Rattle.std.specs.Prelude.{◌≡◌, [], IfOk, map};
 ghost use Rattle.std.specs.Option.{option_copied};
-ghost use Rattle.sv_tree.specs.declared.design.ParamType.{ParamType as TypeOfParam};
-ghost use Rattle.sv_tree.specs.declared.design.ParamWord.{ParamWord as WordOfParam};
 ghost use Rattle.sv_names.specs.Names.{constants_are};
-ghost use Rattle.sv_meaning.specs.Params.{name_alone, param_value};
+ghost use Rattle.sv_meaning.specs.Params.{name_alone, param_kind, value_as};
 ghost use Rattle.sv_meaning.specs.Values.{mean};
-ghost use Rattle.sv_types.specs.Values.{JudgesValue};
+ghost use Rattle.sv_types.specs.Values.{JudgesKind, JudgesValue, kind_is};
 ghost use Rattle.sv_hierarchy.specs.Scopes as m;
-ghost use Rattle.sv_hierarchy.specs.Scopes.{header_of};
 ghost use Rattle.name_index.specs.Indexing.{Indexes};
 ghost use Rattle.sv_levels.specs.Levels.{front_is, levels_are};
 ghost use Rattle.sv_levels.specs.Overriding.{given_name};
@@ -26,56 +23,85 @@ use std::alloc::{AllocError, Global};
 use sv_names::{Known, Names};
 use sv_outside::TextErr;
 use sv_tree::{Expr, ParPort, ParamType, ParamWord, Word};
-use sv_types::param_value;
+use sv_types::{ParamKind, param_kind, param_value};
 
-/// The value of a parameter that an expression gives, or a name that stands for itself.
+/// The value of a parameter of such a kind that an expression gives, or a name that stands for itself.
 pub fn value_of(
     alloc: Global,
-    form: Option<&ParamType>,
-    names: &Names<'_>,
+    kind: ParamKind,
     value: Actual<'_>,
-    value_names: &Names<'_>,
+    names: &Names<'_>,
 ) -> Result<Known, TextErr>
-    ensures { JudgesValue (param_value (constants_are names.now) (option_copied form.entry) (mean (constants_are value_names.now) (actual_is value.entry))) result }
+    ensures { JudgesValue (value_as (kind_is kind) (mean (constants_are names.now) (actual_is value.entry))) result }
 {
     match value {
-        Actual::Written(expr) => param_value(alloc, form, names, expr, value_names),
-        Actual::Named(word) => value_named(alloc, form, names, word, value_names),
+        Actual::Written(expr) => param_value(alloc, kind, expr, names),
+        Actual::Named(word) => value_named(alloc, kind, word, names),
     }
 }
 
 // The value that a name gives which stands for itself.
 fn value_named(
     alloc: Global,
-    form: Option<&ParamType>,
-    names: &Names<'_>,
+    kind: ParamKind,
     word: &Word,
-    value_names: &Names<'_>,
+    names: &Names<'_>,
 ) -> Result<Known, TextErr>
-    ensures { JudgesValue (param_value (constants_are names.now) (option_copied form.entry) (mean (constants_are value_names.now) (name_alone word.now))) result }
+    ensures { JudgesValue (value_as (kind_is kind) (mean (constants_are names.now) (name_alone word.now))) result }
 {
     let text = word.text.copy()?;
     let place = word.place;
     let expr = Expr::Name(Word { text, place }, Items::new(alloc));
-    param_value(alloc, form, names, &expr, value_names)
+    param_value(alloc, kind, &expr, names)
 }
 
-/// The value of a parameter at a place of these levels, where it is given this.
+/// The value of a parameter of such a kind where it is given this.
 pub fn value_at(
+    alloc: Global,
+    levels: &Levels,
+    kind: ParamKind,
+    given: Given<'_>,
+) -> Result<Known, TextErr>
+    ensures { JudgesValue (value_as (kind_is kind) (m.meant (levels_are levels.now) (given_is given.entry))) result }
+{
+    let names = levels.seen(alloc, given.at)?;
+    let known = value_of(alloc, kind, given.value, &names);
+    let_go(names);
+    known
+}
+
+/// What a type makes of a value at a place of these levels.
+pub fn kind_at(
     alloc: Global,
     levels: &Levels,
     at: Front,
     form: Option<&ParamType>,
-    given: Given<'_>,
-) -> Result<Known, TextErr>
-    ensures { JudgesValue (param_value (m.seen_at (levels_are levels.now) (front_is at)) (option_copied form.entry) (m.meant (levels_are levels.now) (given_is given.entry))) result }
+) -> Result<ParamKind, TextErr>
+    ensures { JudgesKind (param_kind (m.seen_at (levels_are levels.now) (front_is at)) (option_copied form.entry)) result }
 {
     let names = levels.seen(alloc, at)?;
-    let value_names = levels.seen(alloc, given.at)?;
-    let known = value_of(alloc, form, &names, given.value, &value_names);
+    let kind = param_kind(alloc, form, &names);
     let_go(names);
-    let_go(value_names);
-    known
+    kind
+}
+
+/// What the type of an entry of a module's list makes of a value. With neither a word nor a type it is that of the entry before.
+pub fn entry_kind(
+    alloc: Global,
+    levels: &Levels,
+    at: Front,
+    port: &ParPort,
+    before: ParamKind,
+) -> Result<ParamKind, TextErr>
+    ensures { JudgesKind (m.kind_or port.now.word port.now.form (kind_is before) (m.seen_at (levels_are levels.now) (front_is at))) result }
+{
+    match &port.form {
+        Some(form) => kind_at(alloc, levels, at, Some(form)),
+        None => match port.word {
+            Some(_) => Ok(ParamKind::Kept),
+            None => Ok(before),
+        },
+    }
 }
 
 /// What is given to a parameter, or else its own expression. A `localparam` is given nothing.
@@ -99,22 +125,9 @@ fn index_of(alloc: Global, list: &[Given<'_>]) -> Result<NameIndex, AllocError>
     Ok(index)
 }
 
-/// The type of an entry of a module's list. With neither a word nor a type it is that of the entry before.
-pub fn entry_type<'a>(port: &'a ParPort, before: Option<&'a ParamType>) -> Option<&'a ParamType>
-    ensures { (w : WordOfParam) → option_copied result ≡ (header_of (w, option_copied before.entry) port.now).1 }
-{
-    match &port.form {
-        Some(form) => Some(form),
-        None => match port.word {
-            Some(_) => None,
-            None => before,
-        },
-    }
-}
-
 /// The word of an entry of a module's list, or else that of the entry before.
 pub fn entry_word(port: &ParPort, before: ParamWord) -> ParamWord
-    ensures { (t : Option TypeOfParam) → result ≡ (header_of (before, t) port.now).0 }
+    ensures { result ≡ m.word_or port.now.word before }
 {
     match port.word {
         Some(word) => word,

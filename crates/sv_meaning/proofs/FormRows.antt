@@ -1,5 +1,5 @@
 -- Layouts of small types and values of parameters, worked out by hand.
-use Rattle.std.proofs.Common.{◌≡◌, ℕ, zero, suc, ◌*◌, true, false, pos, List, [], ◌∷◌, refl, ap, codes, Some, None, Ok, Err}
+use Rattle.std.proofs.Common.{◌≡◌, ℕ, zero, suc, ◌*◌, true, false, pos, List, [], ◌∷◌, refl, ap, codes, Option, Some, None, Ok, Err}
 use Rattle.fourvec.specs.Bits.{vector}
 use Rattle.sv_tree.specs.declared.exprs.Sign.TheVariants as sign
 use Rattle.sv_tree.specs.declared.exprs.BinaryOp.TheVariants as two
@@ -10,13 +10,15 @@ use Rattle.sv_tree.specs.declared.forms.EnumLabel.{EnumLabel}
 use Rattle.sv_tree.specs.declared.forms.TypeTree.{TypeTree, Vector, Struct', Enum, Named, more_of-Member, end_of-Member}
 use Rattle.sv_tree.specs.declared.forms.Member.{Member, Of', more_of-TypeTree, end_of-TypeTree}
 use Rattle.sv_tree.specs.declared.design.ParamBits.TheVariants as param_bits
+use Rattle.sv_tree.specs.declared.design.ParamType.{ParamType}
 use Rattle.sv_tree.specs.declared.design.ParamType.TheVariants as param_type
 use Rattle.sv_tree.specs.declared.word.Word.{Word}
-use Rattle.sv_meaning.specs.Faults.{Faults, fault, faults_of, twice, bad_width, not_constant, unknown_name}
-use Rattle.sv_meaning.specs.Layouts.{Layout, scalar, dim, struct, member, no_members, width, depth, number_is, plain}
+use Rattle.sv_meaning.specs.Faults.{Faults, Judged, ◌>>=◌, fault, faults_of, twice, bad_width, not_constant, unknown_name}
+use Rattle.sv_meaning.specs.Layouts.{Layout, Scope, What, scalar, dim, struct, member, no_members, width, depth, number_is, plain}
+use Rattle.sv_meaning.specs.Meanings.{Meaning}
 use Rattle.sv_meaning.specs.Values.{mean}
 use Rattle.sv_meaning.specs.Forms.{sized, member_faults, form}
-use Rattle.sv_meaning.specs.Params.{param_value}
+use Rattle.sv_meaning.specs.Params.{param_kind, value_as}
 use Rattle.sv_meaning.proofs.OnTrees.{expressions}
 use Rattle.sv_meaning.proofs.Trees.{at, word, lit, name, op, scope}
 
@@ -124,6 +126,9 @@ not_held = refl
 -- ---- parameters
 
 -- parameter P = 8'sd5 has the size and sign of its value; parameter int P = 8'hff is 255; parameter logic [3:0] P = 5 is 4'd5
+abbrev param_value : Scope → Option ParamType → Meaning → Judged What
+param_value at t m = param_kind at t >>= λ k. value_as k m
+
 untyped : param_value scope None (mean scope (lit 1 (codes "8'sd5"))) ≡ Ok (number_is (vector 8 5) true)
 unfolding expressions
 untyped = refl

@@ -50,13 +50,25 @@ is_plain_range b = int_le b.1 (pos 0) && (int_le (pos 0) b.1 && (int_le (pos 0) 
 abbrev pub range_width : Scope → Range → Judged ℕ
 range_width at r = bounds at r >>= λ b. provided (fault_if (not (is_plain_range b)) bad_width r.place) (suc (nat_abs b.0))
 
-abbrev pub param_value : Scope → Option ParamType → Meaning → Judged What
-param_value at None m = untyped m
-param_value at (Some (param_type.Whole word s)) m = typed 32 (is_signed_whole s) m
-param_value at (Some (param_type.Bits None None None)) m = untyped m
-param_value at (Some (param_type.Bits None (Some s) None)) m = with_sign (is_signed_word s) m
-param_value at (Some (param_type.Bits word s (Some r))) m = range_width at r >>= λ w. typed w (has_sign s) m
-param_value at (Some (param_type.Bits (Some word) s None)) m = typed 1 (has_sign s) m
+-- What a type makes of a value: it is kept, it takes a sign, or it is converted to so many bits with a sign.
+pub data ParamKind : Type 0 where
+  kept : ParamKind
+  signed_as : Bool → ParamKind
+  sized_as : ℕ → Bool → ParamKind
+
+-- what is written as a type, read at a place
+abbrev pub param_kind : Scope → Option ParamType → Judged ParamKind
+param_kind at None = Ok kept
+param_kind at (Some (param_type.Whole word s)) = Ok (sized_as 32 (is_signed_whole s))
+param_kind at (Some (param_type.Bits None None None)) = Ok kept
+param_kind at (Some (param_type.Bits None (Some s) None)) = Ok (signed_as (is_signed_word s))
+param_kind at (Some (param_type.Bits word s (Some r))) = range_width at r >>= λ w. Ok (sized_as w (has_sign s))
+param_kind at (Some (param_type.Bits (Some word) s None)) = Ok (sized_as 1 (has_sign s))
+
+abbrev pub value_as : ParamKind → Meaning → Judged What
+value_as kept m = untyped m
+value_as (signed_as s) m = with_sign s m
+value_as (sized_as w s) m = typed w s m
 
 -- ---- pins, section 23.3.2
 

@@ -24,7 +24,7 @@ use Rattle.sv_meaning.specs.Layouts.{Name, Entry, Layout, scalar, dim, struct, M
 use Rattle.sv_meaning.specs.Meanings.{Meaning, fixed_faults, fixed_faults_at, is_width, nowhere_in_text}
 use Rattle.sv_meaning.specs.Values.{mean}
 use Rattle.sv_meaning.specs.Forms.{Declared, Formed, entry_of, entries_of, has_sign, most_levels, bound_faults, bound, bounds, sized, ranged_layout, over_ranges, vector_layout, struct_layout, option_to_list, named_layout, label_number, label_entry, labels, member_faults, some_member, members_of, form, forms}
-use Rattle.sv_meaning.specs.Params.{untyped, with_sign, converted_faults, typed, range_width, param_value, Connection, pinned, pin_faults, by_name, in_order, connections}
+use Rattle.sv_meaning.specs.Params.{untyped, with_sign, converted_faults, typed, range_width, ParamKind, kept, signed_as, sized_as, param_kind, value_as, Connection, pinned, pin_faults, by_name, in_order, connections}
 use Rattle.sv_places.specs.Within.{Each, InWord, InExpr, InRange, InLabel, InNames, InType, InMembers, MoreIn, InParamType, InPin, InNamedPin, InPins}
 use Rattle.sv_places.proofs.Told.{Told, Any, JudgedIn, told_append, told_then, told_if, provided_in, bind_in, both_in, both_any, each_append}
 use Rattle.sv_places.proofs.Meant.{MeaningIn, fixed_in, fixed_at_in, mean_in}
@@ -221,13 +221,18 @@ module _ (P : Place → Type 0) where
   width_in : (at : Scope) (r : Range) → InRange P r → JudgedIn P Any (range_width at r)
   width_in at r h = bind_in P Any Any (bounds at r) _ (bounds_in at r h) (λ b u. provided_in P Any _ _ (told_if P _ bad_width r.place h.0) tt)
 
-  pub value_in : (at : Scope) (t : Option ParamType) (m : Meaning) → IfSome t (InParamType P) → MeaningIn P m → JudgedIn P (WhatIn P) (param_value at t m)
-  value_in at None m h k = untyped_in m k
-  value_in at (Some (param_type.Whole word s)) m h k = typed_in 32 _ m k
-  value_in at (Some (param_type.Bits None None None)) m h k = untyped_in m k
-  value_in at (Some (param_type.Bits None (Some s) None)) m h k = signed_in _ m k
-  value_in at (Some (param_type.Bits word s (Some r))) m h k = bind_in P Any (WhatIn P) (range_width at r) _ (width_in at r h) (λ w u. typed_in w (has_sign s) m k)
-  value_in at (Some (param_type.Bits (Some word) s None)) m h k = typed_in 1 _ m k
+  pub kind_in : (at : Scope) (t : Option ParamType) → IfSome t (InParamType P) → JudgedIn P Any (param_kind at t)
+  kind_in at None h = tt
+  kind_in at (Some (param_type.Whole word s)) h = tt
+  kind_in at (Some (param_type.Bits None None None)) h = tt
+  kind_in at (Some (param_type.Bits None (Some s) None)) h = tt
+  kind_in at (Some (param_type.Bits word s (Some r))) h = bind_in P Any Any (range_width at r) _ (width_in at r h) (λ w u. tt)
+  kind_in at (Some (param_type.Bits (Some word) s None)) h = tt
+
+  pub value_in : (k : ParamKind) (m : Meaning) → MeaningIn P m → JudgedIn P (WhatIn P) (value_as k m)
+  value_in kept m h = untyped_in m h
+  value_in (signed_as s) m h = signed_in s m h
+  value_in (sized_as w s) m h = typed_in w s m h
 
   -- ---- pins
 

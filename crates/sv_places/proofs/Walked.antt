@@ -36,12 +36,12 @@ use Rattle.sv_meaning.specs.Values.{mean}
 use Rattle.sv_meaning.specs.Weights.{generate_weight}
 use Rattle.sv_meaning.specs.Deeds.{index_entry, turns, turn_faults, fixed_truth}
 use Rattle.sv_meaning.specs.Designs.{Design, design_faults}
-use Rattle.sv_meaning.specs.Params.{Connection, connections, param_value}
-use Rattle.sv_hierarchy.specs.Scopes.{Front, Level, level_at, with_level, seen_along, fronts_at, with_const, State, Walk, stay, then_walk, here, Task, assigning, running, connecting, Standing, Given, Child, seen_at, seen, walk_all, name_faults, declare_at, declare, add_constant, add_constants, with_wire, add_wire, formed, with_form, with_form_or_bit, add_typedef, given_or, overriding, meant, given_to, add_param, add_param_item, add_params, add_genvar, add_work, add_assignment, flat_pins, add_child, inner, enclosed, block_name, block_place, block_walk, turn_name, count_turn, turn_walk, Body, turns_walk, genvar_faults, loop_walk, Act, Branch, act_of, chosen_branch, conditional, numbered, body_of, act, acts, under, under_else, Header, header_of, header_params, OpenPort, is_input, or_way, add_port, port_form, header_ports, ports_of, Known, Library, module_named, is_there, begun, port_named, port_texts, open_params, connected, port_works, instance_walk, given_by, module_of, count_instance, below, child, file_state, library, unused, all_used, design_start, the_one, top_named, top_module, deepest, from_top, scopes, work_of, work_at, design, source_faults}
+use Rattle.sv_meaning.specs.Params.{Connection, connections, ParamKind, kept, param_kind, value_as}
+use Rattle.sv_hierarchy.specs.Scopes.{Front, Level, level_at, with_level, seen_along, fronts_at, with_const, State, Walk, stay, then_walk, here, Task, assigning, running, connecting, Standing, Given, Child, seen_at, seen, walk_all, name_faults, declare_at, declare, add_constant, add_constants, with_wire, add_wire, formed, with_form, with_form_or_bit, add_typedef, given_or, overriding, meant, given_to, add_param, add_param_item, add_params, add_genvar, add_work, add_assignment, flat_pins, add_child, inner, enclosed, block_name, block_place, block_walk, turn_name, count_turn, turn_walk, Body, turns_walk, genvar_faults, loop_walk, Act, Branch, act_of, chosen_branch, conditional, numbered, body_of, act, acts, under, under_else, word_or, kind_or, header_params, OpenPort, is_input, or_way, add_port, port_form, header_ports, ports_of, Known, Library, module_named, is_there, begun, port_named, port_texts, open_params, connected, port_works, instance_walk, given_by, module_of, count_instance, below, child, file_state, library, unused, all_used, design_start, the_one, top_named, top_module, deepest, from_top, scopes, work_of, work_at, design, source_faults}
 use Rattle.sv_places.specs.Within.{Each, InWord, InExpr, InType, InTypedef, InTarget, InBlock, InParamType, InParPort, InParamItem, InParam, InPort, InPair, InPins, InOne, InItem, InGen, InOther, InItems, InModule, InPart, Within}
 use Rattle.sv_places.proofs.Told.{Told, Any, JudgedIn, told_then, told_if, provided_in, bind_in, weaker_in, told_of, each_append, each_push}
 use Rattle.sv_places.proofs.Meant.{mean_in}
-use Rattle.sv_places.proofs.Formed.{Wide, WhatIn, EntryIn, ScopeIn, DeclaredAt, FormedIn, ConnectionIn, form_in, value_in, connections_in}
+use Rattle.sv_places.proofs.Formed.{Wide, WhatIn, EntryIn, ScopeIn, DeclaredAt, FormedIn, ConnectionIn, form_in, kind_in, value_in, connections_in}
 use Rattle.sv_places.proofs.Stated.{WorkIn, truth_in, turns_in, works_told}
 
 -- ---- what a state keeps of the tree
@@ -196,15 +196,17 @@ module _ (P : Place → Type 0) where
   overriding_in param_word.Parameter all h = h
   overriding_in param_word.Localparam all h = tt
 
-  param_in : (word : ParamWord) (t : Option ParamType) (w : Word) (x : Expr) → IfSome t (InParamType P) → InWord P w → InExpr P x → WalkIn P (add_param word t w x)
-  param_in word t w x h q k st i =
+  param_in : (word : ParamWord) (kind : ParamKind) (w : Word) (x : Expr) → InWord P w → InExpr P x → WalkIn P (add_param word kind w x)
+  param_in word kind w x q k st i =
       let g : Given = given_to word w x st in
       let own : GivenIn P g = given_or_in w.text (overriding word st.overridden) (record { name = w.text; at = here st; value = x }) (overriding_in word st.overridden i.0) k in
-      bind_in P (WhatIn P) (StateIn P) (param_value (seen st) t (meant st.levels g)) _ (value_in P (seen st) t (meant st.levels g) h (mean_in P (seen_at st.levels g.at) g.value own))
+      bind_in P (WhatIn P) (StateIn P) (value_as kind (meant st.levels g)) _ (value_in P kind (meant st.levels g) (mean_in P (seen_at st.levels g.at) g.value own))
       (λ v u. constant_in (w, v) (q, u) st i)
 
   params_in : (p : ParamTree) → InParam P p → WalkIn P (add_params p)
-  params_in p h = all_in (InParamItem P) (add_param_item p) (λ x k. param_in p.word p.form x.name x.value h.0 k.0 k.1) p.list h.1
+  params_in p h st i =
+      bind_in P Any (StateIn P) (param_kind (seen st) p.form) _ (kind_in P (seen st) p.form h.0)
+      (λ kind u. all_in (InParamItem P) (add_param_item p.word kind) (λ x k. param_in p.word kind x.name x.value k.0 k.1) p.list h.1 st i)
 
   genvar_in : (w : Word) → InWord P w → WalkIn P (add_genvar w)
   genvar_in w h = constant_in (w, genvar_is) (h, tt)
@@ -318,22 +320,19 @@ module _ (P : Place → Type 0) where
 
   -- ---- headers
 
-  header_of_in : (before : Header) (p : ParPort) → IfSome before.1 (InParamType P) → IfSome p.form (InParamType P) → IfSome (header_of before p).1 (InParamType P)
-  header_of_in before p h k = go p.word p.form p.name p.value k
-    where
-      go : (w : Option ParamWord) (t : Option ParamType) (n : Word) (x : Expr) → IfSome t (InParamType P) → IfSome (header_of before (record { word = w; form = t; name = n; value = x })).1 (InParamType P)
-      go None None n x l = h
-      go (Some w) None n x l = tt
-      go None (Some t) n x l = l
-      go (Some w) (Some t) n x l = l
+  kind_or_in : (word : Option ParamWord) (t : Option ParamType) (before : ParamKind) (at : Scope) → IfSome t (InParamType P) → JudgedIn P Any (kind_or word t before at)
+  kind_or_in None None before at h = tt
+  kind_or_in (Some w) None before at h = tt
+  kind_or_in None (Some t) before at h = kind_in P at (Some t) h
+  kind_or_in (Some w) (Some t) before at h = kind_in P at (Some t) h
 
-  header_in : (before : Header) (all : List ParPort) → IfSome before.1 (InParamType P) → Each (InParPort P) all → WalkIn P (header_params before all)
+  header_in : (word : ParamWord) (before : ParamKind) (all : List ParPort) → Each (InParPort P) all → WalkIn P (header_params word before all)
   unfolding header_params
-  header_in before [] h k st i = i
-  header_in before (p ∷ more) h k st i =
-      let own = header_of_in before p h k.0.0 in
-      bind_in P (StateIn P) (StateIn P) (add_param (header_of before p).0 (header_of before p).1 p.name p.value st) _
-      (param_in (header_of before p).0 (header_of before p).1 p.name p.value own k.0.1 k.0.2 st i) (header_in (header_of before p) more own k.1)
+  header_in word before [] k st i = i
+  header_in word before (p ∷ more) k st i =
+      bind_in P Any (StateIn P) (kind_or p.word p.form before (seen st)) _ (kind_or_in p.word p.form before (seen st) k.0.0)
+      (λ kind u. bind_in P (StateIn P) (StateIn P) (add_param (word_or p.word word) kind p.name p.value st) _
+      (param_in (word_or p.word word) kind p.name p.value k.0.1 k.0.2 st i) (header_in (word_or p.word word) kind more k.1))
 
   port_in : (top : Bool) (d : Way) (x : Layout) (w : Word) (st : State) → InWord P w → StateIn P st → JudgedIn P (WithState P) (add_port top d x w st)
   port_in top d x w st h i = bind_in P (StateIn P) (WithState P) (add_wire (top && is_input d) x w st) _ (wire_in (top && is_input d) x w h st i) (λ s k. k)
@@ -387,7 +386,7 @@ module _ (P : Place → Type 0) where
 
   instance_in : (top : Bool) (m : Module) (at : Front) (pins : List Connection) → InModule P m → Each (ConnectionIn P) pins → WalkIn P (instance_walk top m at pins)
   instance_in top m at pins h k st i =
-      bind_in P (StateIn P) (StateIn P) (header_params (param_word.Parameter, None) m.params st) _ (header_in (param_word.Parameter, None) m.params tt h.1 st i)
+      bind_in P (StateIn P) (StateIn P) (header_params param_word.Parameter kept m.params st) _ (header_in param_word.Parameter kept m.params h.1 st i)
       (λ s l. bind_in P (WithState P) (StateIn P) (header_ports top way.Input (scalar false) (ports_of m) s) _ (ports_in top way.Input (scalar false) (ports_of m) s (ports_of_in m h.2) l)
       (λ found n. all_in (InItem P) (λ x. (act x).item) (λ x e. (act_in x e).0) m.items h.3 _
       (n.0, each_append (StandingIn P) found.1.works (port_works at pins found.0) n.1 (port_works_in at pins found.0 k), n.2, n.3)))

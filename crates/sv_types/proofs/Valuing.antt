@@ -25,7 +25,8 @@ use Rattle.sv_typing.proofs.Lists.{in_second, in_fault, no_fault, then_clear}
 use Rattle.sv_typing.proofs.OfRules.{cause_first}
 use Rattle.sv_const.proofs.Valued.{value_is}
 use Rattle.sv_types.specs.Types.{Refused}
-use Rattle.sv_types.specs.Values.{JudgesValue, IsWidth, JudgesWidth, converted_in}
+use Rattle.sv_types.specs.declared.kinds.ParamKind.{ParamKind as Kind}
+use Rattle.sv_types.specs.Values.{JudgesKind, JudgesValue, IsWidth, JudgesWidth, kind_is, sized_in}
 use Rattle.sv_types.proofs.Judging.{then_err, provided_ok, provided_err}
 
 pub untyped_ok : (x : Meaning) (f : Fixed) → IsFixed x f → params.untyped x ≡ Ok (m.number_is f.known.value f.known.signed)
@@ -63,51 +64,46 @@ width_of_result j r w e h = subst (JudgesWidth j) e h
 pub width_refused : (j : Judged ℕ) (r : Result ℕ TextErr) (x : TextErr) → r ≡ Err x → JudgesWidth j r → Refused j x
 width_refused j r x e h = subst (JudgesWidth j) e h
 
-value_behind : (j : Judged ℕ) (g : ℕ → Judged m.What) (w : ℕ) (r : Result Known TextErr) → j ≡ Ok w → JudgesValue (g w) r → JudgesValue (j >>= g) r
-value_behind j g w r h k = subst (λ z. JudgesValue z r) (sym (ap (λ z. z >>= g) h)) k
+pub in_range : (j : Judged ℕ) (s : Bool) (w : ℕ) → IsWidth j w → sized_in j s ≡ Ok (params.sized_as w s)
+in_range j s w h = ap (λ z. z >>= λ v. Ok (params.sized_as v s)) h.is
 
-pub in_range : (j : Judged ℕ) (s : Bool) (x : Meaning) (w : ℕ) (r : Result Known TextErr) → IsWidth j w → JudgesValue (params.typed w s x) r → JudgesValue (j >>= λ w. params.typed w s x) r
-in_range j s x w r h k = value_behind j (λ w. params.typed w s x) w r h.is k
-
-pub not_in_range : (j : Judged ℕ) (s : Bool) (x : Meaning) (e : TextErr) → Refused j e → Refused (j >>= λ w. params.typed w s x) e
-not_in_range j s x e h = then_err j (λ w. params.typed w s x) e h
+pub not_in_range : (j : Judged ℕ) (s : Bool) (e : TextErr) → Refused j e → Refused (sized_in j s) e
+not_in_range j s e h = then_err j (λ w. Ok (params.sized_as w s)) e h
 
 -- ---- the forms of parameters
 
-range_form : (at : m.Scope) (word : Option ParamBits) (s : Option Sign) (r : Range) (x : Meaning) → params.param_value at (Some (param_type.Bits word s (Some r))) x ≡ converted_in (params.range_width at r) (has_sign s) x
-range_form at None None r x = refl
-range_form at None (Some s) r x = refl
-range_form at (Some word) None r x = refl
-range_form at (Some word) (Some s) r x = refl
+range_form : (at : m.Scope) (word : Option ParamBits) (s : Option Sign) (r : Range) → params.param_kind at (Some (param_type.Bits word s (Some r))) ≡ sized_in (params.range_width at r) (has_sign s)
+range_form at None None r = refl
+range_form at None (Some s) r = refl
+range_form at (Some word) None r = refl
+range_form at (Some word) (Some s) r = refl
 
-value_as : (j k : Judged m.What) (r : Result Known TextErr) → j ≡ k → JudgesValue k r → JudgesValue j r
-value_as j k r h x = subst (λ z. JudgesValue z r) (sym h) x
+kind_as : (j k : Judged params.ParamKind) (r : Result Kind TextErr) → j ≡ k → JudgesKind k r → JudgesKind j r
+kind_as j k r h x = subst (λ z. JudgesKind z r) (sym h) x
 
-pub bits_range : (at : m.Scope) (word : Option ParamBits) (s : Option Sign) (o : Option Range) (r : Range) (b : Bool) (x : Meaning) (found : Result Known TextErr) → o ≡ Some r → b ≡ has_sign s → JudgesValue (converted_in (params.range_width at r) b x) found →
-    JudgesValue (params.param_value at (Some (param_type.Bits word s o)) x) found
-bits_range at word s o r b x found e h k =
-    value_as _ _ found (ap (λ (z : Option Range). params.param_value at (Some (param_type.Bits word s z)) x) e ∙ range_form at word s r x ∙ ap (λ z. converted_in (params.range_width at r) z x) (sym h)) k
+pub bits_range : (at : m.Scope) (word : Option ParamBits) (s : Option Sign) (o : Option Range) (r : Range) (b : Bool) (found : Result Kind TextErr) → o ≡ Some r → b ≡ has_sign s → JudgesKind (sized_in (params.range_width at r) b) found →
+    JudgesKind (params.param_kind at (Some (param_type.Bits word s o))) found
+bits_range at word s o r b found e h k =
+    kind_as _ _ found (ap (λ (z : Option Range). params.param_kind at (Some (param_type.Bits word s z))) e ∙ range_form at word s r ∙ ap (λ z. sized_in (params.range_width at r) z) (sym h)) k
 
-pub bits_word : (at : m.Scope) (word : Option ParamBits) (v : ParamBits) (s : Option Sign) (o : Option Range) (b : Bool) (x : Meaning) (found : Result Known TextErr) → o ≡ None → word ≡ Some v → b ≡ has_sign s → JudgesValue (params.typed 1 b x) found →
-    JudgesValue (params.param_value at (Some (param_type.Bits word s o)) x) found
-bits_word at word v s o b x found e g h k =
-    value_as _ _ found (ap (λ (z : Option Range). params.param_value at (Some (param_type.Bits word s z)) x) e ∙ ap (λ (z : Option ParamBits). params.param_value at (Some (param_type.Bits z s None)) x) g ∙ alone s ∙ ap (λ z. params.typed 1 z x) (sym h)) k
+pub bits_plain : (at : m.Scope) (word : Option ParamBits) (s : Option Sign) (o : Option Range) (k : Kind) → o ≡ None → params.param_kind at (Some (param_type.Bits word s None)) ≡ Ok (kind_is k) → params.param_kind at (Some (param_type.Bits word s o)) ≡ Ok (kind_is k)
+bits_plain at word s o k e h = ap (λ (z : Option Range). params.param_kind at (Some (param_type.Bits word s z))) e ∙ h
+
+pub plain_word : (at : m.Scope) (word : Option ParamBits) (v : ParamBits) (s : Option Sign) (b : Bool) → word ≡ Some v → b ≡ has_sign s → params.param_kind at (Some (param_type.Bits word s None)) ≡ Ok (params.sized_as 1 b)
+plain_word at word v s b g h = ap (λ (z : Option ParamBits). params.param_kind at (Some (param_type.Bits z s None))) g ∙ alone s ∙ ap (λ z. Ok (params.sized_as 1 z)) (sym h)
   where
-    alone : (q : Option Sign) → params.param_value at (Some (param_type.Bits (Some v) q None)) x ≡ params.typed 1 (has_sign q) x
+    alone : (q : Option Sign) → params.param_kind at (Some (param_type.Bits (Some v) q None)) ≡ Ok (params.sized_as 1 (has_sign q))
     alone None = refl
     alone (Some q) = refl
 
-pub bits_sign : (at : m.Scope) (word : Option ParamBits) (s : Option Sign) (q : Sign) (o : Option Range) (b : Bool) (x : Meaning) (found : Result Known TextErr) → o ≡ None → word ≡ None → s ≡ Some q → b ≡ is_signed_word q → JudgesValue (params.with_sign b x) found →
-    JudgesValue (params.param_value at (Some (param_type.Bits word s o)) x) found
-bits_sign at word s q o b x found e g i h k =
-    value_as _ _ found (ap (λ (z : Option Range). params.param_value at (Some (param_type.Bits word s z)) x) e ∙ ap (λ (z : Option ParamBits). params.param_value at (Some (param_type.Bits z s None)) x) g
-    ∙ ap (λ (z : Option Sign). params.param_value at (Some (param_type.Bits None z None)) x) i ∙ ap (λ z. params.with_sign z x) (sym h)) k
+pub plain_sign : (at : m.Scope) (word : Option ParamBits) (s : Option Sign) (q : Sign) (b : Bool) → word ≡ None → s ≡ Some q → b ≡ is_signed_word q → params.param_kind at (Some (param_type.Bits word s None)) ≡ Ok (params.signed_as b)
+plain_sign at word s q b g i h =
+    ap (λ (z : Option ParamBits). params.param_kind at (Some (param_type.Bits z s None))) g ∙ ap (λ (z : Option Sign). params.param_kind at (Some (param_type.Bits None z None))) i ∙ ap (λ z. Ok (params.signed_as z)) (sym h)
 
-pub bits_none : (at : m.Scope) (word : Option ParamBits) (s : Option Sign) (o : Option Range) (x : Meaning) (found : Result Known TextErr) → o ≡ None → word ≡ None → s ≡ None → JudgesValue (params.untyped x) found →
-    JudgesValue (params.param_value at (Some (param_type.Bits word s o)) x) found
-bits_none at word s o x found e g i k =
-    value_as _ _ found (ap (λ (z : Option Range). params.param_value at (Some (param_type.Bits word s z)) x) e ∙ ap (λ (z : Option ParamBits). params.param_value at (Some (param_type.Bits z s None)) x) g
-    ∙ ap (λ (z : Option Sign). params.param_value at (Some (param_type.Bits None z None)) x) i) k
+pub plain_none : (at : m.Scope) (word : Option ParamBits) (s : Option Sign) → word ≡ None → s ≡ None → params.param_kind at (Some (param_type.Bits word s None)) ≡ Ok params.kept
+plain_none at word s g i = ap (λ (z : Option ParamBits). params.param_kind at (Some (param_type.Bits z s None))) g ∙ ap (λ (z : Option Sign). params.param_kind at (Some (param_type.Bits None z None))) i
 
-pub value_none : (at : m.Scope) (o : Option ParamType) (x : Meaning) (found : Result Known TextErr) → o ≡ None → JudgesValue (params.untyped x) found → JudgesValue (params.param_value at o x) found
-value_none at o x found e k = value_as _ _ found (ap (λ (z : Option ParamType). params.param_value at z x) e) k
+-- ---- values
+
+pub value_by : (k l : params.ParamKind) (x : Meaning) (r : Result Known TextErr) → k ≡ l → JudgesValue (params.value_as l x) r → JudgesValue (params.value_as k x) r
+value_by k l x r e h = subst (λ (z : params.ParamKind). JudgesValue (params.value_as z x) r) (sym e) h

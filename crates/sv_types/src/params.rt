@@ -1,22 +1,24 @@
-// The values of parameters (IEEE 1800-2017, 6.20.2). A type is judged by the names of its declaration and the value by names of
-// its own, since an override is read where the instance stands. With no type the value keeps its own size and sign, with a sign
-// alone its size, and else it is converted as by an assignment, in the wider of both sizes and then cut.
-ghost use Rattle.std.specs.Prelude.{◌≡◌, ◌≤◌, true, Some, IfOk, ℤ};
+// The values of parameters (IEEE 1800-2017, 6.20.2). A type is judged by the names of its declaration, once for all parameters that
+// it declares, and a value by names of its own, since an override is read where the instance stands. With no type the value keeps its
+// own size and sign, with a sign alone its size, and else it is converted as by an assignment, in the wider of both sizes and then cut.
+ghost use Rattle.std.specs.Prelude.{◌≡◌, ◌≤◌, true, None, Some, Ok, IfOk, ℤ};
 ghost use Rattle.std.specs.Option.{option_copied};
 ghost use Rattle.sv_typing.specs.Judging.{Judges, Fixes};
 ghost use Rattle.sv_names.specs.Names.{constants_are};
 ghost use Rattle.sv_meaning.specs.Faults.{Judged};
 ghost use Rattle.sv_meaning.specs.Forms.{has_sign};
+ghost use Rattle.sv_meaning.specs.Layouts.{Scope};
 ghost use Rattle.sv_meaning.specs.Meanings.{Meaning};
 ghost use Rattle.sv_meaning.specs.Params as params;
 ghost use Rattle.sv_meaning.specs.Values.{mean};
 ghost use Rattle.sv_tree.specs.declared.design.ParamType.TheVariants as param_type;
 ghost use Rattle.sv_typed.specs.Typed as typed_is;
 ghost use Rattle.sv_types.specs.Types.{JudgesBounds};
-ghost use Rattle.sv_types.specs.Values.{JudgesValue, JudgesWidth, width_in, converted_in};
+ghost use Rattle.sv_types.specs.Values.{JudgesKind, JudgesValue, JudgesWidth, kind_is, sized_in, width_in};
 
 use crate::bounds::Bounds;
 use crate::forms::has_sign;
+use crate::kinds::{ParamKind, ParamSize};
 use crate::ranges::bounds;
 use std::alloc::Global;
 use sv_const::eval_fixed;
@@ -75,22 +77,19 @@ fn converted(
     }
 }
 
-// An expression converted to so many bits.
+// An expression converted to such a size and sign.
 fn converted_expr(
     alloc: Global,
-    width: u8,
-    signed: bool,
+    size: ParamSize,
     value: &Expr,
     names: &Names<'_>,
 ) -> Result<Known, TextErr>
-    requires some { 1 ≤ width }
-    requires most { width ≤ 128 }
-    ensures { JudgesValue (params.typed width signed (mean (constants_are names.now) value.now)) result }
+    ensures { JudgesValue (params.typed size.width size.signed (mean (constants_are names.now) value.now)) result }
 {
     converted(
         start(value),
-        width,
-        signed,
+        size.width,
+        size.signed,
         typed(alloc, value, names, Position::Constant),
     )
 }
@@ -107,89 +106,96 @@ fn range_width(place: Place, bounds: Result<Bounds, TextErr>) -> Result<u8, Text
     }
 }
 
-// An expression converted to the bits of a range.
+// The bits of a range.
 fn in_range(
     alloc: Global,
     range: &Range,
     signed: bool,
     names: &Names<'_>,
-    value: &Expr,
-    value_names: &Names<'_>,
-) -> Result<Known, TextErr>
-    ensures { JudgesValue (converted_in (params.range_width (constants_are names.now) range.now) signed (mean (constants_are value_names.now) value.now)) result }
+) -> Result<ParamKind, TextErr>
+    ensures { JudgesKind (sized_in (params.range_width (constants_are names.now) range.now) signed) result }
 {
     match range_width(range.place, bounds(alloc, range, names)) {
-        Ok(width) => converted_expr(alloc, width, signed, value, value_names),
+        Ok(width) => Ok(ParamKind::Sized(ParamSize { width, signed })),
         Err(why) => Err(why),
     }
 }
 
-// The value of a parameter that is a vector of bits.
-fn bits_value(
+// What a vector without a range makes of a value.
+fn plain_kind(word: Option<ParamBits>, sign: Option<Sign>) -> ParamKind
+    ensures { (at : Scope) → params.param_kind at (Some (param_type.Bits word sign None)) ≡ Ok (kind_is result) }
+{
+    match word {
+        Some(_) => ParamKind::Sized(ParamSize {
+            width: 1,
+            signed: has_sign(sign),
+        }),
+        None => match sign {
+            Some(sign) => ParamKind::Signed(is_signed(sign)),
+            None => ParamKind::Kept,
+        },
+    }
+}
+
+// What a vector of bits makes of a value.
+fn bits_kind(
     alloc: Global,
     word: Option<ParamBits>,
     sign: Option<Sign>,
     range: Option<&Range>,
     names: &Names<'_>,
-    value: &Expr,
-    value_names: &Names<'_>,
-) -> Result<Known, TextErr>
-    ensures { JudgesValue (params.param_value (constants_are names.now) (Some (param_type.Bits word sign (option_copied range.entry))) (mean (constants_are value_names.now) value.now)) result }
+) -> Result<ParamKind, TextErr>
+    ensures { JudgesKind (params.param_kind (constants_are names.now) (Some (param_type.Bits word sign (option_copied range.entry)))) result }
 {
     match range {
-        Some(range) => in_range(alloc, range, has_sign(sign), names, value, value_names),
-        None => match word {
-            Some(_) => converted_expr(alloc, 1, has_sign(sign), value, value_names),
-            None => match sign {
-                Some(sign) => with_sign(is_signed(sign), eval_fixed(alloc, value, value_names)),
-                None => untyped(eval_fixed(alloc, value, value_names)),
-            },
-        },
+        Some(range) => in_range(alloc, range, has_sign(sign), names),
+        None => Ok(plain_kind(word, sign)),
     }
 }
 
-// The value of a parameter with a type.
-fn typed_value(
-    alloc: Global,
-    form: &ParamType,
-    names: &Names<'_>,
-    value: &Expr,
-    value_names: &Names<'_>,
-) -> Result<Known, TextErr>
-    ensures { JudgesValue (params.param_value (constants_are names.now) (Some form.now) (mean (constants_are value_names.now) value.now)) result }
+// What a type makes of a value.
+fn typed_kind(alloc: Global, form: &ParamType, names: &Names<'_>) -> Result<ParamKind, TextErr>
+    ensures { JudgesKind (params.param_kind (constants_are names.now) (Some form.now)) result }
 {
     match form {
-        ParamType::Whole(_, sign) => {
-            converted_expr(alloc, 32, is_signed_whole(*sign), value, value_names)
-        }
+        ParamType::Whole(_, sign) => Ok(ParamKind::Sized(ParamSize {
+            width: 32,
+            signed: is_signed_whole(*sign),
+        })),
         ParamType::Bits(word, sign, range) => {
-            bits_value(
-                alloc,
-                *word,
-                *sign,
-                range.as_ref(),
-                names,
-                value,
-                value_names,
-            )
+            bits_kind(alloc, *word, *sign, range.as_ref(), names)
         }
     }
 }
 
-/// The value of a parameter of such a type, if it has one, that an expression gives, which is read at names of its own
-/// (those of the instance, for an override); or E14 for a range other than [n:0], E15 for a value with unknown bits, or what
-/// an expression is refused for.
-pub fn param_value(
+/// What the type of a parameter, if it has one, makes of a value; or E14 for a range other than [n:0], or what its bounds are refused
+/// for.
+pub fn param_kind(
     alloc: Global,
     form: Option<&ParamType>,
     names: &Names<'_>,
-    value: &Expr,
-    value_names: &Names<'_>,
-) -> Result<Known, TextErr>
-    ensures { JudgesValue (params.param_value (constants_are names.now) (option_copied form.entry) (mean (constants_are value_names.now) value.now)) result }
+) -> Result<ParamKind, TextErr>
+    ensures { JudgesKind (params.param_kind (constants_are names.now) (option_copied form.entry)) result }
 {
     match form {
-        Some(form) => typed_value(alloc, form, names, value, value_names),
-        None => untyped(eval_fixed(alloc, value, value_names)),
+        Some(form) => typed_kind(alloc, form, names),
+        None => Ok(ParamKind::Kept),
+    }
+}
+
+/// The value of a parameter of such a kind that an expression gives, which is read at names of its own (those of the instance, for an
+/// override); or E15 for a value with unknown bits, or what the expression is refused for.
+pub fn param_value(
+    alloc: Global,
+    kind: ParamKind,
+    value: &Expr,
+    names: &Names<'_>,
+) -> Result<Known, TextErr>
+    ensures { JudgesValue (params.value_as (kind_is kind) (mean (constants_are names.now) value.now)) result }
+{
+    match kind {
+        ParamKind::Kept => untyped(eval_fixed(alloc, value, names)),
+        ParamKind::Signed(signed) => with_sign(signed, eval_fixed(alloc, value, names)),
+        ParamKind::Sized(size) => converted_expr(alloc, size, value, names),
     }
 }

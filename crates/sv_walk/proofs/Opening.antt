@@ -14,7 +14,7 @@ use Rattle.sv_tree.specs.declared.design.Item.{Item}
 use Rattle.sv_meaning.specs.Faults.{Faults, Judged, ◌>>=◌, provided, fault, instance_deep}
 use Rattle.sv_meaning.specs.Layouts.{Name, scalar}
 use Rattle.sv_meaning.specs.Names.{has_name}
-use Rattle.sv_meaning.specs.Params.{Connection, connections}
+use Rattle.sv_meaning.specs.Params.{Connection, connections, kept}
 use Rattle.sv_meaning.specs.Weights.{instance_weight}
 use Rattle.sv_hierarchy.specs.Scopes as m
 use Rattle.sv_hierarchy.specs.Scopes.{walk_all, child}
@@ -286,28 +286,28 @@ file_begun w levels x (Err e) none h p n q a f c b = tt
 -- ---- what an instance has without its children
 
 pub instance_no_params : {B D : Type 0} (r : m.State → B → Type 0) (s : m.State → D → Type 0) (top : Bool) (t : Module) (at : m.Front) (pins : List Connection) (st : m.State) (list : List ParPort) (e : TextErr) → list ≡ t.params →
-    Answers r (m.header_params (param_word.Parameter, None) list st) (Err e) → Answers s (m.instance_walk top t at pins st) (Err e)
+    Answers r (m.header_params param_word.Parameter kept list st) (Err e) → Answers s (m.instance_walk top t at pins st) (Err e)
 instance_no_params r s top t at pins st list e h a =
-    refused_first r s (m.header_params (param_word.Parameter, None) t.params st) _ e (subst (λ (ps : List ParPort). Answers r (m.header_params (param_word.Parameter, None) ps st) (Err e)) h a)
+    refused_first r s (m.header_params param_word.Parameter kept t.params st) _ e (subst (λ (ps : List ParPort). Answers r (m.header_params param_word.Parameter kept ps st) (Err e)) h a)
 
 -- what comes behind the parameters
 abbrev behind_params : Bool → Module → m.Front → List Connection → m.Walk
 behind_params top t at pins st =
     m.header_ports top way.Input (scalar false) (m.ports_of t) st >>= λ found. m.walk_all (λ x. (m.act x).item) t.items (record found.1 { works = found.1.works ++ m.port_works at pins found.0 })
 
-params_first : (top : Bool) (t : Module) (at : m.Front) (pins : List Connection) (st first : m.State) (list : List ParPort) → list ≡ t.params → m.header_params (param_word.Parameter, None) list st ≡ Ok first →
+params_first : (top : Bool) (t : Module) (at : m.Front) (pins : List Connection) (st first : m.State) (list : List ParPort) → list ≡ t.params → m.header_params param_word.Parameter kept list st ≡ Ok first →
     m.instance_walk top t at pins st ≡ behind_params top t at pins first
 params_first top t at pins st first list h e =
-    ap (λ (ps : List ParPort). m.header_params (param_word.Parameter, None) ps st >>= behind_params top t at pins) (sym h) ∙ ap (λ (j : Judged m.State). j >>= behind_params top t at pins) e
+    ap (λ (ps : List ParPort). m.header_params param_word.Parameter kept ps st >>= behind_params top t at pins) (sym h) ∙ ap (λ (j : Judged m.State). j >>= behind_params top t at pins) e
 
 pub instance_no_ports : {B D : Type 0} (r : List m.OpenPort × m.State → B → Type 0) (s : m.State → D → Type 0) (top : Bool) (t : Module) (at : m.Front) (pins : List Connection) (st first : m.State) (list : List ParPort) (ports : List Port) (e : TextErr) →
-    list ≡ t.params → ports ≡ m.ports_of t → m.header_params (param_word.Parameter, None) list st ≡ Ok first → Answers r (m.header_ports top way.Input (scalar false) ports first) (Err e) → Answers s (m.instance_walk top t at pins st) (Err e)
+    list ≡ t.params → ports ≡ m.ports_of t → m.header_params param_word.Parameter kept list st ≡ Ok first → Answers r (m.header_ports top way.Input (scalar false) ports first) (Err e) → Answers s (m.instance_walk top t at pins st) (Err e)
 instance_no_ports r s top t at pins st first list ports e h g f a =
     subst (λ (j : Judged m.State). Answers s j (Err e)) (sym (params_first top t at pins st first list h f))
     (refused_first r s (m.header_ports top way.Input (scalar false) (m.ports_of t) first) _ e (subst (λ (ps : List Port). Answers r (m.header_ports top way.Input (scalar false) ps first) (Err e)) g a))
 
 pub instance_opened : (top : Bool) (t : Module) (at : m.Front) (pins : List Connection) (st first second : m.State) (list : List ParPort) (ports : List Port) (rows : List Item) (found : List m.OpenPort) (works : List m.Standing) → list ≡ t.params → ports ≡ m.ports_of t →
-    rows ≡ t.items → m.header_params (param_word.Parameter, None) list st ≡ Ok first → m.header_ports top way.Input (scalar false) ports first ≡ Ok (found, second) → works ≡ second.works ++ m.port_works at pins found →
+    rows ≡ t.items → m.header_params param_word.Parameter kept list st ≡ Ok first → m.header_ports top way.Input (scalar false) ports first ≡ Ok (found, second) → works ≡ second.works ++ m.port_works at pins found →
     m.instance_walk top t at pins st ≡ m.walk_all (λ x. (m.act x).item) rows (record second { works = works })
 instance_opened top t at pins st first second list ports rows found works h g k e f w =
     params_first top t at pins st first list h e

@@ -1,27 +1,28 @@
 // Parameters (IEEE 1800-2017, 6.20).
-ghost use Rattle.std.specs.Prelude.{None, Option};
-ghost use Rattle.std.specs.Option.{option_copied};
 ghost use Rattle.sv_tree.specs.declared.design.ParamWord.TheVariants as param_word;
+ghost use Rattle.sv_meaning.specs.Params.{kept};
+ghost use Rattle.sv_types.specs.Values.{kind_is};
 ghost use Rattle.sv_hierarchy.specs.Scopes.{add_param, add_params, header_params};
 ghost use Rattle.sv_walk.specs.Walks.{Walks};
 
 use crate::walker::{Open, Walker};
-use sv_levels::{Actual, Given, entry_type, entry_word, given_to, value_at};
+use sv_levels::{Actual, Given, entry_kind, entry_word, given_to, kind_at, value_at};
 use sv_names::What;
 use sv_outside::TextErr;
-use sv_tree::{Expr, ParPort, Param, ParamType, ParamWord, Word};
+use sv_tree::{Expr, ParPort, Param, ParamWord, Word};
+use sv_types::ParamKind;
 
 impl<'a> Walker<'a> {
-    // A parameter, whose value sees what is declared above it.
+    // A parameter of such a kind, whose value sees what is declared above it.
     fn add_param(
         &mut self,
         current: &mut Open<'a>,
         word: ParamWord,
-        form: Option<&ParamType>,
+        kind: ParamKind,
         name: &'a Word,
         value: &'a Expr,
     ) -> Result<(), TextErr>
-        ensures { Walks (add_param word (option_copied form.entry) name.now value.now) self.old current.old self.new current.new result }
+        ensures { Walks (add_param word (kind_is kind) name.now value.now) self.old current.old self.new current.new result }
     {
         let at = self.here(current);
         let own = Given {
@@ -30,17 +31,18 @@ impl<'a> Walker<'a> {
             value: Actual::Written(value),
         };
         let given = given_to(&current.overridden, word, own);
-        let known = value_at(self.alloc, &self.levels, at, form, given)?;
+        let known = value_at(self.alloc, &self.levels, kind, given)?;
         self.add_constant(current, name.place, &name.text, What::Number(known))
     }
 
-    /// The parameters of a declaration.
+    /// The parameters of a declaration, whose type is read once for all of them.
     pub fn add_params(&mut self, current: &mut Open<'a>, tree: &'a Param) -> Result<(), TextErr>
         ensures { Walks (add_params tree.now) self.old current.old self.new current.new result }
     {
-        let form = tree.form.as_ref();
+        let at = self.here(current);
+        let kind = kind_at(self.alloc, &self.levels, at, tree.form.as_ref())?;
         'list: for item in tree.list.as_slice() {
-            self.add_param(current, tree.word, form, &item.name, &item.value)?;
+            self.add_param(current, tree.word, kind, &item.name, &item.value)?;
         }
         Ok(())
     }
@@ -51,16 +53,15 @@ impl<'a> Walker<'a> {
         current: &mut Open<'a>,
         list: &'a [ParPort],
     ) -> Result<(), TextErr>
-        ensures { Walks (header_params (param_word.Parameter, None) list.now) self.old current.old self.new current.new result }
+        ensures { Walks (header_params param_word.Parameter kept list.now) self.old current.old self.new current.new result }
     {
         let mut word = ParamWord::Parameter;
-        let mut form: Option<&'a ParamType> = None;
+        let mut kind = ParamKind::Kept;
         'list: for port in list {
-            let next = entry_type(port, form);
-            let named = entry_word(port, word);
-            self.add_param(current, named, next, &port.name, &port.value)?;
-            form = next;
-            word = named;
+            let at = self.here(current);
+            kind = entry_kind(self.alloc, &self.levels, at, port, kind)?;
+            word = entry_word(port, word);
+            self.add_param(current, word, kind, &port.name, &port.value)?;
         }
         Ok(())
     }

@@ -1,6 +1,6 @@
 use Rattle.std.proofs.Common.{Result, Ok, Err, refl}
-use Rattle.std.specs.Option.{option_copied}
-use Rattle.sv_meaning.specs.Params.{param_value}
+use Rattle.sv_meaning.specs.Params.{value_as}
+use Rattle.sv_types.specs.Values.{kind_is}
 use Rattle.sv_names.specs.Kinds.{what_is}
 use Rattle.sv_names.specs.declared.layout.Known.{Known}
 use Rattle.sv_names.specs.declared.layout.What.TheVariants.{Number}
@@ -20,8 +20,8 @@ returns-in_err-known c =
     let e = c.in_err-known.field-0.0 in
     let r : Result Known TextErr = Err e in
     let own : Given = record { name = c.args.name; at = c.here-at.result; value = Written c.args.value } in
-    param_refused (param_value (m.seen (state_of w o)) (option_copied c.args.form) (m.meant (levels_are w.levels) (m.given_to c.args.word c.args.name.now c.args.value.now (state_of w o)))) c.args.name.now (state_of w o) w o c.from_residual.result e c.from_residual.ensures.1
-    (value_is w o (option_copied c.args.form) c.args.word c.args.name.now c.args.value.now c.here-at.result own c.given_to-given.result r
+    param_refused (value_as (kind_is c.args.kind) (m.meant (levels_are w.levels) (m.given_to c.args.word c.args.name.now c.args.value.now (state_of w o)))) c.args.name.now (state_of w o) w o c.from_residual.result e c.from_residual.ensures.1
+    (value_is w o (kind_is c.args.kind) c.args.word c.args.name.now c.args.value.now c.here-at.result own c.given_to-given.result r
     c.in_err-known.ensures c.here-at.ensures (λ i. record { name = c.args.name.now.text; at = c.here-at.ensures i; value = c.args.value.now }) c.given_to-given.ensures)
 
 pub returns : goal.returns
@@ -31,6 +31,6 @@ returns c =
     let known = c.in_ok-known.known in
     let r : Result Known TextErr = Ok known in
     let own : Given = record { name = c.args.name; at = c.here-at.result; value = Written c.args.value } in
-    param_added (param_value (m.seen (state_of w o)) (option_copied c.args.form) (m.meant (levels_are w.levels) (m.given_to c.args.word c.args.name.now c.args.value.now (state_of w o)))) (what_is (Number known)) (what_is (Number known)) c.args.name.now (state_of w o) c.add_constant.new.self c.add_constant.new.current c.add_constant.result
-    (value_is w o (option_copied c.args.form) c.args.word c.args.name.now c.args.value.now c.here-at.result own c.given_to-given.result r
+    param_added (value_as (kind_is c.args.kind) (m.meant (levels_are w.levels) (m.given_to c.args.word c.args.name.now c.args.value.now (state_of w o)))) (what_is (Number known)) (what_is (Number known)) c.args.name.now (state_of w o) c.add_constant.new.self c.add_constant.new.current c.add_constant.result
+    (value_is w o (kind_is c.args.kind) c.args.word c.args.name.now c.args.value.now c.here-at.result own c.given_to-given.result r
     c.in_ok-known.ensures c.here-at.ensures (λ i. record { name = c.args.name.now.text; at = c.here-at.ensures i; value = c.args.value.now }) c.given_to-given.ensures) refl c.add_constant.ensures

@@ -3,6 +3,7 @@ use Rattle.sv_tree.specs.declared.design.ParamWord.TheVariants as param_word
 use Rattle.sv_tree.specs.declared.design.Way.TheVariants as way
 use Rattle.sv_meaning.specs.Faults.{Judged}
 use Rattle.sv_meaning.specs.Layouts.{scalar}
+use Rattle.sv_meaning.specs.Params.{kept}
 use Rattle.sv_hierarchy.specs.Scopes as m
 use Rattle.sv_loops.specs.Answers.{Answers}
 use Rattle.sv_modules.specs.Connections.{connection_is}
@@ -33,7 +34,7 @@ returns-in_err-ports c =
     passed_on Reached _ (m.instance_walk c.args.top c.args.tree.now at pins st) c.from_residual-in_err-ports.result e c.from_residual-in_err-ports.ensures.1
     (instance_no_ports (λ (found : List m.OpenPort × m.State) (ports : Vec OpenPort Global). (found.0 ≡ map port_is ports.items) × (found.1 ≡ state_of c.header_ports.new.self c.header_ports.new.current)) Reached
     c.args.top c.args.tree.now at pins st first c.as_slice.result.now c.ports_of.result.now e c.as_slice.ensures c.ports_of.ensures
-    (walked_to (m.header_params (param_word.Parameter, None) c.as_slice.result.now st) first c.in_ok-header_params.field-0 c.in_ok-header_params.ensures) c.in_err-ports.ensures.is)
+    (walked_to (m.header_params param_word.Parameter kept c.as_slice.result.now st) first c.in_ok-header_params.field-0 c.in_ok-header_params.ensures) c.in_err-ports.ensures.is)
 
 pub returns : goal.returns
 returns c =
@@ -44,7 +45,7 @@ returns c =
     let pins = map connection_is c.args.pins.now in
     subst (λ (j : Judged m.State). Answers (λ (s : m.State) (u : Unit {0}). s ≡ state_of c.items.new.self c.items.new.current) j c.items.result)
     (sym (instance_opened c.args.top c.args.tree.now at pins st first second c.as_slice.result.now c.ports_of.result.now c.as_slice-2.result.now (map port_is c.in_ok-ports.ports.items) _ c.as_slice.ensures c.ports_of.ensures c.as_slice-2.ensures
-    (walked_to (m.header_params (param_word.Parameter, None) c.as_slice.result.now st) first c.in_ok-header_params.field-0 c.in_ok-header_params.ensures)
+    (walked_to (m.header_params param_word.Parameter kept c.as_slice.result.now st) first c.in_ok-header_params.field-0 c.in_ok-header_params.ensures)
     (found_with (λ (v : Vec OpenPort Global). map port_is v.items) (m.header_ports c.args.top way.Input (scalar false) c.ports_of.result.now first) second c.in_ok-ports.ports c.in_ok-ports.ensures.is)
     (c.in_ok-joined.ensures ∙ ap (λ (ps : List OpenPort). second.works ++ m.port_works at pins (map port_is ps)) c.deref.ensures.value)))
     c.items.ensures
