@@ -328,6 +328,20 @@ def nets_of_a_long_struct(size):
     return dump(numbered("t n%d;\n", min(size, 8_192 * 9), b"typedef struct packed {" + members + b"} t; module m;\n", b"endmodule\n"))
 
 
+LARGE_TYPE = b"typedef logic " + b"[0:0]" * 900 + b" r; typedef struct packed {" + b"".join(b"r m%d;" % n for n in range(128)) + b"} t;\n"
+
+
+@kind
+def types_over_a_large_type(size):
+    """A type that some thousand bytes spell, of 128 members with 900 ranges each, and types that are it."""
+    return dump(numbered("typedef t [0:0] t%d;\n", size, LARGE_TYPE, DESIGN))
+
+
+@kind
+def nets_of_a_large_type(size):
+    return dump(numbered("t n%d;\n", min(size, 8_192 * 9), LARGE_TYPE + b"module m;\n", b"endmodule\n"))
+
+
 @kind
 def nets_of_a_type_of_many_ranges(size):
     return dump(numbered("logic" + "[0:0]" * 999 + "n%d;\n", size, b"module m;\n", b"endmodule\n"))

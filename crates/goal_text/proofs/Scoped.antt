@@ -1,5 +1,5 @@
 -- Scopes of vectors, made one by one.
-use Rattle.std.proofs.Common.{◌≡◌, ℕ, zero, suc, ◌+◌, ◌<◌, ◌≤◌, false, true, List, [], ◌∷◌, ◌++◌, length, take, drop, get_or, map, IsTrue, ℤ, pos, ◌*◌, refl, sym, ap, ◌∙◌, subst, append_assoc, arith}
+use Rattle.std.proofs.Common.{◌≡◌, ℕ, zero, suc, ◌+◌, ◌<◌, ◌≤◌, min, false, true, List, [], ◌∷◌, ◌++◌, length, take, drop, get_or, map, IsTrue, ℤ, pos, ◌*◌, refl, sym, ap, ◌∙◌, subst, append_assoc, arith}
 use Rattle.std.specs.Prelude.{nat_lt, ◌-◌, ◌^◌}
 use Rattle.std.proofs.lemmas.List.{map-append, append-nil, take_all}
 use Rattle.std.proofs.lemmas.Bool.Decides.{nat_tests}
@@ -14,7 +14,7 @@ use Rattle.sv_names.specs.declared.layout.Form.TheBlock.{shape-the_row-Layout-0,
 use Rattle.sv_names.specs.Names.{names_are, frames_of, above_of, loops_of}
 use Rattle.sv_names.specs.declared.names.Names.{Names}
 use Rattle.sv_meaning.specs.Layouts as m
-use Rattle.sv_meaning.specs.Layouts.{Origin, scope_of, count_between, dim, plain, scalar, signal_is, width}
+use Rattle.sv_meaning.specs.Layouts.{Origin, scope_of, count_between, dim, plain, scalar, signal_is, width, depth}
 use Rattle.sv_meaning.specs.Meanings.{is_bound}
 use Rattle.sv_modules.proofs.Turns.{drop_next, drop_none}
 use Rattle.goal_text.specs.Scopes.{Vector, vectors_from}
@@ -41,21 +41,21 @@ unfolding shape-the_row-Layout-0 hidden-the_row-Layout-0 denote.Hole.Carrier.hid
 dim_is l r each e = ap (dim false l r) e
 
 dim_sound : (w : ℕ) (l r : ℤ) (each : Layout) → layout_is each ≡ scalar false → IsSound each → IsTrue (is_bound l) → IsTrue (is_bound r) → w ≡ count_between l r → 1 ≤ w → w ≤ 128
-    → FormIsSound w false (f.Dim l r each)
-unfolding shape-the_row-Layout-0 hidden-the_row-Layout-0 denote.Hole.Carrier.hidden
+    → FormIsSound w false 1 (f.Dim l r each)
+unfolding depth shape-the_row-Layout-0 hidden-the_row-Layout-0 denote.Hole.Carrier.hidden
 dim_sound w l r each e k a b c h g =
     let d : w ≡ count_between l r * 1 = omega arith in
-    ((d ∙ ap (λ y. count_between l r * width y) (sym e), h, g), a, b, k)
+    (((d ∙ ap (λ y. count_between l r * width y) (sym e), h, g), ap (λ y. min 1000 (suc (depth y))) (sym e)), a, b, k)
 
 -- one range over bits, whose bounds are as code holds them
 module _ (l r : ℤ) (each bit : Layout) (i : each ≡ bit) (e : layout_is bit ≡ scalar false) (a : IsTrue (is_bound l)) (b : IsTrue (is_bound r)) where
   pub range_is : form_is false (f.Dim (to_z w64 (of_z w64 l)) (to_z w64 (of_z w64 r)) each) ≡ dim false l r (scalar false)
   range_is = dim_is _ _ each (ap layout_is i ∙ e) ∙ (λ j. dim false (same_bound l a j) (same_bound r b j) (scalar false))
 
-  pub range_sound : (w : ℕ) → IsSound bit → w ≡ count_between l r → 1 ≤ w → w ≤ 128 → FormIsSound w false (f.Dim (to_z w64 (of_z w64 l)) (to_z w64 (of_z w64 r)) each)
+  pub range_sound : (w : ℕ) → IsSound bit → w ≡ count_between l r → 1 ≤ w → w ≤ 128 → FormIsSound w false 1 (f.Dim (to_z w64 (of_z w64 l)) (to_z w64 (of_z w64 r)) each)
   range_sound w k c h g =
-      subst (λ (y : ℤ). FormIsSound w false (f.Dim y (to_z w64 (of_z w64 r)) each)) (sym (same_bound l a))
-      (subst (λ (y : ℤ). FormIsSound w false (f.Dim l y each)) (sym (same_bound r b))
+      subst (λ (y : ℤ). FormIsSound w false 1 (f.Dim y (to_z w64 (of_z w64 r)) each)) (sym (same_bound l a))
+      (subst (λ (y : ℤ). FormIsSound w false 1 (f.Dim l y each)) (sym (same_bound r b))
       (dim_sound w l r each (ap layout_is i ∙ e) (subst IsSound (sym i) k) a b c h g))
 
 -- ---- one vector more

@@ -9,22 +9,9 @@ ghost use Rattle.sv_meaning.specs.Layouts.{count_between, dim, plain, scalar, sc
 ghost use Rattle.sv_meaning.specs.Meanings.{is_bound};
 ghost use Rattle.svtv_table.specs.Binding.{HasWidth};
 
-use items::Boxed;
 use std::alloc::{AllocError, Global};
-use sv_names::{Form, Layout, Names, Scope, What};
+use sv_names::{Form, Layout, Names, Scope, Shared, What, scalar};
 use svtv_table::{Sample, VarDecl};
-
-// One bit, unsigned.
-fn bit() -> Layout
-    ensures is { layout_is result ≡ scalar false }
-    ensures sound { IsSound result }
-{
-    Layout {
-        width: 1,
-        signed: false,
-        form: Form::Scalar,
-    }
-}
 
 // [left:right], unsigned, where that has so many bits.
 fn range(alloc: Global, width: u8, left: i64, right: i64) -> Result<Layout, AllocError>
@@ -36,11 +23,12 @@ fn range(alloc: Global, width: u8, left: i64, right: i64) -> Result<Layout, Allo
     ensures is { IfOk result (λ x. layout_is x ≡ dim false left right (scalar false)) }
     ensures sound { IfOk result IsSound }
 {
-    let each = Boxed::new(alloc, bit())?;
+    let each = Shared::new(alloc, scalar(false))?;
     let form = Form::Dim { left, right, each };
     Ok(Layout {
         width,
         signed: false,
+        depth: 1,
         form,
     })
 }

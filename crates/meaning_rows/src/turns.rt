@@ -1,29 +1,17 @@
 // The turns of loops behind turns that were made before. The count before is given and not made by loops, so that a short text
 // comes to the limit. A statement is put into a module of its own, so that it is read as any text is.
-ghost use Rattle.sv_names.specs.Kinds.{IsSound};
-
 use crate::counts::{fault_of, tokens_of};
 use case_rows::{Fault, Judge, number, word, words_from};
 use std::alloc::{AllocError, Global};
 use sv_actions::typed_body;
-use sv_names::{Form, Layout, Names, Scope, What};
+use sv_names::{Names, Scope, What, scalar};
 use sv_outside::{Name, Refusal, TextErr};
 use sv_parser::parse;
 use sv_tree::{Item, Source, SourcePart, Stmt};
 
-fn bit() -> Layout
-    ensures { IsSound result }
-{
-    Layout {
-        width: 1,
-        signed: false,
-        form: Form::Scalar,
-    }
-}
-
 fn put_wire(alloc: Global, scope: &mut Scope) -> Result<(), AllocError> {
     let number = 0;
-    let layout = bit();
+    let layout = scalar(false);
     scope.push(Name::new(alloc, b"a")?, What::Wire { number, layout })
 }
 

@@ -111,14 +111,13 @@ pub fn add_port_works<'a>(
 {
     let index = index_of(alloc, ports)?;
     'connections: for connection in connections {
-        add_port_work(alloc, at, connection, &index, ports, works)?;
+        add_port_work(at, connection, &index, ports, works)?;
     }
     Ok(())
 }
 
 // The task of a connection, if something is connected and there is such a port.
 fn add_port_work<'a>(
-    alloc: Global,
     at: Front,
     connection: &Connection<'a>,
     index: &NameIndex,
@@ -130,14 +129,13 @@ fn add_port_work<'a>(
     ensures { OnOk result (map work_is works.new.items ≡ map work_is works.old.items ++ m.connected (front_is at) (m.port_named connection.now.name.now.text (map port_is ports.now)) (joined_is connection.now.name.now connection.now.joined)) }
 {
     match actual_of(connection) {
-        Some(actual) => add_connected(alloc, at, connection.name, actual, index, ports, works),
+        Some(actual) => add_connected(at, connection.name, actual, index, ports, works),
         None => Ok(()),
     }
 }
 
 // The task of a port of a name, if there is one.
 fn add_connected<'a>(
-    alloc: Global,
     at: Front,
     name: &Word,
     actual: Actual<'a>,
@@ -150,7 +148,7 @@ fn add_connected<'a>(
     ensures { OnOk result (map work_is works.new.items ≡ map work_is works.old.items ++ m.connected (front_is at) (m.port_named name.now.text (map port_is ports.now)) (Some (actual_is actual.entry))) }
 {
     if let Some(port) = port_named(index, name.text.bytes(), ports) {
-        let layout = copy(alloc, &port.layout)?;
+        let layout = copy(&port.layout)?;
         let task = Task::Connecting {
             way: port.way,
             wire: port.wire,

@@ -1,30 +1,33 @@
 -- Sound layouts.
-use Rattle.std.proofs.Common.{◌≡◌, ℕ, zero, suc, ◌+◌, ◌*◌, ◌≤◌, Bool, List, [], ◌∷◌, refl, sym, ap, ◌∙◌, arith, ℤ, IsTrue, subst, All, suc-mul, Bor, None, unsigned_abs}
+use Rattle.std.proofs.Common.{◌≡◌, ℕ, zero, suc, ◌+◌, ◌*◌, ◌≤◌, min, Bool, List, [], ◌∷◌, refl, sym, ap, ◌∙◌, arith, ℤ, IsTrue, subst, All, suc-mul, Bor, None, unsigned_abs}
 use Rattle.std.proofs.lemmas.Int.{ints, to_z-of_z}
 use Rattle.std.proofs.lemmas.Bool.Decides.{nat_tests}
 use mir.Syntax.{w64}
 use mir.Val.{to_z, of_z, SFits}
 use Rattle.sv_names.specs.declared.cursor.Each.{Each}
 use Rattle.sv_names.specs.declared.cursor.Each.TheVariants.{Bit, Of}
-use Rattle.sv_names.specs.Cursors.{RowIsSound, EachIsSound, each_is, member_of}
+use Rattle.sv_names.specs.Cursors.{RowIsSound, EachIsSound, each_is, member_of, IsNoRow}
 use Rattle.sv_names.specs.declared.layout.Layout.{Layout}
-use Rattle.sv_names.specs.declared.layout.Form.{Form, Scalar, Dim', Members', end_of-Layout, more_of-Layout}
+use Rattle.sv_names.specs.declared.layout.Form.{Form, Scalar, Dim', Members', end_of-Layout, more_of-Layout, end_of-Form-Members-0-1, more_of-Form-Members-0-1}
 use Rattle.std.specs.List.{AllByRecursion}
 use Rattle.sv_names.specs.declared.layout.Field.{Field}
 use Rattle.sv_names.specs.declared.layout.Form.TheVariants as f
 use Rattle.std.proofs.lemmas.List.Elements.{All-from_recursion}
 use Rattle.sv_meaning.specs.Meanings.{is_bound}
-use Rattle.sv_names.specs.declared.layout.Form.TheBlock.{shape-the_row-Layout-0, hidden-the_row-Layout-0, shape-the_row-Field-1, hidden-the_row-Field-1}
-use Rattle.sv_names.specs.Kinds.{form_is, members_are, members_of, MembersAreSound, FieldIsSound, layout_is, IsWidth, FormIsSound, IsSound}
+use Rattle.sv_names.specs.declared.layout.Form.TheBlock.{shape-the_row-Layout-0, hidden-the_row-Layout-0, shape-the_row-Field-1, hidden-the_row-Field-1, shape-the_row-Form-Members-0-1-2, hidden-the_row-Form-Members-0-1-2}
+use Rattle.sv_names.specs.Kinds.{form_is, members_are, members_of, MembersAreSound, FieldIsSound, layout_is, IsWidth, HasSize, FormIsSound, IsSound}
 use Rattle.sv_meaning.specs.Layouts as m
 
-form_width : (w : ℕ) (s : Bool) (x : Form) → FormIsSound w s x → IsWidth w (form_is s x)
-form_width w s Scalar h = h
-form_width w s (Dim' l r t (more_of-Layout v each form end_of-Layout)) h = h.0
-form_width w s (Members' t all) h = h.0
+form_size : (w : ℕ) (s : Bool) (d : ℕ) (x : Form) → FormIsSound w s d x → HasSize w d (form_is s x)
+form_size w s d Scalar h = h
+form_size w s d (Dim' l r t (more_of-Layout v each e form end_of-Layout)) h = h.0
+form_size w s d (Members' t (more_of-Form-Members-0-1 n all end_of-Form-Members-0-1)) h = h.0
+
+pub sound_size : (x : Layout) → IsSound x → HasSize x.width x.depth (layout_is x)
+sound_size x h = form_size x.width x.signed x.depth x.form h
 
 pub sound_width : (x : Layout) → IsSound x → IsWidth x.width (layout_is x)
-sound_width x h = form_width x.width x.signed x.form h
+sound_width x h = (sound_size x h).0
 
 pub row_members : (all : List Field) → members_are (hidden-the_row-Field-1 all) ≡ members_of all
 unfolding shape-the_row-Field-1 hidden-the_row-Field-1 denote.Hole.Carrier.hidden
@@ -45,13 +48,16 @@ sound_some x h = (sound_width x h).1
 pub sound_most : (x : Layout) → IsSound x → x.width ≤ 128
 sound_most x h = (sound_width x h).2
 
+pub sound_depth : (x : Layout) → IsSound x → x.depth ≡ min 1000 (m.depth (layout_is x))
+sound_depth x h = (sound_size x h).1
+
 pub sign_is : (x : Layout) → x.signed ≡ m.is_signed (layout_is x)
 sign_is x = form_sign x.signed x.form
   where
     form_sign : (s : Bool) (f : Form) → s ≡ m.is_signed (form_is s f)
     form_sign s Scalar = refl
-    form_sign s (Dim' l r t (more_of-Layout v each form end_of-Layout)) = refl
-    form_sign s (Members' t all) = refl
+    form_sign s (Dim' l r t (more_of-Layout v each e form end_of-Layout)) = refl
+    form_sign s (Members' t (more_of-Form-Members-0-1 n all end_of-Form-Members-0-1)) = refl
 
 pub some_bits : (n w : ℕ) → 1 ≤ n → 1 ≤ w → 1 ≤ n * w
 some_bits (suc n) w h k = let e : suc n * w ≡ n * w + w = suc-mul n w in omega arith
@@ -65,7 +71,7 @@ row_of x each l r h = rw h refl
 
 row_sound_of : (x each : Layout) (l r : ℤ) → IsSound x → x.form ≡ f.Dim l r each → IsSound each × IsTrue (is_bound l) × IsTrue (is_bound r)
 unfolding shape-the_row-Layout-0 hidden-the_row-Layout-0 denote.Hole.Carrier.hidden
-row_sound_of x each l r k h = let g = subst (FormIsSound x.width x.signed) h k in (g.3, g.1, g.2)
+row_sound_of x each l r k h = let g = subst (FormIsSound x.width x.signed x.depth) h k in (g.3, g.1, g.2)
 
 pub row_each : (x each : Layout) (l r : ℤ) → IsSound x → x.form ≡ f.Dim l r each → IsSound each
 row_each x each l r k h = (row_sound_of x each l r k h).0
@@ -77,12 +83,15 @@ pub row_right : (x each : Layout) (l r : ℤ) → IsSound x → x.form ≡ f.Dim
 row_right x each l r k h = (row_sound_of x each l r k h).2
 
 pub fields_of : (x : Layout) (all : List Field) → x.form ≡ f.Members all → layout_is x ≡ m.struct (m.is_signed (layout_is x)) (members_of all)
-unfolding shape-the_row-Field-1 hidden-the_row-Field-1 denote.Hole.Carrier.hidden
+unfolding shape-the_row-Field-1 hidden-the_row-Field-1 shape-the_row-Form-Members-0-1-2 hidden-the_row-Form-Members-0-1-2 denote.Hole.Carrier.hidden
 fields_of x all h = rw h (ap (m.struct x.signed) (row_members all))
 
+pub no_row : (x : Layout) (all : List Field) → x.form ≡ f.Members all → IsNoRow (layout_is x)
+no_row x all h = subst IsNoRow (sym (fields_of x all h)) tt
+
 fields_sound : (x : Layout) (all : List Field) → IsSound x → x.form ≡ f.Members all → (x.width ≡ m.width_all (members_of all)) × All FieldIsSound all
-unfolding shape-the_row-Field-1 hidden-the_row-Field-1 denote.Hole.Carrier.hidden
-fields_sound x all k h = let g = subst (FormIsSound x.width x.signed) h k in (g.0.0 ∙ ap m.width_all (row_members all), All-from_recursion FieldIsSound all (row_sound all g.1))
+unfolding shape-the_row-Field-1 hidden-the_row-Field-1 shape-the_row-Form-Members-0-1-2 hidden-the_row-Form-Members-0-1-2 denote.Hole.Carrier.hidden
+fields_sound x all k h = let g = subst (FormIsSound x.width x.signed x.depth) h k in (g.0.0.0 ∙ ap m.width_all (row_members all), All-from_recursion FieldIsSound all (row_sound all g.1))
 
 pub fields_width : (x : Layout) (all : List Field) → IsSound x → x.form ≡ f.Members all → x.width ≡ m.width_all (members_of all)
 fields_width x all k h = (fields_sound x all k h).0

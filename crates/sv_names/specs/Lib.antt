@@ -1,3 +1,4 @@
+pub mod formers
 pub mod Kinds
 pub mod Linked
 pub mod Names

@@ -133,7 +133,8 @@ fn row_of<'a>(layout: &'a Layout) -> Option<Row<'a>>
             right: *right,
             each: Each::Of(each.get()),
         }),
-        Form::Scalar | Form::Members(_) => None,
+        Form::Scalar => None,
+        Form::Members(_) => None,
     }
 }
 
@@ -145,7 +146,7 @@ fn member_in<'a>(layout: &'a Layout, name: &[u8]) -> Option<Part<'a>>
     ensures sound { IfSome result (λ part. IsSound part.layout.now) }
 {
     match &layout.form {
-        Form::Members(fields) => member_at(fields.as_slice(), layout.width, name),
+        Form::Members(fields) => member_at(fields.get().as_slice(), layout.width, name),
         Form::Scalar => None,
         Form::Dim { .. } => None,
     }

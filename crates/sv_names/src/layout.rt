@@ -1,7 +1,13 @@
-//! Layouts of bits, and what names stand for. A layout keeps its width beside its form, since nearly every use asks for it, and
-//! each type is dropped by a call of its own, since layouts are held across exits.
+//! Layouts of bits, and what names stand for. A layout keeps its width and its depth beside its form, so that none is ever walked
+//! through to find them. What it is made of is shared by all that are of its type, so that a net takes no more memory than a reference to it, however large the type
+//! is. Each type is dropped by a call of its own, since layouts are held across exits.
+ghost use Rattle.std.specs.Prelude.{◌≡◌};
+ghost use Rattle.sv_meaning.specs.Layouts as m;
+ghost use Rattle.sv_names.specs.Kinds.{IsSound, layout_is};
+
+use crate::Shared;
 use fourvec::Four;
-use items::{Boxed, Items};
+use items::Items;
 use sv_outside::Name;
 
 /// How the bits of a value lie (IEEE 1800-2017, 7.2 and 7.4).
@@ -10,6 +16,8 @@ pub struct Layout {
     /// How many bits, 1 to 128.
     pub width: u8,
     pub signed: bool,
+    /// How many ranges and structures lie in one another, counted to 1,000.
+    pub depth: u16,
     pub form: Form,
 }
 
@@ -19,6 +27,7 @@ impl Drop for Layout {
         let Layout {
             width: _,
             signed: _,
+            depth: _,
             form: _,
         } = self;
     }
@@ -34,10 +43,10 @@ pub enum Form {
     Dim {
         left: i64,
         right: i64,
-        each: Boxed<Layout>,
+        each: Shared<Layout>,
     },
     /// The members of a packed structure, the first the most significant.
-    Members(Items<Field>),
+    Members(Shared<Items<Field>>),
 }
 
 impl Drop for Form {
@@ -52,6 +61,20 @@ impl Drop for Form {
             } => {}
             Form::Members(_) => {}
         }
+    }
+}
+
+/// One bit.
+#[tactic(auto, unfolding(sv_meaning::specs::Layouts::depth))]
+pub fn scalar(signed: bool) -> Layout
+    ensures is { layout_is result ≡ m.scalar signed }
+    ensures sound { IsSound result }
+{
+    Layout {
+        width: 1,
+        signed,
+        depth: 0,
+        form: Form::Scalar,
     }
 }
 

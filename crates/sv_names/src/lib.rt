@@ -7,8 +7,10 @@ mod links;
 mod names;
 mod ranges;
 mod scope;
+mod shared;
 
 pub use cursor::{Cursor, Each, Part, Row};
-pub use layout::{Field, Form, Known, Layout, Size, What};
+pub use layout::{Field, Form, Known, Layout, Size, What, scalar};
 pub use names::{Frame, Names};
 pub use scope::Scope;
+pub use shared::Shared;

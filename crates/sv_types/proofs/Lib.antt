@@ -7,7 +7,6 @@ pub mod Membership
 pub mod Nested
 pub mod Gathering
 pub mod Valuing
-pub mod Copying
 pub mod Wholes
 pub mod Shapes
 pub mod Alone

@@ -16,7 +16,7 @@ use Rattle.sv_names.specs.declared.layout.Form.TheBlock.{shape-the_row-Layout-0,
 use Rattle.sv_typing.specs.declared.position.Fixed.{Fixed}
 use Rattle.sv_typing.specs.Judging.{IsCause, IsFixed}
 use Rattle.sv_names.specs.Kinds.{layout_is, form_is, IsSound, FormIsSound}
-use Rattle.sv_names.proofs.Sound.{sound_is, sound_some, some_bits, same_bound}
+use Rattle.sv_names.proofs.Sound.{sound_is, sound_some, sound_depth, some_bits, same_bound}
 use mir.Syntax.{w64}
 use mir.Val.{to_z, of_z}
 use Rattle.sv_typing.proofs.Lists.{in_second, in_fault, no_fault, then_clear}
@@ -71,16 +71,6 @@ sound_of_layout j (Err e) h = tt
 
 -- ---- ranges
 
-pub dim_is : (x each : Layout) (l r : ℤ) → x.form ≡ form.Dim l r each → layout_is x ≡ m.dim x.signed l r (layout_is each)
-unfolding shape-the_row-Layout-0 hidden-the_row-Layout-0 denote.Hole.Carrier.hidden
-dim_is x each l r h = rw h refl
-
-pub dim_sound : (x each : Layout) (l r : ℤ) → x.form ≡ form.Dim l r each → IsTrue (is_bound l) → IsTrue (is_bound r) → IsSound each → x.width ≡ m.count_between l r * each.width → 1 ≤ x.width → x.width ≤ 128 → IsSound x
-unfolding shape-the_row-Layout-0 hidden-the_row-Layout-0 denote.Hole.Carrier.hidden
-dim_sound x each l r h bl br s w some most =
-    let v : x.width ≡ m.count_between l r * m.width (layout_is each) = w ∙ ap (λ n. m.count_between l r * n) (sound_is each s) in
-    subst (FormIsSound x.width x.signed) (sym h) ((v, some, most), bl, br, s)
-
 pub count_some : (l r : ℤ) → 1 ≤ m.count_between l r
 count_some l r = omega arith
 
@@ -110,17 +100,8 @@ makes_is s each b levels makes h d e =
     ∙ range_fits (count * each.width) (m.depth (layout_is each)) levels (some_bits count each.width (count_some b.left b.right) (sound_some each h)) d
     ∙ sym e
 
-pub levels_ok : (levels : ℕ) (r : Result Layout TextErr) (x : Layout) → r ≡ Ok x → IfOk r (λ y. levels ≡ min 1000 (m.depth (layout_is y))) → levels ≡ min 1000 (m.depth (layout_is x))
-levels_ok levels r x e h = subst (λ (z : Result Layout TextErr). IfOk z (λ y. levels ≡ min 1000 (m.depth (layout_is y)))) e h
-
 pub made : (each : Layout) (b : Bounds) (levels count : ℕ) (makes : Bool) → count ≡ m.count_between b.left b.right → makes ≡ (nat_le (count * each.width) 128 && nat_lt levels 1000) → Makes each b levels makes
 made each b levels count makes e h = h ∙ (λ i. nat_le (e i * each.width) 128 && nat_lt levels 1000)
-
-pub dim_levels : (s : Bool) (l r : ℤ) (each x : Layout) (levels : ℕ) → levels ≡ min 1000 (m.depth (layout_is each)) → layout_is x ≡ m.dim s l r (layout_is each) → min (levels + 1) 1000 ≡ min 1000 (m.depth (layout_is x))
-dim_levels s l r each x levels e h = one_more levels (m.depth (layout_is each)) (m.depth (layout_is x)) e (ap m.depth h ∙ dim_depth s l r (layout_is each))
-  where
-    one_more : (n d more : ℕ) → n ≡ min 1000 d → more ≡ suc d → min (n + 1) 1000 ≡ min 1000 more
-    one_more n d more e k = omega arith
 
 pub makes_bits : (count each levels : ℕ) (makes : Bool) → makes ≡ (nat_le (count * each) 128 && nat_lt levels 1000) → makes ≡ true → count * each ≤ 128
 makes_bits count each levels makes e h = least (count * each) (first_holds (nat_le (count * each) 128) (nat_lt levels 1000) (sym e ∙ h))
@@ -174,10 +155,6 @@ drop_none [] i h = drop-nil i
 drop_none (r ∷ all) zero h = absurd (omega arith)
 drop_none (r ∷ all) (suc i) h = drop_none all i (omega arith)
 
-pub levels_next : (levels next : ℕ) (r : Result Layout TextErr) → next ≡ min (levels + 1) 1000 → IfOk r (λ x. min (levels + 1) 1000 ≡ min 1000 (m.depth (layout_is x))) → IfOk r (λ x. next ≡ min 1000 (m.depth (layout_is x)))
-levels_next levels next (Ok x) e h = e ∙ h
-levels_next levels next (Err w) e h = tt
-
 pub ranges_begin : (at : m.Scope) (s : Bool) (all : List Range) (i : ℕ) (x : Layout) → length all ≤ i → IsSound x → JudgesLayout (over_ranges at s (drop i all) (layout_is x)) (Ok x)
 ranges_begin at s all i x h y = record { is = ap (λ z. over_ranges at s z (layout_is x)) (drop_none all i h) ∙ over_none at s (layout_is x); sound = y }
 
@@ -216,17 +193,18 @@ pub dim_made : (s : Bool) (l r : ℤ) (e each : Layout) → e ≡ each → IsTru
 unfolding shape-the_row-Layout-0 hidden-the_row-Layout-0 denote.Hole.Carrier.hidden
 dim_made s l r e each h bl br = (λ i. m.dim s (same_bound l bl i) (same_bound r br i) (layout_is (h i)))
 
-pub dim_made_sound : (w : ℕ) (s : Bool) (l r : ℤ) (e each : Layout) → e ≡ each → IsSound each → IsTrue (is_bound l) → IsTrue (is_bound r) → w ≡ m.count_between l r * each.width → 1 ≤ w → w ≤ 128 → FormIsSound w s (form.Dim (to_z w64 (of_z w64 l)) (to_z w64 (of_z w64 r)) e)
-unfolding shape-the_row-Layout-0 hidden-the_row-Layout-0 denote.Hole.Carrier.hidden
-dim_made_sound w s l r e each h k bl br v some most =
-    let i : w ≡ m.count_between l r * m.width (layout_is each) = v ∙ ap (λ n. m.count_between l r * n) (sound_is each k) in
-    let made : FormIsSound w s (form.Dim l r each) = ((i, some, most), bl, br, k) in
-    subst (λ (z : Layout). FormIsSound w s (form.Dim (to_z w64 (of_z w64 l)) (to_z w64 (of_z w64 r)) z)) (sym h)
-    (subst (λ (z : ℤ). FormIsSound w s (form.Dim (to_z w64 (of_z w64 l)) z each)) (sym (same_bound r br)) (subst (λ (z : ℤ). FormIsSound w s (form.Dim z r each)) (sym (same_bound l bl)) made))
+one_deeper : (n d more : ℕ) → n ≡ min 1000 d → more ≡ min (n + 1) 1000 → more ≡ min 1000 (suc d)
+one_deeper n d more h e = omega arith
 
-pub no_levels : (x : Layout) → layout_is x ≡ m.scalar false → 0 ≡ min 1000 (m.depth (layout_is x))
-unfolding m.depth
-no_levels x e = sym (ap (λ z. min 1000 (m.depth z)) e)
+pub dim_made_sound : (w : ℕ) (s : Bool) (d : ℕ) (l r : ℤ) (e each : Layout) → e ≡ each → IsSound each → IsTrue (is_bound l) → IsTrue (is_bound r) → w ≡ m.count_between l r * each.width → 1 ≤ w → w ≤ 128 → d ≡ min (each.depth + 1) 1000 →
+    FormIsSound w s d (form.Dim (to_z w64 (of_z w64 l)) (to_z w64 (of_z w64 r)) e)
+unfolding shape-the_row-Layout-0 hidden-the_row-Layout-0 denote.Hole.Carrier.hidden
+dim_made_sound w s d l r e each h k bl br v some most deep =
+    let i : w ≡ m.count_between l r * m.width (layout_is each) = v ∙ ap (λ n. m.count_between l r * n) (sound_is each k) in
+    let j : d ≡ min 1000 (m.depth (m.dim s l r (layout_is each))) = one_deeper each.depth (m.depth (layout_is each)) d (sound_depth each k) deep ∙ ap (min 1000) (sym (dim_depth s l r (layout_is each))) in
+    let made : FormIsSound w s d (form.Dim l r each) = (((i, some, most), j), bl, br, k) in
+    subst (λ (z : Layout). FormIsSound w s d (form.Dim (to_z w64 (of_z w64 l)) (to_z w64 (of_z w64 r)) z)) (sym h)
+    (subst (λ (z : ℤ). FormIsSound w s d (form.Dim (to_z w64 (of_z w64 l)) z each)) (sym (same_bound r br)) (subst (λ (z : ℤ). FormIsSound w s d (form.Dim z r each)) (sym (same_bound l bl)) made))
 
 pub scalar_layout : (s : Bool) (x : Layout) → layout_is x ≡ m.scalar s → IsSound x → IsLayout (Ok (m.scalar s)) x
 scalar_layout s x e h = record { is = ap Ok (sym e); sound = h }

@@ -1,5 +1,5 @@
 -- Types by their productions.
-use Rattle.std.proofs.Common.{◌≡◌, ℕ, ◌≤◌, Bool, true, false, List, [], ◌∷◌, ◌++◌, map, pos, Result, Ok, Err, Option, IfOk, All, not, nat_lt, eqb, length, refl, sym, ap, ◌∙◌, subst, arith}
+use Rattle.std.proofs.Common.{◌≡◌, ℕ, suc, min, ◌≤◌, Bool, true, false, List, [], ◌∷◌, ◌++◌, map, pos, Result, Ok, Err, Option, IfOk, All, not, nat_lt, eqb, length, refl, sym, ap, ◌∙◌, subst, arith}
 use Rattle.std.proofs.lemmas.List.{map-append}
 use Rattle.std.proofs.lemmas.Bool.{false≢true}
 use Rattle.std.proofs.lemmas.Bool.Decides.{nat_tests}
@@ -22,7 +22,7 @@ use Rattle.sv_meaning.specs.Forms as f
 use Rattle.sv_names.specs.declared.layout.Layout.{Layout}
 use Rattle.sv_names.specs.declared.layout.Field.{Field}
 use Rattle.sv_names.specs.declared.layout.Form.TheVariants as form
-use Rattle.sv_names.specs.declared.layout.Form.TheBlock.{shape-the_row-Field-1, hidden-the_row-Field-1}
+use Rattle.sv_names.specs.declared.layout.Form.TheBlock.{shape-the_row-Field-1, hidden-the_row-Field-1, shape-the_row-Form-Members-0-1-2, hidden-the_row-Form-Members-0-1-2}
 use Rattle.sv_names.specs.declared.names.Names.{Names}
 use Rattle.sv_names.specs.Kinds.{layout_is, form_is, members_of, IsSound, FormIsSound, FieldIsSound, MembersAreSound}
 use Rattle.sv_typing.specs.Judging.{IsCause}
@@ -44,13 +44,17 @@ unfolding shape-the_row-Field-1 hidden-the_row-Field-1 denote.Hole.Carrier.hidde
 row_sound [] h = h
 row_sound (x ∷ all) h = (h.0, row_sound all h.1)
 
-pub structure_is : (s : Bool) (all : List Field) → form_is s (form.Members all) ≡ m.struct s (members_of all)
-unfolding shape-the_row-Field-1 hidden-the_row-Field-1 denote.Hole.Carrier.hidden
-structure_is s all = ap (m.struct s) (row_members all)
+-- a structure of shared members, which are those that were given
+module _ (s : Bool) (all given : List Field) (same : all ≡ given) where
+  pub structure_is : form_is s (form.Members all) ≡ m.struct s (members_of given)
+  unfolding shape-the_row-Field-1 hidden-the_row-Field-1 shape-the_row-Form-Members-0-1-2 hidden-the_row-Form-Members-0-1-2 denote.Hole.Carrier.hidden
+  structure_is = ap (m.struct s) (row_members all ∙ ap members_of same)
 
-pub structure_sound : (w : ℕ) (s : Bool) (all : List Field) → All FieldIsSound all → w ≡ m.width_all (members_of all) → 1 ≤ w → w ≤ 128 → FormIsSound w s (form.Members all)
-unfolding shape-the_row-Field-1 hidden-the_row-Field-1 denote.Hole.Carrier.hidden
-structure_sound w s all h e some most = ((e ∙ sym (ap m.width_all (row_members all)), some, most), row_sound all (recursion_from_All FieldIsSound all h))
+  pub structure_sound : (w d : ℕ) → All FieldIsSound given → w ≡ m.width_all (members_of given) → 1 ≤ w → w ≤ 128 → d ≡ min 1000 (suc (m.deepest (members_of given))) → FormIsSound w s d (form.Members all)
+  unfolding m.depth shape-the_row-Field-1 hidden-the_row-Field-1 shape-the_row-Form-Members-0-1-2 hidden-the_row-Form-Members-0-1-2 denote.Hole.Carrier.hidden
+  structure_sound w d h e some most deep =
+      let members = sym (row_members all ∙ ap members_of same) in
+      (((e ∙ ap m.width_all members, some, most), deep ∙ ap (λ (z : m.Members). min 1000 (suc (m.deepest z))) members), row_sound all (recursion_from_All FieldIsSound all (subst (All FieldIsSound) (sym same) h)))
 
 some_bits : (all : m.Members) (n : ℕ) → n ≡ m.width_all all → 1 ≤ n → f.some_member all ≡ []
 some_bits all n e h = no_fault _ bad_width nowhere_in_text (ap not (is_some (m.width_all all) (subst (λ (k : ℕ). 1 ≤ k) e h)))

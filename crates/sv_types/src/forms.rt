@@ -15,12 +15,13 @@ ghost use Rattle.sv_types.specs.Types.{JudgesLayout, JudgesForm, JudgesType, For
 
 use crate::bounds::Bounds;
 use crate::copies::copy;
+use crate::depth::depth_over;
 use crate::enumerators::{Enumerator, enumerators};
 use crate::members::add_fields;
-use crate::ranges::{base_layout, dim, over_ranges, scalar, vector_layout};
+use crate::ranges::{base_layout, dim, over_ranges, vector_layout};
 use items::Items;
-use std::alloc::Global;
-use sv_names::{Field, Form, Layout, Names};
+use std::alloc::{AllocError, Global};
+use sv_names::{Field, Form, Layout, Names, Shared, scalar};
 use sv_outside::{Place, TextErr};
 use sv_tree::{EnumLabel, Member, Range, Sign, TypeTree, Word};
 use sv_typing::{layout_under, refusal};
@@ -71,7 +72,7 @@ fn named_layout(
 {
     match layout_under(names.find_above(word.text.bytes())) {
         Some(layout) => {
-            let each = copy(alloc, layout)?;
+            let each = copy(layout)?;
             over_ranges(alloc, false, ranges, names, each)
         }
         None => Err(TextErr::No(refusal(12, word.place))),
@@ -111,19 +112,27 @@ fn enum_form(
 }
 
 // A structure of these members, which have so many bits together.
-fn structure(signed: bool, fields: Items<Field>, bits: u8) -> Layout
+fn structure(
+    alloc: Global,
+    signed: bool,
+    fields: Items<Field>,
+    bits: u8,
+) -> Result<Layout, AllocError>
     requires sound { All FieldIsSound fields }
     requires bits { bits ≡ m.width_all (members_of fields) }
     requires some { 1 ≤ bits }
     requires most { bits ≤ 128 }
-    ensures is { layout_is result ≡ m.struct signed (members_of fields) }
-    ensures sound { IsSound result }
+    ensures is { IfOk result (λ x. layout_is x ≡ m.struct signed (members_of fields)) }
+    ensures sound { IfOk result (λ x. IsSound x) }
 {
-    Layout {
+    let depth = depth_over(fields.as_slice());
+    let fields = Shared::new(alloc, fields)?;
+    Ok(Layout {
         width: bits,
         signed,
+        depth,
         form: Form::Members(fields),
-    }
+    })
 }
 
 // A structure of these members, with ranges; or E14. One of no members, which no text spells, is refused at no place.
@@ -144,9 +153,10 @@ fn struct_layout(
         return Err(TextErr::No(refusal(14, NOWHERE)));
     }
     if ranges.is_empty() {
-        Ok(structure(signed, fields, bits))
+        Ok(structure(alloc, signed, fields, bits)?)
     } else {
-        over_ranges(alloc, signed, ranges, names, structure(false, fields, bits))
+        let each = structure(alloc, false, fields, bits)?;
+        over_ranges(alloc, signed, ranges, names, each)
     }
 }
 

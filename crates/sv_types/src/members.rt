@@ -7,7 +7,7 @@ ghost use Rattle.sv_meaning.specs.Names.{has_name};
 ghost use Rattle.sv_types.specs.Types.{field_names, JudgesField, JudgesFields};
 
 use crate::copies::copy;
-use crate::depth::{MOST_LEVELS, depth_of};
+use crate::depth::MOST_LEVELS;
 use items::Items;
 use std::alloc::Global;
 use sv_names::{Field, Layout};
@@ -37,9 +37,10 @@ fn is_too_large(bits: u8, width: u8, deep: bool) -> bool
 
 // Whether a structure with such a member is nested too deep.
 fn is_too_deep(layout: &Layout) -> bool
+    requires { IsSound layout.now }
     ensures { result ≡ nat_le 1000 (depth (layout_is layout.now)) }
 {
-    depth_of(layout) >= MOST_LEVELS
+    layout.depth >= MOST_LEVELS
 }
 
 // One member more, behind members of so many bits; or E13 or E14.
@@ -64,7 +65,7 @@ fn add_field(
     if is_too_large(bits, width, deep) {
         return Err(TextErr::No(refusal(14, word.place)));
     }
-    let layout = copy(alloc, layout)?;
+    let layout = copy(layout)?;
     let name = word.text.copy()?;
     fields.push(Field { name, layout })?;
     Ok(bits + width)

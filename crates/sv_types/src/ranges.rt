@@ -1,6 +1,5 @@
 //! Layouts of packed ranges (IEEE 1800-2017, 7.4.1). Each range is judged over the result of what lies within it, so that the loop
-//! from the innermost range outwards keeps one `Result` and has no exit. The depth of the elements is found once, and then ranges
-//! are counted.
+//! from the innermost range outwards keeps one `Result` and has no exit.
 ghost use Rattle.std.specs.Prelude.{◌≡◌, ◌≤◌, ◌+◌, ◌*◌, ◌&&◌, ◌==◌, IsTrue, IfOk, ℤ, min, nat_le, nat_lt, false, List, [], ◌∷◌};
 ghost use Rattle.std.specs.Option.{option_copied};
 ghost use Rattle.sv_typing.specs.Judging.{Fixes};
@@ -13,26 +12,13 @@ ghost use Rattle.sv_meaning.specs.Meanings.{Meaning, number_of};
 ghost use Rattle.sv_types.specs.Types.{JudgesBound, JudgesBounds, JudgesLayout, ranged_form};
 
 use crate::bounds::Bounds;
-use crate::depth::{MOST_LEVELS, depth_of};
-use items::Boxed;
+use crate::depth::MOST_LEVELS;
 use std::alloc::{AllocError, Global};
 use sv_const::eval_fixed;
-use sv_names::{Form, Layout, Names};
+use sv_names::{Form, Layout, Names, Shared, scalar};
 use sv_outside::{Place, TextErr};
 use sv_tree::{Expr, Range};
 use sv_typing::{Fixed, refusal, small};
-
-/// One bit.
-pub(crate) fn scalar(signed: bool) -> Layout
-    ensures is { layout_is result ≡ m.scalar signed }
-    ensures sound { IsSound result }
-{
-    Layout {
-        width: 1,
-        signed,
-        form: Form::Scalar,
-    }
-}
 
 // A bound of 32 bits, or E14 or E15.
 fn bound_of(place: Place, fixed: Result<Fixed, TextErr>) -> Result<i64, TextErr>
@@ -71,7 +57,7 @@ fn fits(count: u64, each: u8) -> bool
 }
 
 // Whether so many elements of so many bits, nested so deep, make a range: of no more than 128 bits, and not nested too deep.
-fn make_range(count: u64, each: u8, levels: usize) -> bool
+fn make_range(count: u64, each: u8, levels: u16) -> bool
     requires { 1 ≤ each }
     ensures { result ≡ (nat_le (count * each) 128 && nat_lt levels 1000) }
 {
@@ -91,10 +77,12 @@ pub(crate) fn dim(
     ensures sound { IfOk result (λ x. IsSound x) }
 {
     let width = bounds.count() as u8 * each.width;
-    let each = Boxed::new(alloc, each)?;
+    let depth = (each.depth + 1).min(MOST_LEVELS);
+    let each = Shared::new(alloc, each)?;
     Ok(Layout {
         width,
         signed,
+        depth,
         form: Form::Dim {
             left: bounds.left,
             right: bounds.right,
@@ -103,23 +91,20 @@ pub(crate) fn dim(
     })
 }
 
-/// A range of elements that are nested so deep, counted to 1,000; or E14.
+/// A range of elements; or E14.
 pub(crate) fn ranged(
     alloc: Global,
     place: Place,
     signed: bool,
     each: Result<Layout, TextErr>,
-    levels: usize,
     bounds: Result<Bounds, TextErr>,
 ) -> Result<Layout, TextErr>
     requires sound { IfOk each (λ x. IsSound x) }
-    requires levels { IfOk each (λ x. levels ≡ min 1000 (m.depth (layout_is x))) }
-    ensures is { (j : Judged m.Layout) (k : Judged (ℤ × ℤ)) → JudgesLayout j each → JudgesBounds k bounds → JudgesLayout (ranged_form place signed j k) result }
-    ensures levels { IfOk result (λ x. min (levels + 1) 1000 ≡ min 1000 (m.depth (layout_is x))) }
+    ensures { (j : Judged m.Layout) (k : Judged (ℤ × ℤ)) → JudgesLayout j each → JudgesBounds k bounds → JudgesLayout (ranged_form place signed j k) result }
 {
     let bounds = bounds?;
     let each = each?;
-    if make_range(bounds.count(), each.width, levels) {
+    if make_range(bounds.count(), each.width, each.depth) {
         Ok(dim(alloc, signed, bounds, each)?)
     } else {
         Err(TextErr::No(refusal(14, place)))
@@ -133,8 +118,7 @@ fn sign_at(signed: bool, at: usize) -> bool
     signed && at == 0
 }
 
-/// Ranges over elements, the outermost first; that one has the sign. The depth of the elements is found once, and then ranges are
-/// counted, so that the work is linear.
+/// Ranges over elements, the outermost first; that one has the sign.
 pub(crate) fn over_ranges(
     alloc: Global,
     signed: bool,
@@ -145,7 +129,6 @@ pub(crate) fn over_ranges(
     requires { IsSound each }
     ensures { JudgesLayout (over_ranges (constants_are names.now) signed ranges.now (layout_is each)) result }
 {
-    let mut levels = depth_of(&each);
     let mut found = Ok(each);
     let mut at = ranges.len();
     'outward: while at > 0 {
@@ -156,10 +139,8 @@ pub(crate) fn over_ranges(
             range.place,
             sign_at(signed, at),
             found,
-            levels,
             bounds(alloc, range, names),
         );
-        levels = (levels + 1).min(MOST_LEVELS);
     }
     found
 }
@@ -196,7 +177,6 @@ pub(crate) fn base_layout(
             range.place,
             signed,
             Ok(scalar(false)),
-            0,
             bounds(alloc, range, names),
         ),
     }

@@ -5,7 +5,6 @@
 ghost use Rattle.std.specs.Prelude.{◌≡◌, ◌+◌, false, IfOk, OnOk};
 ghost use Rattle.std.specs.Option.{option_copied};
 ghost use Rattle.sv_names.specs.Kinds.{IsSound, WhatIsSound, layout_is, what_is};
-ghost use Rattle.sv_meaning.specs.Layouts as layouts;
 ghost use Rattle.sv_meaning.specs.Layouts.{width};
 ghost use Rattle.sv_hierarchy.specs.Scopes.{add_constant, add_genvar, add_typedef, add_wire, formed, walk_all, with_form, with_form_or_bit, with_wire};
 ghost use Rattle.sv_levels.specs.declared.tally.Tally.{Tally as Counted};
@@ -17,22 +16,10 @@ use crate::held::let_go;
 use crate::walker::{Open, Walker};
 use std::alloc::{AllocError, Global};
 use sv_levels::{Levels, Wires};
-use sv_names::{Form, Layout, What};
+use sv_names::{Layout, What, scalar};
 use sv_outside::{Name, Place, Signal, TextErr};
 use sv_tree::{TypeTree, Typedef, Word};
 use sv_types::{Formed, copy, form_of};
-
-/// One bit.
-pub(crate) fn scalar() -> Layout
-    ensures is { layout_is result ≡ layouts.scalar false }
-    ensures sound { IsSound result }
-{
-    Layout {
-        width: 1,
-        signed: false,
-        form: Form::Scalar,
-    }
-}
 
 // A wire more in the scope of a number. It is given only the parts that it changes, and the caller counts its bits.
 fn put_wire(
@@ -49,7 +36,7 @@ fn put_wire(
 {
     let path = levels.path(alloc, level, word.text.bytes())?;
     let name = word.text.copy()?;
-    let layout_of_wire = copy(alloc, layout)?;
+    let layout_of_wire = copy(layout)?;
     let what = What::Wire {
         number: wires.len(),
         layout: layout_of_wire,
@@ -172,7 +159,7 @@ impl<'a> Walker<'a> {
                 let_go(layout);
                 added
             }
-            None => self.add_wires(current, &scalar(), words),
+            None => self.add_wires(current, &scalar(false), words),
         }
     }
 

@@ -7,26 +7,21 @@ ghost use Rattle.sv_hierarchy.specs.Scopes.{header_ports, is_bare, port_form};
 ghost use Rattle.sv_levels.specs.Ports.{PortsAreSound, one_port, port_is};
 ghost use Rattle.sv_walk.specs.Walks.{Finds};
 
-use crate::declare::scalar;
 use crate::walker::{Open, Walker};
-use std::alloc::{AllocError, Global};
+use std::alloc::AllocError;
 use sv_levels::{OpenPort, is_bare, is_read};
-use sv_names::Layout;
+use sv_names::{Layout, scalar};
 use sv_outside::TextErr;
 use sv_tree::{Port, Way};
 use sv_types::copy;
 
 // A port more, whose layout the next may take over.
-fn put_port<'a>(
-    alloc: Global,
-    one: OpenPort<'a>,
-    ports: &mut Vec<OpenPort<'a>>,
-) -> Result<Layout, AllocError>
+fn put_port<'a>(one: OpenPort<'a>, ports: &mut Vec<OpenPort<'a>>) -> Result<Layout, AllocError>
     requires { IsSound one.layout }
     ensures ports { OnOk result (ports.new.items ≡ ports.old.items ++ one.entry ∷ []) }
     ensures layout { IfOk result (λ layout. layout ≡ one.entry.layout) }
 {
-    let layout = copy(alloc, &one.layout)?;
+    let layout = copy(&one.layout)?;
     ports.push(one)?;
     Ok(layout)
 }
@@ -44,11 +39,11 @@ impl<'a> Walker<'a> {
         ensures sound { IfOk result (λ layout. IsSound layout) }
     {
         if is_bare(port) {
-            return Ok(copy(self.alloc, before)?);
+            return Ok(copy(before)?);
         }
         match &port.form {
             Some(tree) => self.formed(current, tree),
-            None => Ok(scalar()),
+            None => Ok(scalar(false)),
         }
     }
 
@@ -89,11 +84,11 @@ impl<'a> Walker<'a> {
     {
         let mut ports = Vec::new(self.alloc);
         let mut way = Way::Input;
-        let mut before = scalar();
+        let mut before = scalar(false);
         'list: for port in list {
             let one = self.open_port(current, top, way, &before, port)?;
             way = one.way;
-            before = put_port(self.alloc, one, &mut ports)?;
+            before = put_port(one, &mut ports)?;
         }
         Ok(ports)
     }

@@ -1,6 +1,6 @@
 //! The arena: nodes by number, no two with equal shapes. Shapes and widths are lists of their own with one place for each node, so
-//! that contracts see the list of shapes alone. Beside them stands an index of the hashes of the shapes in the same order: a look
-//! for a shape passes at most 64 nodes of other hashes there, whatever the design was written for. Room in both lists is made
+//! that contracts see the list of shapes alone. Beside them stands an index of the hashes of the shapes in the same order, which is
+//! meant to keep a look for a shape short whatever the design was written for; no clause says how short. Room in both lists is made
 //! before a node is put into them and the index, so that none is left half added.
 
 ghost use Rattle.std.specs.Prelude.{◌≡◌, ℕ, ◌<◌, ◌≤◌, ◌+◌, [], ◌∷◌, ◌++◌, length, map, take, slice_index, IfOk, IfSome, IfNone, OnOk, OnErr, IsTrue};
@@ -174,8 +174,6 @@ impl Arena {
     }
 
     /// The node of a shape: the one that has it, or else a new one, numbered by the old length.
-    ///
-    /// The look for it passes at most 64 nodes of other hashes, and those of its own hash.
     pub fn intern(&mut self, alloc: Global, shape: Shape) -> Result<Node, AllocError>
         requires children { ChildrenBelow (length self.old) shape }
         requires fits { FitsWidths (width_at self.old) shape }

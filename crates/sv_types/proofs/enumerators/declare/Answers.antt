@@ -1,4 +1,4 @@
-use Rattle.std.proofs.Common.{◌≡◌, ◌∙◌, ◌++◌, ◌∷◌, []}
+use Rattle.std.proofs.Common.{◌∙◌, ◌++◌, ◌∷◌, []}
 use Rattle.sv_names.specs.declared.layout.What.TheVariants.{Number}
 use Rattle.sv_names.specs.Names.{loops_of}
 use Rattle.sv_types.specs.Types.{IsAbove, Left, pushed}

@@ -4,11 +4,11 @@ use Rattle.sv_names.specs.Names.{constants_are}
 use Rattle.sv_types.proofs.Shapes.{struct_ranges, not_empty}
 use Rattle.sv_types.proofs.forms.struct_layout.Goals as goal
 
-pub returns-else-is_empty : goal.returns-else-is_empty
-returns-else-is_empty c =
+pub returns-in_ok-each : goal.returns-in_ok-each
+returns-in_ok-each c =
     let some : 1 ≤ c.args.bits = omega arith in
-    struct_ranges (constants_are c.args.names.now) c.args.signed c.args.ranges.now (members_of c.args.fields) c.args.bits c.structure-else-is_empty.result c.over_ranges.result c.requires.bits some
-    (not_empty c.args.ranges.now c.if-is_empty.ensures) c.structure-else-is_empty.ensures.is c.over_ranges.ensures
+    struct_ranges (constants_are c.args.names.now) c.args.signed c.args.ranges.now (members_of c.args.fields) c.args.bits c.in_ok-each.each c.over_ranges.result c.requires.bits some
+    (not_empty c.args.ranges.now c.if-is_empty.ensures) c.in_ok-each.ensures.is c.over_ranges.ensures
 
 pub structure-requires-clause-sound : goal.structure-requires-clause-sound
 structure-requires-clause-sound c = c.requires.sound

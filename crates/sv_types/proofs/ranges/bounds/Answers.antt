@@ -1,4 +1,4 @@
-use Rattle.std.proofs.Common.{◌≡◌, ◌∙◌, ℤ, IsTrue, Ok, subst, sym}
+use Rattle.std.proofs.Common.{◌∙◌, ℤ, IsTrue, Ok, subst, sym}
 use Rattle.std.proofs.lemmas.Result.{err_from_is_err_and}
 use Rattle.sv_meaning.specs.Forms.{bound}
 use Rattle.sv_meaning.specs.Meanings.{is_bound}

@@ -1,6 +1,5 @@
-use Rattle.std.proofs.Common.{◌≡◌, ◌≤◌, ◌&&◌, ◌==◌, min, length, drop, IfOk}
+use Rattle.std.proofs.Common.{◌≤◌, ◌&&◌, ◌==◌, length, drop}
 use Rattle.sv_meaning.specs.Forms.{over_ranges}
-use Rattle.sv_meaning.specs.Layouts.{depth}
 use Rattle.sv_names.specs.Kinds.{layout_is}
 use Rattle.sv_names.specs.Names.{constants_are}
 use Rattle.sv_types.specs.Types.{JudgesLayout}
@@ -9,8 +8,6 @@ use Rattle.sv_types.proofs.ranges.over_ranges.Given as goal
 abbrev pub invariant-outward : goal.invariant-outward
 invariant-outward l = record {
   within : l.at ≤ length l.ranges;
-  most : l.levels ≤ 1000;
-  levels : IfOk l.found (λ x. l.levels ≡ min 1000 (depth (layout_is x)));
   found : JudgesLayout (over_ranges (constants_are l.names) (l.signed && (l.at == 0)) (drop l.at l.ranges) (layout_is l.fn.each)) l.found;
 }
 
