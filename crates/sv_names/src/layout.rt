@@ -1,6 +1,6 @@
 //! Layouts of bits, and what names stand for. A layout keeps its width and its depth beside its form, so that none is ever walked
-//! through to find them. What it is made of is shared by all that are of its type, so that a net takes no more memory than a reference to it, however large the type
-//! is. Each type is dropped by a call of its own, since layouts are held across exits.
+//! through to find them. What it is made of is shared by all that have its type, so that a net takes the same memory however large
+//! its type is. Each type is dropped by a call of its own, since layouts are held across exits.
 ghost use Rattle.std.specs.Prelude.{◌≡◌};
 ghost use Rattle.sv_meaning.specs.Layouts as m;
 ghost use Rattle.sv_names.specs.Kinds.{IsSound, layout_is};
