@@ -139,7 +139,7 @@ pub record State : Type 0 where
   pub constructs : ℕ
   -- what its parameters are given
   pub overridden : List Given
-  -- the bits of all wires with what the instances below the top count, and what the turns of generate loops count
+  -- the bits of all wires with what paths and the instances below the top count, and what the turns of generate loops count
   pub bits : ℕ
   pub turns : ℕ
   pub wires : List Signal
@@ -210,7 +210,7 @@ add_constant d st = declare d.0 st >>= λ s. Ok (see_const (entry_of d) s)
 abbrev pub add_constants : List Declared → Walk
 add_constants all st = walk_all add_constant all st
 
--- the bits of all wires and what the instances below the top count are no more than this (this project's bound)
+-- the bits of all wires and what paths and the instances below the top count are no more than this (this project's bound)
 abbrev pub most_bits : ℕ
 most_bits = 1048576
 
