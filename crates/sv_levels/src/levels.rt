@@ -2,7 +2,7 @@
 // a scope is two counts, and what it saw can be read from the levels at any time later. A constant expression sees what is
 // declared above it, and all else all nets of the scopes around it: both are made from the same fronts, which are lent and not
 // copied.
-ghost use Rattle.std.specs.Prelude.{◌≡◌, [], ◌∷◌, ◌++◌, length, map, slice_get, take, IfOk, OnOk, option_map};
+ghost use Rattle.std.specs.Prelude.{◌≡◌, ◌/◌, [], ◌∷◌, ◌++◌, length, map, slice_get, take, IfOk, OnOk, option_map};
 ghost use Rattle.sv_names.specs.Kinds.{WhatIsSound, entry_is, entries_are};
 ghost use Rattle.sv_names.specs.Names.{above_of, frames_of, loops_of, names_are};
 ghost use Rattle.sv_meaning.specs.Layouts.{scope_of};
