@@ -8,9 +8,10 @@ use Rattle.sv_names.specs.declared.layout.What.{What}
 use Rattle.sv_names.specs.Kinds.{Entry, entry_is, entries_are}
 use Rattle.sv_meaning.specs.Layouts.{Name}
 use Rattle.sv_hierarchy.specs.Scopes as m
+use Rattle.sv_levels.specs.declared.fronts.Fronts.{Fronts}
 use Rattle.sv_levels.specs.declared.levels.Front.{Front}
 use Rattle.sv_levels.specs.declared.levels.Level.{Level}
-use Rattle.sv_levels.specs.Levels.{front_of, level_is}
+use Rattle.sv_levels.specs.Levels.{front_of, fronts_are, level_is}
 
 -- what a read of a list tells
 pub got : {A : Type 0} (d all : List A) (n : ℕ) (x : A) → d ≡ all → n < length d → x ≡ get_or d n x → slice_get all n ≡ Some x
@@ -77,6 +78,15 @@ front_found list n x i j h a b =
 pub front_past : (list : List Level) (n : ℕ) → slice_get list n ≡ None → ◌≡◌ {A = m.Front} (record { level = n; nets = 0; consts = 0 }) (front_of (map level_is list) n)
 front_past list n h =
     λ k. record { level = n; nets = ap (λ (y : m.Level). length y.nets) (sym (level_past list n h)) k; consts = ap (λ (y : m.Level). length y.consts) (sym (level_past list n h)) k }
+
+-- the places around a block that is begun in it
+pub around_found : (list : List Level) (n : ℕ) (x : Level) (f : m.Front) → slice_get list n ≡ Some x → f ≡ front_of (map level_is list) n →
+    fronts_are x.around ++ f ∷ [] ≡ m.fronts_at (map level_is list) (front_of (map level_is list) n)
+around_found list n x f h e = λ i. (sym (level_found list n x h) i).around ++ e i ∷ []
+
+pub around_past : (list : List Level) (n : ℕ) (none : Fronts) (f : m.Front) → slice_get list n ≡ None → fronts_are none ≡ [] → f ≡ front_of (map level_is list) n →
+    fronts_are none ++ f ∷ [] ≡ m.fronts_at (map level_is list) (front_of (map level_is list) n)
+around_past list n none f h g e = λ i. (g ∙ sym (ap (λ (y : m.Level). y.around) (level_past list n h))) i ++ e i ∷ []
 
 -- ---- instances and blocks
 

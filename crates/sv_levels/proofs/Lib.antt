@@ -1,4 +1,5 @@
 pub mod ByNumber
+pub mod FrontsHeld
 pub mod Giving
 pub mod LevelsHeld
 pub mod LevelsSeen

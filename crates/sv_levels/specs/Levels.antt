@@ -1,8 +1,9 @@
 -- Scopes as code holds them.
-use Rattle.std.specs.Prelude.{ℕ, List, [], ◌++◌, length, map}
+use Rattle.std.specs.Prelude.{ℕ, List, [], ◌∷◌, ◌++◌, length, map}
 use Rattle.sv_names.specs.Kinds.{entries_are}
 use Rattle.sv_meaning.specs.Layouts.{Entry, Name, Scope}
 use Rattle.sv_hierarchy.specs.Scopes as m
+use Rattle.sv_levels.specs.declared.fronts.Fronts.{Fronts, Outermost, Within', end_of-Fronts, more_of-Fronts}
 use Rattle.sv_levels.specs.declared.levels.Front.{Front}
 use Rattle.sv_levels.specs.declared.levels.Instance.{Instance}
 use Rattle.sv_levels.specs.declared.levels.Level.{Level}
@@ -11,12 +12,17 @@ use Rattle.sv_levels.specs.declared.levels.Levels.{Levels}
 abbrev pub front_is : Front → m.Front
 front_is f = record { level = f.level; nets = f.nets; consts = f.consts }
 
+-- places around one another, the outermost first
+abbrev pub fronts_are : Fronts → List m.Front
+fronts_are Outermost = []
+fronts_are (Within' f t (more_of-Fronts rest end_of-Fronts)) = fronts_are rest ++ front_is f ∷ []
+
 abbrev pub level_is : Level → m.Level
 level_is x = record {
   path = x.path;
   module_number = x.module;
   parent = x.parent;
-  around = map front_is x.around;
+  around = fronts_are x.around;
   nets = entries_are x.nets;
   consts = entries_are x.consts;
 }

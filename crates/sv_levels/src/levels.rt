@@ -1,19 +1,19 @@
 // The scopes of a design, each with its names. Names are only added at the ends of two lists, nets and constants, so a place in
 // a scope is two counts, and what it saw can be read from the levels at any time later. A constant expression sees what is
-// declared above it, and all else all nets of the scopes around it: both are made from the same fronts, which are lent and not
-// copied.
+// declared above it, and all else all nets of the scopes around it: both are made from the same fronts.
 ghost use Rattle.std.specs.Prelude.{◌≡◌, ◌/◌, [], ◌∷◌, ◌++◌, length, map, slice_get, take, IfOk, OnOk, option_map};
 ghost use Rattle.sv_names.specs.Kinds.{WhatIsSound, entry_is, entries_are};
 ghost use Rattle.sv_names.specs.Names.{above_of, frames_of, loops_of, names_are};
 ghost use Rattle.sv_meaning.specs.Layouts.{scope_of};
 ghost use Rattle.sv_hierarchy.specs.Scopes.{behind, fronts_at, instances_from, level_at, live_at, prefix_of, seen_at, with_const, with_level, with_net};
 ghost use Rattle.sv_levels.specs.Levels.{instance_is};
-ghost use Rattle.sv_levels.specs.Levels.{block_in, front_is, front_of, level_is, levels_are, live_scope, seen_frames};
+ghost use Rattle.sv_levels.specs.Levels.{block_in, front_is, front_of, fronts_are, level_is, levels_are, live_scope, seen_frames};
 
+use crate::fronts::{Fronts, collect, outermost, within};
 use crate::held::let_go;
 use items::Items;
 use std::alloc::{AllocError, Global};
-use sv_names::{Names, Scope, What};
+use sv_names::{Names, Scope, Shared, What};
 use sv_outside::Name;
 
 /// A place in a scope: so many of its nets and variables, and so many of its constants and types, are declared above.
@@ -32,8 +32,8 @@ pub struct Level {
     pub module: usize,
     /// The scope that it stands in.
     pub parent: usize,
-    /// The places in the scopes whose names it sees, the outermost first.
-    pub around: Items<Front>,
+    /// The places in the scopes whose names it sees.
+    pub around: Shared<Fronts>,
     /// Its nets and variables, behind the variable of the loop that it is a turn of.
     pub nets: Scope,
     /// Its constants, types and genvars.
@@ -208,8 +208,7 @@ impl Levels {
         ensures { IfOk result (λ block. level_is block ≡ block_in (levels_are self.now) level part.now (entries_are nets)) }
     {
         let path = self.path(alloc, level, part)?;
-        let at = self.front(level);
-        let around = self.fronts(alloc, at)?;
+        let around = self.inside(alloc, level)?;
         let number = self.module(level);
         Ok(Level {
             path,
@@ -219,6 +218,20 @@ impl Levels {
             nets,
             consts: Scope::new(alloc),
         })
+    }
+
+    // The places in the scopes around a block that is begun in a scope: the last is behind all that is declared there so far.
+    fn inside(&self, alloc: Global, level: usize) -> Result<Shared<Fronts>, AllocError>
+        ensures { IfOk result (λ fronts. fronts_are fronts ≡ fronts_at (levels_are self.now) (front_of (levels_are self.now) level)) }
+    {
+        let front = self.front(level);
+        match self.list.get(level) {
+            Some(found) => within(alloc, front, &found.around),
+            None => {
+                let none = outermost(alloc)?;
+                within(alloc, front, &none)
+            }
+        }
     }
 
     /// The places in the scopes whose names are seen at a place, that one the last.
@@ -234,10 +247,11 @@ impl Levels {
     fn around(&self, alloc: Global, level: usize) -> Result<Items<Front>, AllocError>
         ensures { IfOk result (λ all. map front_is all ≡ (level_at (levels_are self.now) level).around) }
     {
-        match self.list.get(level) {
-            Some(level) => Ok(Items::from_vec(level.around.as_slice().to_vec(alloc)?)),
-            None => Ok(Items::new(alloc)),
+        let mut all = Items::new(alloc);
+        if let Some(level) = self.list.get(level) {
+            collect(level.around.get(), &mut all)?;
         }
+        Ok(all)
     }
 
     /// What a constant expression at a place sees: what is declared above it (6.20.2, 23.9).

@@ -6,6 +6,7 @@
 //! levels at any time later.
 #![tactic(auto)]
 
+mod fronts;
 mod held;
 mod levels;
 mod library;
@@ -18,6 +19,7 @@ mod tasks;
 mod texts;
 mod wires;
 
+pub use fronts::{Fronts, outermost, within};
 pub use levels::{Front, Instance, Level, Levels};
 pub use library::{Known, Library, Wiring, wiring_of};
 pub use loops::{Turns, index_scope, is_loop_variable};

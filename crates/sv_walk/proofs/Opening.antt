@@ -24,10 +24,11 @@ use Rattle.sv_modules.specs.Connections.{connection_is}
 use Rattle.sv_modules.specs.declared.connect.Connection.{Connection as Coded}
 use Rattle.sv_modules.specs.Naming.{holds}
 use Rattle.sv_names.specs.Kinds.{entries_are}
-use Rattle.sv_levels.specs.Levels.{front_is, level_is, levels_are}
+use Rattle.sv_levels.specs.Levels.{front_is, fronts_are, level_is, levels_are}
 use Rattle.sv_levels.specs.declared.library.Wiring.{Wiring}
 use Rattle.sv_levels.proofs.Wired.{passed_on, refused_first, same_refusal}
 use Rattle.sv_levels.specs.Library.{IsWiring, wiring, child_alone}
+use Rattle.sv_levels.specs.declared.fronts.Fronts.{Fronts}
 use Rattle.sv_levels.specs.declared.levels.Front.{Front}
 use Rattle.sv_levels.specs.declared.levels.Level.{Level}
 use Rattle.sv_levels.specs.declared.levels.Levels.{Levels}
@@ -233,11 +234,11 @@ below_begins w o f xs rest h e =
 
 -- ---- an instance is begun, and the file level
 
-pub one_front : (around none : List Front) (f : Front) → around ≡ none ++ f ∷ [] → none ≡ [] → map front_is around ≡ front_is f ∷ []
-one_front around none f h e = ap (map front_is) (h ∙ ap (λ (x : List Front). x ++ f ∷ []) e)
+pub one_front : (around none : Fronts) (f : Front) → fronts_are around ≡ fronts_are none ++ front_is f ∷ [] → fronts_are none ≡ [] → fronts_are around ≡ front_is f ∷ []
+one_front around none f h e = h ∙ ap (λ (x : List m.Front). x ++ front_is f ∷ []) e
 
 pub begun_is : (w : Walker) (levels : Levels) (children : Vec Child Global) (o current : Open) (k : m.Known) (path : Name) (parent : ℕ) (given : List m.Given) (x : Level) → levels_are levels ≡ levels_are w.levels ++ level_is x ∷ [] →
-    x.path ≡ path → x.module ≡ k.number → x.parent ≡ parent → map front_is x.around ≡ record { level = 0; nets = 0; consts = k.above } ∷ [] → x.nets ≡ [] → x.consts ≡ [] → children.items ≡ [] →
+    x.path ≡ path → x.module ≡ k.number → x.parent ≡ parent → fronts_are x.around ≡ record { level = 0; nets = 0; consts = k.above } ∷ [] → x.nets ≡ [] → x.consts ≡ [] → children.items ≡ [] →
     o.level ≡ length (levels_are w.levels) → o.constructs.items ≡ [] → map given_is o.overridden.list.items ≡ given → ((n : Name) → holds o.taken n ≡ has_name n []) →
     state_of (record w { levels = levels; children = children }) o ≡ m.begun k path parent given (state_of w current)
 unfolding has_name
@@ -258,13 +259,13 @@ begun_is w levels children o current k path parent given x h p n q a b c e l g i
       children = map child_is (e z);
     }
 
-file_is : (w : Walker) (levels : Levels) (o : Open) (x : Level) → IsNothing w → levels_are levels ≡ levels_are w.levels ++ level_is x ∷ [] → x.path ≡ [] → x.module ≡ 0 → x.parent ≡ 0 → x.around ≡ [] → x.nets ≡ [] → x.consts ≡ [] →
+file_is : (w : Walker) (levels : Levels) (o : Open) (x : Level) → IsNothing w → levels_are levels ≡ levels_are w.levels ++ level_is x ∷ [] → x.path ≡ [] → x.module ≡ 0 → x.parent ≡ 0 → fronts_are x.around ≡ [] → x.nets ≡ [] → x.consts ≡ [] →
     o.level ≡ 0 → o.constructs.items ≡ [] → map given_is o.overridden.list.items ≡ [] → ((n : Name) → holds o.taken n ≡ has_name n []) → state_of (record w { levels = levels }) o ≡ m.file_state
 unfolding has_name
 file_is w levels o x none h p n q a b c l g i t =
     let taken : holds o.taken ≡ m.nothing_taken = fun_ext t in
     let all : levels_are levels ≡ m.no_level ∷ []
-    = h ∙ (λ z. none.levels z ++ record { path = p z; module_number = n z; parent = q z; around = map front_is (a z); nets = entries_are (b z); consts = entries_are (c z) } ∷ []) in
+    = h ∙ (λ z. none.levels z ++ record { path = p z; module_number = n z; parent = q z; around = a z; nets = entries_are (b z); consts = entries_are (c z) } ∷ []) in
     λ z. record {
       levels = all z;
       me = l z;
@@ -278,7 +279,7 @@ file_is w levels o x none h p n q a b c l g i t =
       children = map child_is (none.children z);
     }
 
-pub file_begun : {E : Type 0} (w : Walker) (levels : Levels) (x : Level) (r : Result Open E) → IsNothing w → levels_are levels ≡ levels_are w.levels ++ level_is x ∷ [] → x.path ≡ [] → x.module ≡ 0 → x.parent ≡ 0 → x.around ≡ [] → x.nets ≡ [] →
+pub file_begun : {E : Type 0} (w : Walker) (levels : Levels) (x : Level) (r : Result Open E) → IsNothing w → levels_are levels ≡ levels_are w.levels ++ level_is x ∷ [] → x.path ≡ [] → x.module ≡ 0 → x.parent ≡ 0 → fronts_are x.around ≡ [] → x.nets ≡ [] →
     x.consts ≡ [] → IfOk r (IsBare 0) → IfOk r (λ o. state_of (record w { levels = levels }) o ≡ m.file_state)
 file_begun w levels x (Ok o) none h p n q a e c b = file_is w levels o x none h p n q a e c b.level_is b.constructs b.overridden b.taken
 file_begun w levels x (Err e) none h p n q a f c b = tt

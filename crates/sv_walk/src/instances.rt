@@ -13,12 +13,11 @@ ghost use Rattle.sv_walk.specs.Walks.{Walks, state_of};
 
 use crate::held::{after, let_go};
 use crate::walker::{Open, Walker};
-use items::Items;
 use std::alloc::AllocError;
 use std::mem;
 use sv_levels::{
-    Child, Front, Given, Known, Level, Library, Overrides, add_port_works, given_by, ports_of,
-    wiring_of,
+    Child, Front, Given, Known, Level, Library, Overrides, add_port_works, given_by, outermost,
+    ports_of, wiring_of, within,
 };
 use sv_loops::instance_weight;
 use sv_modules::Connection;
@@ -38,12 +37,13 @@ impl<'a> Walker<'a> {
     ) -> Result<Open<'a>, AllocError>
         ensures { (current : Opened) → IfOk result (λ own. state_of self.new own ≡ m.begun (known_is known.entry) path parent (map given_is given.entry.items) (state_of self.old current)) }
     {
-        let mut around = Items::new(self.alloc);
-        around.push(Front {
+        let front = Front {
             level: 0,
             nets: 0,
             consts: known.above,
-        })?;
+        };
+        let none = outermost(self.alloc)?;
+        let around = within(self.alloc, front, &none)?;
         let level = self.levels.len();
         self.levels.push(Level {
             path,

@@ -11,9 +11,10 @@ ghost use Rattle.sv_levels.specs.Levels.{front_is};
 ghost use Rattle.sv_levels.specs.Tasks.{given_is, task_is};
 ghost use Rattle.sv_walk.specs.Walks.{IsBare, IsNothing, Walks, state_of};
 
-use items::Items;
 use std::alloc::{AllocError, Global};
-use sv_levels::{Child, Front, Level, Levels, Overrides, Tally, Task, Wires, Work, is_name};
+use sv_levels::{
+    Child, Front, Level, Levels, Overrides, Tally, Task, Wires, Work, is_name, outermost,
+};
 use sv_modules::NameSet;
 use sv_names::Scope;
 use sv_outside::{Name, Place, TextErr};
@@ -138,7 +139,7 @@ impl<'a> Walker<'a> {
             path: Name::new(self.alloc, b"")?,
             module: 0,
             parent: 0,
-            around: Items::new(self.alloc),
+            around: outermost(self.alloc)?,
             nets: Scope::new(self.alloc),
             consts: Scope::new(self.alloc),
         })?;

@@ -1,4 +1,3 @@
-use Rattle.std.proofs.Common.{None}
 use Rattle.sv_types.specs.Values.{kind_is}
 use Rattle.sv_hierarchy.specs.Scopes as m
 use Rattle.sv_levels.specs.Levels.{front_is, levels_are}

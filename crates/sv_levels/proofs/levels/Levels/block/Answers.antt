@@ -1,8 +1,6 @@
 use Rattle.std.proofs.lemmas.Result.{IfOk-from_err}
-use Rattle.std.proofs.Common.{◌∙◌, ap}
+use Rattle.std.proofs.Common.{ap}
 use Rattle.sv_names.specs.Kinds.{entries_are}
-use Rattle.sv_hierarchy.specs.Scopes.{fronts_at}
-use Rattle.sv_levels.specs.Levels.{levels_are}
 use Rattle.sv_levels.proofs.levels.Levels.block.Goals as goal
 
 pub returns : goal.returns
@@ -10,7 +8,7 @@ returns c = λ i. record {
   path = c.in_ok-path.ensures i;
   module_number = c.module-number.ensures i;
   parent = c.args.level;
-  around = (c.in_ok-around.ensures ∙ ap (fronts_at (levels_are c.args.self.now)) c.front-at.ensures) i;
+  around = c.in_ok-around.ensures i;
   nets = entries_are c.args.nets;
   consts = ap entries_are c.new.ensures i;
 }
