@@ -459,6 +459,19 @@ def blocks_in_instances(size):
 
 
 @kind
+def nets_below_a_long_name(size):
+    """Half of the size is the name of an instance, in which all nets lie."""
+    return dump(numbered(",n%d", size, b"module leaf; logic n", b"; endmodule module m; leaf " + b"u" * (size // 2) + b"(); endmodule\n"))
+
+
+@kind
+def turns_under_many_blocks(size):
+    """65,536 turns of a generate loop under 194 blocks, whatever the size."""
+    turns = b"for(genvar i=0;i<16;i++)begin:g for(genvar j=0;j<4096;j++)begin:h end end "
+    return dump(b"module m;" + b"if(1)begin:a " * 194 + turns + b"end " * 194 + b"endmodule\n")
+
+
+@kind
 def paths_of_a_long_name(size):
     return dump(b"module m;for(genvar i=0;i<64;i++)begin:" + b"b" * size + b" wire w;end endmodule\n")
 
