@@ -228,7 +228,7 @@ prefix_of (c ∷ more) = (c ∷ more) ++ dot
 abbrev pub path_of : State → Name → Name
 path_of st n = prefix_of (mine st).path ++ n
 
--- A path counts once for each 512 bytes of it (this project's rule), so that no design has paths that no memory holds.
+-- A path counts once for each 512 bytes of it (this project's rule), so that the bound on what counts bounds the bytes of all paths.
 abbrev pub path_weight : State → Name → ℕ
 path_weight st n = length (path_of st n) / 512
 
