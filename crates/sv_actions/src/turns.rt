@@ -5,17 +5,15 @@ ghost use Rattle.sv_actions.specs.Listing.{JudgesFaults, made_behind, arms_behin
 
 use crate::arms::ActedArms;
 use crate::statements::Acted;
+use sv_loops::MOST_TURNS_TOGETHER;
 use sv_outside::{Place, TextErr};
 use sv_typing::refusal;
-
-/// How much the turns of all loops of a design count together at most.
-const MOST_TURNS: u64 = 1_000_000;
 
 /// Whether the loop at a place may make a turn more, which counts so much, or E20.
 pub(crate) fn one_more(place: Place, weight: u64, made: u64) -> Result<(), TextErr>
     ensures { JudgesFaults (turn_faults place weight made) result }
 {
-    if made.saturating_add(weight) > MOST_TURNS {
+    if made.saturating_add(weight) > MOST_TURNS_TOGETHER {
         Err(TextErr::No(refusal(20, place)))
     } else {
         Ok(())
@@ -28,7 +26,7 @@ pub(crate) fn made_behind(acted: &Result<Acted, TextErr>) -> u64
 {
     match acted {
         Ok(acted) => acted.made,
-        Err(_) => MOST_TURNS,
+        Err(_) => MOST_TURNS_TOGETHER,
     }
 }
 
@@ -38,6 +36,6 @@ pub(crate) fn arms_behind(arms: &Result<ActedArms, TextErr>) -> u64
 {
     match arms {
         Ok(arms) => arms.made,
-        Err(_) => MOST_TURNS,
+        Err(_) => MOST_TURNS_TOGETHER,
     }
 }

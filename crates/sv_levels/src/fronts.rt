@@ -37,7 +37,7 @@ impl Drop for Fronts {
 pub fn outermost(alloc: Global) -> Result<Shared<Fronts>, AllocError>
     ensures { IfOk result (λ fronts. fronts_are fronts ≡ []) }
 {
-    Ok(Shared::new(alloc, Fronts::Outermost)?)
+    Shared::new(alloc, Fronts::Outermost)
 }
 
 /// One place more, within others.
@@ -48,8 +48,39 @@ pub fn within(
 ) -> Result<Shared<Fronts>, AllocError>
     ensures { IfOk result (λ fronts. fronts_are fronts ≡ fronts_are around.now ++ front_is front ∷ []) }
 {
-    let around = around.share()?;
-    Ok(Shared::new(alloc, Fronts::Within { front, around })?)
+    let around = share(alloc, around)?;
+    Shared::new(alloc, Fronts::Within { front, around })
+}
+
+// The same places, with one owner more; or made again, where their owners can no longer be counted.
+#[cycle(share)]
+fn share(alloc: Global, fronts: &Shared<Fronts>) -> Result<Shared<Fronts>, AllocError>
+    ensures { IfOk result (λ shared. shared ≡ fronts.now) }
+{
+    match fronts.share() {
+        Some(shared) => Ok(shared),
+        None => {
+            let made = copy(alloc, fronts.get())?;
+            Shared::new(alloc, made)
+        }
+    }
+}
+
+// The same places again.
+#[cycle(share)]
+fn copy(alloc: Global, fronts: &Fronts) -> Result<Fronts, AllocError>
+    ensures { IfOk result (λ made. made ≡ fronts.now) }
+{
+    match fronts {
+        Fronts::Outermost => Ok(Fronts::Outermost),
+        Fronts::Within { front, around } => {
+            let around = share(alloc, around)?;
+            Ok(Fronts::Within {
+                front: *front,
+                around,
+            })
+        }
+    }
 }
 
 /// All places, the outermost first, behind others. The call is nested as deep as the scopes, of which 200 blocks at most lie in one

@@ -148,7 +148,7 @@ fn add_connected<'a>(
     ensures { OnOk result (map work_is works.new.items ≡ map work_is works.old.items ++ m.connected (front_is at) (m.port_named name.now.text (map port_is ports.now)) (Some (actual_is actual.entry))) }
 {
     if let Some(port) = port_named(index, name.text.bytes(), ports) {
-        let layout = copy(&port.layout)?;
+        let layout = copy(*works.allocator(), &port.layout)?;
         let task = Task::Connecting {
             way: port.way,
             wire: port.wire,

@@ -5,14 +5,12 @@ ghost use Rattle.sv_meaning.specs.Faults.{provided};
 ghost use Rattle.sv_hierarchy.specs.Scopes.{size_faults};
 ghost use Rattle.sv_loops.specs.Answers.{Answers};
 
+use sv_loops::MOST_TURNS_TOGETHER;
 use sv_outside::{Place, TextErr};
 use sv_typing::refusal;
 
 /// The bits of all wires with what paths and the instances below the top count, at most.
 const MOST_BITS: u64 = 1_048_576;
-
-/// What the turns of all loops count, at most.
-const MOST_TURNS: u64 = 1_000_000;
 
 /// The bits of all wires with what paths and the instances below the top count, and what the turns of generate loops count.
 #[derive(Clone, Copy)]
@@ -50,7 +48,7 @@ impl Tally {
         ensures { Answers (λ n t. (t.turns ≡ n) × (t.bits ≡ self.bits)) (provided (turn_faults place weight self.turns) (self.turns + weight)) result }
     {
         let turns = self.turns.saturating_add(weight);
-        if turns > MOST_TURNS {
+        if turns > MOST_TURNS_TOGETHER {
             return Err(TextErr::No(refusal(20, place)));
         }
         Ok(Tally {

@@ -22,8 +22,8 @@ use sv_typing::refusal;
 /// How many turns a loop has at most.
 const MOST_TURNS: u64 = 4096;
 
-/// How much all turns of a design count together at most.
-const MOST_TOGETHER: u64 = 1_000_000;
+/// How much the turns of all loops of a design count together at most (this tool's rule).
+pub const MOST_TURNS_TOGETHER: u64 = 1_000_000;
 
 /// Enters a loop, whose variable has these bits. Where memory is out, nothing changes.
 pub fn enter(names: &mut Names<'_>, variable: &Word, bits: Four) -> Result<(), TextErr>
@@ -95,7 +95,7 @@ fn turns_allowed(weight: u64) -> u64
     requires { 1 ≤ weight }
     ensures { result ≡ turns_allowed weight }
 {
-    MOST_TURNS.min(MOST_TOGETHER / weight)
+    MOST_TURNS.min(MOST_TURNS_TOGETHER / weight)
 }
 
 // The values of the variable in all turns, from its first value on: at most so many.

@@ -1,4 +1,4 @@
-ghost use Rattle.std.specs.Prelude.{◌≡◌, IfOk};
+ghost use Rattle.std.specs.Prelude.{◌≡◌, IfOk, IfSome};
 
 use std::alloc::{AllocError, Global};
 use std::marker::Model;
@@ -41,12 +41,13 @@ impl<T: Drop> Shared<T> {
         })
     }
 
-    /// One owner more. It takes no memory, and fails only where no more owners can be counted.
-    pub fn share(&self) -> Result<Shared<T>, AllocError>
-        ensures { IfOk result (λ shared. shared ≡ self.now) }
+    /// One owner more. There is none where as many owners are counted as can be; who calls makes a value of its own then.
+    pub fn share(&self) -> Option<Shared<T>>
+        ensures { IfSome result (λ shared. shared ≡ self.now) }
     {
-        Ok(Shared {
-            inner: self.inner.clone()?,
-        })
+        match self.inner.clone() {
+            Ok(inner) => Some(Shared { inner }),
+            Err(_) => None,
+        }
     }
 }

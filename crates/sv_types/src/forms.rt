@@ -72,7 +72,7 @@ fn named_layout(
 {
     match layout_under(names.find_above(word.text.bytes())) {
         Some(layout) => {
-            let each = copy(layout)?;
+            let each = copy(alloc, layout)?;
             over_ranges(alloc, false, ranges, names, each)
         }
         None => Err(TextErr::No(refusal(12, word.place))),

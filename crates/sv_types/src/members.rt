@@ -65,7 +65,7 @@ fn add_field(
     if is_too_large(bits, width, deep) {
         return Err(TextErr::No(refusal(14, word.place)));
     }
-    let layout = copy(layout)?;
+    let layout = copy(alloc, layout)?;
     let name = word.text.copy()?;
     fields.push(Field { name, layout })?;
     Ok(bits + width)

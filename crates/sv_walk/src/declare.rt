@@ -37,7 +37,7 @@ fn put_wire(
 {
     let path = levels.path(alloc, level, word.text.bytes())?;
     let name = word.text.copy()?;
-    let layout_of_wire = copy(layout)?;
+    let layout_of_wire = copy(alloc, layout)?;
     let what = What::Wire {
         number: wires.len(),
         layout: layout_of_wire,

@@ -21,7 +21,7 @@ fn put_port<'a>(one: OpenPort<'a>, ports: &mut Vec<OpenPort<'a>>) -> Result<Layo
     ensures ports { OnOk result (ports.new.items ≡ ports.old.items ++ one.entry ∷ []) }
     ensures layout { IfOk result (λ layout. layout ≡ one.entry.layout) }
 {
-    let layout = copy(&one.layout)?;
+    let layout = copy(*ports.allocator(), &one.layout)?;
     ports.push(one)?;
     Ok(layout)
 }
@@ -39,7 +39,7 @@ impl<'a> Walker<'a> {
         ensures sound { IfOk result (λ layout. IsSound layout) }
     {
         if is_bare(port) {
-            return Ok(copy(before)?);
+            return Ok(copy(self.alloc, before)?);
         }
         match &port.form {
             Some(tree) => self.formed(current, tree),
