@@ -28,12 +28,6 @@ hash_of (And a b) = mixed a b
 pub record HasNone (gates : List Gate) (gate : Gate) : Type 0 where
   pub none : (k : ℕ) → gate_at gates k ≡ gate → ⊥
 
--- ---- a look
-
--- no node below a number has the gate
-pub record IsPast (gates : List Gate) (gate : Gate) (from : ℕ) : Type 0 where
-  pub past : (k : ℕ) → k < from → gate_at gates k ≡ gate → ⊥
-
 -- ---- what an `Aig` keeps
 
 -- The lower operand of a conjunction stands first, none is constant, and no two conjunctions have the same operands.

@@ -63,15 +63,7 @@ fn find(gates: &[Gate], index: &HashIndex, a: Lit, b: Lit) -> Option<usize>
     ensures none { IfNone result (HasNone gates.now (And a b)) }
 {
     let wanted = Gate::And(a, b);
-    let wanted_hash = hash(wanted);
-    let mut from = 0;
-    while let Some(node) = index.at_or_after(wanted_hash, from) {
-        if gates[node] == wanted {
-            return Some(node);
-        }
-        from = node + 1;
-    }
-    None
+    index.find(hash(wanted), |node| gates[node] == wanted)
 }
 
 /// One node more, behind all others, and its entry in the index.

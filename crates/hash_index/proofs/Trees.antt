@@ -5,7 +5,7 @@ use Rattle.std.specs.Prelude.{slice_index}
 use Rattle.hash_index.specs.declared.tree.Place.{Place}
 use Rattle.hash_index.specs.declared.tree.Place.TheVariants.{Root}
 use Rattle.hash_index.specs.Tree.{owner, child, Reaches, IsTree, Puts, Leads, IsEnd, IsAhead}
-use Rattle.hash_index.proofs.Ways.{cases_place, owner_child, none_reached, reached_above, reaches_rest, reaches_next, reaches_here, reaches_kept}
+use Rattle.hash_index.proofs.Ways.{cases_place, owner_child, none_reached, reaches_rest, reaches_next, reaches_here, reaches_kept}
 
 -- ---- a tree with no entry, and the same tree
 
@@ -112,24 +112,26 @@ tree_less n buckets hashes old new place link puts t =
 
 -- ---- a look
 
-pub ahead_first : (buckets : ℕ) (hashes : List ℕ) (links : Place → ℕ) (hash from at : ℕ) → at ≡ links (Root (hash % buckets)) → IsTree (length hashes) buckets hashes links → IsAhead hashes links hash from hash at
-ahead_first buckets hashes links hash from at is t = record {
+pub ahead_first : (buckets : ℕ) (hashes : List ℕ) (links : Place → ℕ) (Out : ℕ → Type 0) (hash at : ℕ) → at ≡ links (Root (hash % buckets)) → IsTree (length hashes) buckets hashes links → IsAhead hashes links Out hash hash at
+ahead_first buckets hashes links Out hash at is t = record {
   within = omega (arith, t.rising.within (Root (hash % buckets)));
-  ahead = λ j f l e. subst (λ a. Reaches links hash a (suc j)) (sym is) (subst (λ h. Reaches links h (links (Root (h % buckets))) (suc j)) e (t.reached j l));
+  ahead = λ j l e. inl (subst (λ a. Reaches links hash a (suc j)) (sym is) (subst (λ h. Reaches links h (links (Root (h % buckets))) (suc j)) e (t.reached j l)));
 }
 
-pub ahead_next : (buckets : ℕ) (hashes : List ℕ) (links : Place → ℕ) (hash from rest at k : ℕ) → at ≡ suc k → (from ≤ k → slice_index hashes k ≡ hash → ⊥) → IsTree (length hashes) buckets hashes links → IsAhead hashes links hash from rest at → IsAhead hashes links hash from (rest / 2) (links (child rest k))
-ahead_next buckets hashes links hash from rest at k is ne t a = record {
+pub ahead_next : (buckets : ℕ) (hashes : List ℕ) (links : Place → ℕ) (Out : ℕ → Type 0) (hash rest at k : ℕ) → at ≡ suc k → (slice_index hashes k ≡ hash → Out k) → IsTree (length hashes) buckets hashes links → IsAhead hashes links Out hash rest at → IsAhead hashes links Out hash (rest / 2) (links (child rest k))
+ahead_next buckets hashes links Out hash rest at k is out t a = record {
   within = t.rising.within (child rest k);
-  ahead = λ j f l e. reaches_rest links rest at k (suc j) is
-      (λ same. let here : j ≡ k = omega (arith, same, is) in ne (omega arith) (subst (λ i. slice_index hashes i ≡ hash) here e))
-      (a.ahead j f l e);
+  ahead = λ j l e. elim (cases_eq j k) [
+    | inl here ↦ inr (subst Out (sym here) (out (subst (λ i. slice_index hashes i ≡ hash) here e)))
+    | inr other ↦ elim (a.ahead j l e) [
+      | inl on ↦ inl (reaches_rest links rest at k (suc j) is (λ same. other (omega (arith, same, is))) on)
+      | inr ruled ↦ inr ruled
+    ]
+  ];
 }
 
--- each other entry with the hash stands behind
-pub first_ahead : (buckets : ℕ) (hashes : List ℕ) (links : Place → ℕ) (hash from rest at k : ℕ) → at ≡ suc k → IsTree (length hashes) buckets hashes links → IsAhead hashes links hash from rest at → (j : ℕ) → from ≤ j → j < k → slice_index hashes j ≡ hash → ⊥
-first_ahead buckets hashes links hash from rest at k is t a j f l e =
-    omega (arith, a.within, reached_above (length hashes) links rest at j t.rising (a.ahead j f (omega (arith, a.within)) e))
-
-pub none_ahead : (hashes : List ℕ) (links : Place → ℕ) (hash from rest at : ℕ) → at ≤ 0 → IsAhead hashes links hash from rest at → (j : ℕ) → from ≤ j → j < length hashes → slice_index hashes j ≡ hash → ⊥
-none_ahead hashes links hash from rest at z a j f l e = none_reached links rest at j (omega arith) (a.ahead j f l e)
+pub none_ahead : (hashes : List ℕ) (links : Place → ℕ) (Out : ℕ → Type 0) (hash rest at : ℕ) → at ≤ 0 → IsAhead hashes links Out hash rest at → (j : ℕ) → j < length hashes → slice_index hashes j ≡ hash → Out j
+none_ahead hashes links Out hash rest at z a j l e = elim (a.ahead j l e) [
+  | inl on ↦ absurd (none_reached links rest at j (omega arith) on)
+  | inr ruled ↦ ruled
+]

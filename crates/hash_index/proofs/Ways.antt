@@ -75,9 +75,6 @@ way_above n links r rest (suc i) (suc steps) k e =
       | inr none ↦ absurd (none_reached links (rest / 2) (links (child rest i)) k (omega arith) (record { steps = steps; is = e }))
     ]
 
-pub reached_above : (n : ℕ) (links : Place → ℕ) (rest at k : ℕ) → IsRising n links → Reaches links rest at (suc k) → at ≤ suc k
-reached_above n links rest at k r w = way_above n links r rest at w.steps k w.is
-
 -- a way that has not come to its goal goes on from an entry
 pub reaches_some : (links : Place → ℕ) (rest at to : ℕ) → (at ≡ to → ⊥) → Reaches links rest at to → 0 < at
 reaches_some links rest at to ne r = elim (cases_lt 0 at) [

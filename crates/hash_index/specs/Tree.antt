@@ -1,5 +1,5 @@
 -- Trees of entries by the bits of their hashes. A link is one more than the number of an entry, or 0 for none.
-use Rattle.std.specs.Prelude.{◌≡◌, ℕ, zero, suc, ◌/◌, ◌%◌, ◌-◌, ◌<◌, ◌≤◌, ◌==◌, List, length, slice_index, if◌then◌else◌}
+use Rattle.std.specs.Prelude.{◌≡◌, ℕ, zero, suc, ◌/◌, ◌%◌, ◌-◌, ◌<◌, ◌≤◌, ◌⊎◌, ◌==◌, List, length, slice_index, if◌then◌else◌}
 use Rattle.hash_index.specs.declared.tree.Place.{Place}
 use Rattle.hash_index.specs.declared.tree.Place.TheVariants.{Root, Low, High}
 
@@ -91,10 +91,10 @@ pub record IsEnd (n : ℕ) (links : Place → ℕ) (hash : ℕ) (root : Place) (
 
 -- ---- a look
 
--- the entries from a number on that have a hash are still ahead
-pub record IsAhead (hashes : List ℕ) (links : Place → ℕ) (hash from rest at : ℕ) : Type 0 where
+-- the entries that have a hash are still ahead, or are ruled out
+pub record IsAhead (hashes : List ℕ) (links : Place → ℕ) (Out : ℕ → Type 0) (hash rest at : ℕ) : Type 0 where
   pub within : at ≤ length hashes
-  pub ahead : (j : ℕ) → from ≤ j → j < length hashes → slice_index hashes j ≡ hash → Reaches links rest at (suc j)
+  pub ahead : (j : ℕ) → j < length hashes → slice_index hashes j ≡ hash → Reaches links rest at (suc j) ⊎ Out j
 
 -- how far a link is from the last entry
 abbrev pub left : ℕ → ℕ → ℕ

@@ -3,7 +3,7 @@
 //! entry, whenever the entries reach their number. Room in all lists is made before an entry is put into them, so that none is
 //! left half added.
 
-ghost use Rattle.std.specs.Prelude.{◌≡◌, ℕ, ◌<◌, ◌≤◌, ◌+◌, [], ◌∷◌, ◌++◌, length, take, slice_index, IfOk, IfSome, IfNone, OnOk, OnErr};
+ghost use Rattle.std.specs.Prelude.{◌≡◌, ℕ, true, false, ◌<◌, ◌≤◌, ◌+◌, [], ◌∷◌, ◌++◌, length, take, slice_index, IfOk, IfSome, IfNone, OnOk, OnErr};
 ghost use Rattle.hash_index.specs.Tree.{IsLinked, IsKept};
 
 use crate::tree::{find, link, link_all, unlink_from};
@@ -207,13 +207,14 @@ impl HashIndex {
         self.hashes.len()
     }
 
-    /// The first entry from a number on that has this hash.
-    pub fn at_or_after(&self, hash: u64, from: usize) -> Option<usize>
-        ensures some { IfSome result (λ k. (from ≤ k) × (k < length self.now) × (slice_index self.now k ≡ hash)) }
-        ensures first { IfSome result (λ k. (j : ℕ) → from ≤ j → j < k → slice_index self.now j ≡ hash → ⊥) }
-        ensures none { IfNone result ((j : ℕ) → from ≤ j → j < length self.now → slice_index self.now j ≡ hash → ⊥) }
+    /// An entry that has this hash and passes a test, or none where none does. It looks along one way of the index, and asks of an
+    /// entry at most once.
+    pub fn find<F: Fn(usize) -> bool>(&self, hash: u64, test: F) -> Option<usize>
+        requires { (k : ℕ) → k < length self.now → F.pre test k }
+        ensures some { IfSome result (λ k. (k < length self.now) × (slice_index self.now k ≡ hash) × F.post test k true) }
+        ensures none { IfNone result ((k : ℕ) → k < length self.now → slice_index self.now k ≡ hash → F.post test k false) }
     {
-        find(&self.hashes, &self.low, &self.high, &self.roots, hash, from)
+        find(&self.hashes, &self.low, &self.high, &self.roots, hash, test)
     }
 
     /// Puts an entry behind all others. Where there is no memory for it nothing has changed.

@@ -3,7 +3,7 @@
 //! of its hash ended when it was put in, so each entry behind it shares one bit more with it: a way passes at most 64 entries
 //! of other hashes. Entries behind an entry are younger.
 
-ghost use Rattle.std.specs.Prelude.{◌≡◌, ℕ, List, ◌<◌, ◌≤◌, ◌+◌, ◌%◌, length, slice_index, IfSome, IfNone, replicate};
+ghost use Rattle.std.specs.Prelude.{◌≡◌, ℕ, true, false, List, ◌<◌, ◌≤◌, ◌+◌, ◌%◌, length, slice_index, IfSome, IfNone, replicate};
 ghost use Rattle.hash_index.specs.declared.tree.Place.TheVariants.{Root};
 ghost use Rattle.hash_index.specs.Tree.{link_at, child, IsAt, IsRising, IsLinked, Reaches, Puts, IsEnd};
 
@@ -68,25 +68,25 @@ fn put(place: Place, link: usize, low: &mut [usize], high: &mut [usize], roots: 
     }
 }
 
-/// The first entry from a number on that has a hash.
-pub fn find(
+/// An entry that has a hash and passes a test.
+pub fn find<F: Fn(usize) -> bool>(
     hashes: &[u64],
     low: &[usize],
     high: &[usize],
     roots: &[usize],
     hash: u64,
-    from: usize,
+    test: F,
 ) -> Option<usize>
     requires linked { IsLinked (length hashes.now) hashes.now low.now high.now roots.now }
-    ensures some { IfSome result (λ k. (from ≤ k) × (k < length hashes.now) × (slice_index hashes.now k ≡ hash)) }
-    ensures first { IfSome result (λ k. (j : ℕ) → from ≤ j → j < k → slice_index hashes.now j ≡ hash → ⊥) }
-    ensures none { IfNone result ((j : ℕ) → from ≤ j → j < length hashes.now → slice_index hashes.now j ≡ hash → ⊥) }
+    requires callable { (k : ℕ) → k < length hashes.now → F.pre test k }
+    ensures some { IfSome result (λ k. (k < length hashes.now) × (slice_index hashes.now k ≡ hash) × F.post test k true) }
+    ensures none { IfNone result ((k : ℕ) → k < length hashes.now → slice_index hashes.now k ≡ hash → F.post test k false) }
 {
     let mut at = root(roots, hash);
     let mut rest = hash;
     while at > 0 {
         let number = at - 1;
-        if number >= from && hashes[number] == hash {
+        if hashes[number] == hash && test(number) {
             return Some(number);
         }
         at = next(low, high, number, rest);

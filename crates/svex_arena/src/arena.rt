@@ -57,15 +57,7 @@ fn find(shapes: &[Shape], index: &HashIndex, shape: &Shape) -> Option<usize>
     ensures found { IfSome result (λ k. shape_at shapes.now k ≡ shape.now) }
     ensures none { IfNone result (HasNone shapes.now shape.now (length shapes.now)) }
 {
-    let wanted = hash(shape);
-    let mut from = 0;
-    while let Some(node) = index.at_or_after(wanted, from) {
-        if same(&shapes[node], shape) {
-            return Some(node);
-        }
-        from = node + 1;
-    }
-    None
+    index.find(hash(shape), |node| same(&shapes[node], shape))
 }
 
 // Adds a node.
