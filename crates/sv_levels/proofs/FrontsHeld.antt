@@ -13,6 +13,10 @@ pub within_made : (f : Front) (all around rest : Fronts) → all ≡ v.Within f 
 unfolding shape-the_row-Fronts-0 hidden-the_row-Fronts-0 denote.Hole.Carrier.hidden
 within_made f all around rest e h = rw e (ap (λ (x : Fronts). fronts_are x ++ front_is f ∷ []) h)
 
+pub within_as : {E : Type 0} (f : Front) (r : Result Fronts E) (around rest : Fronts) → IfOk r (λ all. all ≡ v.Within f around) → around ≡ rest → IfOk r (λ all. fronts_are all ≡ fronts_are rest ++ front_is f ∷ [])
+within_as f (Ok all) around rest e h = within_made f all around rest e h
+within_as f (Err w) around rest e h = tt
+
 -- one place more behind those that are collected
 pub one_more : (f : Front) (all around rest : Fronts) (old before after : List Front) → all ≡ v.Within f around → rest ≡ around → map front_is before ≡ map front_is old ++ fronts_are rest → after ≡ before ++ f ∷ [] →
     map front_is after ≡ map front_is old ++ fronts_are all
