@@ -389,6 +389,13 @@ def turns_of_generate(size):
 
 
 @kind
+def turns_of_a_body_that_counts_once(size):
+    """As many turns, over as many false conditions as a turn may have that counts as one; the size does not count."""
+    inner = b"for(genvar j=0;j<4096;j++)begin " + b"if(0)begin end " * 8 + b"end "
+    return dump(b"module m;for(genvar i=0;i<243;i++)begin " + inner + b"end endmodule\n")
+
+
+@kind
 def turns_of_generate_with_nets(size):
     return dump(b"module m;for(genvar i=0;i<243;i++)begin:a for(genvar j=0;j<4096;j++)begin:b wire w;end end endmodule\n")
 
