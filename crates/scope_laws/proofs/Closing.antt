@@ -11,6 +11,7 @@ use Rattle.sv_tree.specs.declared.forms.TypeTree.{TypeTree}
 use Rattle.sv_tree.specs.declared.forms.Typedef.{Typedef as TypedefTree}
 use Rattle.sv_tree.specs.declared.design.ParamWord.{ParamWord}
 use Rattle.sv_tree.specs.declared.design.ParamWord.TheVariants as param_word
+use Rattle.sv_tree.specs.declared.design.ParamType.{ParamType}
 use Rattle.sv_tree.specs.declared.design.ParPort.{ParPort}
 use Rattle.sv_tree.specs.declared.design.Param.{Param as ParamTree}
 use Rattle.sv_tree.specs.declared.design.Way.{Way}
@@ -33,7 +34,7 @@ use Rattle.sv_meaning.specs.Values.{mean}
 use Rattle.sv_meaning.specs.Weights.{generate_weight}
 use Rattle.sv_meaning.specs.Deeds.{index_entry, turns, fixed_truth}
 use Rattle.sv_meaning.specs.Params.{Connection, connections, ParamKind, kept, param_kind, value_as}
-use Rattle.sv_hierarchy.specs.Scopes.{Level, Front, State, Walk, stay, then_walk, here, mine, Task, assigning, running, connecting, Standing, Child, fronts_at, seen_at, live_at, genvar_faults, open_params, port_texts, is_there, module_named, Given, walk_all, declare_at, declare, with_const, with_net, see_const, add_constant, add_constants, count_path, with_wire, add_wire, formed, with_form, with_form_or_bit, add_typedef, meant, given_to, seen, add_param, add_param_item, add_params, add_genvar, add_work, add_assignment, add_child, child_of, inner, enclosed, block_name, block_place, block_walk, turn_name, count_turn, turn_walk, Body, turns_walk, loop_walk, Act, Branch, act_of, chosen_branch, conditional, numbered, body_of, act, acts, under, under_else, word_or, kind_or, header_params, OpenPort, is_input, or_way, add_port, port_form, header_ports, ports_of, Known, Library, begun, port_works, instance_walk, given_by, module_of, count_instance, below, child, file_state, no_level, library, top_module, deepest, scopes}
+use Rattle.sv_hierarchy.specs.Scopes.{Level, Front, State, Walk, stay, then_walk, here, mine, Task, assigning, running, connecting, Standing, Child, fronts_at, seen_at, live_at, genvar_faults, open_params, port_texts, is_there, module_named, Given, walk_all, declare_at, declare, with_const, with_net, see_const, add_constant, add_constants, with_wire, add_wire, formed, with_form, with_form_or_bit, add_typedef, meant, given_to, seen, add_param, add_param_item, add_params, add_genvar, add_work, add_assignment, add_child, child_of, inner, enclosed, block_name, block_place, block_walk, turn_name, count_turn, turn_walk, Body, turns_walk, loop_walk, Act, Branch, act_of, chosen_branch, conditional, numbered, body_of, act, acts, under, under_else, word_or, kind_or, header_params, OpenPort, is_input, or_way, add_port, port_form, header_ports, ports_of, Known, Library, begun, port_works, instance_walk, given_by, module_of, count_instance, below, child, file_state, no_level, library, top_module, deepest, scopes}
 use Rattle.scope_laws.proofs.Plain.{same_ok, bind_ok, provided_ok}
 use Rattle.scope_laws.proofs.Keeping.{Inv, header_keeps, library_keeps, instance_keeps, begun_good, formed_wires, wire_added, file_good}
 use Rattle.scope_laws.proofs.Seen.{live_good, seen_good}
@@ -65,17 +66,12 @@ constant_holds d base old st last i h =
 constants_hold : (all : List Declared) → Holds (add_constants all)
 constants_hold all = all_hold add_constant all constant_holds
 
--- a path that counts leaves all but the bits as it is
-path_holds : (p : Place) (n : Name) → Holds (count_path p n)
-path_holds p n base old st last i h = subst (Held base old) (provided_ok _ _ last h) i
-
 wire_holds : (input : Bool) (x : Layout) (w : Word) → Holds (add_wire input x w)
 wire_holds input x w base old st last i h =
     let b = bind_ok (declare w st) _ last h in
-    let c = bind_ok (count_path w.place w.text b.0) _ last b.2 in
-    let s : State = c.0 in
-    let g = path_holds w.place w.text base old b.0 s (declared w.place w.text base old st b.0 i b.1) c.1 in
-    subst (Held base old) (provided_ok _ (with_wire input x w.text s) last c.2)
+    let s : State = b.0 in
+    let g = declared w.place w.text base old st s i b.1 in
+    subst (Held base old) (provided_ok _ (with_wire input x w.text s) last b.2)
     (shape_with old s.levels s.me s.children (with_net (w.text, signal_is of_wires (length s.wires) x)) (λ y. refl) g.0, g.1)
 
 formed_holds : (t : TypeTree) (base old : List Level) (st : State) (y : Layout × State) → Held base old st → formed t st ≡ Ok y → Held base old y.1
@@ -125,10 +121,8 @@ child_added base old c o s i =
 child_holds : (c : InstTree) (o : One) → Holds (add_child c o)
 child_holds c o base old st last i h =
     let b = bind_ok (declare o.name st) _ last h in
-    let d = bind_ok (count_path o.name.place o.name.text b.0) _ last b.2 in
-    let s : State = d.0 in
-    let g = path_holds o.name.place o.name.text base old b.0 s (declared o.name.place o.name.text base old st b.0 i b.1) d.1 in
-    subst (Held base old) (same_ok (record s { children = s.children ++ child_of c o s ∷ [] }) last d.2) (child_added base old c o s g)
+    let s : State = b.0 in
+    subst (Held base old) (same_ok (record s { children = s.children ++ child_of c o s ∷ [] }) last b.2) (child_added base old c o s (declared o.name.place o.name.text base old st s i b.1))
 
 -- ---- generate blocks
 
@@ -163,16 +157,12 @@ enclosed_holds part more body k base old st last i h =
 block_holds : (label : Option Word) (p : Place) (n : ℕ) (body : Walk) → Holds body → Holds (block_walk label p n body)
 block_holds label p n body k base old st last i h =
     let b = bind_ok (declare_at (block_place label p) (block_name label n) st) _ last h in
-    let c = bind_ok (count_path (block_place label p) (block_name label n) b.0) _ last b.2 in
-    let d = declared (block_place label p) (block_name label n) base old st b.0 i b.1 in
-    enclosed_holds (block_name label n) [] body k base old c.0 last (path_holds (block_place label p) (block_name label n) base old b.0 c.0 d c.1) c.2
+    enclosed_holds (block_name label n) [] body k base old b.0 last (declared (block_place label p) (block_name label n) base old st b.0 i b.1) b.2
 
 turn_holds : (p : Place) (w : ℕ) (g v : Name) (body : Walk) (bits : List Bit) → Holds body → Holds (turn_walk p w g v body bits)
 turn_holds p w g v body bits k base old st last i h =
     let b = bind_ok (count_turn p w st) _ last h in
-    let c = bind_ok (count_path p (turn_name g bits) b.0) _ last b.2 in
-    let counted : Held base old b.0 = subst (Held base old) (provided_ok _ _ b.0 b.1) i in
-    enclosed_holds (turn_name g bits) (index_entry v bits ∷ []) body k base old c.0 last (path_holds p (turn_name g bits) base old b.0 c.0 counted c.1) c.2
+    enclosed_holds (turn_name g bits) (index_entry v bits ∷ []) body k base old b.0 last (subst (Held base old) (provided_ok _ _ b.0 b.1) i) b.2
 
 turns_hold : (b : Body) (v : Name) (n : ℕ) (all : List (List Bit)) → Holds b.items → Holds (turns_walk b v n all)
 turns_hold b v n [] k base old st last i h = subst (Held base old) (same_ok st last h) i

@@ -16,6 +16,7 @@ use Rattle.sv_tree.specs.declared.forms.TypeTree.{TypeTree}
 use Rattle.sv_tree.specs.declared.forms.Typedef.{Typedef as TypedefTree}
 use Rattle.sv_tree.specs.declared.design.ParamWord.{ParamWord}
 use Rattle.sv_tree.specs.declared.design.ParamWord.TheVariants as param_word
+use Rattle.sv_tree.specs.declared.design.ParamType.{ParamType}
 use Rattle.sv_tree.specs.declared.design.ParPort.{ParPort}
 use Rattle.sv_tree.specs.declared.design.Param.{Param as ParamTree}
 use Rattle.sv_tree.specs.declared.design.Way.{Way}
@@ -42,7 +43,7 @@ use Rattle.sv_meaning.specs.Values.{mean}
 use Rattle.sv_meaning.specs.Weights.{generate_weight}
 use Rattle.sv_meaning.specs.Deeds.{index_entry, turns, fixed_truth}
 use Rattle.sv_meaning.specs.Params.{Connection, connections, by_name, in_order, joined_pins, pin_faults, ParamKind, kept, param_kind, value_as}
-use Rattle.sv_hierarchy.specs.Scopes.{Front, State, Walk, stay, then_walk, here, Task, assigning, running, connecting, Standing, Child, seen_at, genvar_faults, open_params, port_texts, is_there, module_named, walk_all, is_name, name_faults, declare_at, declare, see_const, add_constant, add_constants, count_path, with_wire, add_wire, formed, with_form, with_form_or_bit, add_typedef, meant, given_to, seen, add_param, add_param_item, add_params, add_genvar, add_work, add_assignment, add_child, child_of, inner, outer, enclosed, block_name, block_place, block_walk, turn_name, count_turn, turn_walk, Body, turns_walk, loop_walk, Act, Branch, act_of, chosen_branch, conditional, numbered, body_of, act, acts, under, under_else, word_or, kind_or, header_params, OpenPort, is_input, or_way, add_port, port_form, header_ports, ports_of, Library, begun, port_named, connected, port_works, instance_walk, given_by, module_of, count_instance, below, child, file_state, library, top_module, deepest, scopes}
+use Rattle.sv_hierarchy.specs.Scopes.{Front, State, Walk, stay, then_walk, here, Task, assigning, running, connecting, Standing, Child, seen_at, genvar_faults, open_params, port_texts, is_there, module_named, walk_all, is_name, name_faults, declare_at, declare, see_const, add_constant, add_constants, with_wire, add_wire, formed, with_form, with_form_or_bit, add_typedef, meant, given_to, seen, add_param, add_param_item, add_params, add_genvar, add_work, add_assignment, add_child, child_of, inner, outer, enclosed, block_name, block_place, block_walk, turn_name, count_turn, turn_walk, Body, turns_walk, loop_walk, Act, Branch, act_of, chosen_branch, conditional, numbered, body_of, act, acts, under, under_else, word_or, kind_or, header_params, OpenPort, is_input, or_way, add_port, port_form, header_ports, ports_of, Library, begun, port_named, connected, port_works, instance_walk, given_by, module_of, count_instance, below, child, file_state, library, top_module, deepest, scopes}
 use Rattle.scope_laws.specs.Wires.{port_wire, connected_wires}
 use Rattle.scope_laws.proofs.Pairs.{pairs_none, pairs_both}
 use Rattle.scope_laws.proofs.Good.{WorksAreGood, TaskIsGood}
@@ -140,16 +141,11 @@ constant_quiet d st last h =
 constants_quiet : (all : List Declared) → Quiet (add_constants all)
 constants_quiet all = all_quiet add_constant all constant_quiet
 
--- a path that counts leaves all but the bits as it is
-path_quiet : (p : Place) (n : Name) → Quiet (count_path p n)
-path_quiet p n st last h = same_wired _ last (provided_ok _ _ last h)
-
 wire_quiet : (input : Bool) (x : Layout) (w : Word) → Quiet (add_wire input x w)
 wire_quiet input x w st last h =
     let b = bind_ok (declare w st) _ last h in
-    let c = bind_ok (count_path w.place w.text b.0) _ last b.2 in
-    let s : State = c.0 in
-    same_wired (with_wire input x w.text s) last (provided_ok _ (with_wire input x w.text s) last c.2) ∙ path_quiet w.place w.text b.0 s c.1 ∙ declared w.place w.text st b.0 b.1
+    let s : State = b.0 in
+    same_wired (with_wire input x w.text s) last (provided_ok _ (with_wire input x w.text s) last b.2) ∙ declared w.place w.text st s b.1
 
 formed_quiet : (t : TypeTree) (st : State) (y : Layout × State) → formed t st ≡ Ok y → wired y.1 ≡ wired st
 formed_quiet t st y h =
@@ -195,10 +191,9 @@ work_quiet t e st last h =
 child_quiet : (c : InstTree) (o : One) → Quiet (add_child c o)
 child_quiet c o st last h =
     let b = bind_ok (declare o.name st) _ last h in
-    let d = bind_ok (count_path o.name.place o.name.text b.0) _ last b.2 in
-    let s : State = d.0 in
+    let s : State = b.0 in
     let now : State = record s { children = s.children ++ child_of c o s ∷ [] } in
-    same_wired now last (same_ok now last d.2) ∙ path_quiet o.name.place o.name.text b.0 s d.1 ∙ declared o.name.place o.name.text st b.0 b.1
+    same_wired now last (same_ok now last b.2) ∙ declared o.name.place o.name.text st s b.1
 
 -- ---- generate blocks
 
@@ -211,14 +206,12 @@ enclosed_quiet part more body k st last h =
 block_quiet : (label : Option Word) (p : Place) (n : ℕ) (body : Walk) → Quiet body → Quiet (block_walk label p n body)
 block_quiet label p n body k st last h =
     let b = bind_ok (declare_at (block_place label p) (block_name label n) st) _ last h in
-    let c = bind_ok (count_path (block_place label p) (block_name label n) b.0) _ last b.2 in
-    enclosed_quiet (block_name label n) [] body k c.0 last c.2 ∙ path_quiet (block_place label p) (block_name label n) b.0 c.0 c.1 ∙ declared (block_place label p) (block_name label n) st b.0 b.1
+    enclosed_quiet (block_name label n) [] body k b.0 last b.2 ∙ declared (block_place label p) (block_name label n) st b.0 b.1
 
 turn_quiet : (p : Place) (w : ℕ) (g v : Name) (body : Walk) (bits : List Bit) → Quiet body → Quiet (turn_walk p w g v body bits)
 turn_quiet p w g v body bits k st last h =
     let b = bind_ok (count_turn p w st) _ last h in
-    let c = bind_ok (count_path p (turn_name g bits) b.0) _ last b.2 in
-    enclosed_quiet (turn_name g bits) (index_entry v bits ∷ []) body k c.0 last c.2 ∙ path_quiet p (turn_name g bits) b.0 c.0 c.1 ∙ same_wired _ b.0 (provided_ok _ _ b.0 b.1)
+    enclosed_quiet (turn_name g bits) (index_entry v bits ∷ []) body k b.0 last b.2 ∙ same_wired _ b.0 (provided_ok _ _ b.0 b.1)
 
 turns_quiet : (b : Body) (v : Name) (n : ℕ) (all : List (List Bit)) → Quiet b.items → Quiet (turns_walk b v n all)
 turns_quiet b v n [] k st last h = same_wired st last (same_ok st last h)
@@ -309,9 +302,6 @@ Remembers st last = (n : Name) → st.taken n ≡ true → last.taken n ≡ true
 declare_remembers : (p : Place) (m : Name) (st last : State) → declare_at p m st ≡ Ok last → Remembers st last
 declare_remembers p m st last h = subst (Remembers st) (provided_ok _ _ last h) (λ n e. or_right (has_name n (m ∷ [])) (st.taken n) e)
 
-path_remembers : (p : Place) (m : Name) (st last : State) → count_path p m st ≡ Ok last → Remembers st last
-path_remembers p m st last h = subst (Remembers st) (provided_ok _ _ last h) (λ n e. e)
-
 constant_remembers : (d : Declared) (st last : State) → add_constant d st ≡ Ok last → Remembers st last
 constant_remembers d st last h =
     let b = bind_ok (declare d.0 st) (λ s. Ok (see_const (entry_of d) s)) last h in
@@ -351,18 +341,15 @@ record Declares (n : Name) (st last : State) : Type 0 where
 wire_declares : (input : Bool) (x : Layout) (w : Word) (st last : State) → add_wire input x w st ≡ Ok last → Declares w.text st last
 wire_declares input x w st last h =
     let b = bind_ok (declare w st) _ last h in
-    let c = bind_ok (count_path w.place w.text b.0) _ last b.2 in
-    let d : State = b.0 in
-    let s : State = c.0 in
-    let made : with_wire input x w.text s ≡ last = provided_ok _ (with_wire input x w.text s) last c.2 in
-    let counted : Remembers d s = path_remembers w.place w.text d s c.1 in
+    let s : State = b.0 in
+    let made : with_wire input x w.text s ≡ last = provided_ok _ (with_wire input x w.text s) last b.2 in
     let now : State = record st { taken = λ other. has_name other (w.text ∷ []) || st.taken other } in
-    let told : now ≡ d = provided_ok _ now d b.1 in
+    let told : now ≡ s = provided_ok _ now s b.1 in
     let own : now.taken w.text ≡ true = ap (λ z. z || st.taken w.text) (first_named w.text []) in
     record {
-      free = untaken (st.taken w.text) w.place w.text now d b.1;
-      now = subst (λ (z : State). z.taken w.text ≡ true) made (counted w.text (subst (λ (z : State). z.taken w.text ≡ true) told own));
-      stays = subst (Remembers st) made (λ n e. counted n (declare_remembers w.place w.text st d b.1 n e));
+      free = untaken (st.taken w.text) w.place w.text now s b.1;
+      now = subst (λ (z : State). z.taken w.text ≡ true) made (subst (λ (z : State). z.taken w.text ≡ true) told own);
+      stays = subst (Remembers st) made (declare_remembers w.place w.text st s b.1);
     }
 
 -- ---- the ports of a header

@@ -9,6 +9,7 @@ use Rattle.sv_tree.specs.declared.forms.TypeTree.{TypeTree}
 use Rattle.sv_tree.specs.declared.forms.Typedef.{Typedef as TypedefTree}
 use Rattle.sv_tree.specs.declared.design.ParamWord.{ParamWord}
 use Rattle.sv_tree.specs.declared.design.ParamWord.TheVariants as param_word
+use Rattle.sv_tree.specs.declared.design.ParamType.{ParamType}
 use Rattle.sv_tree.specs.declared.design.ParPort.{ParPort}
 use Rattle.sv_tree.specs.declared.design.Param.{Param as ParamTree}
 use Rattle.sv_tree.specs.declared.design.Way.{Way}
@@ -32,7 +33,7 @@ use Rattle.sv_meaning.specs.Values.{mean}
 use Rattle.sv_meaning.specs.Weights.{generate_weight}
 use Rattle.sv_meaning.specs.Deeds.{index_entry, turns, fixed_truth}
 use Rattle.sv_meaning.specs.Params.{Connection, connections, ParamKind, kept, param_kind, value_as}
-use Rattle.sv_hierarchy.specs.Scopes.{Front, State, Walk, stay, then_walk, here, Task, assigning, running, Child, seen_at, genvar_faults, open_params, port_texts, is_there, module_named, Given, walk_all, declare_at, declare, with_const, with_net, see_const, add_constant, add_constants, count_path, with_wire, add_wire, path_of, formed, with_form, with_form_or_bit, add_typedef, meant, given_to, seen, add_param, add_param_item, add_params, add_genvar, add_work, add_assignment, add_child, inner, enclosed, block_name, block_place, block_walk, turn_name, count_turn, turn_walk, Body, turns_walk, loop_walk, Act, Branch, act_of, chosen_branch, conditional, numbered, body_of, act, acts, under, under_else, word_or, kind_or, header_params, OpenPort, is_input, or_way, add_port, port_form, header_ports, ports_of, Known, Library, begun, port_works, instance_walk, given_by, module_of, count_instance, below, child, file_state, library, top_module, deepest, scopes}
+use Rattle.sv_hierarchy.specs.Scopes.{Front, State, Walk, stay, then_walk, here, Task, assigning, running, Child, seen_at, genvar_faults, open_params, port_texts, is_there, module_named, Given, walk_all, declare_at, declare, with_const, with_net, see_const, add_constant, add_constants, with_wire, add_wire, path_of, formed, with_form, with_form_or_bit, add_typedef, meant, given_to, seen, add_param, add_param_item, add_params, add_genvar, add_work, add_assignment, add_child, inner, enclosed, block_name, block_place, block_walk, turn_name, count_turn, turn_walk, Body, turns_walk, loop_walk, Act, Branch, act_of, chosen_branch, conditional, numbered, body_of, act, acts, under, under_else, word_or, kind_or, header_params, OpenPort, is_input, or_way, add_port, port_form, header_ports, ports_of, Known, Library, begun, port_works, instance_walk, given_by, module_of, count_instance, below, child, file_state, library, top_module, deepest, scopes}
 use Rattle.scope_laws.proofs.Good.{IsGood, AreGood, LevelsAreGood, none_good, one_good, both_good, levels_wider, last_good, levels_push, levels_with, IsPort, ArePorts, TaskIsGood, WorksAreGood, port_wider, works_wider, works_both, works_one, port_works_good}
 use Rattle.scope_laws.proofs.Plain.{same_ok, bind_ok, provided_ok, IsPlain, ArePlain, form_plain, value_plain}
 
@@ -71,10 +72,6 @@ unfolding walk_all ArePlain
 constants_keep [] p st last i h = subst Inv (same_ok st last h) i
 constants_keep (d ∷ more) p st last i h = let b = bind_ok (add_constant d st) (walk_all add_constant more) last h in constants_keep more p.1 b.0 last (constant_keeps d p.0 st b.0 i b.1) b.2
 
--- a path that counts leaves all but the bits as it is
-path_keeps : (p : Place) (n : Name) → Keeps (count_path p n)
-path_keeps p n st last i h = subst Inv (provided_ok _ _ last h) i
-
 wire_seen : (input : Bool) (x : Layout) (n : Name) (s : State) → Inv s → Inv (with_wire input x n s)
 wire_seen input x n s i =
     let w : Signal = record { path = path_of s n; width = width x; input = input } in
@@ -87,9 +84,8 @@ wire_seen input x n s i =
 wire_keeps : (input : Bool) (x : Layout) (w : Word) → Keeps (add_wire input x w)
 wire_keeps input x w st last i h =
     let b = bind_ok (declare w st) _ last h in
-    let c = bind_ok (count_path w.place w.text b.0) _ last b.2 in
-    let s : State = c.0 in
-    subst Inv (provided_ok _ (with_wire input x w.text s) last c.2) (wire_seen input x w.text s (path_keeps w.place w.text b.0 s (declared w.place w.text st b.0 i b.1) c.1))
+    let s : State = b.0 in
+    subst Inv (provided_ok _ (with_wire input x w.text s) last b.2) (wire_seen input x w.text s (declared w.place w.text st s i b.1))
 
 formed_keeps : (t : TypeTree) (st : State) (y : Layout × State) → Inv st → formed t st ≡ Ok y → Inv y.1
 formed_keeps t st y i h =
@@ -133,8 +129,7 @@ work_keeps t g st last i h =
 child_keeps : (c : InstTree) (o : One) → Keeps (add_child c o)
 child_keeps c o st last i h =
     let b = bind_ok (declare o.name st) _ last h in
-    let d = bind_ok (count_path o.name.place o.name.text b.0) _ last b.2 in
-    subst Inv (same_ok _ last d.2) (path_keeps o.name.place o.name.text b.0 d.0 (declared o.name.place o.name.text st b.0 i b.1) d.1)
+    subst Inv (same_ok _ last b.2) (declared o.name.place o.name.text st b.0 i b.1)
 
 -- ---- generate blocks
 
@@ -149,16 +144,12 @@ enclosed_keeps part more body g k st last i h =
 block_keeps : (label : Option Word) (p : Place) (n : ℕ) (body : Walk) → Keeps body → Keeps (block_walk label p n body)
 block_keeps label p n body k st last i h =
     let b = bind_ok (declare_at (block_place label p) (block_name label n) st) _ last h in
-    let c = bind_ok (count_path (block_place label p) (block_name label n) b.0) _ last b.2 in
-    let d = declared (block_place label p) (block_name label n) st b.0 i b.1 in
-    enclosed_keeps (block_name label n) [] body none_good k c.0 last (path_keeps (block_place label p) (block_name label n) b.0 c.0 d c.1) c.2
+    enclosed_keeps (block_name label n) [] body none_good k b.0 last (declared (block_place label p) (block_name label n) st b.0 i b.1) b.2
 
 turn_keeps : (p : Place) (w : ℕ) (g v : Name) (body : Walk) (bits : List Bit) → Keeps body → Keeps (turn_walk p w g v body bits)
 turn_keeps p w g v body bits k st last i h =
     let b = bind_ok (count_turn p w st) _ last h in
-    let c = bind_ok (count_path p (turn_name g bits) b.0) _ last b.2 in
-    let counted : Inv b.0 = subst Inv (provided_ok _ _ b.0 b.1) i in
-    enclosed_keeps (turn_name g bits) (index_entry v bits ∷ []) body (λ wires. one_good wires (index_entry v bits) tt) k c.0 last (path_keeps p (turn_name g bits) b.0 c.0 counted c.1) c.2
+    enclosed_keeps (turn_name g bits) (index_entry v bits ∷ []) body (λ wires. one_good wires (index_entry v bits) tt) k b.0 last (subst Inv (provided_ok _ _ b.0 b.1) i) b.2
 
 turns_keep : (b : Body) (v : Name) (n : ℕ) (all : List (List Bit)) → Keeps b.items → Keeps (turns_walk b v n all)
 turns_keep b v n [] k st last i h = subst Inv (same_ok st last h) i
@@ -270,12 +261,10 @@ pub record Added (x : Layout) (st last : State) : Type 0 where
 pub wire_added : (input : Bool) (x : Layout) (w : Word) (st last : State) → add_wire input x w st ≡ Ok last → Added x st last
 wire_added input x w st last h =
     let b = bind_ok (declare w st) _ last h in
-    let c = bind_ok (count_path w.place w.text b.0) _ last b.2 in
-    let s : State = c.0 in
-    let same : st.wires ≡ s.wires = ap (λ (z : State). z.wires) (provided_ok _ _ b.0 b.1) ∙ ap (λ (z : State). z.wires) (provided_ok _ _ s c.1) in
+    let same : st.wires ≡ b.0.wires = ap (λ (z : State). z.wires) (provided_ok _ _ b.0 b.1) in
     record {
-      wire = record { path = path_of s w.text; width = width x; input = input };
-      is = sym (ap (λ (z : State). z.wires) (provided_ok _ (with_wire input x w.text s) last c.2)) ∙ ap (λ (xs : List Signal). xs ++ record { path = path_of s w.text; width = width x; input = input } ∷ []) (sym same);
+      wire = record { path = path_of b.0 w.text; width = width x; input = input };
+      is = sym (ap (λ (z : State). z.wires) (provided_ok _ (with_wire input x w.text b.0) last b.2)) ∙ ap (λ (xs : List Signal). xs ++ record { path = path_of b.0 w.text; width = width x; input = input } ∷ []) (sym same);
       wide = refl;
     }
 

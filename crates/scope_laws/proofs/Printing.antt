@@ -13,6 +13,7 @@ use Rattle.sv_tree.specs.declared.forms.TypeTree.{TypeTree}
 use Rattle.sv_tree.specs.declared.forms.Typedef.{Typedef as TypedefTree}
 use Rattle.sv_tree.specs.declared.design.ParamWord.{ParamWord}
 use Rattle.sv_tree.specs.declared.design.ParamWord.TheVariants as param_word
+use Rattle.sv_tree.specs.declared.design.ParamType.{ParamType}
 use Rattle.sv_tree.specs.declared.design.ParPort.{ParPort}
 use Rattle.sv_tree.specs.declared.design.Param.{Param as ParamTree}
 use Rattle.sv_tree.specs.declared.design.Way.{Way}
@@ -36,7 +37,7 @@ use Rattle.sv_meaning.specs.Values.{mean}
 use Rattle.sv_meaning.specs.Weights.{generate_weight}
 use Rattle.sv_meaning.specs.Deeds.{index_entry, turns, fixed_truth}
 use Rattle.sv_meaning.specs.Params.{Connection, connections, ParamKind, kept, param_kind, value_as}
-use Rattle.sv_hierarchy.specs.Scopes.{Level, Front, State, Walk, stay, then_walk, here, mine, level_at, with_level, no_level, fronts_at, Task, assigning, running, Standing, Child, seen_at, genvar_faults, open_params, port_texts, is_there, module_named, Given, walk_all, name_faults, declare_at, declare, with_const, with_net, see_const, add_constant, add_constants, count_path, with_wire, add_wire, path_of, formed, with_form, with_form_or_bit, add_typedef, meant, given_to, seen, add_param, add_param_item, add_params, add_genvar, add_work, add_assignment, add_child, child_of, inner, enclosed, block_name, block_place, block_walk, turn_name, count_turn, turn_walk, Body, turns_walk, loop_walk, Act, Branch, act_of, chosen_branch, conditional, numbered, body_of, act, acts, under, under_else, word_or, kind_or, header_params, OpenPort, is_input, or_way, add_port, port_form, header_ports, ports_of, Known, Library, begun, port_works, instance_walk, given_by, module_of, count_instance, below, child, file_state, library, top_module, deepest, scopes}
+use Rattle.sv_hierarchy.specs.Scopes.{Level, Front, State, Walk, stay, then_walk, here, mine, level_at, with_level, no_level, fronts_at, Task, assigning, running, Standing, Child, seen_at, genvar_faults, open_params, port_texts, is_there, module_named, Given, walk_all, name_faults, declare_at, declare, with_const, with_net, see_const, add_constant, add_constants, with_wire, add_wire, path_of, formed, with_form, with_form_or_bit, add_typedef, meant, given_to, seen, add_param, add_param_item, add_params, add_genvar, add_work, add_assignment, add_child, child_of, inner, enclosed, block_name, block_place, block_walk, turn_name, count_turn, turn_walk, Body, turns_walk, loop_walk, Act, Branch, act_of, chosen_branch, conditional, numbered, body_of, act, acts, under, under_else, word_or, kind_or, header_params, OpenPort, is_input, or_way, add_port, port_form, header_ports, ports_of, Known, Library, begun, port_works, instance_walk, given_by, module_of, count_instance, below, child, file_state, library, top_module, deepest, scopes}
 use Rattle.scope_laws.specs.Wires.{IsPath, HavePaths}
 use Rattle.scope_laws.proofs.Plain.{same_ok, bind_ok, provided_ok, no_faults}
 use Rattle.scope_laws.proofs.Names.{IsByte, IsText, clear_name, turn_named, joined}
@@ -96,10 +97,6 @@ constant_keeps d st last i h =
 constants_keep : (all : List Declared) → Keeps (add_constants all)
 constants_keep all = all_keep add_constant all constant_keeps
 
--- a path that counts leaves all but the bits as it is
-path_keeps : (p : Place) (n : Name) → Keeps (count_path p n)
-path_keeps p n st last i h = subst Inv (provided_ok _ _ last h) i
-
 wire_seen : (input : Bool) (x : Layout) (n : Name) (s : State) → Inv s → IsPath n → Inv (with_wire input x n s)
 wire_seen input x n s i g =
     let w : Signal = record { path = path_of s n; width = width x; input = input } in
@@ -108,10 +105,9 @@ wire_seen input x n s i g =
 wire_keeps : (input : Bool) (x : Layout) (w : Word) → Keeps (add_wire input x w)
 wire_keeps input x w st last i h =
     let b = bind_ok (declare w st) _ last h in
-    let c = bind_ok (count_path w.place w.text b.0) _ last b.2 in
-    let s : State = c.0 in
-    let d = declared w.place w.text st b.0 i b.1 in
-    subst Inv (provided_ok _ (with_wire input x w.text s) last c.2) (wire_seen input x w.text s (path_keeps w.place w.text b.0 s d.0 c.1) d.1)
+    let s : State = b.0 in
+    let d = declared w.place w.text st s i b.1 in
+    subst Inv (provided_ok _ (with_wire input x w.text s) last b.2) (wire_seen input x w.text s d.0 d.1)
 
 formed_keeps : (t : TypeTree) (st : State) (y : Layout × State) → Inv st → formed t st ≡ Ok y → Inv y.1
 formed_keeps t st y i h =
@@ -158,10 +154,9 @@ child_added c o s i g = (i.0, All-push OpensText s.children (child_of c o s) i.1
 child_keeps : (c : InstTree) (o : One) → Keeps (add_child c o)
 child_keeps c o st last i h =
     let b = bind_ok (declare o.name st) _ last h in
-    let e = bind_ok (count_path o.name.place o.name.text b.0) _ last b.2 in
-    let s : State = e.0 in
-    let d = declared o.name.place o.name.text st b.0 i b.1 in
-    subst Inv (same_ok (record s { children = s.children ++ child_of c o s ∷ [] }) last e.2) (child_added c o s (path_keeps o.name.place o.name.text b.0 s d.0 e.1) d.1)
+    let s : State = b.0 in
+    let d = declared o.name.place o.name.text st s i b.1 in
+    subst Inv (same_ok (record s { children = s.children ++ child_of c o s ∷ [] }) last b.2) (child_added c o s d.0 d.1)
 
 -- ---- generate blocks
 
@@ -178,16 +173,13 @@ enclosed_keeps part more body g k st last i h =
 block_keeps : (label : Option Word) (p : Place) (n : ℕ) (body : Walk) → Keeps body → Keeps (block_walk label p n body)
 block_keeps label p n body k st last i h =
     let b = bind_ok (declare_at (block_place label p) (block_name label n) st) _ last h in
-    let c = bind_ok (count_path (block_place label p) (block_name label n) b.0) _ last b.2 in
     let d = declared (block_place label p) (block_name label n) st b.0 i b.1 in
-    enclosed_keeps (block_name label n) [] body d.1 k c.0 last (path_keeps (block_place label p) (block_name label n) b.0 c.0 d.0 c.1) c.2
+    enclosed_keeps (block_name label n) [] body d.1 k b.0 last d.0 b.2
 
 turn_keeps : (p : Place) (w : ℕ) (g v : Name) (body : Walk) (bits : List Bit) → IsPath g → Keeps body → Keeps (turn_walk p w g v body bits)
 turn_keeps p w g v body bits s k st last i h =
     let b = bind_ok (count_turn p w st) _ last h in
-    let c = bind_ok (count_path p (turn_name g bits) b.0) _ last b.2 in
-    let counted : Inv b.0 = subst Inv (provided_ok _ _ b.0 b.1) i in
-    enclosed_keeps (turn_name g bits) (index_entry v bits ∷ []) body (turn_named g bits s) k c.0 last (path_keeps p (turn_name g bits) b.0 c.0 counted c.1) c.2
+    enclosed_keeps (turn_name g bits) (index_entry v bits ∷ []) body (turn_named g bits s) k b.0 last (subst Inv (provided_ok _ _ b.0 b.1) i) b.2
 
 -- the name of a loop is declared before its turns
 turns_keep : (b : Body) (v : Name) (n : ℕ) (all : List (List Bit)) → Keeps b.items → Keeps (turns_walk b v n all)

@@ -1,5 +1,5 @@
 -- The scopes of a design: its instances and generate blocks, their names, its wires, and all that contributes.
-use Rattle.std.specs.Prelude.{ℕ, zero, suc, ◌+◌, ◌/◌, Bool, true, false, ◌&&◌, ◌||◌, not, nat_lt, nat_le, List, [], ◌∷◌, ◌++◌, length, map, take, bytes_eq, Option, Some, None, Ok, Err, decimal, codes, if◌then◌else◌}
+use Rattle.std.specs.Prelude.{ℕ, zero, suc, ◌+◌, Bool, true, false, ◌&&◌, ◌||◌, not, nat_lt, nat_le, List, [], ◌∷◌, ◌++◌, length, map, take, bytes_eq, Option, Some, None, Ok, Err, decimal, codes, if◌then◌else◌}
 use Rattle.std.specs.Fmt.{signed_decimal}
 use Rattle.std.specs.List.{list_all}
 use mathlib.Core.Former.{Count}
@@ -139,7 +139,7 @@ pub record State : Type 0 where
   pub constructs : ℕ
   -- what its parameters are given
   pub overridden : List Given
-  -- the bits of all wires with what paths and the instances below the top count, and what the turns of generate loops count
+  -- the bits of all wires with what the instances below the top count, and what the turns of generate loops count
   pub bits : ℕ
   pub turns : ℕ
   pub wires : List Signal
@@ -210,7 +210,7 @@ add_constant d st = declare d.0 st >>= λ s. Ok (see_const (entry_of d) s)
 abbrev pub add_constants : List Declared → Walk
 add_constants all st = walk_all add_constant all st
 
--- the bits of all wires and what paths and the instances below the top count are no more than this (this project's bound)
+-- the bits of all wires and what the instances below the top count are no more than this (this project's bound)
 abbrev pub most_bits : ℕ
 most_bits = 1048576
 
@@ -228,13 +228,6 @@ prefix_of (c ∷ more) = (c ∷ more) ++ dot
 abbrev pub path_of : State → Name → Name
 path_of st n = prefix_of (mine st).path ++ n
 
--- A path counts once for each 512 bytes of it (this project's rule), so that the bound on what counts bounds the bytes of all paths.
-abbrev pub path_weight : State → Name → ℕ
-path_weight st n = length (path_of st n) / 512
-
-abbrev pub count_path : Place → Name → Walk
-count_path p n st = provided (size_faults p (st.bits + path_weight st n)) (record st { bits = st.bits + path_weight st n })
-
 abbrev pub with_wire : Bool → Layout → Name → State → State
 with_wire input x n s = record s {
   levels = with_level s.me (with_net (n, signal_is of_wires (length s.wires) x)) s.levels;
@@ -244,7 +237,7 @@ with_wire input x n s = record s {
 
 abbrev pub add_wire : Bool → Layout → Word → Walk
 add_wire input x w st =
-    declare w st >>= λ d. count_path w.place w.text d >>= λ s. provided (size_faults w.place (s.bits + width x)) (with_wire input x w.text s)
+    declare w st >>= λ s. provided (size_faults w.place (s.bits + width x)) (with_wire input x w.text s)
 
 -- the layout of a type, whose enumerators become names here
 abbrev pub formed : TypeTree → State → Judged (Layout × State)
@@ -304,7 +297,7 @@ abbrev pub child_of : InstTree → One → State → Child
 child_of i o s = record { at = here s; of_module = i.of_module; name = o.name; path = path_of s o.name.text; params = flat_pins i.params; pins = o.pins }
 
 abbrev pub add_child : InstTree → One → Walk
-add_child i o st = declare o.name st >>= λ d. count_path o.name.place o.name.text d >>= λ s. Ok (record s { children = s.children ++ child_of i o s ∷ [] })
+add_child i o st = declare o.name st >>= λ s. Ok (record s { children = s.children ++ child_of i o s ∷ [] })
 
 -- ---- generate blocks, section 27
 
@@ -343,8 +336,7 @@ block_place None p = p
 block_place (Some w) p = w.place
 
 abbrev pub block_walk : Option Word → Place → ℕ → Walk → Walk
-block_walk label p n body st =
-    declare_at (block_place label p) (block_name label n) st >>= λ d. count_path (block_place label p) (block_name label n) d >>= enclosed (block_name label n) [] body
+block_walk label p n body st = declare_at (block_place label p) (block_name label n) st >>= enclosed (block_name label n) [] body
 
 -- a block of a loop, by the value of the variable
 abbrev pub turn_name : Name → List Bit → Name
@@ -354,7 +346,7 @@ abbrev pub count_turn : Place → ℕ → Walk
 count_turn p w st = provided (turn_faults p w st.turns) (record st { turns = st.turns + w })
 
 abbrev pub turn_walk : Place → ℕ → Name → Name → Walk → List Bit → Walk
-turn_walk p w g v body bits st = count_turn p w st >>= λ d. count_path p (turn_name g bits) d >>= enclosed (turn_name g bits) (index_entry v bits ∷ []) body
+turn_walk p w g v body bits st = count_turn p w st >>= enclosed (turn_name g bits) (index_entry v bits ∷ []) body
 
 -- what stands under a loop: the place of the loop, what a turn counts, the label of its block and where that begins, and its items
 pub record Body : Type 0 where

@@ -1,7 +1,7 @@
 // The scopes of a design, each with its names. Names are only added at the ends of two lists, nets and constants, so a place in
 // a scope is two counts, and what it saw can be read from the levels at any time later. A constant expression sees what is
 // declared above it, and all else all nets of the scopes around it: both are made from the same fronts.
-ghost use Rattle.std.specs.Prelude.{◌≡◌, ◌/◌, [], ◌∷◌, ◌++◌, length, map, slice_get, take, IfOk, OnOk, option_map};
+ghost use Rattle.std.specs.Prelude.{◌≡◌, [], ◌∷◌, ◌++◌, length, map, slice_get, take, IfOk, OnOk, option_map};
 ghost use Rattle.sv_names.specs.Kinds.{WhatIsSound, entry_is, entries_are};
 ghost use Rattle.sv_names.specs.Names.{above_of, frames_of, loops_of, names_are};
 ghost use Rattle.sv_meaning.specs.Layouts.{scope_of};
@@ -159,16 +159,6 @@ impl Levels {
         }
     }
 
-    /// How much the path of a name counts that is declared in a scope: once for each 512 bytes.
-    pub fn path_weight(&self, level: usize, name: &[u8]) -> u64
-        ensures { result ≡ length (prefix_of (level_at (levels_are self.now) level).path ++ name.now) / 512 }
-    {
-        match self.list.get(level) {
-            Some(level) => weight_of(level.path.bytes(), name),
-            None => weight_of(b"", name),
-        }
-    }
-
     /// One constant, type or genvar more.
     pub fn add_const(&mut self, level: usize, name: Name, what: What) -> Result<(), AllocError>
         requires { WhatIsSound what }
@@ -285,18 +275,6 @@ fn joined(alloc: Global, path: &[u8], name: &[u8]) -> Result<Name, AllocError>
     bytes.push(b'.')?;
     bytes.extend_from_slice(name)?;
     Name::new(alloc, &bytes)
-}
-
-// How much a path with a dot and a name counts, or the name alone where the path is empty.
-fn weight_of(path: &[u8], name: &[u8]) -> u64
-    ensures { result ≡ length (prefix_of path.now ++ name.now) / 512 }
-{
-    let front = if path.is_empty() {
-        0
-    } else {
-        path.len() as u128 + 1
-    };
-    ((front + name.len() as u128) / 512) as u64
 }
 
 // How many nets and variables a scope has.

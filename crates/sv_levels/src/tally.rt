@@ -9,10 +9,10 @@ use sv_loops::MOST_TURNS_TOGETHER;
 use sv_outside::{Place, TextErr};
 use sv_typing::refusal;
 
-/// The bits of all wires with what paths and the instances below the top count, at most.
+/// The bits of all wires with what the instances below the top count, at most.
 const MOST_BITS: u64 = 1_048_576;
 
-/// The bits of all wires with what paths and the instances below the top count, and what the turns of generate loops count.
+/// The bits of all wires with the instances below the top count, and what the turns of generate loops count.
 #[derive(Clone, Copy)]
 pub struct Tally {
     pub bits: u64,
@@ -29,7 +29,7 @@ impl Tally {
         Tally { bits: 0, turns: 0 }
     }
 
-    /// With so many bits more, or a path or an instance that counts so much, or E22 at a place.
+    /// With so many bits more, or an instance that counts so much, or E22 at a place.
     pub fn with_bits(self, place: Place, more: u64) -> Result<Tally, TextErr>
         ensures { Answers (λ n t. (t.bits ≡ n) × (t.turns ≡ self.turns)) (provided (size_faults place (self.bits + more)) (self.bits + more)) result }
     {

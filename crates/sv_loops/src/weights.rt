@@ -8,10 +8,10 @@ use sv_tree::{Expr, Gen, Module, Pins, Step, Stmt, Word};
 use sv_write::{generate_size, instance_size, loop_size};
 
 /// With so many bytes more a part counts once more.
-const BYTES_A_COUNT: usize = 128;
+const BYTES_A_COUNT: usize = 512;
 
 fn weight(size: usize) -> u64
-    ensures { result ≡ suc (size / 128) }
+    ensures { result ≡ suc (size / 512) }
 {
     (size / BYTES_A_COUNT) as u64 + 1
 }

@@ -13,9 +13,9 @@ use Rattle.sv_write.specs.Stmts.{turns, write_stmt}
 use Rattle.sv_write.specs.Design.{write_gen, write_pins}
 use Rattle.sv_write.specs.Modules.{write_module}
 
--- once, and once more for each 128 bytes of the tokens that are written
+-- once, and once more for each 512 bytes of the tokens that are written
 unfoldable pub weight : Write → ℕ
-weight f = suc (size_of f / 128)
+weight f = suc (size_of f / 512)
 
 -- a loop of statements, from its variable on
 unfoldable pub loop_weight : Word → Expr → Expr → Step → Stmt → ℕ

@@ -37,7 +37,7 @@ use Rattle.sv_meaning.specs.Weights.{generate_weight}
 use Rattle.sv_meaning.specs.Deeds.{index_entry, turns, turn_faults, fixed_truth}
 use Rattle.sv_meaning.specs.Designs.{Design, design_faults}
 use Rattle.sv_meaning.specs.Params.{Connection, connections, ParamKind, kept, param_kind, value_as}
-use Rattle.sv_hierarchy.specs.Scopes.{Front, Level, level_at, with_level, seen_along, fronts_at, with_const, State, Walk, stay, then_walk, here, Task, assigning, running, connecting, Standing, Given, Child, seen_at, seen, walk_all, name_faults, declare_at, declare, add_constant, add_constants, count_path, with_wire, add_wire, formed, with_form, with_form_or_bit, add_typedef, given_or, overriding, meant, given_to, add_param, add_param_item, add_params, add_genvar, add_work, add_assignment, flat_pins, add_child, inner, enclosed, block_name, block_place, block_walk, turn_name, count_turn, turn_walk, Body, turns_walk, genvar_faults, loop_walk, Act, Branch, act_of, chosen_branch, conditional, numbered, body_of, act, acts, under, under_else, word_or, kind_or, header_params, OpenPort, is_input, or_way, add_port, port_form, header_ports, ports_of, Known, Library, module_named, is_there, begun, port_named, port_texts, open_params, connected, port_works, instance_walk, given_by, module_of, count_instance, below, child, file_state, library, unused, all_used, design_start, the_one, top_named, top_module, deepest, from_top, scopes, work_of, work_at, design, source_faults}
+use Rattle.sv_hierarchy.specs.Scopes.{Front, Level, level_at, with_level, seen_along, fronts_at, with_const, State, Walk, stay, then_walk, here, Task, assigning, running, connecting, Standing, Given, Child, seen_at, seen, walk_all, name_faults, declare_at, declare, add_constant, add_constants, with_wire, add_wire, formed, with_form, with_form_or_bit, add_typedef, given_or, overriding, meant, given_to, add_param, add_param_item, add_params, add_genvar, add_work, add_assignment, flat_pins, add_child, inner, enclosed, block_name, block_place, block_walk, turn_name, count_turn, turn_walk, Body, turns_walk, genvar_faults, loop_walk, Act, Branch, act_of, chosen_branch, conditional, numbered, body_of, act, acts, under, under_else, word_or, kind_or, header_params, OpenPort, is_input, or_way, add_port, port_form, header_ports, ports_of, Known, Library, module_named, is_there, begun, port_named, port_texts, open_params, connected, port_works, instance_walk, given_by, module_of, count_instance, below, child, file_state, library, unused, all_used, design_start, the_one, top_named, top_module, deepest, from_top, scopes, work_of, work_at, design, source_faults}
 use Rattle.sv_places.specs.Within.{Each, InWord, InExpr, InType, InTypedef, InTarget, InBlock, InParamType, InParPort, InParamItem, InParam, InPort, InPair, InPins, InOne, InItem, InGen, InOther, InItems, InModule, InPart, Within}
 use Rattle.sv_places.proofs.Told.{Told, Any, JudgedIn, told_then, told_if, provided_in, bind_in, weaker_in, told_of, each_append, each_push}
 use Rattle.sv_places.proofs.Meant.{mean_in}
@@ -159,15 +159,11 @@ module _ (P : Place → Type 0) where
   constants_in : (all : List Declared) → Each (DeclaredAt P) all → WalkIn P (add_constants all)
   constants_in all h = all_in (DeclaredAt P) add_constant constant_in all h
 
-  path_in : (p : Place) (n : Name) → P p → WalkIn P (count_path p n)
-  path_in p n h st i = provided_in P (StateIn P) _ _ (told_if P _ too_many_bits p h) i
-
   wire_in : (input : Bool) (x : Layout) (w : Word) → InWord P w → WalkIn P (add_wire input x w)
   wire_in input x w h st i =
       bind_in P (StateIn P) (StateIn P) (declare w st) _ (declare_in w h st i)
-      (λ d j. bind_in P (StateIn P) (StateIn P) (count_path w.place w.text d) _ (path_in w.place w.text h d j)
       (λ s k. provided_in P (StateIn P) _ (with_wire input x w.text s) (told_if P _ too_many_bits w.place h)
-      (k.0, k.1, k.2, with_level_in s.me _ s.levels (λ y l. (each_push (EntryIn P) y.nets _ l.0 tt, l.1)) k.3)))
+      (k.0, k.1, k.2, with_level_in s.me _ s.levels (λ y l. (each_push (EntryIn P) y.nets _ l.0 tt, l.1)) k.3))
 
   formed_in : (t : TypeTree) (st : State) → InType P t → StateIn P st → JudgedIn P (WithLayout P) (formed t st)
   formed_in t st h i =
@@ -225,8 +221,7 @@ module _ (P : Place → Type 0) where
   child_added : (c : InstTree) (o : One) → InWord P c.of_module → IfSome c.params (λ given. IfSome given (InPins P)) → InOne P o → WalkIn P (add_child c o)
   child_added c o q h k st i =
       bind_in P (StateIn P) (StateIn P) (declare o.name st) _ (declare_in o.name k.0 st i)
-      (λ d j. bind_in P (StateIn P) (StateIn P) (count_path o.name.place o.name.text d) _ (path_in o.name.place o.name.text k.0 d j)
-      (λ s l. (l.0, l.1, each_push (ChildIn P) s.children _ l.2 (q, k.0, flat_in c.params h, k.1), l.3)))
+      (λ s l. (l.0, l.1, each_push (ChildIn P) s.children _ l.2 (q, k.0, flat_in c.params h, k.1), l.3))
 
   -- ---- generate blocks
 
@@ -242,18 +237,14 @@ module _ (P : Place → Type 0) where
   block_in : (label : Option Word) (p : Place) (n : ℕ) (body : Walk) → IfSome label (InWord P) → P p → WalkIn P body → WalkIn P (block_walk label p n body)
   block_in label p n body h q k st i =
       bind_in P (StateIn P) (StateIn P) (declare_at (block_place label p) (block_name label n) st) _
-      (declare_at_in (block_place label p) (block_name label n) (place_in label p h q) st i)
-      (λ d j. bind_in P (StateIn P) (StateIn P) (count_path (block_place label p) (block_name label n) d) _
-      (path_in (block_place label p) (block_name label n) (place_in label p h q) d j) (enclosed_in (block_name label n) [] body tt k))
+      (declare_at_in (block_place label p) (block_name label n) (place_in label p h q) st i) (enclosed_in (block_name label n) [] body tt k)
 
   count_in : (p : Place) (w : ℕ) → P p → WalkIn P (count_turn p w)
   count_in p w h st i = provided_in P (StateIn P) (turn_faults p w st.turns) _ (told_if P _ loop_long p h) i
 
   turn_in : (p : Place) (w : ℕ) (g v : Name) (body : Walk) (bits : List Bit) → P p → WalkIn P body → WalkIn P (turn_walk p w g v body bits)
   turn_in p w g v body bits h k st i =
-      bind_in P (StateIn P) (StateIn P) (count_turn p w st) _ (count_in p w h st i)
-      (λ d j. bind_in P (StateIn P) (StateIn P) (count_path p (turn_name g bits) d) _ (path_in p (turn_name g bits) h d j)
-      (enclosed_in (turn_name g bits) (index_entry v bits ∷ []) body (tt, tt) k))
+      bind_in P (StateIn P) (StateIn P) (count_turn p w st) _ (count_in p w h st i) (enclosed_in (turn_name g bits) (index_entry v bits ∷ []) body (tt, tt) k)
 
   each_any : {A : Type 0} (all : List A) → Each Any all
   each_any [] = tt

@@ -54,11 +54,6 @@ refused_by r (Err all) Memory h = tt
 
 -- ---- walks
 
--- of three steps the last two may be taken together
-pub assoc : {A B C : Type 0} (j : Judged A) (f : A → Judged B) (g : B → Judged C) → ((j >>= f) >>= g) ≡ (j >>= λ x. f x >>= g)
-assoc (Ok x) f g = refl
-assoc (Err all) f g = refl
-
 -- what is judged is a walk's state
 abbrev pub Leads : Judged m.State → Walker → Open → Result Unit TextErr → Type 0
 Leads j w o result = Answers (λ (st : m.State) (u : Unit {0}). st ≡ state_of w o) j result

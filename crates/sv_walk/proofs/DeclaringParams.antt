@@ -1,5 +1,5 @@
 -- Parameters, and the entries of a module's list.
-use Rattle.std.proofs.Common.{◌≡◌, ℕ, ◌+◌, ◌<◌, ◌≤◌, List, ◌∷◌, length, map, drop, get_or, Result, Ok, Err, refl, sym, ap, ◌∙◌, subst}
+use Rattle.std.proofs.Common.{◌≡◌, ℕ, ◌+◌, ◌<◌, ◌≤◌, List, ◌∷◌, length, map, drop, get_or, Option, Result, Ok, Err, refl, sym, ap, ◌∙◌, subst}
 use Rattle.std.specs.Result.{IsErrAnd}
 use Rattle.sv_outside.specs.declared.refusal.TextErr.{TextErr}
 use Rattle.sv_tree.specs.declared.word.Word.{Word}

@@ -1,6 +1,7 @@
 -- Types, and nets and variables of a layout.
 use Rattle.std.proofs.Common.{◌≡◌, ℕ, ◌+◌, Bool, List, [], ◌∷◌, ◌++◌, length, Result, Ok, Err, refl, sym, ap, ◌∙◌, subst}
 use Rattle.std.specs.Result.{IsErrAnd}
+use Rattle.sv_outside.specs.declared.refusal.Place.{Place}
 use Rattle.sv_outside.specs.declared.refusal.TextErr.{TextErr}
 use Rattle.sv_outside.specs.declared.refusal.TextErr.TheVariants.{No, Memory}
 use Rattle.sv_outside.specs.declared.text.Signal.{Signal}
@@ -22,9 +23,8 @@ use Rattle.sv_levels.specs.declared.tally.Tally.{Tally}
 use Rattle.sv_walk.specs.declared.walker.Walker.{Walker}
 use Rattle.sv_walk.specs.declared.walker.Open.{Open}
 use Rattle.sv_levels.specs.Levels.{levels_are}
-use Rattle.sv_walk.specs.Items.{declare_path}
 use Rattle.sv_walk.specs.Walks.{state_of}
-use Rattle.sv_walk.proofs.Declaring.{Leads, after, assoc, refused, refused_then, refused_by}
+use Rattle.sv_walk.proofs.Declaring.{Leads, after, refused, refused_then, refused_by}
 
 -- ---- types
 
@@ -89,28 +89,19 @@ provided_is r (f ∷ all) n y h = absurd h
 pub counted : (all : Faults) (n more : ℕ) (t : Tally) (turns : ℕ) → Answers (λ (k : ℕ) (y : Tally). (y.bits ≡ k) × (y.turns ≡ turns)) (provided all n) (Ok t) → (all ≡ []) × ((t.bits ≡ n) × (t.turns ≡ turns))
 counted all n more t turns h = provided_is (λ (k : ℕ) (y : Tally). (y.bits ≡ k) × (y.turns ≡ turns)) all n t h
 
--- what is done once the name is declared and its path counted
-abbrev wire_counted : Bool → layouts.Layout → Word → m.Walk
-wire_counted input x d s = provided (m.size_faults d.place (s.bits + layouts.width x)) (m.with_wire input x d.text s)
-
-add_wire_is : (input : Bool) (x : layouts.Layout) (d : Word) (st : m.State) → m.add_wire input x d st ≡ (declare_path d.place d.text st >>= wire_counted input x d)
-add_wire_is input x d st = sym (assoc (m.declare_at d.place d.text st) (m.count_path d.place d.text) (wire_counted input x d))
-
-pub wire_added : (w b v : Walker) (o p : Open) (input : Bool) (x : layouts.Layout) (d : Word) (bytes : Name) (u : Unit {0}) → bytes ≡ d.text →
-    Leads (declare_path d.place bytes (state_of w o)) b p (Ok u) → m.size_faults d.place (b.tally.bits + layouts.width x) ≡ [] → m.with_wire input x d.text (state_of b p) ≡ state_of v p →
+pub wire_added : (w v : Walker) (o p : Open) (input : Bool) (x : layouts.Layout) (d : Word) (place : Place) (bytes : Name) (u : Unit {0}) → bytes ≡ d.text → place ≡ d.place →
+    Leads (m.declare_at place bytes (state_of w o)) w p (Ok u) → m.size_faults d.place (w.tally.bits + layouts.width x) ≡ [] → m.with_wire input x d.text (state_of w p) ≡ state_of v p →
     Leads (m.add_wire input x d (state_of w o)) v p (Ok tt)
-wire_added w b v o p input x d bytes u a h e g =
-    let k : Leads (declare_path d.place d.text (state_of w o)) b p (Ok u) = subst (λ (z : Name). Leads (declare_path d.place z (state_of w o)) b p (Ok u)) a h in
-    subst (λ (j : Judged m.State). Leads j v p (Ok tt)) (sym (add_wire_is input x d (state_of w o)))
-    (after (λ (st : m.State) (y : Unit {0}). st ≡ state_of v p) (declare_path d.place d.text (state_of w o)) b p u (wire_counted input x d) (Ok tt) k
-    (subst (λ (all : Faults). Leads (provided all (m.with_wire input x d.text (state_of b p))) v p (Ok tt)) (sym e) g))
+wire_added w v o p input x d place bytes u a b h e g =
+    let k : Leads (m.declare_at d.place d.text (state_of w o)) w p (Ok u) = subst (λ (z : Name). Leads (m.declare_at d.place z (state_of w o)) w p (Ok u)) a (subst (λ (z : Place). Leads (m.declare_at z bytes (state_of w o)) w p (Ok u)) b h) in
+    after (λ (st : m.State) (y : Unit {0}). st ≡ state_of v p) (m.declare_at d.place d.text (state_of w o)) w p u (λ s. provided (m.size_faults d.place (s.bits + layouts.width x)) (m.with_wire input x d.text s)) (Ok tt) k
+    (subst (λ (all : Faults). Leads (provided all (m.with_wire input x d.text (state_of w p))) v p (Ok tt)) (sym e) g)
 
-pub wire_taken : (w b v : Walker) (o p q : Open) (input : Bool) (x : layouts.Layout) (d : Word) (bytes : Name) (e : TextErr) → bytes ≡ d.text →
-    Leads (declare_path d.place bytes (state_of w o)) b p (Err e) → Leads (m.add_wire input x d (state_of w o)) v q (Err e)
-wire_taken w b v o p q input x d bytes e a h =
-    subst (λ (j : Judged m.State). Leads j v q (Err e)) (sym (add_wire_is input x d (state_of w o)))
-    (refused (declare_path d.place d.text (state_of w o)) (wire_counted input x d) b v p q e
-    (subst (λ (z : Name). Leads (declare_path d.place z (state_of w o)) b p (Err e)) a h))
+pub wire_taken : (w v : Walker) (o p q : Open) (input : Bool) (x : layouts.Layout) (d : Word) (bytes : Name) (e : TextErr) → bytes ≡ d.text →
+    Leads (m.declare_at d.place bytes (state_of w o)) w p (Err e) → Leads (m.add_wire input x d (state_of w o)) v q (Err e)
+wire_taken w v o p q input x d bytes e a h =
+    refused (m.declare_at d.place d.text (state_of w o)) (λ s. provided (m.size_faults d.place (s.bits + layouts.width x)) (m.with_wire input x d.text s)) w v p q e
+    (subst (λ (z : Name). Leads (m.declare_at d.place z (state_of w o)) w p (Err e)) a h)
 
 not_provided : {A B C D : Type 0} (r : A → C → Type 0) (s : B → D → Type 0) (all : Faults) (a : A) (b : B) (e : TextErr) → Answers r (provided all a) (Err e) → Answers s (provided all b) (Err e)
 not_provided r s [] a b (No f) h = absurd h
@@ -118,13 +109,12 @@ not_provided r s [] a b Memory h = tt
 not_provided r s (f ∷ all) a b (No g) h = h
 not_provided r s (f ∷ all) a b Memory h = tt
 
-pub wire_too_large : (w b v : Walker) (o p q : Open) (input : Bool) (x : layouts.Layout) (d : Word) (bytes : Name) (n turns : ℕ) (u : Unit {0}) (e : TextErr) → bytes ≡ d.text → n ≡ layouts.width x →
-    Leads (declare_path d.place bytes (state_of w o)) b p (Ok u) → Answers (λ (k : ℕ) (y : Tally). (y.bits ≡ k) × (y.turns ≡ turns)) (provided (m.size_faults d.place (b.tally.bits + n)) (b.tally.bits + n)) (Err e) →
+pub wire_too_large : (w v : Walker) (o p q : Open) (input : Bool) (x : layouts.Layout) (d : Word) (bytes : Name) (n turns : ℕ) (u : Unit {0}) (e : TextErr) → bytes ≡ d.text → n ≡ layouts.width x →
+    Leads (m.declare_at d.place bytes (state_of w o)) w p (Ok u) → Answers (λ (k : ℕ) (y : Tally). (y.bits ≡ k) × (y.turns ≡ turns)) (provided (m.size_faults d.place (w.tally.bits + n)) (w.tally.bits + n)) (Err e) →
     Leads (m.add_wire input x d (state_of w o)) v q (Err e)
-wire_too_large w b v o p q input x d bytes n turns u e a f h g =
-    let k : Leads (declare_path d.place d.text (state_of w o)) b p (Ok u) = subst (λ (z : Name). Leads (declare_path d.place z (state_of w o)) b p (Ok u)) a h in
-    subst (λ (j : Judged m.State). Leads j v q (Err e)) (sym (add_wire_is input x d (state_of w o)))
-    (after (λ (st : m.State) (y : Unit {0}). st ≡ state_of v q) (declare_path d.place d.text (state_of w o)) b p u (wire_counted input x d) (Err e) k
-    (not_provided (λ (k : ℕ) (y : Tally). (y.bits ≡ k) × (y.turns ≡ turns)) (λ (st : m.State) (y : Unit {0}). st ≡ state_of v q) (m.size_faults d.place (b.tally.bits + layouts.width x)) (b.tally.bits + layouts.width x)
-    (m.with_wire input x d.text (state_of b p)) e
-    (subst (λ (z : ℕ). Answers (λ (k : ℕ) (y : Tally). (y.bits ≡ k) × (y.turns ≡ turns)) (provided (m.size_faults d.place (b.tally.bits + z)) (b.tally.bits + z)) (Err e)) f g)))
+wire_too_large w v o p q input x d bytes n turns u e a b h g =
+    let k : Leads (m.declare_at d.place d.text (state_of w o)) w p (Ok u) = subst (λ (z : Name). Leads (m.declare_at d.place z (state_of w o)) w p (Ok u)) a h in
+    after (λ (st : m.State) (y : Unit {0}). st ≡ state_of v q) (m.declare_at d.place d.text (state_of w o)) w p u (λ s. provided (m.size_faults d.place (s.bits + layouts.width x)) (m.with_wire input x d.text s)) (Err e) k
+    (not_provided (λ (k : ℕ) (y : Tally). (y.bits ≡ k) × (y.turns ≡ turns)) (λ (st : m.State) (y : Unit {0}). st ≡ state_of v q) (m.size_faults d.place (w.tally.bits + layouts.width x)) (w.tally.bits + layouts.width x)
+    (m.with_wire input x d.text (state_of w p)) e
+    (subst (λ (z : ℕ). Answers (λ (k : ℕ) (y : Tally). (y.bits ≡ k) × (y.turns ≡ turns)) (provided (m.size_faults d.place (w.tally.bits + z)) (w.tally.bits + z)) (Err e)) b g))

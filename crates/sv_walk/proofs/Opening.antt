@@ -1,5 +1,5 @@
 -- Instances that are opened.
-use Rattle.std.proofs.Common.{◌≡◌, ℕ, zero, suc, ◌+◌, ◌<◌, ◌≤◌, Bool, false, List, [], ◌∷◌, ◌++◌, length, map, drop, get_or, Result, Ok, Err, refl, sym, ap, ◌∙◌, subst, arith, Vec, Global}
+use Rattle.std.proofs.Common.{◌≡◌, ℕ, zero, suc, ◌+◌, ◌<◌, ◌≤◌, Bool, false, List, [], ◌∷◌, ◌++◌, length, map, drop, get_or, None, Result, Ok, Err, refl, sym, ap, ◌∙◌, subst, arith, Vec, Global}
 use mathlib.Core.Path.{fun_ext}
 use Rattle.std.specs.Result.{IfOk, IfErr, IsErrAnd}
 use Rattle.sv_outside.specs.declared.refusal.Refusal.{Refusal}

@@ -16,19 +16,18 @@ use Rattle.sv_meaning.specs.Layouts.{Name, Entry, Scope, What, find, number_is, 
 use Rattle.sv_meaning.specs.Names.{has_name}
 use Rattle.sv_meaning.specs.Deeds.{index_entry, turn_faults, turns}
 use Rattle.sv_loops.specs.Answers.{Answers, Gives}
-use Rattle.sv_hierarchy.specs.Scopes.{State, Walk, Level, walk_all, name_faults, size_faults, path_weight, count_path, declare_at, block_place, block_name, block_walk, enclosed, inner, outer, turn_walk, turn_name, count_turn, turns_walk, body_of, under, next_construct, genvar_faults, seen}
+use Rattle.sv_hierarchy.specs.Scopes.{State, Walk, Level, walk_all, name_faults, declare_at, block_place, block_name, block_walk, enclosed, inner, outer, turn_walk, turn_name, count_turn, turns_walk, body_of, under, next_construct, genvar_faults, seen}
 use Rattle.sv_walk.specs.declared.walker.Walker.{Walker}
 use Rattle.sv_walk.specs.declared.walker.Open.{Open}
 use Rattle.sv_levels.specs.Levels.{block_in, level_is, levels_are}
 use Rattle.sv_levels.specs.declared.levels.Level.{Level as Coded}
 use Rattle.sv_levels.specs.declared.levels.Levels.{Levels}
 use Rattle.sv_levels.specs.declared.loops.Turns.{Turns}
-use Rattle.sv_levels.specs.declared.tally.Tally.{Tally}
 use Rattle.sv_modules.specs.Naming.{holds}
 use Rattle.sv_walk.specs.Walks.{IsBare, state_of}
 use Rattle.sv_walk.specs.Looping.{loop_judged}
-use Rattle.sv_walk.specs.Items.{Begins, BeginsLoop, IsLoop, opened_block, opened_turn, before_turns, declare_path, declare_turns, count_turn_path}
-use Rattle.sv_walk.proofs.Declaring.{assoc, out_of_memory, refused_as, refused_then}
+use Rattle.sv_walk.specs.Items.{Begins, BeginsLoop, IsLoop, opened_block, opened_turn, before_turns, declare_turns}
+use Rattle.sv_walk.proofs.Declaring.{out_of_memory, refused_as, refused_then}
 use Rattle.sv_walk.proofs.Walking.{Ends, same_ends, then_ends}
 
 pub same_state : (a b : State) → a.levels ≡ b.levels → a.me ≡ b.me → a.taken ≡ b.taken → a.constructs ≡ b.constructs → a.overridden ≡ b.overridden → a.bits ≡ b.bits → a.turns ≡ b.turns →
@@ -61,14 +60,10 @@ left_ends q e (Err all) (Err Memory) h = tt
 pub enclosed_ends : {A : Type 0} (part : Name) (more : List Entry) (body : Walk) (q b e : State) (r : Result A TextErr) → b ≡ inner part more q → Ends e (body b) r → Ends (outer q e) (enclosed part more body q) r
 enclosed_ends part more body q b e r g h = left_ends q e (body (inner part more q)) r (subst (λ x. Ends e (body x) r) g h)
 
-block_walk_is : (label : Option Word) (p : Place) (n : ℕ) (body : Walk) (s : State) → block_walk label p n body s ≡ (declare_path (block_place label p) (block_name label n) s >>= enclosed (block_name label n) [] body)
-block_walk_is label p n body s = sym (assoc (declare_at (block_place label p) (block_name label n) s) (count_path (block_place label p) (block_name label n)) (enclosed (block_name label n) [] body))
-
 pub block_ends : {A : Type 0} (label : Option Word) (p : Place) (n : ℕ) (body : Walk) (s q b e : State) (r : Result A TextErr) →
-    declare_path (block_place label p) (block_name label n) s ≡ Ok q → b ≡ inner (block_name label n) [] q → Ends e (body b) r → Ends (outer q e) (block_walk label p n body s) r
+    declare_at (block_place label p) (block_name label n) s ≡ Ok q → b ≡ inner (block_name label n) [] q → Ends e (body b) r → Ends (outer q e) (block_walk label p n body s) r
 block_ends label p n body s q b e r d g h =
-    same_ends (outer q e) (block_walk label p n body s) (declare_path (block_place label p) (block_name label n) s >>= enclosed (block_name label n) [] body) r (block_walk_is label p n body s)
-    (then_ends q (outer q e) (declare_path (block_place label p) (block_name label n) s) (enclosed (block_name label n) [] body) r d (enclosed_ends (block_name label n) [] body q b e r g h))
+    then_ends q (outer q e) (declare_at (block_place label p) (block_name label n) s) (enclosed (block_name label n) [] body) r d (enclosed_ends (block_name label n) [] body q b e r g h)
 
 -- what is refused before the body is refused
 pub through_refused : {A B C D E : Type 0} (r : B → E → Type 0) (k : C → D → Type 0) (j : Judged A) (f : A → B) (g : A → Judged C) (e : TextErr) →
@@ -83,8 +78,7 @@ pub block_refused : {D : Type 0} (label : Option Word) (p : Place) (n : ℕ) (bo
 block_refused {D = D} label p n body s u e z h i =
     let w = err_from_is_err_and z i in
     subst (Ends u (block_walk label p n body s)) (sym w.1) (subst (λ y. Ends {A = D} u (block_walk label p n body s) (Err y)) (sym w.2)
-    (subst (λ (j : Judged State). Ends {A = D} u j (Err e)) (sym (block_walk_is label p n body s))
-    (through_refused (λ (x : State) (y : State). x ≡ y) (λ st (v : D). st ≡ u) (declare_path (block_place label p) (block_name label n) s) (inner (block_name label n) []) (enclosed (block_name label n) [] body) e h)))
+    (through_refused (λ (x : State) (y : State). x ≡ y) (λ st (v : D). st ≡ u) (declare_at (block_place label p) (block_name label n) s) (inner (block_name label n) []) (enclosed (block_name label n) [] body) e h))
 
 -- ---- turns
 
@@ -92,27 +86,15 @@ pub answered : {A B : Type 0} (f : B → A) (j : Judged A) (y : B) → Answers (
 answered f (Ok x) y h = ap Ok h
 answered f (Err all) y h = absurd h
 
-turn_walk_is : (p : Place) (w : ℕ) (g v : Name) (body : Walk) (bits : List Bit) (s : State) →
-    turn_walk p w g v body bits s ≡ (count_turn_path p w (turn_name g bits) s >>= enclosed (turn_name g bits) (index_entry v bits ∷ []) body)
-turn_walk_is p w g v body bits s = sym (assoc (count_turn p w s) (count_path p (turn_name g bits)) (enclosed (turn_name g bits) (index_entry v bits ∷ []) body))
-
-path_by : (fs : Faults) (turns bits : ℕ) (name : Name) (more : List Entry) (body : Walk) (s b : State) → (provided fs (record s { turns = turns; bits = bits }) >>= λ x. Ok (inner name more x)) ≡ Ok b →
-    (provided fs (record s { turns = turns; bits = bits }) >>= enclosed name more body) ≡ (body b >>= λ last. Ok (outer s last))
-path_by [] turns bits name more body s b h =
-    let t : inner name more (record s { turns = turns; bits = bits }) ≡ b = cc in
+turn_by : (fs : Faults) (w : ℕ) (name : Name) (more : List Entry) (body : Walk) (s b : State) → (provided fs (record s { turns = s.turns + w }) >>= λ x. Ok (inner name more x)) ≡ Ok b →
+    (provided fs (record s { turns = s.turns + w }) >>= enclosed name more body) ≡ (body b >>= λ last. Ok (outer s last))
+turn_by [] w name more body s b h =
+    let t : inner name more (record s { turns = s.turns + w }) ≡ b = cc in
     ap (λ (x : State). body x >>= λ last. Ok (outer s last)) t
-path_by (f ∷ fs) turns bits name more body s b h = cc
-
-turn_by : (fs : Faults) (gs : State → Faults) (turns : ℕ) (bits : State → ℕ) (name : Name) (more : List Entry) (body : Walk) (s b : State) →
-    ((provided fs (record s { turns = turns }) >>= λ x. provided (gs x) (record x { bits = bits x })) >>= λ x. Ok (inner name more x)) ≡ Ok b →
-    ((provided fs (record s { turns = turns }) >>= λ x. provided (gs x) (record x { bits = bits x })) >>= enclosed name more body) ≡ (body b >>= λ last. Ok (outer s last))
-turn_by [] gs turns bits name more body s b h = path_by (gs (record s { turns = turns })) turns (bits (record s { turns = turns })) name more body s b h
-turn_by (f ∷ fs) gs turns bits name more body s b h = cc
+turn_by (f ∷ fs) w name more body s b h = cc
 
 turn_is : (p : Place) (w : ℕ) (g v : Name) (body : Walk) (bits : List Bit) (s b : State) → opened_turn p w g v bits s ≡ Ok b → turn_walk p w g v body bits s ≡ (body b >>= λ last. Ok (outer s last))
-turn_is p w g v body bits s b h =
-    turn_walk_is p w g v body bits s
-    ∙ turn_by (turn_faults p w s.turns) (λ x. size_faults p (x.bits + path_weight x (turn_name g bits))) (s.turns + w) (λ x. x.bits + path_weight x (turn_name g bits)) (turn_name g bits) (index_entry v bits ∷ []) body s b h
+turn_is p w g v body bits s b h = turn_by (turn_faults p w s.turns) w (turn_name g bits) (index_entry v bits ∷ []) body s b h
 
 -- a turn whose block is begun
 pub turn_ends : {A : Type 0} (p : Place) (w : ℕ) (g v : Name) (body : Walk) (bits : List Bit) (s b e : State) (r : Result A TextErr) → opened_turn p w g v bits s ≡ Ok b → Ends e (body b) r → Ends (outer s e) (turn_walk p w g v body bits s) r
@@ -122,9 +104,7 @@ turn_ends p w g v body bits s b e r h k = same_ends (outer s e) (turn_walk p w g
 pub not_opened : {B : Type 0} (r : State → B → Type 0) (p : Place) (w : ℕ) (g v : Name) (body : Walk) (bits : List Bit) (s u : State) (y : Result B TextErr) (e : TextErr) → y ≡ Err e →
     Answers r (opened_turn p w g v bits s) y → Answers (λ st (x : Unit {0}). st ≡ u) (turn_walk p w g v body bits s) (Err e)
 not_opened r p w g v body bits s u y e i h =
-    subst (λ (j : Judged State). Answers (λ st (x : Unit {0}). st ≡ u) j (Err e)) (sym (turn_walk_is p w g v body bits s))
-    (through_refused r (λ st (x : Unit {0}). st ≡ u) (count_turn_path p w (turn_name g bits) s) (inner (turn_name g bits) (index_entry v bits ∷ [])) (enclosed (turn_name g bits) (index_entry v bits ∷ []) body) e
-    (subst (Answers r (opened_turn p w g v bits s)) i h))
+    through_refused r (λ st (x : Unit {0}). st ≡ u) (count_turn p w s) (inner (turn_name g bits) (index_entry v bits ∷ [])) (enclosed (turn_name g bits) (index_entry v bits ∷ []) body) e (subst (Answers r (opened_turn p w g v bits s)) i h)
 
 -- ---- loops
 
@@ -168,8 +148,8 @@ before_is body (x ∷ more) s = refl
 
 -- ---- what is begun is refused, or is not
 
-pub declared_as : (p q : Place) (m n : Name) (s t : State) → p ≡ q → m ≡ n → declare_path p m s ≡ Ok t → declare_path q n s ≡ Ok t
-declared_as p q m n s t e f h = sym (λ i. declare_path (e i) (f i) s) ∙ h
+pub declared_as : (p q : Place) (m n : Name) (s t : State) → p ≡ q → m ≡ n → declare_at p m s ≡ Ok t → declare_at q n s ≡ Ok t
+declared_as p q m n s t e f h = sym (λ i. declare_at (e i) (f i) s) ∙ h
 
 pub begins_memory : (label : Option Word) (p : Place) (n : ℕ) (w : Walker) (o : Open) (v : Walker) (q : Open) (z : Result Open TextErr) → IsErrAnd z (λ y. y ≡ Memory) → Begins label p n w o v q z
 begins_memory label p n w o v q z i =
@@ -177,13 +157,13 @@ begins_memory label p n w o v q z i =
     subst (Begins label p n w o v q) (sym x.1) (subst (λ y. Begins label p n w o v q (Err y)) (sym x.2) (out_of_memory (λ (a : State) (b : State). a ≡ b) (opened_block label p n (state_of w o))))
 
 pub begins_refused : (label : Option Word) (p : Place) (n : ℕ) (w : Walker) (o : Open) (v : Walker) (q : Open) (t : State) (place : Place) (name : Name) (y : Result (Unit {0}) TextErr) (e : TextErr) (z : Result Open TextErr) →
-    place ≡ block_place label p → name ≡ block_name label n → y ≡ Err e → Ends t (declare_path place name (state_of w o)) y → IsErrAnd z (λ d. d ≡ e) → Begins label p n w o v q z
+    place ≡ block_place label p → name ≡ block_name label n → y ≡ Err e → Ends t (declare_at place name (state_of w o)) y → IsErrAnd z (λ d. d ≡ e) → Begins label p n w o v q z
 begins_refused label p n w o v q t place name y e z f g h k i =
     let x = err_from_is_err_and z i in
-    let d : Ends t (declare_path (block_place label p) (block_name label n) (state_of w o)) y = subst (λ j. Ends t j y) (λ k. declare_path (f k) (g k) (state_of w o)) k in
+    let d : Ends t (declare_at (block_place label p) (block_name label n) (state_of w o)) y = subst (λ j. Ends t j y) (λ k. declare_at (f k) (g k) (state_of w o)) k in
     subst (Begins label p n w o v q) (sym x.1) (subst (λ d. Begins label p n w o v q (Err d)) (sym x.2)
-    (refused_then (λ st (u : Unit {0}). st ≡ t) (λ (a : State) (b : State). a ≡ b) (declare_path (block_place label p) (block_name label n) (state_of w o)) (λ s. Ok (inner (block_name label n) [] s)) e
-    (subst (Ends t (declare_path (block_place label p) (block_name label n) (state_of w o))) h d)))
+    (refused_then (λ st (u : Unit {0}). st ≡ t) (λ (a : State) (b : State). a ≡ b) (declare_at (block_place label p) (block_name label n) (state_of w o)) (λ s. Ok (inner (block_name label n) [] s)) e
+    (subst (Ends t (declare_at (block_place label p) (block_name label n) (state_of w o))) h d)))
 
 pub loop_memory : (body : Gen) (values : List (List Bit)) (w : Walker) (o q : Open) (z : Result Turns TextErr) → IsErrAnd z (λ y. y ≡ Memory) → BeginsLoop body values w o q z
 loop_memory body values w o q z i =
@@ -252,44 +232,9 @@ provided_clear : {A : Type 0} (fs : Faults) (x : A) → is_clear fs ≡ true →
 provided_clear [] x h = refl
 provided_clear (f ∷ fs) x h = cc
 
-provided_is : {A B C : Type 0} (r : A → B → Type 0) (fs : Faults) (x : A) (y z : C) (b : B) → Answers r (provided fs x) (Ok b) → (r x b → y ≡ z) → provided fs y ≡ Ok z
-provided_is r [] x y z b h f = ap Ok (f h)
-provided_is r (g ∷ fs) x y z b h f = absurd h
-
--- ---- paths count
-
--- so much counts, and the walker behind it has the tally
-pub path_counted : (p : Place) (n : Name) (k : ℕ) (w : Walker) (o : Open) (t : Tally) (u : Unit {0}) → k ≡ path_weight (state_of w o) n →
-    Answers (λ (x : ℕ) (y : Tally). (y.bits ≡ x) × (y.turns ≡ w.tally.turns)) (provided (size_faults p (w.tally.bits + k)) (w.tally.bits + k)) (Ok t) → Ends (state_of (record w { tally = t }) o) (count_path p n (state_of w o)) (Ok u)
-path_counted p n k w o t u e h =
-    let s = state_of w o in
-    let r = λ (x : ℕ) (y : Tally). (y.bits ≡ x) × (y.turns ≡ w.tally.turns) in
-    let q = path_weight s n in
-    provided_ok r (λ st (v : Unit {0}). st ≡ state_of (record w { tally = t }) o) (size_faults p (s.bits + q)) (s.bits + q) (record s { bits = s.bits + q }) t u
-    (subst (λ (x : ℕ). Answers r (provided (size_faults p (w.tally.bits + x)) (w.tally.bits + x)) (Ok t)) e h) (λ g. λ i. record s { bits = sym g.0 i; turns = sym g.1 i })
-
-pub path_refused : {D : Type 0} (p : Place) (n : Name) (k : ℕ) (w : Walker) (o : Open) (u : State) (y : Result Tally TextErr) (e : TextErr) (z : Result D TextErr) → k ≡ path_weight (state_of w o) n → y ≡ Err e →
-    Answers (λ (x : ℕ) (t : Tally). (t.bits ≡ x) × (t.turns ≡ w.tally.turns)) (provided (size_faults p (w.tally.bits + k)) (w.tally.bits + k)) y → IsErrAnd z (λ d. d ≡ e) → Ends u (count_path p n (state_of w o)) z
-path_refused {D = D} p n k w o u y e z f g h i =
-    let s = state_of w o in
-    let r = λ (x : ℕ) (t : Tally). (t.bits ≡ x) × (t.turns ≡ w.tally.turns) in
-    let q = path_weight s n in
-    provided_handed r (λ st (v : D). st ≡ u) (size_faults p (s.bits + q)) (s.bits + q) (record s { bits = s.bits + q }) y e z g
-    (subst (λ (x : ℕ). Answers r (provided (size_faults p (w.tally.bits + x)) (w.tally.bits + x)) y) f h) i
-
 -- ---- turns are opened
 
-pub turn_taken : (p : Place) (n : ℕ) (w : Walker) (o : Open) (t : Tally) → Answers (λ (k : ℕ) (y : Tally). (y.turns ≡ k) × (y.bits ≡ w.tally.bits)) (provided (turn_faults p n w.tally.turns) (w.tally.turns + n)) (Ok t) →
-    count_turn p n (state_of w o) ≡ Ok (state_of (record w { tally = t }) o)
-turn_taken p n w o t h =
-    let s = state_of w o in
-    let x = state_of (record w { tally = t }) o in
-    provided_is (λ (k : ℕ) (y : Tally). (y.turns ≡ k) × (y.bits ≡ w.tally.bits)) (turn_faults p n w.tally.turns) (w.tally.turns + n) (record s { turns = s.turns + n }) x t h (λ e. λ i. record s { turns = sym e.0 i; bits = sym e.1 i })
-
-pub turn_counted : {A : Type 0} (p : Place) (w : ℕ) (s x t : State) (name part : Name) (r : Result A TextErr) → name ≡ part → count_turn p w s ≡ Ok x → Ends t (count_path p name x) r → Ends t (count_turn_path p w part s) r
-turn_counted p w s x t name part r e h k = then_ends x t (count_turn p w s) (count_path p part) r h (subst (λ (n : Name). Ends t (count_path p n x) r) e k)
-
-pub turn_opened : (p : Place) (w : ℕ) (g v : Name) (bits : List Bit) (s x b : State) (part : Name) (nets : List Entry) → count_turn_path p w (turn_name g bits) s ≡ Ok x → b ≡ inner part nets x → part ≡ turn_name g bits → nets ≡ index_entry v bits ∷ [] → opened_turn p w g v bits s ≡ Ok b
+pub turn_opened : (p : Place) (w : ℕ) (g v : Name) (bits : List Bit) (s x b : State) (part : Name) (nets : List Entry) → count_turn p w s ≡ Ok x → b ≡ inner part nets x → part ≡ turn_name g bits → nets ≡ index_entry v bits ∷ [] → opened_turn p w g v bits s ≡ Ok b
 turn_opened p w g v bits s x b part nets h k e f =
     ap (λ (j : Judged State). j >>= λ y. Ok (inner (turn_name g bits) (index_entry v bits ∷ []) y)) h ∙ ap Ok (sym (k ∙ λ i. inner (e i) (f i) x))
 

@@ -1,25 +1,15 @@
 -- Instances that are still to be opened.
-use Rattle.std.proofs.Common.{◌≡◌, List, [], ◌∷◌, ◌++◌, map, Option, refl, sym, ap, ◌∙◌, Ok}
+use Rattle.std.proofs.Common.{◌≡◌, List, [], ◌∷◌, ◌++◌, map, Option, refl, sym, ap, ◌∙◌}
 use Rattle.std.proofs.lemmas.List.{map-append}
 use Rattle.std.specs.Option.{option_copied}
 use Rattle.std.specs.Borrow.{Bor}
 use Rattle.std.proofs.Common.{Some, None}
 use Rattle.sv_tree.specs.declared.design.One.{One}
 use Rattle.sv_tree.specs.declared.design.Inst.{Inst}
-use Rattle.sv_meaning.specs.Faults.{◌>>=◌}
-use Rattle.sv_hierarchy.specs.Scopes.{State, Walk, add_child, child_of, count_path, declare_at, flat_pins, here, path_of}
+use Rattle.sv_hierarchy.specs.Scopes.{State, child_of, flat_pins, here, path_of}
 use Rattle.sv_levels.specs.declared.tasks.Child.{Child}
 use Rattle.sv_levels.specs.Levels.{front_is}
 use Rattle.sv_levels.specs.Tasks.{child_is, lent}
-use Rattle.sv_walk.specs.Items.{declare_path}
-use Rattle.sv_walk.proofs.Declaring.{assoc}
-
--- what is done once the name of an instance is declared and its path counted
-abbrev pub with_child : Inst → One → Walk
-with_child inst one s = Ok (record s { children = s.children ++ child_of inst one s ∷ [] })
-
-pub add_child_is : (inst : Inst) (one : One) (s : State) → add_child inst one s ≡ (declare_path one.name.place one.name.text s >>= with_child inst one)
-add_child_is inst one s = sym (assoc (declare_at one.name.place one.name.text s) (count_path one.name.place one.name.text) (with_child inst one))
 
 pub lent_is : {A : Type 0} (x : Option (Bor A)) → lent x ≡ option_copied x
 lent_is None = refl

@@ -34,23 +34,14 @@ abbrev pub else_of : Option Gen → ℕ → m.Walk
 else_of None n = m.stay
 else_of (Some x) n = (m.under x).branch n
 
--- a name that has a path is declared, and its path counts
-abbrev pub declare_path : Place → Name → m.Walk
-declare_path p n st = m.declare_at p n st >>= m.count_path p n
-
--- a turn counts, and the path of its block
-abbrev pub count_turn_path : Place → ℕ → Name → m.Walk
-count_turn_path p w part st = m.count_turn p w st >>= m.count_path p part
-
 -- a name is declared, and the block of that name is begun
 abbrev pub opened_block : Option Word → Place → ℕ → m.State → Judged m.State
-opened_block label p n st = declare_path (m.block_place label p) (m.block_name label n) st >>= λ s. Ok (m.inner (m.block_name label n) [] s)
+opened_block label p n st = m.declare_at (m.block_place label p) (m.block_name label n) st >>= λ s. Ok (m.inner (m.block_name label n) [] s)
 
--- A block was begun. In the scope around it only its name is new; between the two its path was counted.
+-- A block was begun. In the scope around it only its name is new.
 pub record IsBegun (label : Option Word) (p : Place) (n : ℕ) (w : Walker) (o : Open) (v : Walker) (q : Open) (block : Open) : Type 0 where
-  pub between : Walker
-  pub declared : declare_path (m.block_place label p) (m.block_name label n) (state_of w o) ≡ Ok (state_of between q)
-  pub begun : state_of v block ≡ m.inner (m.block_name label n) [] (state_of between q)
+  pub declared : m.declare_at (m.block_place label p) (m.block_name label n) (state_of w o) ≡ Ok (state_of w q)
+  pub begun : state_of v block ≡ m.inner (m.block_name label n) [] (state_of w q)
 
 abbrev pub Begins : Option Word → Place → ℕ → Walker → Open → Walker → Open → Result Open TextErr → Type 0
 Begins label p n w o v q (Ok block) = IsBegun label p n w o v q block
@@ -58,7 +49,7 @@ Begins label p n w o v q (Err e) = Answers (λ (x : m.State) (y : m.State). x �
 
 -- a turn is counted, and its block is begun
 abbrev pub opened_turn : Place → ℕ → Name → Name → List Bit → m.State → Judged m.State
-opened_turn p w g v bits st = count_turn_path p w (m.turn_name g bits) st >>= λ s. Ok (m.inner (m.turn_name g bits) (index_entry v bits ∷ []) s)
+opened_turn p w g v bits st = m.count_turn p w st >>= λ s. Ok (m.inner (m.turn_name g bits) (index_entry v bits ∷ []) s)
 
 -- the name of a loop with such values is declared, if there are some
 abbrev pub declare_turns : Place → Name → List (List Bit) → m.Walk

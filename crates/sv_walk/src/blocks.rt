@@ -65,7 +65,7 @@ impl<'a> Walker<'a> {
         Open::bare(self.alloc, level)
     }
 
-    /// A block with a label, or with the number of its construct, is declared and begun; or E13 or E22 (27.6).
+    /// A block with a label, or with the number of its construct, is declared and begun; or E13 (27.6).
     pub(crate) fn block(
         &mut self,
         current: &mut Open<'a>,
@@ -76,7 +76,7 @@ impl<'a> Walker<'a> {
         ensures { Begins (option_copied label.entry) place number self.old current.old self.new current.new result }
     {
         let name = block_name(self.alloc, label, number)?;
-        self.declare_path(current, block_place(label, place), name.bytes())?;
+        current.declare_at(block_place(label, place), name.bytes())?;
         let block = self.begin(current, name.bytes(), Scope::new(self.alloc))?;
         Ok(block)
     }
@@ -108,7 +108,7 @@ impl<'a> Walker<'a> {
         })
     }
 
-    /// The block of a turn of the loop at a place, which counts so much, is begun, with the variable of these bits; or E20 or E22 (27.4).
+    /// The block of a turn of the loop at a place, which counts so much, is begun, with the variable of these bits; or E20 (27.4).
     pub(crate) fn begin_turn(
         &mut self,
         current: &Open<'a>,
@@ -122,7 +122,6 @@ impl<'a> Walker<'a> {
     {
         self.tally = self.tally.with_turn(place, weight)?;
         let part = turn_name(self.alloc, name, &bits)?;
-        self.count_path(current, place, part.bytes())?;
         let nets = index_scope(self.alloc, variable, bits)?;
         let block = self.begin(current, part.bytes(), nets)?;
         Ok(block)

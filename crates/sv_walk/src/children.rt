@@ -34,7 +34,7 @@ impl<'a> Walker<'a> {
         Ok(())
     }
 
-    /// The instances of an instantiation (23.3.2), which are to be opened; or E13 or E22 at a name.
+    /// The instances of an instantiation (23.3.2), which are to be opened; or E13 at a name.
     pub(crate) fn add_children(
         &mut self,
         current: &mut Open<'a>,
@@ -43,7 +43,7 @@ impl<'a> Walker<'a> {
         ensures { Walks (walk_all (add_child inst.now) inst.now.list) self.old current.old self.new current.new result }
     {
         'list: for one in inst.list.as_slice() {
-            self.declare_path(current, one.name.place, one.name.text.bytes())?;
+            current.declare_at(one.name.place, one.name.text.bytes())?;
             let at = self.here(current);
             let path = self
                 .levels

@@ -6,11 +6,10 @@ ghost use Rattle.std.specs.Prelude.{◌≡◌, ◌+◌, false, IfOk, OnOk};
 ghost use Rattle.std.specs.Option.{option_copied};
 ghost use Rattle.sv_names.specs.Kinds.{IsSound, WhatIsSound, layout_is, what_is};
 ghost use Rattle.sv_meaning.specs.Layouts.{width};
-ghost use Rattle.sv_hierarchy.specs.Scopes.{add_constant, add_genvar, add_typedef, add_wire, count_path, formed, walk_all, with_form, with_form_or_bit, with_wire};
+ghost use Rattle.sv_hierarchy.specs.Scopes.{add_constant, add_genvar, add_typedef, add_wire, formed, walk_all, with_form, with_form_or_bit, with_wire};
 ghost use Rattle.sv_levels.specs.declared.tally.Tally.{Tally as Counted};
 ghost use Rattle.sv_walk.specs.declared.walker.Open.{Open as Opened};
 ghost use Rattle.sv_walk.specs.declared.walker.Walker.{Walker as Walking};
-ghost use Rattle.sv_walk.specs.Items.{declare_path};
 ghost use Rattle.sv_walk.specs.Walks.{Finds, Walks, state_of};
 
 use crate::held::let_go;
@@ -68,33 +67,6 @@ impl<'a> Walker<'a> {
         Ok(())
     }
 
-    /// The path of a name in a scope counts, or E22 at a place.
-    pub(crate) fn count_path(
-        &mut self,
-        current: &Open<'a>,
-        place: Place,
-        name: &[u8],
-    ) -> Result<(), TextErr>
-        ensures { Walks (count_path place name.now) self.old current.now self.new current.now result }
-    {
-        let weight = self.levels.path_weight(current.level, name);
-        self.tally = self.tally.with_bits(place, weight)?;
-        Ok(())
-    }
-
-    /// A name that has a path is declared, and its path counts: E2, E13 or E22 at a place.
-    pub(crate) fn declare_path(
-        &mut self,
-        current: &mut Open<'a>,
-        place: Place,
-        name: &[u8],
-    ) -> Result<(), TextErr>
-        ensures { Walks (declare_path place name.now) self.old current.old self.new current.new result }
-    {
-        current.declare_at(place, name)?;
-        self.count_path(current, place, name)
-    }
-
     /// The layout of a type, whose enumerators become names.
     pub(crate) fn formed(
         &mut self,
@@ -140,7 +112,7 @@ impl<'a> Walker<'a> {
         requires { IsSound layout.now }
         ensures { Walks (add_wire input (layout_is layout.now) word.now) self.old current.old self.new current.new result }
     {
-        self.declare_path(current, word.place, word.text.bytes())?;
+        current.declare_at(word.place, word.text.bytes())?;
         let tally = self.tally.with_bits(word.place, layout.width as u64)?;
         put_wire(
             self.alloc,

@@ -4,4 +4,4 @@ use Rattle.sv_loops.proofs.weights.generate_weight.Goals as goal
 
 pub returns-clause-is : goal.returns-clause-is
 unfolding generate_weight weight
-returns-clause-is c = c.weight.ensures ∙ ap (λ (n : ℕ). suc (n / 128)) c.generate_size.ensures
+returns-clause-is c = c.weight.ensures ∙ ap (λ (n : ℕ). suc (n / 512)) c.generate_size.ensures

@@ -4,4 +4,4 @@ use Rattle.sv_loops.proofs.weights.instance_weight.Goals as goal
 
 pub returns : goal.returns
 unfolding instance_weight weight
-returns c = c.weight.ensures ∙ ap (λ (n : ℕ). suc (n / 128)) c.instance_size.ensures
+returns c = c.weight.ensures ∙ ap (λ (n : ℕ). suc (n / 512)) c.instance_size.ensures

@@ -4,4 +4,4 @@ use Rattle.sv_loops.proofs.weights.loop_weight.Goals as goal
 
 pub returns-clause-is : goal.returns-clause-is
 unfolding loop_weight weight
-returns-clause-is c = c.weight.ensures ∙ ap (λ (n : ℕ). suc (n / 128)) c.loop_size.ensures
+returns-clause-is c = c.weight.ensures ∙ ap (λ (n : ℕ). suc (n / 512)) c.loop_size.ensures

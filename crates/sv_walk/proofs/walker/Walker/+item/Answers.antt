@@ -233,7 +233,7 @@ branch-returns-in_ok-block-in-Block t c =
     let e = state_of c.items-done.new.self c.items-done.new.current in
     let b = state_of c.block.new.self c.in_ok-block-in-Block.block in
     same_ends t ((under c.args.body.now).branch c.args.number s) (block_walk (option_copied c.as_ref.result) c.in-Block.place c.args.number (items_walk c.in-Block.items) s) c.items-done.result (λ i. is i s)
-    (block_ends (option_copied c.as_ref.result) c.in-Block.place c.args.number (items_walk c.in-Block.items) s (state_of c.in_ok-block-in-Block.ensures.between c.block.new.current) b e c.items-done.result
+    (block_ends (option_copied c.as_ref.result) c.in-Block.place c.args.number (items_walk c.in-Block.items) s (state_of c.args.self.now c.block.new.current) b e c.items-done.result
     c.in_ok-block-in-Block.ensures.declared c.in_ok-block-in-Block.ensures.begun (subst (λ (l : List Item). Ends e (items_walk l b) c.items-done.result) c.as_slice.ensures c.items-done.ensures))
 
 pub branch-returns-in_err-block-in_default : goal.branch-returns-in_err-block-in_default
@@ -257,7 +257,7 @@ branch-returns-in_ok-block-in_default t c =
     let e = state_of c.item-done.new.self c.item-done.new.current in
     let b = state_of c.block-in_default.new.self c.in_ok-block-in_default.block in
     same_ends t ((under c.args.body.now).branch c.args.number s) (block_walk None c.in-Single.place c.args.number (act c.in-Single.item).item s) c.item-done.result (λ i. is i s)
-    (block_ends None c.in-Single.place c.args.number (act c.in-Single.item).item s (state_of c.in_ok-block-in_default.ensures.between c.block-in_default.new.current) b e c.item-done.result
+    (block_ends None c.in-Single.place c.args.number (act c.in-Single.item).item s (state_of c.args.self.now c.block-in_default.new.current) b e c.item-done.result
     c.in_ok-block-in_default.ensures.declared c.in_ok-block-in_default.ensures.begun (subst (λ (x : Item). Ends e ((act x).item b) c.item-done.result) c.get.ensures c.item-done.ensures))
 
 pub branch-returns-in-If : goal.branch-returns-in-If

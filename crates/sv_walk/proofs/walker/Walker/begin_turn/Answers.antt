@@ -1,50 +1,34 @@
-use Rattle.std.proofs.Common.{◌≡◌, ◌∙◌, ◌∷◌, [], ◌+◌, Result, Ok, Err, refl}
+use Rattle.std.proofs.Common.{◌≡◌, ◌∙◌, ◌∷◌, [], ◌+◌, Result, Ok, Err, refl, sym}
 use Rattle.sv_names.specs.Kinds.{entries_are}
 use Rattle.sv_outside.specs.declared.refusal.TextErr.{TextErr}
 use Rattle.sv_meaning.specs.Deeds.{index_entry, turn_faults}
-use Rattle.sv_hierarchy.specs.Scopes.{State, count_path, count_turn, inner, turn_name}
-use Rattle.sv_walk.specs.Items.{count_turn_path, opened_turn}
+use Rattle.sv_hierarchy.specs.Scopes.{State, count_turn, inner, turn_name}
+use Rattle.sv_walk.specs.Items.{opened_turn}
 use Rattle.sv_walk.specs.Walks.{state_of}
-use Rattle.sv_walk.proofs.Declaring.{ran_out, refused_then}
+use Rattle.sv_walk.proofs.Declaring.{ran_out}
 use Rattle.sv_walk.proofs.Walking.{ended, handed}
-use Rattle.sv_walk.proofs.WalkingBlocks.{answers_by, provided_handed, turn_counted, turn_opened, turn_taken}
+use Rattle.sv_walk.proofs.WalkingBlocks.{answers_by, provided_handed, provided_ok, turn_opened}
 use Rattle.sv_walk.proofs.walker.Walker.begin_turn.Goals as goal
 
 pub returns-in_err-self : goal.returns-in_err-self
 returns-in_err-self c =
     let s = state_of c.args.self.now c.args.current.now in
-    let part = turn_name c.args.name.now c.args.bits in
     let e = c.in_err-self.field-0.0 in
-    let refused : Result (Unit {0}) TextErr = Err e in
-    handed (λ st u. st ≡ s) _ (count_turn_path c.args.place c.args.weight part s) (λ (x : State). Ok (inner part (index_entry c.args.variable.now.text c.args.bits ∷ []) x)) refused e c.from_residual.result refl
-    (refused_then (λ st (u : Unit {0}). st ≡ s) (λ st (u : Unit {0}). st ≡ s) (count_turn c.args.place c.args.weight s) (count_path c.args.place part) e
-    (provided_handed (λ n t. (t.turns ≡ n) × (t.bits ≡ c.args.self.now.tally.bits)) (λ st (u : Unit {0}). st ≡ s) (turn_faults c.args.place c.args.weight s.turns) (s.turns + c.args.weight) (record s { turns = s.turns + c.args.weight }) c.with_turn.result e refused c.in_err-self.was c.with_turn.ensures refl))
+    let counted : Result (Unit {0}) TextErr = Err e in
+    handed (λ st u. st ≡ s) _ (count_turn c.args.place c.args.weight s) (λ (x : State). Ok (inner (turn_name c.args.name.now c.args.bits) (index_entry c.args.variable.now.text c.args.bits ∷ []) x)) counted e c.from_residual.result refl
+    (provided_handed (λ n t. (t.turns ≡ n) × (t.bits ≡ c.args.self.now.tally.bits)) (λ st u. st ≡ s) (turn_faults c.args.place c.args.weight s.turns) (s.turns + c.args.weight) (record s { turns = s.turns + c.args.weight }) c.with_turn.result e counted c.in_err-self.was c.with_turn.ensures refl)
     c.from_residual.ensures.1
-
-pub returns-in_err-count_path : goal.returns-in_err-count_path
-returns-in_err-count_path c =
-    let s = state_of c.args.self.now c.args.current.now in
-    let x = state_of (record c.args.self.now { tally = c.in_ok-self.field-0 }) c.args.current.now in
-    let t = state_of c.count_path.new.self c.args.current.now in
-    let part = turn_name c.args.name.now c.args.bits in
-    handed (λ st (u : Unit {0}). st ≡ t) _ (count_turn_path c.args.place c.args.weight part s) (λ (y : State). Ok (inner part (index_entry c.args.variable.now.text c.args.bits ∷ []) y)) c.count_path.result c.in_err-count_path.field-0.0
-    c.from_residual-in_err-count_path.result c.in_err-count_path.was
-    (turn_counted c.args.place c.args.weight s x t c.bytes.result.now part c.count_path.result (c.bytes.ensures ∙ c.in_ok-part.ensures)
-    (turn_taken c.args.place c.args.weight c.args.self.now c.args.current.now c.in_ok-self.field-0 c.in_ok-self.ensures) c.count_path.ensures)
-    c.from_residual-in_err-count_path.ensures.1
 
 pub returns : goal.returns
 returns c =
     let s = state_of c.args.self.now c.args.current.now in
     let x = state_of (record c.args.self.now { tally = c.in_ok-self.field-0 }) c.args.current.now in
-    let t = state_of c.count_path.new.self c.args.current.now in
-    let part = turn_name c.args.name.now c.args.bits in
     answers_by (state_of c.begin.new.self) (opened_turn c.args.place c.args.weight c.args.name.now c.args.variable.now.text c.args.bits s) c.in_ok-block.block
-    (turn_opened c.args.place c.args.weight c.args.name.now c.args.variable.now.text c.args.bits s t (state_of c.begin.new.self c.in_ok-block.block) c.bytes-2.result.now (entries_are c.in_ok-nets.nets)
-    (ended t (count_turn_path c.args.place c.args.weight part s) (tt {0})
-    (turn_counted c.args.place c.args.weight s x t c.bytes.result.now part (Ok (tt {0})) (c.bytes.ensures ∙ c.in_ok-part.ensures)
-    (turn_taken c.args.place c.args.weight c.args.self.now c.args.current.now c.in_ok-self.field-0 c.in_ok-self.ensures) c.in_ok-count_path.ensures))
-    c.in_ok-block.ensures (c.bytes-2.ensures ∙ c.in_ok-part.ensures) c.in_ok-nets.ensures)
+    (turn_opened c.args.place c.args.weight c.args.name.now c.args.variable.now.text c.args.bits s x (state_of c.begin.new.self c.in_ok-block.block) c.bytes.result.now (entries_are c.in_ok-nets.nets)
+    (ended x (count_turn c.args.place c.args.weight s) (tt {0})
+    (provided_ok (λ n t. (t.turns ≡ n) × (t.bits ≡ c.args.self.now.tally.bits)) (λ st u. st ≡ x) (turn_faults c.args.place c.args.weight s.turns) (s.turns + c.args.weight) (record s { turns = s.turns + c.args.weight }) c.in_ok-self.field-0 (tt {0}) c.in_ok-self.ensures
+    (λ h. λ i. record s { turns = sym h.0 i; bits = sym h.1 i })))
+    c.in_ok-block.ensures (c.bytes.ensures ∙ c.in_ok-part.ensures) c.in_ok-nets.ensures)
 
 pub returns-in_err-part : goal.returns-in_err-part
 returns-in_err-part c = ran_out _ (opened_turn c.args.place c.args.weight c.args.name.now c.args.variable.now.text c.args.bits (state_of c.args.self.now c.args.current.now)) c.from_residual-in_err-part.result c.from_residual-in_err-part.ensures.1

@@ -1,4 +1,4 @@
-use Rattle.std.proofs.Common.{◌≡◌, ◌∙◌, ◌++◌, false, List, Vec, Global, map, ap, sym, subst}
+use Rattle.std.proofs.Common.{◌≡◌, ◌∙◌, ◌++◌, false, List, Vec, Global, None, map, ap, sym, subst}
 use Rattle.sv_tree.specs.declared.design.ParamWord.TheVariants as param_word
 use Rattle.sv_tree.specs.declared.design.Way.TheVariants as way
 use Rattle.sv_meaning.specs.Faults.{Judged}
