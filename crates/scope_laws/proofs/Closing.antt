@@ -31,7 +31,6 @@ use Rattle.sv_meaning.specs.Faults.{Judged, provided, ◌>>=◌, fault_if, twice
 use Rattle.sv_meaning.specs.Layouts.{Name, Entry, Layout, scalar, Scope, What, type_is, signal_is, genvar_is, of_wires, find, NamedSignal, DeclaredIn, Declared as DeclaredSignal}
 use Rattle.sv_meaning.specs.Forms.{Declared, Formed, entry_of, form}
 use Rattle.sv_meaning.specs.Values.{mean}
-use Rattle.sv_meaning.specs.Weights.{generate_weight}
 use Rattle.sv_meaning.specs.Deeds.{index_entry, turns, fixed_truth}
 use Rattle.sv_meaning.specs.Params.{Connection, connections, ParamKind, kept, param_kind, value_as}
 use Rattle.sv_hierarchy.specs.Scopes.{Level, Front, State, Walk, stay, then_walk, here, mine, Task, assigning, running, connecting, Standing, Child, fronts_at, seen_at, live_at, genvar_faults, open_params, port_texts, is_there, module_named, Given, walk_all, declare_at, declare, with_const, with_net, see_const, add_constant, add_constants, with_wire, add_wire, formed, with_form, with_form_or_bit, add_typedef, meant, given_to, seen, add_param, add_param_item, add_params, add_genvar, add_work, add_assignment, add_child, child_of, inner, enclosed, block_name, block_place, block_walk, turn_name, count_turn, turn_walk, Body, turns_walk, loop_walk, Act, Branch, act_of, chosen_branch, conditional, numbered, body_of, act, acts, under, under_else, word_or, kind_or, header_params, OpenPort, is_input, or_way, add_port, port_form, header_ports, ports_of, Known, Library, begun, port_works, instance_walk, given_by, module_of, count_instance, below, child, file_state, no_level, library, top_module, deepest, scopes}
@@ -159,16 +158,16 @@ block_holds label p n body k base old st last i h =
     let b = bind_ok (declare_at (block_place label p) (block_name label n) st) _ last h in
     enclosed_holds (block_name label n) [] body k base old b.0 last (declared (block_place label p) (block_name label n) base old st b.0 i b.1) b.2
 
-turn_holds : (p : Place) (w : ℕ) (g v : Name) (body : Walk) (bits : List Bit) → Holds body → Holds (turn_walk p w g v body bits)
-turn_holds p w g v body bits k base old st last i h =
-    let b = bind_ok (count_turn p w st) _ last h in
+turn_holds : (p : Place) (g v : Name) (body : Walk) (bits : List Bit) → Holds body → Holds (turn_walk p g v body bits)
+turn_holds p g v body bits k base old st last i h =
+    let b = bind_ok (count_turn p st) _ last h in
     enclosed_holds (turn_name g bits) (index_entry v bits ∷ []) body k base old b.0 last (subst (Held base old) (provided_ok _ _ b.0 b.1) i) b.2
 
 turns_hold : (b : Body) (v : Name) (n : ℕ) (all : List (List Bit)) → Holds b.items → Holds (turns_walk b v n all)
 turns_hold b v n [] k base old st last i h = subst (Held base old) (same_ok st last h) i
 turns_hold b v n (x ∷ more) k base old st last i h =
     let d = bind_ok (declare_at (block_place b.label b.start) (block_name b.label n) st) _ last h in
-    all_hold (turn_walk b.loop b.weight (block_name b.label n) v b.items) (x ∷ more) (λ bits. turn_holds b.loop b.weight (block_name b.label n) v b.items bits k) base old d.0 last
+    all_hold (turn_walk b.loop (block_name b.label n) v b.items) (x ∷ more) (λ bits. turn_holds b.loop (block_name b.label n) v b.items bits k) base old d.0 last
     (declared (block_place b.label b.start) (block_name b.label n) base old st d.0 i d.1) d.2
 
 loop_holds : (header : Bool) (v : Word) (b : Body) (values : Scope → Judged (List (List Bit))) (n : ℕ) → Holds b.items → Holds (loop_walk header v b values n)
@@ -220,7 +219,7 @@ mutual
   act_holds (Inst i) = of_walk _ (all_hold (add_child i) i.list (child_holds i))
   act_holds (Generate' s all) = of_walk _ (acts_hold all)
   act_holds (For' p header v start test next r (more_of-Gen x end_of-Gen)) =
-      of_walk _ (numbered_holds (loop_walk header v (body_of p (generate_weight v start test next x) (under x)) (λ at. turns p (generate_weight v start test next x) at v.text start test next)) (λ n. loop_holds header v (body_of p (generate_weight v start test next x) (under x)) (λ at. turns p (generate_weight v start test next x) at v.text start test next) n (under_holds x).body))
+      of_walk _ (numbered_holds (loop_walk header v (body_of p (under x)) (λ at. turns p at v.text start test next)) (λ n. loop_holds header v (body_of p (under x)) (λ at. turns p at v.text start test next) n (under_holds x).body))
   act_holds (If' p c r (more_of-Gen x end_of-Gen) other) = record {
     item = numbered_holds (conditional c (under x) (under_else other)) (λ n. conditional_holds c (under x) (under_else other) n (under_holds x) (else_holds other));
     branch = λ q n. conditional_holds c (under x) (under_else other) n (under_holds x) (else_holds other);
@@ -372,7 +371,7 @@ child_goes (suc deep) all c st last i n h =
     let a = bind_ok (module_of all c) _ last h in
     let b = bind_ok (connections (seen_at st.levels c.at) (open_params a.0.tree) c.params) _ last a.2 in
     let d = bind_ok (connections (seen_at st.levels c.at) (port_texts (ports_of a.0.tree)) c.pins) _ last b.2 in
-    let e = bind_ok (count_instance a.0 c st) _ last d.2 in
+    let e = bind_ok (count_instance c st) _ last d.2 in
     let counted : Goes st e.0 = subst (Goes st) (provided_ok _ _ e.0 e.1) (i, omega arith) in
     let f = bind_ok (instance_walk false a.0.tree c.at d.0 (begun a.0 c.path c.at.level (given_by c.at b.0) e.0)) _ last e.2 in
     let own = instance_goes false a.0 c.path c.at.level (given_by c.at b.0) c.at d.0 e.0 f.0 counted.0 (let q = counted.1 in omega (arith, n, q)) f.1 in

@@ -40,7 +40,6 @@ use Rattle.sv_meaning.specs.Layouts.{Name, Layout, scalar, Scope, What, type_is,
 use Rattle.sv_meaning.specs.Names.{has_name}
 use Rattle.sv_meaning.specs.Forms.{Declared, Formed, entry_of, form}
 use Rattle.sv_meaning.specs.Values.{mean}
-use Rattle.sv_meaning.specs.Weights.{generate_weight}
 use Rattle.sv_meaning.specs.Deeds.{index_entry, turns, fixed_truth}
 use Rattle.sv_meaning.specs.Params.{Connection, connections, by_name, in_order, joined_pins, pin_faults, ParamKind, kept, param_kind, value_as}
 use Rattle.sv_hierarchy.specs.Scopes.{Front, State, Walk, stay, then_walk, here, Task, assigning, running, connecting, Standing, Child, seen_at, genvar_faults, open_params, port_texts, is_there, module_named, walk_all, is_name, name_faults, declare_at, declare, see_const, add_constant, add_constants, with_wire, add_wire, formed, with_form, with_form_or_bit, add_typedef, meant, given_to, seen, add_param, add_param_item, add_params, add_genvar, add_work, add_assignment, add_child, child_of, inner, outer, enclosed, block_name, block_place, block_walk, turn_name, count_turn, turn_walk, Body, turns_walk, loop_walk, Act, Branch, act_of, chosen_branch, conditional, numbered, body_of, act, acts, under, under_else, word_or, kind_or, header_params, OpenPort, is_input, or_way, add_port, port_form, header_ports, ports_of, Library, begun, port_named, connected, port_works, instance_walk, given_by, module_of, count_instance, below, child, file_state, library, top_module, deepest, scopes}
@@ -208,16 +207,16 @@ block_quiet label p n body k st last h =
     let b = bind_ok (declare_at (block_place label p) (block_name label n) st) _ last h in
     enclosed_quiet (block_name label n) [] body k b.0 last b.2 ∙ declared (block_place label p) (block_name label n) st b.0 b.1
 
-turn_quiet : (p : Place) (w : ℕ) (g v : Name) (body : Walk) (bits : List Bit) → Quiet body → Quiet (turn_walk p w g v body bits)
-turn_quiet p w g v body bits k st last h =
-    let b = bind_ok (count_turn p w st) _ last h in
+turn_quiet : (p : Place) (g v : Name) (body : Walk) (bits : List Bit) → Quiet body → Quiet (turn_walk p g v body bits)
+turn_quiet p g v body bits k st last h =
+    let b = bind_ok (count_turn p st) _ last h in
     enclosed_quiet (turn_name g bits) (index_entry v bits ∷ []) body k b.0 last b.2 ∙ same_wired _ b.0 (provided_ok _ _ b.0 b.1)
 
 turns_quiet : (b : Body) (v : Name) (n : ℕ) (all : List (List Bit)) → Quiet b.items → Quiet (turns_walk b v n all)
 turns_quiet b v n [] k st last h = same_wired st last (same_ok st last h)
 turns_quiet b v n (x ∷ more) k st last h =
     let d = bind_ok (declare_at (block_place b.label b.start) (block_name b.label n) st) _ last h in
-    all_quiet (turn_walk b.loop b.weight (block_name b.label n) v b.items) (x ∷ more) (λ bits. turn_quiet b.loop b.weight (block_name b.label n) v b.items bits k) d.0 last d.2
+    all_quiet (turn_walk b.loop (block_name b.label n) v b.items) (x ∷ more) (λ bits. turn_quiet b.loop (block_name b.label n) v b.items bits k) d.0 last d.2
     ∙ declared (block_place b.label b.start) (block_name b.label n) st d.0 d.1
 
 loop_quiet : (header : Bool) (v : Word) (b : Body) (values : Scope → Judged (List (List Bit))) (n : ℕ) → Quiet b.items → Quiet (loop_walk header v b values n)
@@ -268,7 +267,7 @@ mutual
   act_quiet (Inst i) = of_walk _ (all_quiet (add_child i) i.list (child_quiet i))
   act_quiet (Generate' s all) = of_walk _ (acts_quiet all)
   act_quiet (For' p header v start test next r (more_of-Gen x end_of-Gen)) =
-      of_walk _ (numbered_quiet (loop_walk header v (body_of p (generate_weight v start test next x) (under x)) (λ at. turns p (generate_weight v start test next x) at v.text start test next)) (λ n. loop_quiet header v (body_of p (generate_weight v start test next x) (under x)) (λ at. turns p (generate_weight v start test next x) at v.text start test next) n (under_quiet x).body))
+      of_walk _ (numbered_quiet (loop_walk header v (body_of p (under x)) (λ at. turns p at v.text start test next)) (λ n. loop_quiet header v (body_of p (under x)) (λ at. turns p at v.text start test next) n (under_quiet x).body))
   act_quiet (If' p c r (more_of-Gen x end_of-Gen) other) = record {
     item = numbered_quiet (conditional c (under x) (under_else other)) (λ n. conditional_quiet c (under x) (under_else other) n (under_quiet x) (else_quiet other));
     branch = λ q n. conditional_quiet c (under x) (under_else other) n (under_quiet x) (else_quiet other);
@@ -614,7 +613,7 @@ child_own (suc deep) all c st last i h =
     let a = bind_ok (module_of all c) _ last h in
     let b = bind_ok (connections (seen_at st.levels c.at) (open_params a.0.tree) c.params) _ last a.2 in
     let d = bind_ok (connections (seen_at st.levels c.at) (port_texts (ports_of a.0.tree)) c.pins) _ last b.2 in
-    let e = bind_ok (count_instance a.0 c st) _ last d.2 in
+    let e = bind_ok (count_instance c st) _ last d.2 in
     let counted : Own e.0 = subst Own (provided_ok _ _ e.0 e.1) i in
     let f = bind_ok (instance_walk false a.0.tree c.at d.0 (begun a.0 c.path c.at.level (given_by c.at b.0) e.0)) _ last e.2 in
     let own : Own f.0 =

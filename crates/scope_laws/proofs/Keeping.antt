@@ -30,7 +30,6 @@ use Rattle.sv_meaning.specs.Faults.{Judged, provided, ◌>>=◌, fault_if, twice
 use Rattle.sv_meaning.specs.Layouts.{Name, Entry, Layout, scalar, width, Scope, What, type_is, signal_is, genvar_is, of_wires, find}
 use Rattle.sv_meaning.specs.Forms.{Declared, Formed, entry_of, form}
 use Rattle.sv_meaning.specs.Values.{mean}
-use Rattle.sv_meaning.specs.Weights.{generate_weight}
 use Rattle.sv_meaning.specs.Deeds.{index_entry, turns, fixed_truth}
 use Rattle.sv_meaning.specs.Params.{Connection, connections, ParamKind, kept, param_kind, value_as}
 use Rattle.sv_hierarchy.specs.Scopes.{Front, State, Walk, stay, then_walk, here, Task, assigning, running, Child, seen_at, genvar_faults, open_params, port_texts, is_there, module_named, Given, walk_all, declare_at, declare, with_const, with_net, see_const, add_constant, add_constants, with_wire, add_wire, path_of, formed, with_form, with_form_or_bit, add_typedef, meant, given_to, seen, add_param, add_param_item, add_params, add_genvar, add_work, add_assignment, add_child, inner, enclosed, block_name, block_place, block_walk, turn_name, count_turn, turn_walk, Body, turns_walk, loop_walk, Act, Branch, act_of, chosen_branch, conditional, numbered, body_of, act, acts, under, under_else, word_or, kind_or, header_params, OpenPort, is_input, or_way, add_port, port_form, header_ports, ports_of, Known, Library, begun, port_works, instance_walk, given_by, module_of, count_instance, below, child, file_state, library, top_module, deepest, scopes}
@@ -146,16 +145,16 @@ block_keeps label p n body k st last i h =
     let b = bind_ok (declare_at (block_place label p) (block_name label n) st) _ last h in
     enclosed_keeps (block_name label n) [] body none_good k b.0 last (declared (block_place label p) (block_name label n) st b.0 i b.1) b.2
 
-turn_keeps : (p : Place) (w : ℕ) (g v : Name) (body : Walk) (bits : List Bit) → Keeps body → Keeps (turn_walk p w g v body bits)
-turn_keeps p w g v body bits k st last i h =
-    let b = bind_ok (count_turn p w st) _ last h in
+turn_keeps : (p : Place) (g v : Name) (body : Walk) (bits : List Bit) → Keeps body → Keeps (turn_walk p g v body bits)
+turn_keeps p g v body bits k st last i h =
+    let b = bind_ok (count_turn p st) _ last h in
     enclosed_keeps (turn_name g bits) (index_entry v bits ∷ []) body (λ wires. one_good wires (index_entry v bits) tt) k b.0 last (subst Inv (provided_ok _ _ b.0 b.1) i) b.2
 
 turns_keep : (b : Body) (v : Name) (n : ℕ) (all : List (List Bit)) → Keeps b.items → Keeps (turns_walk b v n all)
 turns_keep b v n [] k st last i h = subst Inv (same_ok st last h) i
 turns_keep b v n (x ∷ more) k st last i h =
     let d = bind_ok (declare_at (block_place b.label b.start) (block_name b.label n) st) _ last h in
-    all_keep (turn_walk b.loop b.weight (block_name b.label n) v b.items) (x ∷ more) (λ bits. turn_keeps b.loop b.weight (block_name b.label n) v b.items bits k) d.0 last
+    all_keep (turn_walk b.loop (block_name b.label n) v b.items) (x ∷ more) (λ bits. turn_keeps b.loop (block_name b.label n) v b.items bits k) d.0 last
     (declared (block_place b.label b.start) (block_name b.label n) st d.0 i d.1) d.2
 
 loop_keeps : (header : Bool) (v : Word) (b : Body) (values : Scope → Judged (List (List Bit))) (n : ℕ) → Keeps b.items → Keeps (loop_walk header v b values n)
@@ -206,7 +205,7 @@ mutual
   act_keeps (Inst i) = of_walk _ (all_keep (add_child i) i.list (child_keeps i))
   act_keeps (Generate' s all) = of_walk _ (acts_keep all)
   act_keeps (For' p header v start test next r (more_of-Gen x end_of-Gen)) =
-      of_walk _ (numbered_keeps (loop_walk header v (body_of p (generate_weight v start test next x) (under x)) (λ at. turns p (generate_weight v start test next x) at v.text start test next)) (λ n. loop_keeps header v (body_of p (generate_weight v start test next x) (under x)) (λ at. turns p (generate_weight v start test next x) at v.text start test next) n (under_keeps x).body))
+      of_walk _ (numbered_keeps (loop_walk header v (body_of p (under x)) (λ at. turns p at v.text start test next)) (λ n. loop_keeps header v (body_of p (under x)) (λ at. turns p at v.text start test next) n (under_keeps x).body))
   act_keeps (If' p c r (more_of-Gen x end_of-Gen) other) = record {
     item = numbered_keeps (conditional c (under x) (under_else other)) (λ n. conditional_keeps c (under x) (under_else other) n (under_keeps x) (else_keeps other));
     branch = λ q n. conditional_keeps c (under x) (under_else other) n (under_keeps x) (else_keeps other);
@@ -355,7 +354,7 @@ child_walk_keeps (suc deep) all c st last i h =
     let a = bind_ok (module_of all c) _ last h in
     let b = bind_ok (connections (seen_at st.levels c.at) (open_params a.0.tree) c.params) _ last a.2 in
     let d = bind_ok (connections (seen_at st.levels c.at) (port_texts (ports_of a.0.tree)) c.pins) _ last b.2 in
-    let e = bind_ok (count_instance a.0 c st) _ last d.2 in
+    let e = bind_ok (count_instance c st) _ last d.2 in
     let counted : Inv e.0 = subst Inv (provided_ok _ _ e.0 e.1) i in
     let f = bind_ok (instance_walk false a.0.tree c.at d.0 (begun a.0 c.path c.at.level (given_by c.at b.0) e.0)) _ last e.2 in
     let own : Inv f.0 = instance_keeps false a.0.tree c.at d.0 (begun a.0 c.path c.at.level (given_by c.at b.0) e.0) f.0 (begun_good a.0 c.path c.at.level (given_by c.at b.0) e.0 counted) f.1 in

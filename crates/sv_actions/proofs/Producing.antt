@@ -1,5 +1,5 @@
 -- Statements by their productions, as code lists their parts.
-use Rattle.std.proofs.Common.{◌≡◌, ℕ, ◌+◌, ◌≤◌, Bool, true, false, not, List, [], ◌∷◌, ◌++◌, map, Option, Some, None, Result, Ok, Err, refl, sym, ap, ◌∙◌, subst, arith, append_assoc, length, take, drop, get_or, ◌<◌}
+use Rattle.std.proofs.Common.{◌≡◌, ℕ, suc, ◌+◌, ◌≤◌, Bool, true, false, not, List, [], ◌∷◌, ◌++◌, map, Option, Some, None, Result, Ok, Err, refl, sym, ap, ◌∙◌, subst, arith, append_assoc, length, take, drop, get_or, ◌<◌}
 use Rattle.std.proofs.lemmas.Bool.Decides.{nat_tests}
 use Rattle.std.proofs.lemmas.List.{append-nil, take_all, at_drop_more, at_drop_all, take-append-drop}
 use Rattle.std.specs.Result.{IfOk}
@@ -28,7 +28,6 @@ use Rattle.sv_meaning.specs.Layouts.{Scope, constant_scope}
 use Rattle.sv_meaning.specs.Meanings.{Meaning, free_faults, is_width}
 use Rattle.sv_meaning.specs.Values.{mean}
 use Rattle.sv_meaning.specs.Targets.{Target, targets, targets_of, widths, wide_target, lvalue_faults, all_lvalue_faults}
-use Rattle.sv_meaning.specs.Weights.{loop_weight}
 use Rattle.sv_meaning.specs.Deeds.{Deed, CaseArm, deed, deeds, arms, idle, after, assign, if_else, case_of, is_casez, in_turn, in_turns, one_turn, turns, turn_faults, with_index, labels_of, all_faults}
 use Rattle.sv_typed.specs.declared.tree.Pick.{Pick}
 use Rattle.sv_typed.specs.Typed.{PickIsSound, picked_width}
@@ -116,41 +115,37 @@ done_case at x u w v all one two z made r h f g e j =
     (ap (λ (y : Stmt). deed y at) h ∙ case_is at u w v all ∙ (λ i. case_of (sym e i) (mean at v) (all_arms at (sym f i), rest_of at (sym g i)))) j
 
 for_is : (at : Scope) (p : Place) (form : WholeWord) (v : Word) (start test : Expr) (next : Step) (body : Stmt) →
-    deed (st.For p form v start test next body) at ≡ in_turns p (loop_weight v start test next body) (λ bits. deed body (with_index at v.text bits)) (turns p (loop_weight v start test next body) (constant_scope at) v.text start test next)
+    deed (st.For p form v start test next body) at ≡ in_turns p (λ bits. deed body (with_index at v.text bits)) (turns p (constant_scope at) v.text start test next)
 unfolding deed shape-the_row-Stmt-0 hidden-the_row-Stmt-0 shape-the_row-Stmt-1 hidden-the_row-Stmt-1 shape-the_row-Arm-2 hidden-the_row-Arm-2 denote.Hole.Carrier.hidden
 for_is at p form v start test next body = refl
 
-turns_is : (p : Place) (w : ℕ) (f : List Bit → Deed) (all : List (List Bit)) → in_turn p w f all ≡ in_order (λ bits. one_turn p w (f bits)) all
+turns_is : (p : Place) (f : List Bit → Deed) (all : List (List Bit)) → in_turn p f all ≡ in_order (λ bits. one_turn p (f bits)) all
 unfolding in_turn in_order
-turns_is p w f [] = refl
-turns_is p w f (bits ∷ all) = ap (after (one_turn p w (f bits))) (turns_is p w f all)
+turns_is p f [] = refl
+turns_is p f (bits ∷ all) = ap (after (one_turn p (f bits))) (turns_is p f all)
 
-gone : (p : Place) (w : ℕ) (f : List Bit → Deed) (j : Judged (List (List Bit))) (all : List (List Bit)) → Gives j (Ok all) → in_turns p w f j ≡ in_order (λ bits. one_turn p w (f bits)) all
-gone p w f (Ok x) all h = turns_is p w f x ∙ ap (in_order (λ bits. one_turn p w (f bits))) h
-gone p w f (Err why) all h = absurd h
+gone : (p : Place) (f : List Bit → Deed) (j : Judged (List (List Bit))) (all : List (List Bit)) → Gives j (Ok all) → in_turns p f j ≡ in_order (λ bits. one_turn p (f bits)) all
+gone p f (Ok x) all h = turns_is p f x ∙ ap (in_order (λ bits. one_turn p (f bits))) h
+gone p f (Err why) all h = absurd h
 
-pub done_for : (at : Scope) (x : Stmt) (p : Place) (form : WholeWord) (v : Word) (start test : Expr) (next : Step) (body given : Stmt) (values slice : List (List Bit)) (w made : ℕ) (r : Result Acted TextErr) → x ≡ st.For p form v start test next body → given ≡ body → slice ≡ values → w ≡ loop_weight v start test next body →
-    Gives (turns p w (constant_scope at) v.text start test next) (Ok values) → JudgesDeed (in_order (turn_deed at p w v.text given) slice) made r → JudgesDeed (deed x at) made r
-done_for at x p form v start test next body given values slice w made r h g s e k j =
-    judged_as (deed x at) (in_order (turn_deed at p w v.text given) slice) made r
-    (ap (λ (y : Stmt). deed y at) h ∙ for_is at p form v start test next body
-    ∙ ap (λ (n : ℕ). in_turns p n (λ bits. deed body (with_index at v.text bits)) (turns p n (constant_scope at) v.text start test next)) (sym e)
-    ∙ gone p w (λ bits. deed body (with_index at v.text bits)) (turns p w (constant_scope at) v.text start test next) values k
-    ∙ (λ i. in_order (turn_deed at p w v.text (sym g i)) (sym s i))) j
+pub done_for : (at : Scope) (x : Stmt) (p : Place) (form : WholeWord) (v : Word) (start test : Expr) (next : Step) (body given : Stmt) (values slice : List (List Bit)) (made : ℕ) (r : Result Acted TextErr) → x ≡ st.For p form v start test next body → given ≡ body → slice ≡ values →
+    Gives (turns p (constant_scope at) v.text start test next) (Ok values) → JudgesDeed (in_order (turn_deed at p v.text given) slice) made r → JudgesDeed (deed x at) made r
+done_for at x p form v start test next body given values slice made r h g s k j =
+    judged_as (deed x at) (in_order (turn_deed at p v.text given) slice) made r
+    (ap (λ (y : Stmt). deed y at) h ∙ for_is at p form v start test next body ∙ gone p (λ bits. deed body (with_index at v.text bits)) (turns p (constant_scope at) v.text start test next) values k
+    ∙ (λ i. in_order (turn_deed at p v.text (sym g i)) (sym s i))) j
 
-lost : (p : Place) (w : ℕ) (f : List Bit → Deed) (j : Judged (List (List Bit))) (made : ℕ) (e : TextErr) → Gives j (Err e) → JudgesDeed (in_turns p w f j) made (Err e)
-lost p w f (Ok x) made (No r) h = absurd h
-lost p w f (Ok x) made Memory h = tt
-lost p w f (Err all) made (No r) h = in_left all [] r h
-lost p w f (Err all) made Memory h = tt
+lost : (p : Place) (f : List Bit → Deed) (j : Judged (List (List Bit))) (made : ℕ) (e : TextErr) → Gives j (Err e) → JudgesDeed (in_turns p f j) made (Err e)
+lost p f (Ok x) made (No r) h = absurd h
+lost p f (Ok x) made Memory h = tt
+lost p f (Err all) made (No r) h = in_left all [] r h
+lost p f (Err all) made Memory h = tt
 
-pub for_refused : (at : Scope) (x : Stmt) (p : Place) (form : WholeWord) (v : Word) (start test : Expr) (next : Step) (body : Stmt) (w made : ℕ) (e : TextErr) → x ≡ st.For p form v start test next body → w ≡ loop_weight v start test next body →
-    Gives (turns p w (constant_scope at) v.text start test next) (Err e) → JudgesDeed (deed x at) made (Err e)
-for_refused at x p form v start test next body w made e h q k =
-    judged_as (deed x at) (in_turns p w (λ bits. deed body (with_index at v.text bits)) (turns p w (constant_scope at) v.text start test next)) made (Err e)
-    (ap (λ (y : Stmt). deed y at) h ∙ for_is at p form v start test next body
-    ∙ ap (λ (n : ℕ). in_turns p n (λ bits. deed body (with_index at v.text bits)) (turns p n (constant_scope at) v.text start test next)) (sym q))
-    (lost p w (λ bits. deed body (with_index at v.text bits)) (turns p w (constant_scope at) v.text start test next) made e k)
+pub for_refused : (at : Scope) (x : Stmt) (p : Place) (form : WholeWord) (v : Word) (start test : Expr) (next : Step) (body : Stmt) (made : ℕ) (e : TextErr) → x ≡ st.For p form v start test next body →
+    Gives (turns p (constant_scope at) v.text start test next) (Err e) → JudgesDeed (deed x at) made (Err e)
+for_refused at x p form v start test next body made e h k =
+    judged_as (deed x at) (in_turns p (λ bits. deed body (with_index at v.text bits)) (turns p (constant_scope at) v.text start test next)) made (Err e) (ap (λ (y : Stmt). deed y at) h ∙ for_is at p form v start test next body)
+    (lost p (λ bits. deed body (with_index at v.text bits)) (turns p (constant_scope at) v.text start test next) made e k)
 
 assign_is : (at : Scope) (to : Lvalue) (m : AssignMark) (p : Place) (v : Expr) → deed (st.Assign to m p v) at ≡ assign (targets at at to) (lvalue_faults free_faults at at to) (mean at v)
 unfolding deed
@@ -266,24 +261,26 @@ arms_err all made r e q h = subst (JudgesArms all made) q h
 
 -- ---- one turn
 
-does_turn : (p : Place) (w : ℕ) (d : Deed) (xs : List Action) → Does xs d → Does xs (one_turn p w d)
-does_turn p w d xs h = record { run = h.run; writes = h.writes; names = h.names; fits = h.fits }
+does_turn : (p : Place) (d : Deed) (xs : List Action) → Does xs d → Does xs (one_turn p d)
+does_turn p d xs h = record { run = h.run; writes = h.writes; names = h.names; fits = h.fits }
 
-pub turn_made : (p : Place) (w : ℕ) (d : Deed) (made n : ℕ) (r : Result Acted TextErr) → turn_faults p w made ≡ [] → n ≡ made + w → JudgesDeed d n r → JudgesDeed (one_turn p w d) made r
-turn_made p w d made n (Ok x) c e h =
+pub turn_made : (p : Place) (d : Deed) (made n : ℕ) (r : Result Acted TextErr) → turn_faults p made ≡ [] → n ≡ made + 1 → JudgesDeed d n r → JudgesDeed (one_turn p d) made r
+turn_made p d made n (Ok x) c e h =
+    let s : n ≡ suc made = omega arith in
     record {
       clear = h.clear;
-      turned = then_clear (turn_faults p w made) (d.overrun (made + w)) c (subst (λ (k : ℕ). d.overrun k ≡ []) e h.turned);
+      turned = then_clear (turn_faults p made) (d.overrun (suc made)) c (subst (λ (k : ℕ). d.overrun k ≡ []) s h.turned);
       made = let q = h.made in omega arith;
-      does = does_turn p w d x.actions h.does;
+      does = does_turn p d x.actions h.does;
     }
-turn_made p w d made n (Err why) c e h =
-    cause_from (stands d (made + w)) (d.faults ++ or_then (turn_faults p w made) (d.overrun (made + w))) (λ r. contains_both d.faults (d.overrun (made + w)) d.faults (or_then (turn_faults p w made) (d.overrun (made + w))) r (λ k. k) (in_second (turn_faults p w made) (d.overrun (made + w)) r c)) why
-    (subst (λ (k : ℕ). IsCause (stands d k) why) e h)
+turn_made p d made n (Err why) c e h =
+    let s : n ≡ suc made = omega arith in
+    cause_from (stands d (suc made)) (d.faults ++ or_then (turn_faults p made) (d.overrun (suc made))) (λ r. contains_both d.faults (d.overrun (suc made)) d.faults (or_then (turn_faults p made) (d.overrun (suc made))) r (λ k. k) (in_second (turn_faults p made) (d.overrun (suc made)) r c)) why
+    (subst (λ (k : ℕ). IsCause (stands d k) why) s h)
 
-pub turn_refused : (p : Place) (w : ℕ) (d : Deed) (made : ℕ) (e : TextErr) → IsCause (turn_faults p w made) e → IsCause (stands (one_turn p w d) made) e
-turn_refused p w d made e h =
-    cause_from (turn_faults p w made) (d.faults ++ or_then (turn_faults p w made) (d.overrun (made + w))) (λ r q. in_right d.faults (or_then (turn_faults p w made) (d.overrun (made + w))) r (in_first (turn_faults p w made) (d.overrun (made + w)) r q)) e h
+pub turn_refused : (p : Place) (d : Deed) (made : ℕ) (e : TextErr) → IsCause (turn_faults p made) e → IsCause (stands (one_turn p d) made) e
+turn_refused p d made e h =
+    cause_from (turn_faults p made) (d.faults ++ or_then (turn_faults p made) (d.overrun (suc made))) (λ r q. in_right d.faults (or_then (turn_faults p made) (d.overrun (suc made))) r (in_first (turn_faults p made) (d.overrun (suc made)) r q)) e h
 
 -- ---- targets have some bits
 

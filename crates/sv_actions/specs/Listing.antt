@@ -71,9 +71,9 @@ abbrev pub else_deed : Scope → Option Stmt → Deed
 else_deed at None = idle
 else_deed at (Some x) = deed x at
 
--- the turn of a value of the loop's variable, which counts so much
-abbrev pub turn_deed : Scope → Place → ℕ → Name → Stmt → List Bit → Deed
-turn_deed at p w name body bits = one_turn p w (deed body (with_index at name bits))
+-- the turn of a value of the loop's variable
+abbrev pub turn_deed : Scope → Place → Name → Stmt → List Bit → Deed
+turn_deed at p name body bits = one_turn p (deed body (with_index at name bits))
 
 abbrev pub arm_of : Scope → Arm → List CaseArm
 arm_of at (Labels' xs r (more_of-Stmt x end_of-Stmt)) = record { labels = map (mean at) xs; body = deed x at } ∷ []
@@ -92,7 +92,7 @@ rest_of at (Default' colon r (more_of-Stmt x end_of-Stmt) ∷ more) = deed x at
 abbrev pub bodies : List CaseArm → Deed
 bodies arms = in_order (λ (x : CaseArm). x.body) arms
 
--- what the turns count behind what is typed; where that is refused, as much as they can
+-- how many turns were made behind what is typed; where that is refused, as many as can be
 abbrev pub made_behind : Result Acted TextErr → ℕ
 made_behind (Ok x) = x.made
 made_behind (Err e) = most_turns_together

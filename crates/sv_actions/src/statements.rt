@@ -20,7 +20,7 @@ use crate::turns::{arms_behind, made_behind, one_more};
 use fourvec::Four;
 use items::{Boxed, Items};
 use std::alloc::Global;
-use sv_loops::{enter, leave, loop_weight, turns};
+use sv_loops::{enter, leave, turns};
 use sv_names::Names;
 use sv_outside::{Place, TextErr};
 use sv_targets::typed_targets;
@@ -73,12 +73,10 @@ fn typed_stmt(
             matched(alloc, is_masked(*word), value, arms, rest)
         }
         Stmt::For(place, _, variable, start, test, next, body) => {
-            let weight = loop_weight(alloc, variable, start, test, next, body.get());
-            match turns(alloc, *place, weight, names, variable, start, test, next) {
+            match turns(alloc, *place, names, variable, start, test, next) {
                 Ok(values) => typed_turns(
                     alloc,
                     *place,
-                    weight,
                     values.as_slice(),
                     names,
                     variable,
@@ -208,28 +206,25 @@ fn typed_rest(
     Ok(nothing(alloc, made))
 }
 
-// The turns of a loop, one after the other, each of which counts so much.
+// The turns of a loop, one after the other.
 #[cycle(stmt)]
 fn typed_turns(
     alloc: Global,
     place: Place,
-    weight: u64,
     values: &[Four],
     names: &mut Names<'_>,
     variable: &Word,
     body: &Stmt,
     made: u64,
 ) -> Result<Acted, TextErr>
-    ensures is { JudgesDeed (in_order (turn_deed (names_are names.old) place weight variable.now.text body.now) values.now) made result }
+    ensures is { JudgesDeed (in_order (turn_deed (names_are names.old) place variable.now.text body.now) values.now) made result }
     ensures aims { (named : List NamedSignal) → Within (target_signals (names_are names.old) body.now) named → IfOk result (ActedAims named) }
     ensures frames { stack_of names.new ≡ stack_of names.old }
     ensures loops { loops_of names.new ≡ loops_of names.old }
 {
     let mut found = nothing(alloc, made);
     'turns: for bits in values {
-        let next = typed_turn(
-            alloc, place, weight, *bits, names, variable, body, found.made,
-        );
+        let next = typed_turn(alloc, place, *bits, names, variable, body, found.made);
         match followed(found, next) {
             Ok(more) => found = more,
             Err(why) => return Err(why),
@@ -243,26 +238,25 @@ fn typed_turns(
 fn typed_turn(
     alloc: Global,
     place: Place,
-    weight: u64,
     bits: Four,
     names: &mut Names<'_>,
     variable: &Word,
     body: &Stmt,
     made: u64,
 ) -> Result<Acted, TextErr>
-    ensures is { JudgesDeed (turn_deed (names_are names.old) place weight variable.now.text body.now bits) made result }
+    ensures is { JudgesDeed (turn_deed (names_are names.old) place variable.now.text body.now bits) made result }
     ensures aims { (named : List NamedSignal) → Within (target_signals (names_are names.old) body.now) named → IfOk result (ActedAims named) }
     ensures frames { stack_of names.new ≡ stack_of names.old }
     ensures loops { loops_of names.new ≡ loops_of names.old }
 {
-    one_more(place, weight, made)?;
+    one_more(place, made)?;
     enter(names, variable, bits)?;
-    let acted = typed_stmt(alloc, body, names, made + weight);
+    let acted = typed_stmt(alloc, body, names, made + 1);
     leave(names);
     acted
 }
 
-/// What a statement does, with its loops unrolled, behind turns of loops that count so much; or why it is refused: E2, E12,
+/// What a statement does, with its loops unrolled, where so many turns of loops were made before it; or why it is refused: E2, E12,
 /// E14, E15, E16, E19, E20, E23 or E25. The names are afterwards as before.
 pub fn typed_body(
     alloc: Global,

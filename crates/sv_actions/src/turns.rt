@@ -9,18 +9,18 @@ use sv_loops::MOST_TURNS_TOGETHER;
 use sv_outside::{Place, TextErr};
 use sv_typing::refusal;
 
-/// Whether the loop at a place may make a turn more, which counts so much, or E20.
-pub(crate) fn one_more(place: Place, weight: u64, made: u64) -> Result<(), TextErr>
-    ensures { JudgesFaults (turn_faults place weight made) result }
+/// Whether the loop at a place may make a turn more, or E20.
+pub(crate) fn one_more(place: Place, made: u64) -> Result<(), TextErr>
+    ensures { JudgesFaults (turn_faults place made) result }
 {
-    if made.saturating_add(weight) > MOST_TURNS_TOGETHER {
+    if MOST_TURNS_TOGETHER <= made {
         Err(TextErr::No(refusal(20, place)))
     } else {
         Ok(())
     }
 }
 
-/// What the turns count that were made behind what is typed. Where that is refused no loop makes a turn behind it.
+/// How many turns were made behind what is typed. Where that is refused no loop makes a turn behind it.
 pub(crate) fn made_behind(acted: &Result<Acted, TextErr>) -> u64
     ensures { result ≡ made_behind acted.now }
 {

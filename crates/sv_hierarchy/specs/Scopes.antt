@@ -38,7 +38,6 @@ use Rattle.sv_meaning.specs.Names.{has_name}
 use Rattle.sv_meaning.specs.Meanings.{Meaning}
 use Rattle.sv_meaning.specs.Values.{mean}
 use Rattle.sv_meaning.specs.Forms.{Declared, entry_of, form}
-use Rattle.sv_meaning.specs.Weights.{generate_weight, instance_weight}
 use Rattle.sv_meaning.specs.Deeds.{index_entry, turns, turn_faults, fixed_truth}
 use Rattle.sv_meaning.specs.Designs.{Work, assignment, block, port, Design, design_faults}
 use Rattle.sv_meaning.specs.Params.{ParamKind, kept, param_kind, value_as, Connection, connections, is_parameter}
@@ -139,7 +138,7 @@ pub record State : Type 0 where
   pub constructs : ℕ
   -- what its parameters are given
   pub overridden : List Given
-  -- the bits of all wires with what the instances below the top count, and what the turns of generate loops count
+  -- the bits of all wires with the instances below the top, and the turns of generate loops
   pub bits : ℕ
   pub turns : ℕ
   pub wires : List Signal
@@ -210,7 +209,7 @@ add_constant d st = declare d.0 st >>= λ s. Ok (see_const (entry_of d) s)
 abbrev pub add_constants : List Declared → Walk
 add_constants all st = walk_all add_constant all st
 
--- the bits of all wires and what the instances below the top count are no more than this (this project's bound)
+-- the bits of all wires and the instances below the top are no more than these (this project's bound)
 abbrev pub most_bits : ℕ
 most_bits = 1048576
 
@@ -342,16 +341,15 @@ block_walk label p n body st = declare_at (block_place label p) (block_name labe
 abbrev pub turn_name : Name → List Bit → Name
 turn_name g bits = g ++ (codes "[" ++ (signed_decimal (signed bits) ++ codes "]"))
 
-abbrev pub count_turn : Place → ℕ → Walk
-count_turn p w st = provided (turn_faults p w st.turns) (record st { turns = st.turns + w })
+abbrev pub count_turn : Place → Walk
+count_turn p st = provided (turn_faults p st.turns) (record st { turns = suc st.turns })
 
-abbrev pub turn_walk : Place → ℕ → Name → Name → Walk → List Bit → Walk
-turn_walk p w g v body bits st = count_turn p w st >>= enclosed (turn_name g bits) (index_entry v bits ∷ []) body
+abbrev pub turn_walk : Place → Name → Name → Walk → List Bit → Walk
+turn_walk p g v body bits st = count_turn p st >>= enclosed (turn_name g bits) (index_entry v bits ∷ []) body
 
--- what stands under a loop: the place of the loop, what a turn counts, the label of its block and where that begins, and its items
+-- what stands under a loop: the place of the loop, the label of its block and where that begins, and its items
 pub record Body : Type 0 where
   pub loop : Place
-  pub weight : ℕ
   pub label : Option Word
   pub start : Place
   pub items : Walk
@@ -360,7 +358,7 @@ pub record Body : Type 0 where
 abbrev pub turns_walk : Body → Name → ℕ → List (List Bit) → Walk
 turns_walk b v n [] st = Ok st
 turns_walk b v n all st =
-    declare_at (block_place b.label b.start) (block_name b.label n) st >>= walk_all (turn_walk b.loop b.weight (block_name b.label n) v b.items) all
+    declare_at (block_place b.label b.start) (block_name b.label n) st >>= walk_all (turn_walk b.loop (block_name b.label n) v b.items) all
 
 abbrev pub genvar_faults : Bool → Word → Option What → Faults
 genvar_faults true w found = []
@@ -396,8 +394,8 @@ conditional c x other n st = fixed_truth (mean (seen st) c) >>= λ b. chosen_bra
 abbrev pub numbered : (ℕ → Walk) → Walk
 numbered f st = next_construct st >>= λ s. f s.constructs s
 
-abbrev pub body_of : Place → ℕ → Branch → Body
-body_of p w x = record { loop = p; weight = w; label = x.label; start = x.start; items = x.body }
+abbrev pub body_of : Place → Branch → Body
+body_of p x = record { loop = p; label = x.label; start = x.start; items = x.body }
 
 abbrev pub loop_walk : Bool → Word → Body → (Scope → Judged (List (List Bit))) → ℕ → Walk
 loop_walk header v b values n st =
@@ -415,8 +413,7 @@ unfoldable mutual
   act (Inst i) = act_of (walk_all (add_child i) i.list)
   act (Generate' s all) = act_of (acts all)
   act (For' p header v start test next r (more_of-Gen x end_of-Gen)) =
-      act_of (numbered (loop_walk header v (body_of p (generate_weight v start test next x) (under x))
-      (λ at. turns p (generate_weight v start test next x) at v.text start test next)))
+      act_of (numbered (loop_walk header v (body_of p (under x)) (λ at. turns p at v.text start test next)))
   act (If' p c r (more_of-Gen x end_of-Gen) other) =
       record { item = numbered (conditional c (under x) (under_else other)); branch = λ q. conditional c (under x) (under_else other) }
 
@@ -605,9 +602,9 @@ module_of all c = known (module_named c.of_module.text all)
     known None = Err (fault unknown_module c.of_module.place)
     known (Some m) = Ok m
 
--- one instance of a module more
-abbrev pub count_instance : Known → Child → Walk
-count_instance m c st = provided (size_faults c.name.place (st.bits + instance_weight c.params m.tree)) (record st { bits = st.bits + instance_weight c.params m.tree })
+-- one instance more
+abbrev pub count_instance : Child → Walk
+count_instance c st = provided (size_faults c.name.place (suc st.bits)) (record st { bits = suc st.bits })
 
 -- the children that were found, each by such a walk
 abbrev pub below : (Child → Walk) → Walk
@@ -620,7 +617,7 @@ child (suc deep) all c st = do
   m ← module_of all c
   params ← connections (seen_at st.levels c.at) (open_params m.tree) c.params
   pins ← connections (seen_at st.levels c.at) (port_texts (ports_of m.tree)) c.pins
-  more ← count_instance m c st
+  more ← count_instance c st
   own ← instance_walk false m.tree c.at pins (begun m c.path c.at.level (given_by c.at params) more)
   last ← below (child deep all) own
   Ok (outer st last)

@@ -1,9 +1,10 @@
 -- Modules by number and by name.
-use Rattle.std.proofs.Common.{◌≡◌, ℕ, zero, suc, ◌+◌, ◌<◌, ◌≤◌, Bool, true, false, List, [], ◌∷◌, length, map, get_or, Option, Some, None, Ok, Err, refl, sym, ap, ◌∙◌, subst, arith, if◌then◌else◌, Bor}
+use Rattle.std.proofs.Common.{◌≡◌, ℕ, zero, suc, ◌+◌, ◌<◌, ◌≤◌, Bool, true, false, List, [], ◌∷◌, length, map, get_or, Option, Some, None, Result, Ok, Err, refl, sym, ap, ◌∙◌, subst, arith, if◌then◌else◌, Bor}
 use Rattle.std.specs.Option.{option_map}
 use Rattle.std.specs.List.{slice_get, range_with_len}
 use Rattle.std.proofs.lemmas.Option.{slice_get-map, slice_get_past, slice_get_read}
-use Rattle.sv_outside.specs.declared.refusal.TextErr.TheVariants.{Memory}
+use Rattle.sv_outside.specs.declared.refusal.TextErr.{TextErr}
+use Rattle.sv_outside.specs.declared.refusal.TextErr.TheVariants.{No, Memory}
 use Rattle.sv_tree.specs.declared.design.Module.{Module}
 use Rattle.sv_meaning.specs.Faults.{Judged, fault, unknown_module}
 use Rattle.sv_meaning.specs.Layouts.{Name}
@@ -15,6 +16,7 @@ use Rattle.sv_hierarchy.specs.Scopes.{unused, module_named}
 use Rattle.sv_loops.specs.Answers.{Answers}
 use Rattle.sv_levels.specs.Library.{known_is}
 use Rattle.sv_levels.specs.declared.library.Known.{Known}
+use Rattle.sv_levels.specs.declared.tasks.Child.{Child}
 
 pub answers_memory : {A B : Type 0} (r : A → B → Type 0) (j : Judged A) → Answers r j (Err Memory)
 answers_memory r (Ok x) = tt

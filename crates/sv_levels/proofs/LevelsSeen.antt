@@ -5,7 +5,7 @@ use Rattle.std.proofs.Math.Seq.{take-nil}
 use Rattle.sv_names.specs.declared.names.Names.{Names}
 use Rattle.sv_names.specs.Kinds.{Entry, entry_is, entries_are}
 use Rattle.sv_names.specs.declared.names.Frame.{Frame}
-use Rattle.sv_names.specs.Names.{fronts, fronts_above, frames_of, above_of, loops_of, names_are}
+use Rattle.sv_names.specs.Names.{fronts, fronts_above, stack_of, frames_of, above_of, loops_of, names_are}
 use Rattle.sv_meaning.specs.Layouts.{scope_of, Entry as Named}
 use Rattle.sv_modules.proofs.Turns.{map_next}
 use Rattle.sv_hierarchy.specs.Scopes as m

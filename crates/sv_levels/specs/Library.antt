@@ -42,5 +42,5 @@ abbrev pub child_alone : m.Known → m.Child → m.State → Judged m.State
 child_alone k c st = do
   params ← connections (m.seen_at st.levels c.at) (m.open_params k.tree) c.params
   pins ← connections (m.seen_at st.levels c.at) (m.port_texts (m.ports_of k.tree)) c.pins
-  more ← m.count_instance k c st
+  more ← m.count_instance c st
   m.instance_walk false k.tree c.at pins (m.begun k c.path c.at.level (m.given_by c.at params) more)

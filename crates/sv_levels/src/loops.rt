@@ -41,20 +41,15 @@ pub fn is_loop_variable(names: &Names<'_>, header: bool, variable: &Word) -> boo
     }
 }
 
-/// The name of a loop's blocks, the values of its variable in all turns, and how much each of them counts.
+/// The name of a loop's blocks, and the values of its variable in all turns.
 pub struct Turns {
     pub name: Name,
     pub values: Items<Four>,
-    pub weight: u64,
 }
 
 impl Drop for Turns {
     fn drop(self) {
-        let Turns {
-            name: _,
-            values: _,
-            weight: _,
-        } = self;
+        let Turns { name: _, values: _ } = self;
     }
 }
 

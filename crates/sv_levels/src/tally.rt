@@ -1,5 +1,5 @@
 // How much a design has so far.
-ghost use Rattle.std.specs.Prelude.{◌≡◌, ◌+◌, ◌≤◌};
+ghost use Rattle.std.specs.Prelude.{◌≡◌, ◌+◌, ◌≤◌, suc};
 ghost use Rattle.sv_meaning.specs.Deeds.{turn_faults};
 ghost use Rattle.sv_meaning.specs.Faults.{provided};
 ghost use Rattle.sv_hierarchy.specs.Scopes.{size_faults};
@@ -9,10 +9,10 @@ use sv_loops::MOST_TURNS_TOGETHER;
 use sv_outside::{Place, TextErr};
 use sv_typing::refusal;
 
-/// The bits of all wires with what the instances below the top count, at most.
+/// The bits of all wires with the instances below the top, at most.
 const MOST_BITS: u64 = 1_048_576;
 
-/// The bits of all wires with the instances below the top count, and what the turns of generate loops count.
+/// The bits of all wires with the instances below the top, and the turns of generate loops.
 #[derive(Clone, Copy)]
 pub struct Tally {
     pub bits: u64,
@@ -29,7 +29,7 @@ impl Tally {
         Tally { bits: 0, turns: 0 }
     }
 
-    /// With so many bits more, or an instance that counts so much, or E22 at a place.
+    /// With so many bits more, or E22 at a place.
     pub fn with_bits(self, place: Place, more: u64) -> Result<Tally, TextErr>
         ensures { Answers (λ n t. (t.bits ≡ n) × (t.turns ≡ self.turns)) (provided (size_faults place (self.bits + more)) (self.bits + more)) result }
     {
@@ -43,17 +43,16 @@ impl Tally {
         })
     }
 
-    /// With one turn more, which counts so much, or E20 at a place.
-    pub fn with_turn(self, place: Place, weight: u64) -> Result<Tally, TextErr>
-        ensures { Answers (λ n t. (t.turns ≡ n) × (t.bits ≡ self.bits)) (provided (turn_faults place weight self.turns) (self.turns + weight)) result }
+    /// With one turn more, or E20 at a place.
+    pub fn with_turn(self, place: Place) -> Result<Tally, TextErr>
+        ensures { Answers (λ n t. (t.turns ≡ n) × (t.bits ≡ self.bits)) (provided (turn_faults place self.turns) (suc self.turns)) result }
     {
-        let turns = self.turns.saturating_add(weight);
-        if turns > MOST_TURNS_TOGETHER {
+        if self.turns >= MOST_TURNS_TOGETHER {
             return Err(TextErr::No(refusal(20, place)));
         }
         Ok(Tally {
             bits: self.bits,
-            turns,
+            turns: self.turns + 1,
         })
     }
 }

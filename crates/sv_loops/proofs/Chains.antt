@@ -1,5 +1,5 @@
 -- What follows from an answer for what is judged from it, and the turns of a loop one by one.
-use Rattle.std.proofs.Common.{◌≡◌, ℕ, ◌-◌, zero, suc, Bool, true, false, List, [], ◌∷◌, ◌++◌, Result, Ok, Err, refl, sym, ap, ◌∙◌, subst, append_assoc, if◌then◌else◌, arith}
+use Rattle.std.proofs.Common.{◌≡◌, ℕ, zero, suc, Bool, true, false, List, [], ◌∷◌, ◌++◌, Result, Ok, Err, refl, sym, ap, ◌∙◌, subst, append_assoc, if◌then◌else◌, arith}
 use Rattle.std.proofs.lemmas.List.{append-nil}
 use Rattle.fourvec.specs.declared.Bit.{Bit}
 use Rattle.sv_outside.specs.declared.refusal.Place.{Place}
@@ -9,7 +9,7 @@ use Rattle.sv_tree.specs.declared.exprs.Expr.{Expr}
 use Rattle.sv_tree.specs.declared.stmts.Step.{Step}
 use Rattle.sv_meaning.specs.Faults.{Judged, ◌>>=◌, fault, loop_long}
 use Rattle.sv_meaning.specs.Layouts.{Name, Scope}
-use Rattle.sv_meaning.specs.Deeds.{next_value, holds_at, with_index, turns_on, turns_from}
+use Rattle.sv_meaning.specs.Deeds.{next_value, holds_at, with_index, turns_on, turns_from, most_turns}
 use Rattle.sv_loops.specs.Answers.{Answers, Gives}
 
 pub gives_ok : {A : Type 0} (j : Judged A) (y : A) → Gives j (Ok y) → j ≡ Ok y
@@ -58,12 +58,10 @@ behind_none : (j : Judged (List (List Bit))) → j ≡ behind [] j
 behind_none (Ok rest) = refl
 behind_none (Err why) = refl
 
-pub turns_begin : (most : ℕ) (p : Place) (at : Scope) (name : Name) (test : Expr) (next : Step) (bits : List Bit) (taken : Bool) → Gives (holds_at at name test bits) (Ok taken) →
-    turns_from most p at name test next bits ≡ behind [] (if_taken taken (most - 0) p at name test next bits)
-turns_begin most p at name test next bits taken h =
-    let all : most ≡ most - 0 = omega arith in
-    ap (λ j. j >>= λ (t : Bool). if_taken t most p at name test next bits) (gives_ok (holds_at at name test bits) taken h) ∙ behind_none (if_taken taken most p at name test next bits)
-    ∙ ap (λ (n : ℕ). behind [] (if_taken taken n p at name test next bits)) all
+pub turns_begin : (p : Place) (at : Scope) (name : Name) (test : Expr) (next : Step) (bits : List Bit) (taken : Bool) → Gives (holds_at at name test bits) (Ok taken) →
+    turns_from most_turns p at name test next bits ≡ behind [] (if_taken taken 4096 p at name test next bits)
+turns_begin p at name test next bits taken h =
+    ap (λ j. j >>= λ (t : Bool). if_taken t 4096 p at name test next bits) (gives_ok (holds_at at name test bits) taken h) ∙ behind_none (if_taken taken 4096 p at name test next bits)
 
 pub is_taken : (j : Judged (List (List Bit))) (all : List (List Bit)) (taken : Bool) (n : ℕ) (p : Place) (at : Scope) (name : Name) (test : Expr) (next : Step) (bits : List Bit) → taken ≡ true →
     j ≡ behind all (if_taken taken n p at name test next bits) → j ≡ behind all (if_taken true n p at name test next bits)

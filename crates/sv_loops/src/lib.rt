@@ -7,9 +7,7 @@
 mod constants;
 mod runs;
 mod steps;
-mod weights;
 
 pub use constants::{condition, index_value};
 pub use runs::{MOST_TURNS_TOGETHER, enter, leave, turns};
 pub use steps::next_value;
-pub use weights::{generate_weight, instance_weight, loop_weight};

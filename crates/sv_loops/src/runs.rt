@@ -1,9 +1,9 @@
 // The turns of a loop, as the values that its variable has in them (IEEE 1800-2017, 12.7.1 and 27.4). For the condition and the
 // step the variable stands above the names of the place and is taken off at once, so that the names are as before on every way
 // out. Turns are listed before a body is looked at: they do not depend on it, since no statement assigns the variable.
-ghost use Rattle.std.specs.Prelude.{◌≡◌, ◌≤◌, ◌∷◌, [], ◌++◌, List, length, IfOk, IfErr, OnOk, OnErr};
+ghost use Rattle.std.specs.Prelude.{◌≡◌, ◌∷◌, [], ◌++◌, List, length, IfOk, IfErr, OnOk, OnErr};
 ghost use Rattle.sv_outside.specs.declared.refusal.TextErr.TheVariants.{Memory};
-ghost use Rattle.sv_meaning.specs.Deeds.{turns, turns_allowed, turns_from, holds_at, next_value, with_index};
+ghost use Rattle.sv_meaning.specs.Deeds.{turns, turns_from, holds_at, next_value, with_index, most_turns};
 ghost use Rattle.sv_names.specs.Kinds.{Entry};
 ghost use Rattle.sv_names.specs.Names.{constants_are, stack_of, loops_of};
 ghost use Rattle.sv_loops.specs.Answers.{Gives};
@@ -20,9 +20,9 @@ use sv_tree::{Expr, Step, Word};
 use sv_typing::refusal;
 
 /// How many turns a loop has at most.
-const MOST_TURNS: u64 = 4096;
+const MOST_TURNS: usize = 4096;
 
-/// How much the turns of all loops of a design count together at most (this tool's rule).
+/// How many turns all loops of a design have together at most (this tool's rule).
 pub const MOST_TURNS_TOGETHER: u64 = 1_000_000;
 
 /// Enters a loop, whose variable has these bits. Where memory is out, nothing changes.
@@ -90,19 +90,10 @@ fn following(
     value
 }
 
-// How many turns a loop may have, each of which counts so much.
-fn turns_allowed(weight: u64) -> u64
-    requires { 1 ≤ weight }
-    ensures { result ≡ turns_allowed weight }
-{
-    MOST_TURNS.min(MOST_TURNS_TOGETHER / weight)
-}
-
-// The values of the variable in all turns, from its first value on: at most so many.
+// The values of the variable in all turns, from its first value on.
 fn turns_from(
     alloc: Global,
     place: Place,
-    most: u64,
     names: &mut Names<'_>,
     variable: &Word,
     first: Four,
@@ -110,7 +101,7 @@ fn turns_from(
     next: &Step,
 ) -> Result<Items<Four>, TextErr>
     requires { length first ≡ 32 }
-    ensures is { Gives (turns_from most place (constants_are names.old) variable.now.text test.now next.now first) result }
+    ensures is { Gives (turns_from most_turns place (constants_are names.old) variable.now.text test.now next.now first) result }
     ensures loops { loops_of names.new ≡ loops_of names.old }
     ensures frames { stack_of names.new ≡ stack_of names.old }
 {
@@ -118,7 +109,7 @@ fn turns_from(
     let mut bits = first;
     let mut taken = holds_at(alloc, names, variable, bits, test)?;
     'turns: while taken {
-        if values.len() as u64 == most {
+        if values.len() == MOST_TURNS {
             return Err(TextErr::No(refusal(20, place)));
         }
         values.push(bits)?;
@@ -129,33 +120,22 @@ fn turns_from(
     Ok(values)
 }
 
-/// The values of the variable in all turns of the loop at a place, each of which counts so much, 32 bits each, in order; or why the
-/// loop is refused: E20 at its place where it has more than 4,096 turns or they count more than 1,000,000, or E2, E12, E14, E15, E16,
-/// E23 or E25 (12.7.1, 27.4). The names are afterwards what they were before.
+/// The values of the variable in all turns of the loop at a place, 32 bits each, in order; or why the loop is refused: E20
+/// at its place where it has more than 4,096 turns, or E2, E12, E14, E15, E16, E23 or E25 (12.7.1, 27.4). The names are
+/// afterwards what they were before.
 pub fn turns(
     alloc: Global,
     place: Place,
-    weight: u64,
     names: &mut Names<'_>,
     variable: &Word,
     start: &Expr,
     test: &Expr,
     next: &Step,
 ) -> Result<Items<Four>, TextErr>
-    requires { 1 ≤ weight }
-    ensures is { Gives (turns place weight (constants_are names.old) variable.now.text start.now test.now next.now) result }
+    ensures is { Gives (turns place (constants_are names.old) variable.now.text start.now test.now next.now) result }
     ensures loops { loops_of names.new ≡ loops_of names.old }
     ensures frames { stack_of names.new ≡ stack_of names.old }
 {
     let first = index_value(alloc, start, names)?;
-    turns_from(
-        alloc,
-        place,
-        turns_allowed(weight),
-        names,
-        variable,
-        first,
-        test,
-        next,
-    )
+    turns_from(alloc, place, names, variable, first, test, next)
 }

@@ -8,7 +8,6 @@ pub mod Leasts
 pub mod Overriding
 pub mod Finding
 pub mod OnTrees
-pub mod Weighing
 pub mod Trees
 mod ExprRows
 mod FeedRows

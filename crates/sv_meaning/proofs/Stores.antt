@@ -21,7 +21,6 @@ use Rattle.sv_meaning.specs.Meanings.{Meaning, free_faults, own, assigned, truth
 use Rattle.sv_meaning.specs.Values.{mean, step}
 use Rattle.settling.specs.Settling.{Store}
 use Rattle.sv_meaning.specs.Targets.{Target, target_of, targets, targets_of, lvalue_faults, widths as widths_of, put_at, put, with_wire, write, write_all}
-use Rattle.sv_meaning.specs.Weights.{loop_weight}
 use Rattle.sv_meaning.specs.Deeds.{Deed, deed, deed_else, deeds, arms, after, merged, either, assign, CaseArm, longest, all_signed, same_value, mask, matches, case_chain, labels_of, case_of, in_turn, in_turns, with_index, one_turn, turns, is_casez}
 use Rattle.settling.specs.Least.{Under}
 use Rattle.sv_meaning.proofs.Good.{Rises, Good, own_rises}
@@ -188,14 +187,14 @@ good-chain z w s x g k (a ∷ more) e other h =
     good-either (λ read. first (matches z w s x read a.labels)) a.body (case_chain z w s x more other)
     (λ r t i. order.first_below _ _ (matches-rise z w s x g k a.labels e.0 r t i)) e.1 (good-chain z w s x g k more e.2 other h)
 
-good-turns : (p : Place) (w : ℕ) (body : List Bit → Deed) → ((bits : List Bit) → GoodDeed (body bits)) → (all : List (List Bit)) → GoodDeed (in_turn p w body all)
+good-turns : (p : Place) (body : List Bit → Deed) → ((bits : List Bit) → GoodDeed (body bits)) → (all : List (List Bit)) → GoodDeed (in_turn p body all)
 unfolding in_turn
-good-turns p w body g [] f e l s t u = u
-good-turns p w body g (bits ∷ more) f e l s t u = good-after (one_turn p w (body bits)) (in_turn p w body more) (g bits) (good-turns p w body g more) f e l s t u
+good-turns p body g [] f e l s t u = u
+good-turns p body g (bits ∷ more) f e l s t u = good-after (one_turn p (body bits)) (in_turn p body more) (g bits) (good-turns p body g more) f e l s t u
 
-good-in_turns : (p : Place) (w : ℕ) (body : List Bit → Deed) → ((bits : List Bit) → GoodDeed (body bits)) → (all : Judged (List (List Bit))) → GoodDeed (in_turns p w body all)
-good-in_turns p w body g (Err why) f e l s t u = u
-good-in_turns p w body g (Ok all) f e l s t u = good-turns p w body g all f e l s t u
+good-in_turns : (p : Place) (body : List Bit → Deed) → ((bits : List Bit) → GoodDeed (body bits)) → (all : Judged (List (List Bit))) → GoodDeed (in_turns p body all)
+good-in_turns p body g (Err why) f e l s t u = u
+good-in_turns p body g (Ok all) f e l s t u = good-turns p body g all f e l s t u
 
 -- ---- all statements
 
@@ -242,8 +241,7 @@ mutual
       good-either (truth (mean at c)) (deed x at) (deed_else other at) (truth-rises (mean at c) (good at c)) (good-deed x at) (good-deed_else other at)
   good-deed (Case' u word x s all) at = good-case (is_casez word) (mean at x) (arms all at).0 (arms all at).1 (good at x) (good-arms all at).0 (good-arms all at).1
   good-deed (For' p form name start test next r (more_of-Stmt body end_of-Stmt)) at =
-      good-in_turns p (loop_weight name start test next body) (λ bits. deed body (with_index at name.text bits)) (λ bits. good-deed body (with_index at name.text bits))
-      (turns p (loop_weight name start test next body) (constant_scope at) name.text start test next)
+      good-in_turns p (λ bits. deed body (with_index at name.text bits)) (λ bits. good-deed body (with_index at name.text bits)) (turns p (constant_scope at) name.text start test next)
   good-deed (Assign to mark p x) at = good-assign (targets at at to) (lvalue_faults free_faults at at to) (mean at x) (good-targets at at to) (good at x)
 
   pub good-deed_else : (x : Held-Stmt-If-3) (at : Scope) → GoodDeed (deed_else x at)

@@ -1,5 +1,5 @@
 -- What statements do to the store of a block, by cases on their trees.
-use Rattle.std.specs.Prelude.{ℕ, zero, suc, ◌+◌, ◌/◌, min, max, Bool, true, false, ◌&&◌, nat_lt, List, [], ◌∷◌, ◌++◌, map, Option, Some, Ok, Err, if◌then◌else◌}
+use Rattle.std.specs.Prelude.{ℕ, zero, suc, ◌+◌, max, Bool, true, false, ◌&&◌, nat_le, List, [], ◌∷◌, ◌++◌, map, Option, Some, Ok, Err, if◌then◌else◌}
 use mathlib.Core.Former.{Count}
 use Rattle.fourvec.specs.declared.Bit.{Bit}
 use Rattle.fourvec.specs.declared.Bit.TheVariants.{Zero, One, Floating}
@@ -26,7 +26,6 @@ use Rattle.sv_meaning.specs.Values.{mean, binary_meaning}
 use Rattle.sv_meaning.specs.Params.{converted_faults}
 use Rattle.lhs_alias.specs.declared.segs.WireBit.{WireBit}
 use Rattle.settling.specs.Settling.{Store}
-use Rattle.sv_meaning.specs.Weights.{loop_weight}
 use Rattle.sv_meaning.specs.Targets.{Target, targets, lvalue_faults, widths, bits_named, write_all}
 
 -- ---- loops over a signed constant of 32 bits, IEEE 1800-2017 sections 12.7.1 and 27.4
@@ -81,23 +80,19 @@ abbrev pub turns_from : ℕ → Place → Scope → Name → Expr → LoopStep �
 turns_from fuel p at name test next bits =
     holds_at at name test bits >>= λ taken. if taken then turns_on fuel p at name test next bits else Ok []
 
--- a loop has at most so many turns, and all turns of a design together count at most so much (this project's bounds)
+-- a loop has at most so many turns, and all loops of a design together so many (this project's bounds)
 abbrev pub most_turns : ℕ
 most_turns = 4096
 
 abbrev pub most_turns_together : ℕ
 most_turns_together = 1000000
 
--- where a turn begins that counts so much, behind turns that count so much
-abbrev pub turn_faults : Place → ℕ → ℕ → Faults
-turn_faults p w made = fault_if (nat_lt most_turns_together (made + w)) loop_long p
+-- where a turn begins after so many turns
+abbrev pub turn_faults : Place → ℕ → Faults
+turn_faults p made = fault_if (nat_le most_turns_together made) loop_long p
 
--- how many turns a loop may have, each of which counts so much
-abbrev pub turns_allowed : ℕ → ℕ
-turns_allowed w = min most_turns (most_turns_together / w)
-
-abbrev pub turns : Place → ℕ → Scope → Name → Expr → Expr → LoopStep → Judged (List (List Bit))
-turns p w at name start test next = index_value (mean at start) >>= turns_from (turns_allowed w) p at name test next
+abbrev pub turns : Place → Scope → Name → Expr → Expr → LoopStep → Judged (List (List Bit))
+turns p at name start test next = index_value (mean at start) >>= turns_from most_turns p at name test next
 
 -- ---- what a statement does
 
@@ -107,7 +102,7 @@ pub record Deed : Type 0 where
   pub targets : List WireBit
   pub names : List NamedSignal
   pub faults : Faults
-  -- what the turns of its loops count, and what stands against them behind turns that count so much
+  -- the turns of its loops, and what stands against them where so many were made before
   pub turns : ℕ
   pub overrun : ℕ → Faults
 
@@ -220,17 +215,17 @@ case_of z x arms =
 
 -- ---- turns
 
--- a turn of the loop at a place, which counts so much
-abbrev pub one_turn : Place → ℕ → Deed → Deed
-one_turn p w a = record a { turns = w + a.turns; overrun = λ made. or_then (turn_faults p w made) (a.overrun (made + w)) }
+-- a turn of the loop at a place
+abbrev pub one_turn : Place → Deed → Deed
+one_turn p a = record a { turns = suc a.turns; overrun = λ made. or_then (turn_faults p made) (a.overrun (suc made)) }
 
-unfoldable pub in_turn : Place → ℕ → (List Bit → Deed) → List (List Bit) → Deed
-in_turn p w body [] = idle
-in_turn p w body (bits ∷ more) = after (one_turn p w (body bits)) (in_turn p w body more)
+unfoldable pub in_turn : Place → (List Bit → Deed) → List (List Bit) → Deed
+in_turn p body [] = idle
+in_turn p body (bits ∷ more) = after (one_turn p (body bits)) (in_turn p body more)
 
-abbrev pub in_turns : Place → ℕ → (List Bit → Deed) → Judged (List (List Bit)) → Deed
-in_turns p w body (Err all) = impossible all
-in_turns p w body (Ok all) = in_turn p w body all
+abbrev pub in_turns : Place → (List Bit → Deed) → Judged (List (List Bit)) → Deed
+in_turns p body (Err all) = impossible all
+in_turns p body (Ok all) = in_turn p body all
 
 abbrev pub is_casez : CaseWord → Bool
 is_casez case_word.Case = false
@@ -246,8 +241,7 @@ unfoldable mutual
   deed (If' u c r (more_of-Stmt x end_of-Stmt) other) at = if_else (mean at c) (deed x at) (deed_else other at)
   deed (Case' u word x s all) at = case_of (is_casez word) (mean at x) (arms all at)
   deed (For' p form name start test next r (more_of-Stmt body end_of-Stmt)) at =
-      in_turns p (loop_weight name start test next body) (λ bits. deed body (with_index at name.text bits))
-      (turns p (loop_weight name start test next body) (constant_scope at) name.text start test next)
+      in_turns p (λ bits. deed body (with_index at name.text bits)) (turns p (constant_scope at) name.text start test next)
   deed (Assign to mark p x) at = assign (targets at at to) (lvalue_faults free_faults at at to) (mean at x)
 
   pub deed_else : Held-Stmt-If-3 → Scope → Deed

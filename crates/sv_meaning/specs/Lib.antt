@@ -7,7 +7,6 @@ pub mod Values
 pub mod Forms
 pub mod Params
 pub mod Targets
-pub mod Weights
 pub mod Deeds
 pub mod Blocks
 pub mod Designs

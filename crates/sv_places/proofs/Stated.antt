@@ -31,8 +31,7 @@ use Rattle.sv_meaning.specs.Meanings.{Meaning, fixed_faults, free_faults, Step, 
 use Rattle.sv_meaning.specs.Values.{mean, step, steps}
 use Rattle.sv_meaning.specs.Params.{converted_faults}
 use Rattle.sv_meaning.specs.Targets.{Target, target_faults, targets, lvalue_faults, all_lvalue_faults}
-use Rattle.sv_meaning.specs.Weights.{loop_weight}
-use Rattle.sv_meaning.specs.Deeds.{index_value, stepped, next_value, fixed_truth, with_index, holds_at, turns_on, turns_from, turns_allowed, turns, Deed, after, together, either, needing, if_else, assign, CaseArm, all_faults, matches, case_chain, labels_of, needing_all, case_of, one_turn, in_turn, in_turns, is_casez, deed, deed_else, deeds, arms}
+use Rattle.sv_meaning.specs.Deeds.{index_value, stepped, next_value, fixed_truth, with_index, holds_at, turns_on, turns_from, most_turns, turns, Deed, after, together, either, needing, if_else, assign, CaseArm, all_faults, matches, case_chain, labels_of, needing_all, case_of, one_turn, in_turn, in_turns, is_casez, deed, deed_else, deeds, arms}
 use Rattle.sv_meaning.specs.Blocks.{marks, marks_else, marks_of, marks_arms, block_mark, clock_faults, events_faults, kind_events, event_faults, block_faults}
 use Rattle.sv_meaning.specs.Designs.{Work, assignment, block, port, part_faults, all_part_faults, index_scope, is_joined, port_faults, work_faults, work_turns, faults_from}
 use Rattle.settling.specs.Settling.{Store}
@@ -123,11 +122,11 @@ module _ (P : Place → Type 0) where
   turns_from_in fuel p at name test next bits q h k =
       bind_in P Any Any (holds_at at name test bits) _ (holds_in at name test bits h) (λ taken v. if_in taken _ _ (turns_on_in fuel p at name test next bits q h k) tt)
 
-  pub turns_in : (p : Place) (w : ℕ) (at : Scope) (name : Name) (start test : Expr) (next : LoopStep)
-      → P p → InExpr P start → InExpr P test → InStep P next → JudgedIn P Any (turns p w at name start test next)
-  turns_in p w at name start test next q l h k =
-      bind_in P Any Any (index_value (mean at start)) (turns_from (turns_allowed w) p at name test next) (index_in (mean at start) (mean_in P at start l))
-      (λ bits u. turns_from_in (turns_allowed w) p at name test next bits q h k)
+  pub turns_in : (p : Place) (at : Scope) (name : Name) (start test : Expr) (next : LoopStep)
+      → P p → InExpr P start → InExpr P test → InStep P next → JudgedIn P Any (turns p at name start test next)
+  turns_in p at name start test next q l h k =
+      bind_in P Any Any (index_value (mean at start)) (turns_from most_turns p at name test next) (index_in (mean at start) (mean_in P at start l))
+      (λ bits u. turns_from_in most_turns p at name test next bits q h k)
 
   -- ---- statements
 
@@ -169,17 +168,17 @@ module _ (P : Place → Type 0) where
       let chain = chain_in z _ _ x all other h k in
       (told_append P (all_faults (x ∷ labels_of all)) _ (all_free (x ∷ labels_of all) (g, labels_in all h)) chain.0, chain.1)
 
-  one_turn_in : (p : Place) (w : ℕ) (a : Deed) → P p → DeedIn P a → DeedIn P (one_turn p w a)
-  one_turn_in p w a q h = (h.0, λ made. told_then P _ (a.overrun (made + w)) (told_if P _ loop_long p q) (h.1 (made + w)))
+  one_turn_in : (p : Place) (a : Deed) → P p → DeedIn P a → DeedIn P (one_turn p a)
+  one_turn_in p a q h = (h.0, λ made. told_then P _ (a.overrun (suc made)) (told_if P _ loop_long p q) (h.1 (suc made)))
 
-  in_turn_in : (p : Place) (w : ℕ) (body : List Bit → Deed) (all : List (List Bit)) → P p → ((bits : List Bit) → DeedIn P (body bits)) → DeedIn P (in_turn p w body all)
+  in_turn_in : (p : Place) (body : List Bit → Deed) (all : List (List Bit)) → P p → ((bits : List Bit) → DeedIn P (body bits)) → DeedIn P (in_turn p body all)
   unfolding in_turn
-  in_turn_in p w body [] q h = idle_in
-  in_turn_in p w body (bits ∷ more) q h = after_in (one_turn p w (body bits)) (in_turn p w body more) (one_turn_in p w (body bits) q (h bits)) (in_turn_in p w body more q h)
+  in_turn_in p body [] q h = idle_in
+  in_turn_in p body (bits ∷ more) q h = after_in (one_turn p (body bits)) (in_turn p body more) (one_turn_in p (body bits) q (h bits)) (in_turn_in p body more q h)
 
-  in_turns_in : (p : Place) (w : ℕ) (body : List Bit → Deed) (all : Judged (List (List Bit))) → P p → ((bits : List Bit) → DeedIn P (body bits)) → JudgedIn P Any all → DeedIn P (in_turns p w body all)
-  in_turns_in p w body (Err all) q h k = (k, λ made. tt)
-  in_turns_in p w body (Ok all) q h k = in_turn_in p w body all q h
+  in_turns_in : (p : Place) (body : List Bit → Deed) (all : Judged (List (List Bit))) → P p → ((bits : List Bit) → DeedIn P (body bits)) → JudgedIn P Any all → DeedIn P (in_turns p body all)
+  in_turns_in p body (Err all) q h k = (k, λ made. tt)
+  in_turns_in p body (Ok all) q h k = in_turn_in p body all q h
 
   means_in : (at : Scope) (all : List Expr) → Each (InExpr P) all → Each (MeaningIn P) (map (mean at) all)
   means_in at [] h = tt
@@ -197,8 +196,8 @@ module _ (P : Place → Type 0) where
         let found = arms_in all at h.1 in
         case_in (is_casez word) (mean at x) (arms all at).0 (arms all at).1 (mean_in P at x h.0) found.0 found.1
     deed_in (For' p form name start test next r (more_of-Stmt body end_of-Stmt)) at h =
-        in_turns_in p (loop_weight name start test next body) (λ bits. deed body (with_index at name.text bits)) (turns p (loop_weight name start test next body) (constant_scope at) name.text start test next) h.0
-        (λ bits. deed_in body (with_index at name.text bits) h.5) (turns_in p (loop_weight name start test next body) (constant_scope at) name.text start test next h.0 h.2 h.3 h.4)
+        in_turns_in p (λ bits. deed body (with_index at name.text bits)) (turns p (constant_scope at) name.text start test next) h.0
+        (λ bits. deed_in body (with_index at name.text bits) h.5) (turns_in p (constant_scope at) name.text start test next h.0 h.2 h.3 h.4)
     deed_in (Assign to mark p x) at h = assign_in (targets at at to) (lvalue_faults free_faults at at to) (mean at x) (lvalue_told free_faults at at to free_in h.0) (mean_in P at x h.2)
 
     else_in : (x : Held-Stmt-If-3) (at : Scope) → InElse P x → DeedIn P (deed_else x at)

@@ -33,7 +33,6 @@ use Rattle.sv_meaning.specs.Faults.{Judged, provided, ◌>>=◌, fault_if, twice
 use Rattle.sv_meaning.specs.Layouts.{Name, Entry, Layout, scalar, width, Scope, What, type_is, genvar_is, find}
 use Rattle.sv_meaning.specs.Forms.{Declared, entry_of, form}
 use Rattle.sv_meaning.specs.Values.{mean}
-use Rattle.sv_meaning.specs.Weights.{generate_weight}
 use Rattle.sv_meaning.specs.Deeds.{index_entry, turns, turn_faults, fixed_truth}
 use Rattle.sv_meaning.specs.Designs.{Design, design_faults}
 use Rattle.sv_meaning.specs.Params.{Connection, connections, ParamKind, kept, param_kind, value_as}
@@ -239,12 +238,12 @@ module _ (P : Place → Type 0) where
       bind_in P (StateIn P) (StateIn P) (declare_at (block_place label p) (block_name label n) st) _
       (declare_at_in (block_place label p) (block_name label n) (place_in label p h q) st i) (enclosed_in (block_name label n) [] body tt k)
 
-  count_in : (p : Place) (w : ℕ) → P p → WalkIn P (count_turn p w)
-  count_in p w h st i = provided_in P (StateIn P) (turn_faults p w st.turns) _ (told_if P _ loop_long p h) i
+  count_in : (p : Place) → P p → WalkIn P (count_turn p)
+  count_in p h st i = provided_in P (StateIn P) (turn_faults p st.turns) _ (told_if P _ loop_long p h) i
 
-  turn_in : (p : Place) (w : ℕ) (g v : Name) (body : Walk) (bits : List Bit) → P p → WalkIn P body → WalkIn P (turn_walk p w g v body bits)
-  turn_in p w g v body bits h k st i =
-      bind_in P (StateIn P) (StateIn P) (count_turn p w st) _ (count_in p w h st i) (enclosed_in (turn_name g bits) (index_entry v bits ∷ []) body (tt, tt) k)
+  turn_in : (p : Place) (g v : Name) (body : Walk) (bits : List Bit) → P p → WalkIn P body → WalkIn P (turn_walk p g v body bits)
+  turn_in p g v body bits h k st i =
+      bind_in P (StateIn P) (StateIn P) (count_turn p st) _ (count_in p h st i) (enclosed_in (turn_name g bits) (index_entry v bits ∷ []) body (tt, tt) k)
 
   each_any : {A : Type 0} (all : List A) → Each Any all
   each_any [] = tt
@@ -255,7 +254,7 @@ module _ (P : Place → Type 0) where
   turns_walk_in b v n (x ∷ more) h st i =
       bind_in P (StateIn P) (StateIn P) (declare_at (block_place b.label b.start) (block_name b.label n) st) _
       (declare_at_in (block_place b.label b.start) (block_name b.label n) (place_in b.label b.start h.1 h.2) st i)
-      (all_in Any (turn_walk b.loop b.weight (block_name b.label n) v b.items) (λ bits u. turn_in b.loop b.weight (block_name b.label n) v b.items bits h.0 h.3) (x ∷ more) (each_any (x ∷ more)))
+      (all_in Any (turn_walk b.loop (block_name b.label n) v b.items) (λ bits u. turn_in b.loop (block_name b.label n) v b.items bits h.0 h.3) (x ∷ more) (each_any (x ∷ more)))
 
   genvar_told : (header : Bool) (w : Word) (x : Option What) → InWord P w → Told P (genvar_faults header w x)
   genvar_told true w x h = tt
@@ -299,9 +298,9 @@ module _ (P : Place → Type 0) where
     act_in (Generate' s all) h = act_of_in _ (acts_in all h)
     act_in (For' p header v start test next r (more_of-Gen x end_of-Gen)) h =
         let b = under_in x h.5 in
-        act_of_in _ (numbered_in (loop_walk header v (body_of p (generate_weight v start test next x) (under x)) (λ at. turns p (generate_weight v start test next x) at v.text start test next))
-        (λ n. loop_in header v (body_of p (generate_weight v start test next x) (under x)) (λ at. turns p (generate_weight v start test next x) at v.text start test next) n h.1 (h.0, b.0, b.1, b.2)
-        (λ at. turns_in P p (generate_weight v start test next x) at v.text start test next h.0 h.2 h.3 h.4)))
+        act_of_in _ (numbered_in (loop_walk header v (body_of p (under x)) (λ at. turns p at v.text start test next))
+        (λ n. loop_in header v (body_of p (under x)) (λ at. turns p at v.text start test next) n h.1 (h.0, b.0, b.1, b.2)
+        (λ at. turns_in P p at v.text start test next h.0 h.2 h.3 h.4)))
     act_in (If' p c r (more_of-Gen x end_of-Gen) other) h =
         let one : (n : ℕ) → WalkIn P (conditional c (under x) (under_else other) n) = λ n. conditional_in c (under x) (under_else other) n h.1 (under_in x h.2) (else_in other n h.3) in
         (numbered_in (conditional c (under x) (under_else other)) one, λ q k n. one n)
@@ -407,8 +406,8 @@ module _ (P : Place → Type 0) where
       go None e l = rw e (k.0, tt)
       go (Some m) e l = rw e l
 
-  instances_in : (m : Known) (c : Child) → ChildIn P c → WalkIn P (count_instance m c)
-  instances_in m c h st i = provided_in P (StateIn P) _ _ (told_if P _ too_many_bits c.name.place h.1) i
+  instances_in : (c : Child) → ChildIn P c → WalkIn P (count_instance c)
+  instances_in c h st i = provided_in P (StateIn P) _ _ (told_if P _ too_many_bits c.name.place h.1) i
 
   below_in : (f : Child → Walk) → ((c : Child) → ChildIn P c → WalkIn P (f c)) → WalkIn P (below f)
   below_in f k st i = all_in (ChildIn P) f k st.children i.2 (record st { children = [] }) (i.0, i.1, tt, i.3)
@@ -420,7 +419,7 @@ module _ (P : Place → Type 0) where
       bind_in P (KnownIn P) (StateIn P) (module_of all c) _ (module_in all c h k)
       (λ m own. bind_in P (Each (ConnectionIn P)) (StateIn P) (connections (seen_at st.levels c.at) (open_params m.tree) c.params) _ (connections_in P (seen_at st.levels c.at) (open_params m.tree) c.params k.2)
       (λ params a. bind_in P (Each (ConnectionIn P)) (StateIn P) (connections (seen_at st.levels c.at) (port_texts (ports_of m.tree)) c.pins) _ (connections_in P (seen_at st.levels c.at) (port_texts (ports_of m.tree)) c.pins k.3)
-      (λ pins b. bind_in P (StateIn P) (StateIn P) (count_instance m c st) _ (instances_in m c k st i)
+      (λ pins b. bind_in P (StateIn P) (StateIn P) (count_instance c st) _ (instances_in c k st i)
       (λ more d. bind_in P (StateIn P) (StateIn P) (instance_walk false m.tree c.at pins (begun m c.path c.at.level (given_by c.at params) more)) _
       (instance_in false m.tree c.at pins own b (begun m c.path c.at.level (given_by c.at params) more) (given_by_in c.at params a, d.1, tt, each_push (LevelIn P) more.levels _ d.3 (tt, tt)))
       (λ opened e. bind_in P (StateIn P) (StateIn P) (below (child deep all) opened) _ (below_in (child deep all) (λ x l. child_in deep all x h l) opened e)

@@ -17,7 +17,6 @@ use Rattle.sv_meaning.specs.Layouts as m
 use Rattle.sv_meaning.specs.Meanings.{Meaning, all_indices, indices}
 use Rattle.sv_meaning.specs.Values.{mean, step}
 use Rattle.sv_meaning.specs.Targets.{Target, target_of, targets, targets_of}
-use Rattle.sv_meaning.specs.Weights.{loop_weight}
 use Rattle.sv_meaning.specs.Deeds.{Deed, deed, deed_else, deeds, arms, with_index, in_turns, in_turn, turns, target_names, CaseArm, labels_of, all_names, case_chain, is_casez}
 use Rattle.sv_meaning.proofs.Declaring.{names-declared}
 use Rattle.sv_tree.specs.declared.exprs.RangeMark.TheVariants as mark
@@ -133,14 +132,14 @@ chain_names at z w s x (a ∷ more) other h g = two at a.body.names (case_chain 
 
 -- ---- turns
 
-in_turn_names : (at : Scope) (p : Place) (w : ℕ) (body : List Bit → Deed) (all : List (List Bit)) → ((bits : List Bit) → AreDeclared at (body bits).names) → AreDeclared at (in_turn p w body all).names
+in_turn_names : (at : Scope) (p : Place) (body : List Bit → Deed) (all : List (List Bit)) → ((bits : List Bit) → AreDeclared at (body bits).names) → AreDeclared at (in_turn p body all).names
 unfolding in_turn
-in_turn_names at p w body [] h = none at
-in_turn_names at p w body (bits ∷ more) h = two at (body bits).names (in_turn p w body more).names (h bits) (in_turn_names at p w body more h)
+in_turn_names at p body [] h = none at
+in_turn_names at p body (bits ∷ more) h = two at (body bits).names (in_turn p body more).names (h bits) (in_turn_names at p body more h)
 
-in_turns_names : (at : Scope) (p : Place) (w : ℕ) (body : List Bit → Deed) (j : Judged (List (List Bit))) → ((bits : List Bit) → AreDeclared at (body bits).names) → AreDeclared at (in_turns p w body j).names
-in_turns_names at p w body (Err all) h = none at
-in_turns_names at p w body (Ok all) h = in_turn_names at p w body all h
+in_turns_names : (at : Scope) (p : Place) (body : List Bit → Deed) (j : Judged (List (List Bit))) → ((bits : List Bit) → AreDeclared at (body bits).names) → AreDeclared at (in_turns p body j).names
+in_turns_names at p body (Err all) h = none at
+in_turns_names at p body (Ok all) h = in_turn_names at p body all h
 
 -- ---- statements
 
@@ -158,7 +157,7 @@ mutual
       two at ((mean at x).names ++ all_names (labels_of (arms all at).0)) _ (two at (mean at x).names (all_names (labels_of (arms all at).0)) (names-declared at x) (labels_names at (labels_of (arms all at).0) (arms_labels at (arms all at).0 each.0)))
       (chain_names at (is_casez word) _ _ (mean at x) (arms all at).0 (arms all at).1 each.0 each.1)
   deed_declared at (For' p form name start test next r (more_of-Stmt body end_of-Stmt)) =
-      in_turns_names at p (loop_weight name start test next body) (λ bits. deed body (with_index at name.text bits)) (turns p (loop_weight name start test next body) (constant_scope at) name.text start test next) (λ bits s h. index_only at name.text bits s (deed_declared (with_index at name.text bits) body s h))
+      in_turns_names at p (λ bits. deed body (with_index at name.text bits)) (turns p (constant_scope at) name.text start test next) (λ bits s h. index_only at name.text bits s (deed_declared (with_index at name.text bits) body s h))
   deed_declared at (Assign to mark p x) = two at (mean at x).names (target_names (targets at at to)) (names-declared at x) (lvalue_names at to)
 
   else_declared : (at : Scope) (x : Held-Stmt-If-3) → AreDeclared at (deed_else x at).names

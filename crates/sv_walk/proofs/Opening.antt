@@ -15,7 +15,6 @@ use Rattle.sv_meaning.specs.Faults.{Faults, Judged, ◌>>=◌, provided, fault, 
 use Rattle.sv_meaning.specs.Layouts.{Name, scalar}
 use Rattle.sv_meaning.specs.Names.{has_name}
 use Rattle.sv_meaning.specs.Params.{Connection, connections, kept}
-use Rattle.sv_meaning.specs.Weights.{instance_weight}
 use Rattle.sv_hierarchy.specs.Scopes as m
 use Rattle.sv_hierarchy.specs.Scopes.{walk_all, child}
 use Rattle.sv_loops.specs.Answers.{Answers}
@@ -120,7 +119,7 @@ three (Ok a) (Err why) l w g = refl
 three (Err why) k l w g = refl
 
 child_is_deep : (n : ℕ) (all : m.Library) (c : m.Child) (st : m.State) → m.child (suc n) all c st ≡ (m.module_of all c >>= λ k. connections (m.seen_at st.levels c.at) (m.open_params k.tree) c.params >>= λ params.
-    connections (m.seen_at st.levels c.at) (m.port_texts (m.ports_of k.tree)) c.pins >>= λ pins. m.count_instance k c st >>= λ more.
+    connections (m.seen_at st.levels c.at) (m.port_texts (m.ports_of k.tree)) c.pins >>= λ pins. m.count_instance c st >>= λ more.
     m.instance_walk false k.tree c.at pins (m.begun k c.path c.at.level (m.given_by c.at params) more) >>= λ own. m.below (m.child n all) own >>= λ last. Ok (m.outer st last))
 unfolding child
 child_is_deep n all c st = refl
@@ -130,9 +129,9 @@ pub child_at : (deep n : ℕ) (all : m.Library) (c : m.Child) (st : m.State) (k 
 child_at deep n all c st k e f =
     ap (λ (d : ℕ). m.child d all c st) e ∙ child_is_deep n all c st
     ∙ ap (λ (j : Judged m.Known). j >>= λ x. connections (m.seen_at st.levels c.at) (m.open_params x.tree) c.params >>= λ params.
-    connections (m.seen_at st.levels c.at) (m.port_texts (m.ports_of x.tree)) c.pins >>= λ pins. m.count_instance x c st >>= λ more.
+    connections (m.seen_at st.levels c.at) (m.port_texts (m.ports_of x.tree)) c.pins >>= λ pins. m.count_instance c st >>= λ more.
     m.instance_walk false x.tree c.at pins (m.begun x c.path c.at.level (m.given_by c.at params) more) >>= λ own. m.below (m.child n all) own >>= λ last. Ok (m.outer st last)) f
-    ∙ three (connections (m.seen_at st.levels c.at) (m.open_params k.tree) c.params) (connections (m.seen_at st.levels c.at) (m.port_texts (m.ports_of k.tree)) c.pins) (m.count_instance k c st)
+    ∙ three (connections (m.seen_at st.levels c.at) (m.open_params k.tree) c.params) (connections (m.seen_at st.levels c.at) (m.port_texts (m.ports_of k.tree)) c.pins) (m.count_instance c st)
     (λ params pins more. m.instance_walk false k.tree c.at pins (m.begun k c.path c.at.level (m.given_by c.at params) more)) (λ own. m.below (m.child n all) own >>= λ last. Ok (m.outer st last))
 
 pub child_too_deep : (deep : ℕ) (all : m.Library) (c : m.Child) (st : m.State) → deep ≡ zero → m.child deep all c st ≡ Err (fault instance_deep c.name.place)
@@ -162,9 +161,9 @@ no_wiring s k c st q e h g =
     (subst (λ (j : Judged m.State). Answers Reached j (Err e)) (sym (alone_is k c st)) (refused_first IsWiring Reached (wiring (m.seen_at st.levels c.at) k.tree c) (behind_wiring k c st) e g))
 
 pub no_room : {B D : Type 0} (r : m.State → B → Type 0) (s : m.State → D → Type 0) (k : m.Known) (c : m.Child) (st : m.State) (x : List Connection × List Connection) (q : Result D TextErr) (e : TextErr) → IsErrAnd q (λ y. y ≡ e) →
-    Answers r (m.count_instance k c st) (Err e) → Answers s (behind_wiring k c st x) q
+    Answers r (m.count_instance c st) (Err e) → Answers s (behind_wiring k c st x) q
 no_room r s k c st x q e h g =
-    passed_on Reached s (behind_wiring k c st x) q e h (refused_first r Reached (m.count_instance k c st) (λ d. m.instance_walk false k.tree c.at x.1 (m.begun k c.path c.at.level (m.given_by c.at x.0) d)) e g)
+    passed_on Reached s (behind_wiring k c st x) q e h (refused_first r Reached (m.count_instance c st) (λ d. m.instance_walk false k.tree c.at x.1 (m.begun k c.path c.at.level (m.given_by c.at x.0) d)) e g)
 
 -- ---- one instance more
 
@@ -175,14 +174,14 @@ clear_is : (all : Faults) (turns n : ℕ) (t : Tally) → Answers (Counts turns)
 clear_is [] turns n t h = (refl, h.0, h.1)
 clear_is (f ∷ all) turns n t h = absurd h
 
-pub counted_ok : (k : m.Known) (n : ℕ) (c : m.Child) (st : m.State) (t : Tally) → n ≡ instance_weight c.params k.tree → Answers (Counts st.turns) (provided (m.size_faults c.name.place (st.bits + n)) (st.bits + n)) (Ok t) →
-    m.count_instance k c st ≡ Ok (record st { bits = t.bits; turns = t.turns })
-counted_ok k n c st t e h =
-    let parts = clear_is (m.size_faults c.name.place (st.bits + n)) st.turns (st.bits + n) t h in
-    ap (λ (i : ℕ). provided (m.size_faults c.name.place (st.bits + i)) (record st { bits = st.bits + i })) (sym e)
-    ∙ ap (λ (fs : Faults). provided fs (record st { bits = st.bits + n })) parts.0
-    ∙ ap (λ (i : ℕ). Ok (record st { bits = i })) (sym parts.1)
-    ∙ ap (λ (i : ℕ). Ok (record st { bits = t.bits; turns = i })) (sym parts.2)
+pub counted_ok : (c : m.Child) (st : m.State) (t : Tally) → Answers (Counts st.turns) (provided (m.size_faults c.name.place (st.bits + 1)) (st.bits + 1)) (Ok t) → m.count_instance c st ≡ Ok (record st { bits = t.bits; turns = t.turns })
+counted_ok c st t h =
+    let parts = clear_is (m.size_faults c.name.place (st.bits + 1)) st.turns (st.bits + 1) t h in
+    let more : suc st.bits ≡ st.bits + 1 = omega arith in
+    ap (λ (n : ℕ). provided (m.size_faults c.name.place n) (record st { bits = n })) more
+    ∙ ap (λ (fs : Faults). provided fs (record st { bits = st.bits + 1 })) parts.0
+    ∙ ap (λ (n : ℕ). Ok (record st { bits = n })) (sym parts.1)
+    ∙ ap (λ (n : ℕ). Ok (record st { bits = t.bits; turns = n })) (sym parts.2)
 
 counted_cause : {D : Type 0} (r : m.State → D → Type 0) (all : Faults) (turns n : ℕ) (x : m.State) (e : TextErr) → (let s : Result Tally TextErr = Err e in Answers (Counts turns) (provided all n) s) → Answers r (provided all x) (Err e)
 counted_cause r [] turns n x (No e) h = absurd h
@@ -190,11 +189,12 @@ counted_cause r [] turns n x Memory h = tt
 counted_cause r (f ∷ all) turns n x (No e) h = h
 counted_cause r (f ∷ all) turns n x Memory h = tt
 
-pub counted_err : {D : Type 0} (r : m.State → D → Type 0) (k : m.Known) (n : ℕ) (c : m.Child) (st : m.State) (e : TextErr) → n ≡ instance_weight c.params k.tree →
-    (let s : Result Tally TextErr = Err e in Answers (Counts st.turns) (provided (m.size_faults c.name.place (st.bits + n)) (st.bits + n)) s) → Answers r (m.count_instance k c st) (Err e)
-counted_err r k n c st e i h =
-    subst (λ (x : ℕ). Answers r (provided (m.size_faults c.name.place (st.bits + x)) (record st { bits = st.bits + x })) (Err e)) i
-    (counted_cause r (m.size_faults c.name.place (st.bits + n)) st.turns (st.bits + n) (record st { bits = st.bits + n }) e h)
+pub counted_err : {D : Type 0} (r : m.State → D → Type 0) (c : m.Child) (st : m.State) (e : TextErr) → (let s : Result Tally TextErr = Err e in Answers (Counts st.turns) (provided (m.size_faults c.name.place (st.bits + 1)) (st.bits + 1)) s) →
+    Answers r (m.count_instance c st) (Err e)
+counted_err r c st e h =
+    let more : st.bits + 1 ≡ suc st.bits = omega arith in
+    subst (λ (n : ℕ). Answers r (provided (m.size_faults c.name.place n) (record st { bits = n })) (Err e)) more
+    (counted_cause r (m.size_faults c.name.place (st.bits + 1)) st.turns (st.bits + 1) (record st { bits = st.bits + 1 }) e h)
 
 -- a scope, where what was done with it came to its end
 after_ends : (g : Open → m.State) (j : Judged m.State) (own : Open) (done : Result (Unit {0}) TextErr) (q : Result Open TextErr) → Answers (λ s (u : Unit {0}). s ≡ g own) j done → IfOk q (λ o. (o ≡ own) × (done ≡ Ok (tt {0}))) →
@@ -203,7 +203,7 @@ after_ends g j own done (Ok o) a h e =
     answers_ok (λ s x. s ≡ g x) j (g own) o (walked_to j (g own) (tt {0}) (subst (λ d. Answers (λ s (u : Unit {0}). s ≡ g own) j d) h.1 a)) (sym (ap g h.0))
 after_ends g j own done (Err why) a h e = same_refusal (λ s (u : Unit {0}). s ≡ g own) (λ s o. s ≡ g o) j why (subst (λ d. Answers (λ s (u : Unit {0}). s ≡ g own) j d) e a)
 
-pub wired_ends : (g : Open → m.State) (k : m.Known) (c : m.Child) (st more first : m.State) (x : List Connection × List Connection) (own : Open) (done : Result (Unit {0}) TextErr) (q : Result Open TextErr) → m.count_instance k c st ≡ Ok more →
+pub wired_ends : (g : Open → m.State) (k : m.Known) (c : m.Child) (st more first : m.State) (x : List Connection × List Connection) (own : Open) (done : Result (Unit {0}) TextErr) (q : Result Open TextErr) → m.count_instance c st ≡ Ok more →
     first ≡ m.begun k c.path c.at.level (m.given_by c.at x.0) more → Answers (λ s (u : Unit {0}). s ≡ g own) (m.instance_walk false k.tree c.at x.1 first) done → IfOk q (λ o. (o ≡ own) × (done ≡ Ok (tt {0}))) → IfErr q (λ e. done ≡ Err e) →
     Answers (λ s o. s ≡ g o) (behind_wiring k c st x) q
 wired_ends g k c st more first x own done q n f a h e =

@@ -1,5 +1,5 @@
 -- Blocks that are begun and left, and the turns of loops.
-use Rattle.std.proofs.Common.{◌≡◌, ℕ, suc, ◌+◌, List, [], ◌∷◌, ◌++◌, length, Bool, true, false, ◌||◌, Option, Some, None, Result, Ok, Err, refl, sym, ap, ◌∙◌, subst, arith}
+use Rattle.std.proofs.Common.{◌≡◌, ℕ, suc, List, [], ◌∷◌, ◌++◌, length, Bool, true, false, ◌||◌, Option, Some, None, Result, Ok, Err, refl, sym, ap, ◌∙◌, subst, arith}
 use Rattle.std.specs.Result.{IfOk, IsErrAnd}
 use Rattle.std.proofs.lemmas.Result.{err_from_is_err_and}
 use Rattle.fourvec.specs.declared.Bit.{Bit}
@@ -86,25 +86,25 @@ pub answered : {A B : Type 0} (f : B → A) (j : Judged A) (y : B) → Answers (
 answered f (Ok x) y h = ap Ok h
 answered f (Err all) y h = absurd h
 
-turn_by : (fs : Faults) (w : ℕ) (name : Name) (more : List Entry) (body : Walk) (s b : State) → (provided fs (record s { turns = s.turns + w }) >>= λ x. Ok (inner name more x)) ≡ Ok b →
-    (provided fs (record s { turns = s.turns + w }) >>= enclosed name more body) ≡ (body b >>= λ last. Ok (outer s last))
-turn_by [] w name more body s b h =
-    let t : inner name more (record s { turns = s.turns + w }) ≡ b = cc in
+turn_by : (fs : Faults) (name : Name) (more : List Entry) (body : Walk) (s b : State) → (provided fs (record s { turns = suc s.turns }) >>= λ x. Ok (inner name more x)) ≡ Ok b →
+    (provided fs (record s { turns = suc s.turns }) >>= enclosed name more body) ≡ (body b >>= λ last. Ok (outer s last))
+turn_by [] name more body s b h =
+    let t : inner name more (record s { turns = suc s.turns }) ≡ b = cc in
     ap (λ (x : State). body x >>= λ last. Ok (outer s last)) t
-turn_by (f ∷ fs) w name more body s b h = cc
+turn_by (f ∷ fs) name more body s b h = cc
 
-turn_is : (p : Place) (w : ℕ) (g v : Name) (body : Walk) (bits : List Bit) (s b : State) → opened_turn p w g v bits s ≡ Ok b → turn_walk p w g v body bits s ≡ (body b >>= λ last. Ok (outer s last))
-turn_is p w g v body bits s b h = turn_by (turn_faults p w s.turns) w (turn_name g bits) (index_entry v bits ∷ []) body s b h
+turn_is : (p : Place) (g v : Name) (body : Walk) (bits : List Bit) (s b : State) → opened_turn p g v bits s ≡ Ok b → turn_walk p g v body bits s ≡ (body b >>= λ last. Ok (outer s last))
+turn_is p g v body bits s b h = turn_by (turn_faults p s.turns) (turn_name g bits) (index_entry v bits ∷ []) body s b h
 
 -- a turn whose block is begun
-pub turn_ends : {A : Type 0} (p : Place) (w : ℕ) (g v : Name) (body : Walk) (bits : List Bit) (s b e : State) (r : Result A TextErr) → opened_turn p w g v bits s ≡ Ok b → Ends e (body b) r → Ends (outer s e) (turn_walk p w g v body bits s) r
-turn_ends p w g v body bits s b e r h k = same_ends (outer s e) (turn_walk p w g v body bits s) (body b >>= λ last. Ok (outer s last)) r (turn_is p w g v body bits s b h) (left_ends s e (body b) r k)
+pub turn_ends : {A : Type 0} (p : Place) (g v : Name) (body : Walk) (bits : List Bit) (s b e : State) (r : Result A TextErr) → opened_turn p g v bits s ≡ Ok b → Ends e (body b) r → Ends (outer s e) (turn_walk p g v body bits s) r
+turn_ends p g v body bits s b e r h k = same_ends (outer s e) (turn_walk p g v body bits s) (body b >>= λ last. Ok (outer s last)) r (turn_is p g v body bits s b h) (left_ends s e (body b) r k)
 
 -- a turn whose block is not begun
-pub not_opened : {B : Type 0} (r : State → B → Type 0) (p : Place) (w : ℕ) (g v : Name) (body : Walk) (bits : List Bit) (s u : State) (y : Result B TextErr) (e : TextErr) → y ≡ Err e →
-    Answers r (opened_turn p w g v bits s) y → Answers (λ st (x : Unit {0}). st ≡ u) (turn_walk p w g v body bits s) (Err e)
-not_opened r p w g v body bits s u y e i h =
-    through_refused r (λ st (x : Unit {0}). st ≡ u) (count_turn p w s) (inner (turn_name g bits) (index_entry v bits ∷ [])) (enclosed (turn_name g bits) (index_entry v bits ∷ []) body) e (subst (Answers r (opened_turn p w g v bits s)) i h)
+pub not_opened : {B : Type 0} (r : State → B → Type 0) (p : Place) (g v : Name) (body : Walk) (bits : List Bit) (s u : State) (y : Result B TextErr) (e : TextErr) → y ≡ Err e →
+    Answers r (opened_turn p g v bits s) y → Answers (λ st (x : Unit {0}). st ≡ u) (turn_walk p g v body bits s) (Err e)
+not_opened r p g v body bits s u y e i h =
+    through_refused r (λ st (x : Unit {0}). st ≡ u) (count_turn p s) (inner (turn_name g bits) (index_entry v bits ∷ [])) (enclosed (turn_name g bits) (index_entry v bits ∷ []) body) e (subst (Answers r (opened_turn p g v bits s)) i h)
 
 -- ---- loops
 
@@ -113,26 +113,26 @@ declared_constructs [] s x q e h = let t : x ≡ q = cc in sym (ap (λ (y : Stat
 declared_constructs (f ∷ fs) s x q e h = cc
 
 -- before the turns, and the turns
-pub loop_turns : (p : Place) (w : ℕ) (v : Name) (body : Gen) (values : List (List Bit)) (s q : State) → before_turns body values s ≡ Ok q →
-    turns_walk (body_of p w (under body)) v (suc s.constructs) values (record s { constructs = suc s.constructs }) ≡ walk_all (turn_walk p w (block_name (under body).label q.constructs) v (under body).body) values q
+pub loop_turns : (p : Place) (v : Name) (body : Gen) (values : List (List Bit)) (s q : State) → before_turns body values s ≡ Ok q →
+    turns_walk (body_of p (under body)) v (suc s.constructs) values (record s { constructs = suc s.constructs }) ≡ walk_all (turn_walk p (block_name (under body).label q.constructs) v (under body).body) values q
 unfolding walk_all
-loop_turns p w v body [] s q h = h
-loop_turns p w v body (x ∷ more) s q h =
+loop_turns p v body [] s q h = h
+loop_turns p v body (x ∷ more) s q h =
     let s' : State = record s { constructs = suc s.constructs } in
     let n : q.constructs ≡ suc s.constructs =
     declared_constructs (name_faults (s.taken (block_name (under body).label (suc s.constructs))) (block_place (under body).label (under body).start) (block_name (under body).label (suc s.constructs))) s'
     (record s' { taken = λ other. has_name other (block_name (under body).label (suc s.constructs) ∷ []) || s.taken other }) q refl h in
-    ap (λ (j : Judged State). j >>= walk_all (turn_walk p w (block_name (under body).label (suc s.constructs)) v (under body).body) (x ∷ more)) h
-    ∙ ap (λ (k : ℕ). walk_all (turn_walk p w (block_name (under body).label k) v (under body).body) (x ∷ more) q) (sym n)
+    ap (λ (j : Judged State). j >>= walk_all (turn_walk p (block_name (under body).label (suc s.constructs)) v (under body).body) (x ∷ more)) h
+    ∙ ap (λ (k : ℕ). walk_all (turn_walk p (block_name (under body).label k) v (under body).body) (x ∷ more) q) (sym n)
 
-pub loop_refused : (p : Place) (w : ℕ) (v : Name) (body : Gen) (values : List (List Bit)) (s u : State) (e : TextErr) →
+pub loop_refused : (p : Place) (v : Name) (body : Gen) (values : List (List Bit)) (s u : State) (e : TextErr) →
     Answers (λ (x : State) (y : State). x ≡ y) (before_turns body values s) (Err e) →
-    Answers (λ st (x : Unit {0}). st ≡ u) (turns_walk (body_of p w (under body)) v (suc s.constructs) values (record s { constructs = suc s.constructs })) (Err e)
-loop_refused p w v body [] s u (No e) h = absurd h
-loop_refused p w v body [] s u Memory h = tt
-loop_refused p w v body (x ∷ more) s u e h =
+    Answers (λ st (x : Unit {0}). st ≡ u) (turns_walk (body_of p (under body)) v (suc s.constructs) values (record s { constructs = suc s.constructs })) (Err e)
+loop_refused p v body [] s u (No e) h = absurd h
+loop_refused p v body [] s u Memory h = tt
+loop_refused p v body (x ∷ more) s u e h =
     refused_then (λ (x : State) (y : State). x ≡ y) (λ st (x : Unit {0}). st ≡ u) (declare_at (block_place (under body).label (under body).start) (block_name (under body).label (suc s.constructs)) (record s { constructs = suc s.constructs }))
-    (walk_all (turn_walk p w (block_name (under body).label (suc s.constructs)) v (under body).body) (x ∷ more)) e h
+    (walk_all (turn_walk p (block_name (under body).label (suc s.constructs)) v (under body).body) (x ∷ more)) e h
 
 pub none_declared : (p : Place) (n : Name) (values : List (List Bit)) (t : State) → values ≡ [] → declare_turns p n values t ≡ Ok t
 none_declared p n values t e = ap (λ (l : List (List Bit)). declare_turns p n l t) e
@@ -196,10 +196,10 @@ turns_constructs p n [] s t h = let e : s ≡ t = cc in sym (ap (λ (x : State).
 turns_constructs p n (x ∷ more) s t h =
     declared_constructs (name_faults (s.taken n) p n) s (record s { taken = λ other. has_name other (n ∷ []) || s.taken other }) t refl h
 
-pub loop_begun : (body : Gen) (values : List (List Bit)) (weight : ℕ) (w : Walker) (o x q : Open) (label : Option Word) (start place : Place) (name part : Name) →
+pub loop_begun : (body : Gen) (values : List (List Bit)) (w : Walker) (o x q : Open) (label : Option Word) (start place : Place) (name part : Name) →
     label ≡ (under body).label → start ≡ (under body).start → place ≡ block_place label start → name ≡ part → part ≡ block_name label (length x.constructs.items) → next_construct (state_of w o) ≡ Ok (state_of w x) →
-    declare_turns place name values (state_of w x) ≡ Ok (state_of w q) → IsLoop body values w o q (record { name = part; values = values; weight = weight })
-loop_begun body values weight w o x q label start place name part a b c g d f h =
+    declare_turns place name values (state_of w x) ≡ Ok (state_of w q) → IsLoop body values w o q (record { name = part; values = values })
+loop_begun body values w o x q label start place name part a b c g d f h =
     let same : record (state_of w o) { constructs = suc (length o.constructs.items) } ≡ state_of w x = cc in
     let n : suc (length o.constructs.items) ≡ length x.constructs.items = ap (λ (s : State). s.constructs) same in
     record {
@@ -234,8 +234,8 @@ provided_clear (f ∷ fs) x h = cc
 
 -- ---- turns are opened
 
-pub turn_opened : (p : Place) (w : ℕ) (g v : Name) (bits : List Bit) (s x b : State) (part : Name) (nets : List Entry) → count_turn p w s ≡ Ok x → b ≡ inner part nets x → part ≡ turn_name g bits → nets ≡ index_entry v bits ∷ [] → opened_turn p w g v bits s ≡ Ok b
-turn_opened p w g v bits s x b part nets h k e f =
+pub turn_opened : (p : Place) (g v : Name) (bits : List Bit) (s x b : State) (part : Name) (nets : List Entry) → count_turn p s ≡ Ok x → b ≡ inner part nets x → part ≡ turn_name g bits → nets ≡ index_entry v bits ∷ [] → opened_turn p g v bits s ≡ Ok b
+turn_opened p g v bits s x b part nets h k e f =
     ap (λ (j : Judged State). j >>= λ y. Ok (inner (turn_name g bits) (index_entry v bits ∷ []) y)) h ∙ ap Ok (sym (k ∙ λ i. inner (e i) (f i) x))
 
 pub answers_by : {A B : Type 0} (f : B → A) (j : Judged A) (y : B) → j ≡ Ok (f y) → Answers (λ x z. x ≡ f z) j (Ok y)
@@ -243,13 +243,13 @@ answers_by f j y e = subst (λ k. Answers (λ x z. x ≡ f z) k (Ok y)) (sym e) 
 
 -- ---- the values of a loop
 
-pub loop_valued : (place : Place) (w : ℕ) (header : Bool) (v : Word) (start test : Expr) (next : Step) (s : State) (at : Scope) (b : Bool) (r : Result (List (List Bit)) TextErr) → at ≡ seen s →
-    b ≡ is_clear (genvar_faults header v (find v.text at)) → b ≡ true → Gives (turns place w at v.text start test next) r → Gives (loop_judged place w header v start test next s) r
-loop_valued place w header v start test next s at b r e h g k =
+pub loop_valued : (place : Place) (header : Bool) (v : Word) (start test : Expr) (next : Step) (s : State) (at : Scope) (b : Bool) (r : Result (List (List Bit)) TextErr) → at ≡ seen s →
+    b ≡ is_clear (genvar_faults header v (find v.text at)) → b ≡ true → Gives (turns place at v.text start test next) r → Gives (loop_judged place header v start test next s) r
+loop_valued place header v start test next s at b r e h g k =
     subst (λ (j : Judged (List (List Bit))). Gives j r)
-    (sym (ap (λ (j : Judged Scope). j >>= λ x. turns place w x v.text start test next)
+    (sym (ap (λ (j : Judged Scope). j >>= λ x. turns place x v.text start test next)
     (provided_clear (genvar_faults header v (find v.text (seen s))) (seen s) (ap (λ x. is_clear (genvar_faults header v (find v.text x))) (sym e) ∙ sym h ∙ g))))
-    (subst (λ x. Gives (turns place w x v.text start test next) r) e k)
+    (subst (λ x. Gives (turns place x v.text start test next) r) e k)
 
 unknown_is : (header : Bool) (v : Word) (found : Option What) → is_clear (genvar_faults header v found) ≡ false → genvar_faults header v found ≡ fault unknown_name v.place
 unknown_is true v found h = cc
@@ -259,8 +259,8 @@ unknown_is false v (Some (number_is b s)) h = refl
 unknown_is false v (Some (type_is x)) h = refl
 unknown_is false v (Some (signal_is o n x)) h = refl
 
-pub loop_unknown : (place : Place) (w : ℕ) (header : Bool) (v : Word) (start test : Expr) (next : Step) (s : State) (at : Scope) (b : Bool) (e : Refusal) → at ≡ seen s →
-    b ≡ is_clear (genvar_faults header v (find v.text at)) → b ≡ false → e ≡ record { number = unknown_name; place = v.place; count = 0 } → Gives (loop_judged place w header v start test next s) (Err (No e))
-loop_unknown place w header v start test next s at b e f h g k =
-    subst (λ (x : Faults). Gives (provided x (seen s) >>= λ y. turns place w y v.text start test next) (Err (No e)))
+pub loop_unknown : (place : Place) (header : Bool) (v : Word) (start test : Expr) (next : Step) (s : State) (at : Scope) (b : Bool) (e : Refusal) → at ≡ seen s →
+    b ≡ is_clear (genvar_faults header v (find v.text at)) → b ≡ false → e ≡ record { number = unknown_name; place = v.place; count = 0 } → Gives (loop_judged place header v start test next s) (Err (No e))
+loop_unknown place header v start test next s at b e f h g k =
+    subst (λ (x : Faults). Gives (provided x (seen s) >>= λ y. turns place y v.text start test next) (Err (No e)))
     (sym (unknown_is header v (find v.text (seen s)) (ap (λ x. is_clear (genvar_faults header v (find v.text x))) (sym f) ∙ sym h ∙ g))) (0, omega arith, sym k)

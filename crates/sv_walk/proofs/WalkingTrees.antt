@@ -1,5 +1,5 @@
 -- What items and branches are walked as, by their forms.
-use Rattle.std.proofs.Common.{◌≡◌, ℕ, suc, IfOk, List, [], ◌∷◌, length, Bool, true, false, Option, Some, None, Result, Ok, Err, refl, sym, ap, ◌∙◌, subst}
+use Rattle.std.proofs.Common.{◌≡◌, ℕ, suc, List, [], ◌∷◌, length, Bool, true, false, Option, Some, None, Result, Ok, Err, refl, sym, ap, ◌∙◌, subst}
 use Rattle.std.specs.Result.{IsErrAnd}
 use Rattle.fourvec.specs.declared.Bit.{Bit}
 use Rattle.sv_outside.specs.declared.refusal.Place.{Place}
@@ -22,7 +22,6 @@ use Rattle.sv_tree.specs.declared.design.Gen.TheBlock.{shape-the_row-Item-0, hid
 use Rattle.sv_meaning.specs.Faults.{Judged, ◌>>=◌}
 use Rattle.sv_meaning.specs.Deeds.{fixed_truth}
 use Rattle.sv_meaning.specs.Values.{mean}
-use Rattle.sv_meaning.specs.Weights.{generate_weight}
 use Rattle.sv_hierarchy.specs.Scopes.{State, Walk, walk_all, act, acts, under, add_wire, add_typedef, add_params, add_genvar, add_assignment, add_work, add_child, running, with_form, with_form_or_bit, numbered, conditional, chosen_branch, block_walk, seen, turns_walk, body_of, then_walk, next_construct, turn_walk, block_name}
 use Rattle.sv_loops.specs.Answers.{Answers, Gives}
 use Rattle.sv_walk.specs.Items.{BeginsLoop, OpensLoop, else_of, items_walk}
@@ -77,7 +76,7 @@ unfolding act shape-the_row-Item-0 hidden-the_row-Item-0 shape-the_row-Item-1 hi
 generate_walk all = row_walk all
 
 pub for_walk : (p : Place) (header : Bool) (v : Word) (start test : Expr) (next : Step) (x : Gen) (s : State) → (act (it.For p header v start test next x)).item s ≡
-    (loop_judged p (generate_weight v start test next x) header v start test next s >>= λ all. turns_walk (body_of p (generate_weight v start test next x) (under x)) v.text (suc s.constructs) all (record s { constructs = suc s.constructs }))
+    (loop_judged p header v start test next s >>= λ all. turns_walk (body_of p (under x)) v.text (suc s.constructs) all (record s { constructs = suc s.constructs }))
 unfolding act shape-the_row-Item-0 hidden-the_row-Item-0 shape-the_row-Item-1 hidden-the_row-Item-1 shape-the_row-Gen-2 hidden-the_row-Gen-2 denote.Hole.Carrier.hidden
 for_walk p header v start test next x s = refl
 
@@ -147,36 +146,31 @@ if_counted p c x other item s t u y e z i h k r =
 -- ---- loops
 
 for_is : (p : Place) (header : Bool) (v : Word) (start test : Expr) (next : Step) (x : Gen) (item : Item) (s : State) → item ≡ it.For p header v start test next x →
-    (act item).item s ≡ (loop_judged p (generate_weight v start test next x) header v start test next s >>= λ all. turns_walk (body_of p (generate_weight v start test next x) (under x)) v.text (suc s.constructs) all (record s { constructs = suc s.constructs }))
+    (act item).item s ≡ (loop_judged p header v start test next s >>= λ all. turns_walk (body_of p (under x)) v.text (suc s.constructs) all (record s { constructs = suc s.constructs }))
 for_is p header v start test next x item s e = ap (λ (y : Item). (act y).item s) e ∙ for_walk p header v start test next x s
 
-for_valued : (p : Place) (n : ℕ) (header : Bool) (v : Word) (start test : Expr) (next : Step) (x : Gen) (item : Item) (s : State) (found : List (List Bit)) → item ≡ it.For p header v start test next x → n ≡ generate_weight v start test next x →
-    loop_judged p n header v start test next s ≡ Ok found → (act item).item s ≡ turns_walk (body_of p n (under x)) v.text (suc s.constructs) found (record s { constructs = suc s.constructs })
-for_valued p n header v start test next x item s found e k h =
-    for_is p header v start test next x item s e
-    ∙ ap (λ (m : ℕ). loop_judged p m header v start test next s >>= λ all. turns_walk (body_of p m (under x)) v.text (suc s.constructs) all (record s { constructs = suc s.constructs })) (sym k)
-    ∙ ap (λ (j : Judged (List (List Bit))). j >>= λ all. turns_walk (body_of p n (under x)) v.text (suc s.constructs) all (record s { constructs = suc s.constructs })) h
+for_valued : (p : Place) (header : Bool) (v : Word) (start test : Expr) (next : Step) (x : Gen) (item : Item) (s : State) (found : List (List Bit)) → item ≡ it.For p header v start test next x →
+    loop_judged p header v start test next s ≡ Ok found → (act item).item s ≡ turns_walk (body_of p (under x)) v.text (suc s.constructs) found (record s { constructs = suc s.constructs })
+for_valued p header v start test next x item s found e h =
+    for_is p header v start test next x item s e ∙ ap (λ (j : Judged (List (List Bit))). j >>= λ all. turns_walk (body_of p (under x)) v.text (suc s.constructs) all (record s { constructs = suc s.constructs })) h
 
-pub for_unvalued : (p : Place) (n : ℕ) (header : Bool) (v : Word) (start test : Expr) (next : Step) (x : Gen) (item : Item) (w : Walker) (o q : Open) (e : TextErr) (z : Result Turns TextErr) →
-    item ≡ it.For p header v start test next x → n ≡ generate_weight v start test next x → Gives (loop_judged p n header v start test next (state_of w o)) (Err e) → IsErrAnd z (λ d. d ≡ e) → OpensLoop item p v x w o q z
-for_unvalued p n header v start test next x item w o q e (Ok turns) i k h r = absurd r
-for_unvalued p n header v start test next x item w o q e (Err y) i k h r =
+pub for_unvalued : (p : Place) (header : Bool) (v : Word) (start test : Expr) (next : Step) (x : Gen) (item : Item) (w : Walker) (o q : Open) (e : TextErr) (z : Result Turns TextErr) →
+    item ≡ it.For p header v start test next x → Gives (loop_judged p header v start test next (state_of w o)) (Err e) → IsErrAnd z (λ d. d ≡ e) → OpensLoop item p v x w o q z
+for_unvalued p header v start test next x item w o q e (Ok turns) i h r = absurd r
+for_unvalued p header v start test next x item w o q e (Err y) i h r =
     let s = state_of w o in
-    let g : Gives (loop_judged p (generate_weight v start test next x) header v start test next s) (Err e) = subst (λ (m : ℕ). Gives (loop_judged p m header v start test next s) (Err e)) k h in
     subst (λ (f : TextErr). OpensLoop item p v x w o q (Err f)) (sym r)
     (subst (λ (j : Judged State). Answers (λ (a : State) (b : State). a ≡ b) j (Err e)) (sym (for_is p header v start test next x item s i))
-    (refused_then (λ a b. a ≡ b) (λ (a : State) (b : State). a ≡ b) (loop_judged p (generate_weight v start test next x) header v start test next s)
-    (λ all. turns_walk (body_of p (generate_weight v start test next x) (under x)) v.text (suc s.constructs) all (record s { constructs = suc s.constructs })) e g))
+    (refused_then (λ a b. a ≡ b) (λ (a : State) (b : State). a ≡ b) (loop_judged p header v start test next s) (λ all. turns_walk (body_of p (under x)) v.text (suc s.constructs) all (record s { constructs = suc s.constructs })) e h))
 
-pub for_begun : (p : Place) (n : ℕ) (header : Bool) (v : Word) (start test : Expr) (next : Step) (x : Gen) (item : Item) (w : Walker) (o q : Open) (found : List (List Bit)) (r : Result Turns TextErr) → item ≡ it.For p header v start test next x → n ≡ generate_weight v start test next x →
-    loop_judged p n header v start test next (state_of w o) ≡ Ok found → BeginsLoop x found w o q r → IfOk r (λ (t : Turns). t.weight ≡ n) → OpensLoop item p v x w o q r
-for_begun p n header v start test next x item w o q found (Ok turns) i k h b l = (
-  for_valued p n header v start test next x item (state_of w o) found i k h ∙ loop_turns p n v.text x found (state_of w o) (state_of w q) b.before
-      ∙ ap (λ (l : List (List Bit)). walk_all (turn_walk p n (block_name (under x).label (length q.constructs.items)) v.text (under x).body) l (state_of w q)) (sym b.values_are)
-      ∙ ap (λ (m : ℕ). walk_all (turn_walk p m (block_name (under x).label (length q.constructs.items)) v.text (under x).body) turns.values (state_of w q)) (sym l),
+pub for_begun : (p : Place) (header : Bool) (v : Word) (start test : Expr) (next : Step) (x : Gen) (item : Item) (w : Walker) (o q : Open) (found : List (List Bit)) (r : Result Turns TextErr) → item ≡ it.For p header v start test next x →
+    loop_judged p header v start test next (state_of w o) ≡ Ok found → BeginsLoop x found w o q r → OpensLoop item p v x w o q r
+for_begun p header v start test next x item w o q found (Ok turns) i h b = (
+  for_valued p header v start test next x item (state_of w o) found i h ∙ loop_turns p v.text x found (state_of w o) (state_of w q) b.before
+      ∙ ap (λ (l : List (List Bit)). walk_all (turn_walk p (block_name (under x).label (length q.constructs.items)) v.text (under x).body) l (state_of w q)) (sym b.values_are),
   b.name,
 )
-for_begun p n header v start test next x item w o q found (Err e) i k h b l =
+for_begun p header v start test next x item w o q found (Err e) i h b =
     let s = state_of w o in
-    subst (λ (j : Judged State). Answers (λ (a : State) (c : State). a ≡ c) j (Err e)) (sym (for_valued p n header v start test next x item s found i k h))
-    (refused_as (λ (st : State) (u : Unit {0}). st ≡ s) (λ (a : State) (c : State). a ≡ c) (turns_walk (body_of p n (under x)) v.text (suc s.constructs) found (record s { constructs = suc s.constructs })) e (loop_refused p n v.text x found s s e b))
+    subst (λ (j : Judged State). Answers (λ (a : State) (c : State). a ≡ c) j (Err e)) (sym (for_valued p header v start test next x item s found i h))
+    (refused_as (λ (st : State) (u : Unit {0}). st ≡ s) (λ (a : State) (c : State). a ≡ c) (turns_walk (body_of p (under x)) v.text (suc s.constructs) found (record s { constructs = suc s.constructs })) e (loop_refused p v.text x found s s e b))

@@ -48,8 +48,8 @@ Begins label p n w o v q (Ok block) = IsBegun label p n w o v q block
 Begins label p n w o v q (Err e) = Answers (λ (x : m.State) (y : m.State). x ≡ y) (opened_block label p n (state_of w o)) (Err e)
 
 -- a turn is counted, and its block is begun
-abbrev pub opened_turn : Place → ℕ → Name → Name → List Bit → m.State → Judged m.State
-opened_turn p w g v bits st = m.count_turn p w st >>= λ s. Ok (m.inner (m.turn_name g bits) (index_entry v bits ∷ []) s)
+abbrev pub opened_turn : Place → Name → Name → List Bit → m.State → Judged m.State
+opened_turn p g v bits st = m.count_turn p st >>= λ s. Ok (m.inner (m.turn_name g bits) (index_entry v bits ∷ []) s)
 
 -- the name of a loop with such values is declared, if there are some
 abbrev pub declare_turns : Place → Name → List (List Bit) → m.Walk
@@ -74,5 +74,5 @@ BeginsLoop body values w o q (Err e) = Answers (λ (x : m.State) (y : m.State). 
 -- what a loop is walked as: its turns of such a name, one after the other
 abbrev pub OpensLoop : Item → Place → Word → Gen → Walker → Open → Open → Result Turns TextErr → Type 0
 OpensLoop item p v body w o q (Ok turns) =
-    ((m.act item).item (state_of w o) ≡ m.walk_all (m.turn_walk p turns.weight (m.block_name (m.under body).label (length q.constructs.items)) v.text (m.under body).body) turns.values (state_of w q)) × (turns.name ≡ m.block_name (m.under body).label (length q.constructs.items))
+    ((m.act item).item (state_of w o) ≡ m.walk_all (m.turn_walk p (m.block_name (m.under body).label (length q.constructs.items)) v.text (m.under body).body) turns.values (state_of w q)) × (turns.name ≡ m.block_name (m.under body).label (length q.constructs.items))
 OpensLoop item p v body w o q (Err e) = Answers (λ (x : m.State) (y : m.State). x ≡ y) ((m.act item).item (state_of w o)) (Err e)

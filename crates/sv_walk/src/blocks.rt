@@ -18,7 +18,6 @@ use fourvec::Four;
 use items::Items;
 use std::alloc::AllocError;
 use sv_levels::{Turns, block_name, block_place, index_scope, turn_name};
-use sv_loops::generate_weight;
 use sv_names::Scope;
 use sv_outside::{Place, TextErr};
 use sv_tree::{Expr, Gen, Step, Word};
@@ -95,32 +94,26 @@ impl<'a> Walker<'a> {
     ) -> Result<Turns, TextErr>
         ensures { (item : Tree) → item ≡ it.For place header variable.now start.now test.now next.now body.now → OpensLoop item place variable.now body.now self.now current.old current.new result }
     {
-        let weight = generate_weight(self.alloc, variable, start, test, next, body);
-        let values = self.loop_values(current, place, weight, header, variable, start, test, next)?;
+        let values = self.loop_values(current, place, header, variable, start, test, next)?;
         current.next_construct(place)?;
         let (label, begin) = head_of(body);
         let name = block_name(self.alloc, label, current.constructs.len())?;
         declare_turns(current, block_place(label, begin), name.bytes(), &values)?;
-        Ok(Turns {
-            name,
-            values,
-            weight,
-        })
+        Ok(Turns { name, values })
     }
 
-    /// The block of a turn of the loop at a place, which counts so much, is begun, with the variable of these bits; or E20 (27.4).
+    /// The block of a turn of the loop at a place is begun, with the variable of these bits; or E20 (27.4).
     pub(crate) fn begin_turn(
         &mut self,
         current: &Open<'a>,
         place: Place,
-        weight: u64,
         name: &[u8],
         variable: &Word,
         bits: Four,
     ) -> Result<Open<'a>, TextErr>
-        ensures { Answers (λ st block. st ≡ state_of self.new block) (opened_turn place weight name.now variable.now.text bits (state_of self.old current.now)) result }
+        ensures { Answers (λ st block. st ≡ state_of self.new block) (opened_turn place name.now variable.now.text bits (state_of self.old current.now)) result }
     {
-        self.tally = self.tally.with_turn(place, weight)?;
+        self.tally = self.tally.with_turn(place)?;
         let part = turn_name(self.alloc, name, &bits)?;
         let nets = index_scope(self.alloc, variable, bits)?;
         let block = self.begin(current, part.bytes(), nets)?;

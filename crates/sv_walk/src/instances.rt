@@ -19,7 +19,6 @@ use sv_levels::{
     Child, Front, Given, Known, Level, Library, Overrides, add_port_works, given_by, outermost,
     ports_of, wiring_of, within,
 };
-use sv_loops::instance_weight;
 use sv_modules::Connection;
 use sv_names::Scope;
 use sv_outside::{Name, TextErr};
@@ -120,8 +119,7 @@ impl<'a> Walker<'a> {
         ensures { (current : Opened) → Answers (λ st own. st ≡ state_of self.new own) (child_alone (known_is known.entry) (child_is child.now) (state_of self.old current)) result }
     {
         let wiring = wiring_of(self.alloc, known.tree, child)?;
-        let weight = instance_weight(self.alloc, child.params, known.tree);
-        self.tally = self.tally.with_bits(child.name.place, weight)?;
+        self.tally = self.tally.with_bits(child.name.place, 1)?;
         let path = child.path.copy()?;
         let given = given_by(self.alloc, child.at, &wiring.params)?;
         let mut own = self.begin_instance(known, path, child.at.level, given)?;

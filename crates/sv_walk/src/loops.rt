@@ -1,5 +1,4 @@
 // The turns of a generate loop (IEEE 1800-2017, 27.4).
-ghost use Rattle.std.specs.Prelude.{◌≤◌};
 ghost use Rattle.sv_meaning.specs.Deeds.{fixed_truth};
 ghost use Rattle.sv_meaning.specs.Values.{mean};
 ghost use Rattle.sv_loops.specs.Answers.{Gives};
@@ -18,28 +17,24 @@ use sv_tree::{Expr, Step, Word};
 use sv_typing::refusal;
 
 impl<'a> Walker<'a> {
-    /// The values of the variable in all turns of a loop, each of which counts so much. E12 where the variable is not declared in the header and is none of
+    /// The values of the variable in all turns of a loop. E12 where the variable is not declared in the header and is none of
     /// generate loops; or why the loop is refused.
     pub(crate) fn loop_values(
         &self,
         current: &Open<'a>,
         place: Place,
-        weight: u64,
         header: bool,
         variable: &Word,
         start: &Expr,
         test: &Expr,
         next: &Step,
     ) -> Result<Items<Four>, TextErr>
-        requires { 1 ≤ weight }
-        ensures { Gives (loop_judged place weight header variable.now start.now test.now next.now (state_of self.now current.now)) result }
+        ensures { Gives (loop_judged place header variable.now start.now test.now next.now (state_of self.now current.now)) result }
     {
         let at = self.here(current);
         let mut names = self.levels.seen(self.alloc, at)?;
         if is_loop_variable(&names, header, variable) {
-            let values = turns(
-                self.alloc, place, weight, &mut names, variable, start, test, next,
-            );
+            let values = turns(self.alloc, place, &mut names, variable, start, test, next);
             let_go(names);
             values
         } else {

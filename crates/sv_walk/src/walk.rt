@@ -85,30 +85,28 @@ impl<'a> Walker<'a> {
         variable: &Word,
         body: &'a Gen,
     ) -> Result<(), TextErr>
-        ensures { Walks (walk_all (turn_walk place opened.weight opened.name variable.now.text (under body.now).body) opened.values) self.old current.now self.new current.now result }
+        ensures { Walks (walk_all (turn_walk place opened.name variable.now.text (under body.now).body) opened.values) self.old current.now self.new current.now result }
     {
         'turns: for bits in opened.values.as_slice() {
-            let name = opened.name.bytes();
-            self.turn(current, place, opened.weight, name, variable, *bits, body)?;
+            self.turn(current, place, opened.name.bytes(), variable, *bits, body)?;
         }
         Ok(())
     }
 
-    // The turn of a loop of a name, at a place, which counts so much and in which its variable has these bits.
+    // The turn of a loop of a name, at a place, in which its variable has these bits.
     #[cycle(item)]
     fn turn(
         &mut self,
         current: &Open<'a>,
         place: Place,
-        weight: u64,
         name: &[u8],
         variable: &Word,
         bits: Four,
         body: &'a Gen,
     ) -> Result<(), TextErr>
-        ensures { Walks (turn_walk place weight name.now variable.now.text (under body.now).body bits) self.old current.now self.new current.now result }
+        ensures { Walks (turn_walk place name.now variable.now.text (under body.now).body bits) self.old current.now self.new current.now result }
     {
-        let mut block = self.begin_turn(current, place, weight, name, variable, bits)?;
+        let mut block = self.begin_turn(current, place, name, variable, bits)?;
         match body {
             Gen::Block(_, _, items, _) => {
                 let done = self.items(&mut block, items.as_slice());

@@ -2,18 +2,18 @@
 use Rattle.std.proofs.Common.{◌≡◌, List, refl, sym, ap, ◌∙◌}
 use Rattle.sv_write.specs.declared.lexeme.Lexeme.{Lexeme}
 use Rattle.sv_write.specs.declared.lexeme.Writer.{Writer}
-use Rattle.sv_write.specs.Writing.{Write, ◌⨾◌, nothing, bytes, counted}
+use Rattle.sv_write.specs.Writing.{Write, ◌⨾◌, nothing}
 use Rattle.sv_write.specs.Adds.{Adds}
 
 infixr 30 ◌▷◌
 pub ◌▷◌ : {f g : Write} {a b c : Writer} → Adds f a b → Adds g b c → Adds (f ⨾ g) a c
-◌▷◌ {g = g} p q = record { says = λ all e. let s = q.says all e in let r = p.says s.0 s.1 in (r.0, r.1, s.2 ∙ ap g r.2); counts = λ before e. q.counts _ (p.counts before e) }
+◌▷◌ {g = g} p q = record { says = λ all e. let s = q.says all e in let r = p.says s.0 s.1 in (r.0, r.1, s.2 ∙ ap g r.2) }
 
 pub turned : {f g : Write} {a b : Writer} → ((l : List Lexeme) → g l ≡ f l) → Adds f a b → Adds g a b
-turned same p = record { says = λ all e. let s = p.says all e in (s.0, s.1, s.2 ∙ sym (same s.0)); counts = λ before e. p.counts before e ∙ sym (ap (λ x. counted (bytes x)) (same before)) }
+turned same p = record { says = λ all e. let s = p.says all e in (s.0, s.1, s.2 ∙ sym (same s.0)) }
 
 pub nothing_added : {a : Writer} → Adds nothing a a
-nothing_added = record { says = λ all e. (all, e, refl); counts = λ before e. e }
+nothing_added = record { says = λ all e. (all, e, refl) }
 
 -- ---- what is written of a part, where the part is known under another name
 

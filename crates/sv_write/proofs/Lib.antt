@@ -1,6 +1,5 @@
 pub mod Adding
 pub mod Chosen
-pub mod Counting
 pub mod DesignLaws
 pub mod DesignMade
 pub mod ExprsLaws

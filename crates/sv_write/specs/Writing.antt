@@ -1,5 +1,5 @@
 -- Kinds and texts of tokens, one behind the other.
-use Rattle.std.specs.Prelude.{ℕ, ◌+◌, min, length, List, [], ◌∷◌, ◌++◌, map, codes, Option, Some, None}
+use Rattle.std.specs.Prelude.{List, [], ◌∷◌, ◌++◌, map, codes, Option, Some, None}
 use Rattle.sv_outside.specs.declared.text.Kind.{Kind}
 use Rattle.sv_outside.specs.declared.text.Kind.TheVariants as k
 use Rattle.sv_outside.specs.declared.text.Token.{Token}
@@ -69,18 +69,3 @@ commas f (x ∷ more) = f x ⨾ after_commas f more
 abbrev pub label : Option Word → Write
 label None = nothing
 label (Some w) = mark (codes ":") ⨾ name w
-
--- ---- how long a text is
-
--- so many bytes together
-unfoldable pub bytes : List Lexeme → ℕ
-bytes [] = 0
-bytes (x ∷ more) = bytes more + length x.text
-
--- a count of bytes, which stands still at the end of its type
-abbrev pub counted : ℕ → ℕ
-counted n = min n 18446744073709551615
-
--- how many bytes the tokens have that are written
-abbrev pub size_of : Write → ℕ
-size_of f = counted (bytes (f []))

@@ -170,7 +170,7 @@ fn maybe_else(out: &mut Writer, given: &Option<Boxed<Gen>>)
 }
 
 #[cycle(item)]
-pub fn body(out: &mut Writer, x: &Gen)
+fn body(out: &mut Writer, x: &Gen)
     ensures { Adds (spec.write_gen x.now) out.old out.new }
 {
     match x {

@@ -19,12 +19,10 @@ pub struct Lexeme {
 pub type Lexemes = Items<Lexeme>;
 
 /// What is written, in order, until memory is out: then no more is written, and the want is kept for the end. So what writes a
-/// part has no exits of its own, and its meaning stays small. The bytes of all texts are counted, also of those that are not kept;
-/// the count stands still at its type's end.
+/// part has no exits of its own, and its meaning stays small.
 pub struct Writer {
     pub(crate) alloc: Global,
     pub(crate) written: Result<Lexemes, AllocError>,
-    pub(crate) size: usize,
 }
 
 impl Drop for Writer {
@@ -32,7 +30,6 @@ impl Drop for Writer {
         let Writer {
             alloc: _,
             written: _,
-            size: _,
         } = self;
     }
 }
@@ -54,18 +51,6 @@ impl Writer {
         Writer {
             alloc,
             written: Ok(Items::new(alloc)),
-            size: 0,
-        }
-    }
-
-    /// A writer that keeps nothing and counts. Neither it nor what is written with it takes memory.
-    pub fn counter(alloc: Global) -> Writer
-        ensures { result.size ≡ 0 }
-    {
-        Writer {
-            alloc,
-            written: Err(AllocError),
-            size: 0,
         }
     }
 
@@ -73,19 +58,13 @@ impl Writer {
     pub fn end(self) -> Result<Lexemes, AllocError>
         ensures { result ≡ self.written }
     {
-        let Writer {
-            alloc: _,
-            written,
-            size: _,
-        } = self;
+        let Writer { alloc: _, written } = self;
         written
     }
 
-    #[tactic(auto, using(crate::proofs::Counting::counted_put))]
     fn put(&mut self, kind: Kind, text: &[u8])
         ensures { Adds (spec.put kind text.now) self.old self.new }
     {
-        self.size = self.size.saturating_add(text.len());
         if let Ok(all) = &mut self.written {
             if let Err(want) = put(self.alloc, all, kind, text) {
                 self.written = Err(want);

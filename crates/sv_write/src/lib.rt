@@ -8,7 +8,6 @@ mod forms;
 mod lexeme;
 mod modules;
 mod part;
-mod size;
 mod spelling;
 mod stmts;
 
@@ -16,6 +15,5 @@ pub use design::items;
 pub use forms::{param, typedef};
 pub use lexeme::{Lexeme, Lexemes, Writer};
 pub use part::{Part, commas, each};
-pub use size::{generate_size, instance_size, loop_size};
 pub use spelling::spell;
 pub use stmts::end;

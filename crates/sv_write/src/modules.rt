@@ -51,7 +51,7 @@ fn head(out: &mut Writer, x: &Module)
     out.mark(b";")
 }
 
-pub fn module(out: &mut Writer, x: &Module)
+fn module(out: &mut Writer, x: &Module)
     ensures { Adds (spec.write_module x.now) out.old out.new }
 {
     head(out, x);

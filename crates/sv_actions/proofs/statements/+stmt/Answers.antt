@@ -1,11 +1,10 @@
-use Rattle.std.proofs.Common.{◌+◌, ◌++◌, Option, map, take, refl, sym, ap, ◌∙◌, subst, arith, Ok}
+use Rattle.std.proofs.Common.{◌+◌, ◌++◌, Option, map, take, refl, sym, ◌∙◌, subst, arith, Ok}
 use Rattle.std.proofs.lemmas.Result.{err_from_is_err_and, IfOk-from_err}
 use Rattle.sv_tree.specs.declared.stmts.Stmt.{Stmt}
 use Rattle.sv_meaning.specs.Layouts.{Scope, constant_scope}
 use Rattle.sv_meaning.specs.Meanings.{free_faults}
 use Rattle.sv_meaning.specs.Values.{mean}
 use Rattle.sv_meaning.specs.Targets.{targets, lvalue_faults}
-use Rattle.sv_meaning.specs.Weights.{loop_weight}
 use Rattle.sv_meaning.specs.Deeds.{deed, turns, with_index}
 use Rattle.sv_names.specs.Names.{names_are, loops_of}
 use Rattle.sv_loops.specs.Answers.{Gives}
@@ -66,10 +65,9 @@ typed_stmt-returns-in-Ok-clause-is t c =
     let v = c.in-For.variable in
     let given = c.get-in-Ok.result.now in
     let slice = c.as_slice-in-Ok.result.now in
-    done_for at c.args.stmt.now c.in-For.place c.in-For.field-1 v c.in-For.start c.in-For.test c.in-For.next c.in-For.body given c.in-Ok.values slice c.loop_weight-weight.result c.args.made c.typed_turns.result c.in-For.is c.get-in-Ok.ensures c.as_slice-in-Ok.ensures
-    (c.loop_weight-weight.ensures.is ∙ ap (loop_weight v c.in-For.start c.in-For.test c.in-For.next) c.get-in-For.ensures)
-    (subst (Gives (turns c.in-For.place c.loop_weight-weight.result (constant_scope at) v.text c.in-For.start c.in-For.test c.in-For.next)) c.in-Ok.is c.turns.ensures.is)
-    (at_names (λ (s : Scope). in_order (turn_deed s c.in-For.place c.loop_weight-weight.result v.text given) slice) c.args.names.now c.turns.new.names c.args.made c.args.made c.typed_turns.result
+    done_for at c.args.stmt.now c.in-For.place c.in-For.field-1 v c.in-For.start c.in-For.test c.in-For.next c.in-For.body given c.in-Ok.values slice c.args.made c.typed_turns.result c.in-For.is c.get-in-Ok.ensures c.as_slice-in-Ok.ensures
+    (subst (Gives (turns c.in-For.place (constant_scope at) v.text c.in-For.start c.in-For.test c.in-For.next)) c.in-Ok.is c.turns.ensures.is)
+    (at_names (λ (s : Scope). in_order (turn_deed s c.in-For.place v.text given) slice) c.args.names.now c.turns.new.names c.args.made c.args.made c.typed_turns.result
     c.turns.ensures.frames c.turns.ensures.loops refl c.typed_turns.ensures.is)
 
 pub typed_stmt-returns-in-Ok-clause-frames : goal.typed_stmt-returns-in-Ok-clause-frames
@@ -82,9 +80,8 @@ pub typed_stmt-returns-in-Err-clause-is : goal.typed_stmt-returns-in-Err-clause-
 typed_stmt-returns-in-Err-clause-is t c =
     let at = names_are c.args.names.now in
     let v = c.in-For.variable in
-    for_refused at c.args.stmt.now c.in-For.place c.in-For.field-1 v c.in-For.start c.in-For.test c.in-For.next c.in-For.body c.loop_weight-weight.result c.args.made c.in-Err.why c.in-For.is
-    (c.loop_weight-weight.ensures.is ∙ ap (loop_weight v c.in-For.start c.in-For.test c.in-For.next) c.get-in-For.ensures)
-    (subst (Gives (turns c.in-For.place c.loop_weight-weight.result (constant_scope at) v.text c.in-For.start c.in-For.test c.in-For.next)) c.in-Err.is c.turns.ensures.is)
+    for_refused at c.args.stmt.now c.in-For.place c.in-For.field-1 v c.in-For.start c.in-For.test c.in-For.next c.in-For.body c.args.made c.in-Err.why c.in-For.is
+    (subst (Gives (turns c.in-For.place (constant_scope at) v.text c.in-For.start c.in-For.test c.in-For.next)) c.in-Err.is c.turns.ensures.is)
 
 pub typed_stmt-returns-in-Err-clause-loops : goal.typed_stmt-returns-in-Err-clause-loops
 typed_stmt-returns-in-Err-clause-loops t c = c.turns.ensures.loops
@@ -240,17 +237,17 @@ typed_rest-returns-clause-loops t c = c.arms.invariant.loops
 -- ---- turns
 
 pub typed_turns-turns-init : goal.typed_turns-turns-init
-typed_turns-turns-init t c = record { frames = refl; loops = refl; aims = λ named w. c.nothing-found.ensures.aims named; done = order_begin (turn_deed (names_are c.args.names.now) c.args.place c.args.weight c.args.variable.now.text c.args.body.now) c.args.made c.nothing-found.result c.nothing-found.ensures.is }
+typed_turns-turns-init t c = record { frames = refl; loops = refl; aims = λ named w. c.nothing-found.ensures.aims named; done = order_begin (turn_deed (names_are c.args.names.now) c.args.place c.args.variable.now.text c.args.body.now) c.args.made c.nothing-found.result c.nothing-found.ensures.is }
 
 pub typed_turns-returns-in-Err-clause-is : goal.typed_turns-returns-in-Err-clause-is
 typed_turns-returns-in-Err-clause-is t c =
-    let f = turn_deed (names_are c.args.names.now) c.args.place c.args.weight c.args.variable.now.text c.args.body.now in
+    let f = turn_deed (names_are c.args.names.now) c.args.place c.args.variable.now.text c.args.body.now in
     let all = c.args.values.now in
     let i = c.turns.bits-index in
     let x = c.bits-item.result in
     order_cause f all (i + 1) c.args.made c.in-Err.why (acted_err (in_order f (take (i + 1) all)) c.args.made c.followed.result c.in-Err.why c.in-Err.is
     (order_goes f all i x c.args.made c.followed.result c.turns-test.true c.bits-item.is (c.followed.ensures.is (in_order f (take i all)) (f x) c.args.made c.turns.invariant.done
-    (at_names (λ (at : Scope). turn_deed at c.args.place c.args.weight c.args.variable.now.text c.args.body.now x) c.args.names.now c.turns.names c.turns.found.made c.turns.found.made c.typed_turn-next.result c.turns.invariant.frames c.turns.invariant.loops refl c.typed_turn-next.ensures.is))))
+    (at_names (λ (at : Scope). turn_deed at c.args.place c.args.variable.now.text c.args.body.now x) c.args.names.now c.turns.names c.turns.found.made c.turns.found.made c.typed_turn-next.result c.turns.invariant.frames c.turns.invariant.loops refl c.typed_turn-next.ensures.is))))
 
 pub typed_turns-returns-in-Err-clause-frames : goal.typed_turns-returns-in-Err-clause-frames
 typed_turns-returns-in-Err-clause-frames t c = c.typed_turn-next.ensures.frames ∙ c.turns.invariant.frames
@@ -260,7 +257,7 @@ typed_turns-returns-in-Err-clause-loops t c = c.typed_turn-next.ensures.loops �
 
 pub typed_turns-turns-preserved : goal.typed_turns-turns-preserved
 typed_turns-turns-preserved t c =
-    let f = turn_deed (names_are c.args.names.now) c.args.place c.args.weight c.args.variable.now.text c.args.body.now in
+    let f = turn_deed (names_are c.args.names.now) c.args.place c.args.variable.now.text c.args.body.now in
     let all = c.args.values.now in
     let i = c.turns.bits-index in
     let x = c.bits-item.result in
@@ -273,12 +270,12 @@ typed_turns-turns-preserved t c =
           (c.typed_turn-next.ensures.aims named (within_at (λ (s : Scope). target_signals s c.args.body.now) c.args.names.now c.turns.names named c.turns.invariant.frames c.turns.invariant.loops w)));
       done = acted_ok (in_order f (take (i + 1) all)) c.args.made c.followed.result c.in-Ok.more c.in-Ok.is
           (order_goes f all i x c.args.made c.followed.result c.turns-test.true c.bits-item.is (c.followed.ensures.is (in_order f (take i all)) (f x) c.args.made c.turns.invariant.done
-          (at_names (λ (at : Scope). turn_deed at c.args.place c.args.weight c.args.variable.now.text c.args.body.now x) c.args.names.now c.turns.names c.turns.found.made c.turns.found.made c.typed_turn-next.result c.turns.invariant.frames c.turns.invariant.loops refl c.typed_turn-next.ensures.is)));
+          (at_names (λ (at : Scope). turn_deed at c.args.place c.args.variable.now.text c.args.body.now x) c.args.names.now c.turns.names c.turns.found.made c.turns.found.made c.typed_turn-next.result c.turns.invariant.frames c.turns.invariant.loops refl c.typed_turn-next.ensures.is)));
     }
 
 pub typed_turns-returns-clause-is : goal.typed_turns-returns-clause-is
 typed_turns-returns-clause-is t c =
-    order_ends (turn_deed (names_are c.args.names.now) c.args.place c.args.weight c.args.variable.now.text c.args.body.now) c.args.values.now c.turns.bits-index c.args.made c.turns.found (omega arith) c.turns.invariant.done
+    order_ends (turn_deed (names_are c.args.names.now) c.args.place c.args.variable.now.text c.args.body.now) c.args.values.now c.turns.bits-index c.args.made c.turns.found (omega arith) c.turns.invariant.done
 
 pub typed_turns-returns-clause-frames : goal.typed_turns-returns-clause-frames
 typed_turns-returns-clause-frames t c = c.turns.invariant.frames
@@ -289,12 +286,12 @@ typed_turns-returns-clause-loops t c = c.turns.invariant.loops
 pub typed_turn-returns-in_err-one_more-clause-is : goal.typed_turn-returns-in_err-one_more-clause-is
 typed_turn-returns-in_err-one_more-clause-is t c =
     let p = err_from_is_err_and c.from_residual.result c.from_residual.ensures.1 in
-    rw (p.1, p.2) (turn_refused c.args.place c.args.weight (deed c.args.body.now (with_index (names_are c.args.names.now) c.args.variable.now.text c.args.bits)) c.args.made c.in_err-one_more.field-0.0 c.in_err-one_more.ensures)
+    rw (p.1, p.2) (turn_refused c.args.place (deed c.args.body.now (with_index (names_are c.args.names.now) c.args.variable.now.text c.args.bits)) c.args.made c.in_err-one_more.field-0.0 c.in_err-one_more.ensures)
 
 pub typed_turn-returns-clause-is : goal.typed_turn-returns-clause-is
 typed_turn-returns-clause-is t c =
-    turn_made c.args.place c.args.weight (deed c.args.body.now (with_index (names_are c.args.names.now) c.args.variable.now.text c.args.bits)) c.args.made (c.args.made + c.args.weight) c.typed_stmt-acted.result c.in_ok-one_more.ensures refl
-    (subst (λ (at : Scope). JudgesDeed (deed c.args.body.now at) (c.args.made + c.args.weight) c.typed_stmt-acted.result) (entered c.args.names.now c.enter.new.names c.args.variable.now.text c.args.bits c.enter.ensures.frames c.in_ok-enter.ensures.loops) c.typed_stmt-acted.ensures.is)
+    turn_made c.args.place (deed c.args.body.now (with_index (names_are c.args.names.now) c.args.variable.now.text c.args.bits)) c.args.made (c.args.made + 1) c.typed_stmt-acted.result c.in_ok-one_more.ensures refl
+    (subst (λ (at : Scope). JudgesDeed (deed c.args.body.now at) (c.args.made + 1) c.typed_stmt-acted.result) (entered c.args.names.now c.enter.new.names c.args.variable.now.text c.args.bits c.enter.ensures.frames c.in_ok-enter.ensures.loops) c.typed_stmt-acted.ensures.is)
 
 pub typed_turn-returns-clause-frames : goal.typed_turn-returns-clause-frames
 typed_turn-returns-clause-frames t c = c.leave.ensures.frames ∙ c.typed_stmt-acted.ensures.frames ∙ c.enter.ensures.frames

@@ -34,5 +34,5 @@ invariant-typed_turns-turns l = record {
   frames : stack_of l.names ≡ stack_of l.fn.names;
   loops : loops_of l.names ≡ loops_of l.fn.names;
   aims : (named : List NamedSignal) → Within (target_signals (names_are l.fn.names) l.body) named → ActedAims named l.found;
-  done : IsActed (in_order (turn_deed (names_are l.fn.names) l.place l.weight l.variable.text l.body) (take l.bits-index l.values)) l.made l.found;
+  done : IsActed (in_order (turn_deed (names_are l.fn.names) l.place l.variable.text l.body) (take l.bits-index l.values)) l.made l.found;
 }

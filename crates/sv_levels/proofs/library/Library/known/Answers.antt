@@ -1,5 +1,5 @@
 use Rattle.std.proofs.Common.{sym, ap, ◌∙◌}
-use Rattle.std.specs.Option.{option_map}
+use Rattle.std.specs.Option.{option_copied, option_map}
 use Rattle.sv_modules.specs.Listed.{modules_of}
 use Rattle.sv_levels.specs.Library.{known_is}
 use Rattle.sv_levels.proofs.ByNumber.{known_at, tree_got, no_tree, no_above}

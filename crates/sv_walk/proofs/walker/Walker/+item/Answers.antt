@@ -48,9 +48,9 @@ item-returns-in_ok-opened-in-For t c =
     let loop : OpensLoop c.args.item.now c.in-For.place c.in-For.variable c.in-For.body c.args.self.now c.args.current.now c.open_loop.new.current (Ok opened) =
     subst (λ (x : Gen). (item : Item) → item ≡ it.For c.in-For.place c.in-For.header c.in-For.variable c.in-For.start c.in-For.test c.in-For.next x → OpensLoop item c.in-For.place c.in-For.variable x c.args.self.now c.args.current.now c.open_loop.new.current (Ok opened))
     c.get.ensures c.in_ok-opened-in-For.ensures c.args.item.now c.in-For.is in
-    let walks = λ (n : Name). walk_all (turn_walk c.in-For.place opened.weight n c.in-For.variable.text (under c.in-For.body).body) opened.values q in
+    let walks = λ (n : Name). walk_all (turn_walk c.in-For.place n c.in-For.variable.text (under c.in-For.body).body) opened.values q in
     same_ends u ((act c.args.item.now).item s) (walks opened.name) c.turns.result (loop.0 ∙ ap walks (sym loop.1))
-    (subst (λ (x : Gen). Ends u (walk_all (turn_walk c.in-For.place opened.weight opened.name c.in-For.variable.text (under x).body) opened.values q) c.turns.result) c.get-in-For.ensures c.turns.ensures)
+    (subst (λ (x : Gen). Ends u (walk_all (turn_walk c.in-For.place opened.name c.in-For.variable.text (under x).body) opened.values q) c.turns.result) c.get-in-For.ensures c.turns.ensures)
 
 pub item-returns-in_ok-next_construct-in-If : goal.item-returns-in_ok-next_construct-in-If
 item-returns-in_ok-next_construct-in-If t c =
@@ -103,30 +103,30 @@ items-item-requires t c = (item_less c.args.items.now c.items.item-index c.item-
 
 pub turns-turns-init : goal.turns-turns-init
 turns-turns-init t c =
-    ap (λ (l : List (List Bit)). walk_all (turn_walk c.args.place c.args.opened.weight c.args.opened.name c.args.variable.now.text (under c.args.body.now).body) l (state_of c.args.self.now c.args.current.now)) (sym c.as_slice-bits-items.ensures)
+    ap (λ (l : List (List Bit)). walk_all (turn_walk c.args.place c.args.opened.name c.args.variable.now.text (under c.args.body.now).body) l (state_of c.args.self.now c.args.current.now)) (sym c.as_slice-bits-items.ensures)
 
 pub turns-returns-in_err-turn : goal.turns-returns-in_err-turn
 turns-returns-in_err-turn t c =
-    let f = turn_walk c.args.place c.args.opened.weight c.args.opened.name c.args.variable.now.text (under c.args.body.now).body in
+    let f = turn_walk c.args.place c.args.opened.name c.args.variable.now.text (under c.args.body.now).body in
     let s = state_of c.args.self.now c.args.current.now in
     let now = state_of c.turns.self c.args.current.now in
     let t = state_of c.turn.new.self c.args.current.now in
     walk_refused f c.as_slice-bits-items.result.now c.turns.bits-index c.bits-item.result (walk_all f c.args.opened.values s) now t t c.turn.result c.in_err-turn.field-0.0 c.from_residual.result c.turns-test.true c.bits-item.is c.turns.invariant c.in_err-turn.was
-    (subst (λ (n : Name). Ends t (turn_walk c.args.place c.args.opened.weight n c.args.variable.now.text (under c.args.body.now).body c.bits-item.result now) c.turn.result) c.bytes-name.ensures c.turn.ensures) c.from_residual.ensures.1
+    (subst (λ (n : Name). Ends t (turn_walk c.args.place n c.args.variable.now.text (under c.args.body.now).body c.bits-item.result now) c.turn.result) c.bytes.ensures c.turn.ensures) c.from_residual.ensures.1
 
 pub turns-turns-preserved : goal.turns-turns-preserved
 turns-turns-preserved t c =
-    let f = turn_walk c.args.place c.args.opened.weight c.args.opened.name c.args.variable.now.text (under c.args.body.now).body in
+    let f = turn_walk c.args.place c.args.opened.name c.args.variable.now.text (under c.args.body.now).body in
     let s = state_of c.args.self.now c.args.current.now in
     let now = state_of c.turns.self c.args.current.now in
     let t = state_of c.turn.new.self c.args.current.now in
     walk_next f c.as_slice-bits-items.result.now c.turns.bits-index c.bits-item.result (walk_all f c.args.opened.values s) now t c.turns-test.true c.bits-item.is c.turns.invariant
     (ended t (f c.bits-item.result now) (tt {0})
-    (subst (λ (n : Name). Ends {A = Unit {0}} t (turn_walk c.args.place c.args.opened.weight n c.args.variable.now.text (under c.args.body.now).body c.bits-item.result now) (Ok (tt {0}))) c.bytes-name.ensures c.in_ok-turn.ensures))
+    (subst (λ (n : Name). Ends {A = Unit {0}} t (turn_walk c.args.place n c.args.variable.now.text (under c.args.body.now).body c.bits-item.result now) (Ok (tt {0}))) c.bytes.ensures c.in_ok-turn.ensures))
 
 pub turns-returns : goal.turns-returns
 turns-returns t c =
-    let f = turn_walk c.args.place c.args.opened.weight c.args.opened.name c.args.variable.now.text (under c.args.body.now).body in
+    let f = turn_walk c.args.place c.args.opened.name c.args.variable.now.text (under c.args.body.now).body in
     let s = state_of c.args.self.now c.args.current.now in
     let t = state_of c.turns.self c.args.current.now in
     ends t (walk_all f c.args.opened.values s) (tt {0}) (walk_none f c.as_slice-bits-items.result.now c.turns.bits-index (walk_all f c.args.opened.values s) t c.turns-test.false c.turns.invariant)
@@ -139,8 +139,8 @@ turn-returns-in_err-block t c =
     let s = state_of c.args.self.now c.args.current.now in
     let u = state_of c.begin_turn.new.self c.args.current.now in
     let inside = (under c.args.body.now).body in
-    handed_same u (turn_walk c.args.place c.args.weight c.args.name.now c.args.variable.now.text inside c.args.bits s) c.in_err-block.field-0.0 c.from_residual.result
-    (not_opened (λ st block. st ≡ state_of c.begin_turn.new.self block) c.args.place c.args.weight c.args.name.now c.args.variable.now.text inside c.args.bits s u c.begin_turn.result c.in_err-block.field-0.0 c.in_err-block.was c.begin_turn.ensures)
+    handed_same u (turn_walk c.args.place c.args.name.now c.args.variable.now.text inside c.args.bits s) c.in_err-block.field-0.0 c.from_residual.result
+    (not_opened (λ st block. st ≡ state_of c.begin_turn.new.self block) c.args.place c.args.name.now c.args.variable.now.text inside c.args.bits s u c.begin_turn.result c.in_err-block.field-0.0 c.in_err-block.was c.begin_turn.ensures)
     c.from_residual.ensures.1
 
 pub turn-returns-in-Block : goal.turn-returns-in-Block
@@ -149,12 +149,12 @@ turn-returns-in-Block t c =
     let b = state_of c.begin_turn.new.self c.in_ok-block.block in
     let e = state_of c.items-done.new.self c.items-done.new.current in
     let u = state_of c.items-done.new.self c.args.current.now in
-    let walks = λ (w : Walk). turn_walk c.args.place c.args.weight c.args.name.now c.args.variable.now.text w c.args.bits s in
-    let opened : opened_turn c.args.place c.args.weight c.args.name.now c.args.variable.now.text c.args.bits s ≡ Ok b =
-    answered (state_of c.begin_turn.new.self) (opened_turn c.args.place c.args.weight c.args.name.now c.args.variable.now.text c.args.bits s) c.in_ok-block.block c.in_ok-block.ensures in
+    let walks = λ (w : Walk). turn_walk c.args.place c.args.name.now c.args.variable.now.text w c.args.bits s in
+    let opened : opened_turn c.args.place c.args.name.now c.args.variable.now.text c.args.bits s ≡ Ok b =
+    answered (state_of c.begin_turn.new.self) (opened_turn c.args.place c.args.name.now c.args.variable.now.text c.args.bits s) c.in_ok-block.block c.in_ok-block.ensures in
     same_ends u (walks (under c.args.body.now).body) (walks (items_walk c.in-Block.items)) c.items-done.result
     (ap walks (ap (λ (x : Gen). (under x).body) c.in-Block.is ∙ block_body c.in-Block.field-0 c.in-Block.field-1 c.in-Block.items c.in-Block.field-3))
-    (turn_ends c.args.place c.args.weight c.args.name.now c.args.variable.now.text (items_walk c.in-Block.items) c.args.bits s b e c.items-done.result opened
+    (turn_ends c.args.place c.args.name.now c.args.variable.now.text (items_walk c.in-Block.items) c.args.bits s b e c.items-done.result opened
     (subst (λ (l : List Item). Ends e (items_walk l b) c.items-done.result) c.as_slice.ensures c.items-done.ensures))
 
 pub turn-returns-in-Single : goal.turn-returns-in-Single
@@ -163,12 +163,12 @@ turn-returns-in-Single t c =
     let b = state_of c.begin_turn.new.self c.in_ok-block.block in
     let e = state_of c.item-done.new.self c.item-done.new.current in
     let u = state_of c.item-done.new.self c.args.current.now in
-    let walks = λ (w : Walk). turn_walk c.args.place c.args.weight c.args.name.now c.args.variable.now.text w c.args.bits s in
-    let opened : opened_turn c.args.place c.args.weight c.args.name.now c.args.variable.now.text c.args.bits s ≡ Ok b =
-    answered (state_of c.begin_turn.new.self) (opened_turn c.args.place c.args.weight c.args.name.now c.args.variable.now.text c.args.bits s) c.in_ok-block.block c.in_ok-block.ensures in
+    let walks = λ (w : Walk). turn_walk c.args.place c.args.name.now c.args.variable.now.text w c.args.bits s in
+    let opened : opened_turn c.args.place c.args.name.now c.args.variable.now.text c.args.bits s ≡ Ok b =
+    answered (state_of c.begin_turn.new.self) (opened_turn c.args.place c.args.name.now c.args.variable.now.text c.args.bits s) c.in_ok-block.block c.in_ok-block.ensures in
     same_ends u (walks (under c.args.body.now).body) (walks (act c.in-Single.item).item) c.item-done.result
     (ap walks (ap (λ (x : Gen). (under x).body) c.in-Single.is ∙ single_body c.in-Single.field-0 c.in-Single.item))
-    (turn_ends c.args.place c.args.weight c.args.name.now c.args.variable.now.text (act c.in-Single.item).item c.args.bits s b e c.item-done.result opened
+    (turn_ends c.args.place c.args.name.now c.args.variable.now.text (act c.in-Single.item).item c.args.bits s b e c.item-done.result opened
     (subst (λ (x : Item). Ends e ((act x).item b) c.item-done.result) c.get.ensures c.item-done.ensures))
 
 pub turn-items-done-requires : goal.turn-items-done-requires

@@ -25,8 +25,8 @@ decreases-branch l = 2 * gen_size l.body.now
 
 abbrev pub invariant-turns-turns : goal.invariant-turns-turns
 invariant-turns-turns l =
-    walk_all (turn_walk l.place l.fn.opened.weight l.fn.opened.name l.variable.text (under l.body).body) l.fn.opened.values (state_of l.fn.self l.current)
-    ≡ walk_all (turn_walk l.place l.fn.opened.weight l.fn.opened.name l.variable.text (under l.body).body) (drop l.bits-index l.bits-items) (state_of l.self l.current)
+    walk_all (turn_walk l.place l.fn.opened.name l.variable.text (under l.body).body) l.fn.opened.values (state_of l.fn.self l.current)
+    ≡ walk_all (turn_walk l.place l.fn.opened.name l.variable.text (under l.body).body) (drop l.bits-index l.bits-items) (state_of l.self l.current)
 
 abbrev pub invariant-items-items : goal.invariant-items-items
 invariant-items-items l = items_walk l.items (state_of l.fn.self l.fn.current) ≡ items_walk (drop l.item-index l.items) (state_of l.self l.current)

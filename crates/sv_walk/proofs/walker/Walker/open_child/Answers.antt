@@ -21,7 +21,7 @@ returns-in_err-self c = λ current.
     let r = λ (x : m.State) (u : Unit {0}). x ≡ st in
     let w = c.in_ok-wiring.wiring in
     alone_wired (state_of c.args.self.now) (known_is c.args.known) ch st w w.params.items w.pins.items c.from_residual-in_err-self.result (c.in_ok-wiring.ensures (m.seen_at st.levels ch.at)) refl refl
-    (no_room r _ (known_is c.args.known) ch st (map connection_is w.params.items, map connection_is w.pins.items) c.from_residual-in_err-self.result e c.from_residual-in_err-self.ensures.1 (counted_err r (known_is c.args.known) c.instance_weight-weight.result ch st e c.instance_weight-weight.ensures c.in_err-self.ensures))
+    (no_room r _ (known_is c.args.known) ch st (map connection_is w.params.items, map connection_is w.pins.items) c.from_residual-in_err-self.result e c.from_residual-in_err-self.ensures.1 (counted_err r ch st e c.in_err-self.ensures))
 
 pub returns : goal.returns
 returns c = λ current.
@@ -30,7 +30,7 @@ returns c = λ current.
     let more = state_of (record c.args.self.now { tally = c.in_ok-self.field-0 }) current in
     alone_wired (state_of c.instance-done.new.self) (known_is c.args.known) ch st c.in_ok-wiring.wiring c.deref.result.now c.deref-2.result.now c.after.result (c.in_ok-wiring.ensures (m.seen_at st.levels ch.at)) c.deref.ensures.value c.deref-2.ensures.value
     (wired_ends (state_of c.instance-done.new.self) (known_is c.args.known) ch st more (state_of c.begin_instance.new.self c.in_ok-own.own) (map connection_is c.deref.result.now, map connection_is c.deref-2.result.now) c.instance-done.new.current c.instance-done.result c.after.result
-    (counted_ok (known_is c.args.known) c.instance_weight-weight.result ch st c.in_ok-self.field-0 c.instance_weight-weight.ensures c.in_ok-self.ensures) (c.in_ok-own.ensures current ∙ λ i. m.begun (known_is c.args.known) (c.in_ok-path.ensures i) c.args.child.now.at.level (c.in_ok-given.ensures i) more) c.instance-done.ensures c.after.ensures.ok c.after.ensures.err)
+    (counted_ok ch st c.in_ok-self.field-0 c.in_ok-self.ensures) (c.in_ok-own.ensures current ∙ λ i. m.begun (known_is c.args.known) (c.in_ok-path.ensures i) c.args.child.now.at.level (c.in_ok-given.ensures i) more) c.instance-done.ensures c.after.ensures.ok c.after.ensures.err)
 
 pub returns-in_err-path : goal.returns-in_err-path
 returns-in_err-path c = λ current.

@@ -1,7 +1,0 @@
-use Rattle.std.proofs.Common.{◌∙◌, ◌/◌, ℕ, suc, ap}
-use Rattle.sv_meaning.specs.Weights.{generate_weight, weight}
-use Rattle.sv_loops.proofs.weights.generate_weight.Goals as goal
-
-pub returns-clause-is : goal.returns-clause-is
-unfolding generate_weight weight
-returns-clause-is c = c.weight.ensures ∙ ap (λ (n : ℕ). suc (n / 512)) c.generate_size.ensures

@@ -1,6 +1,0 @@
-use Rattle.sv_write.proofs.Adding.{◌▷◌}
-use Rattle.sv_write.proofs.Counting.{counted_all}
-use Rattle.sv_write.proofs.size.loop_size.Goals as goal
-
-pub returns : goal.returns
-returns c = counted_all c.counter-out.ensures (c.turns.ensures ▷ c.statement.ensures)
