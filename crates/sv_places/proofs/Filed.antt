@@ -170,7 +170,7 @@ turn_stays C G w (spec.used a rest) room live s from o z t h k l =
 turn_stays C G w (spec.defined name text rest) room live s from o z t h k l = w room (branch live) (with_definition s name (Some text)) rest o z t h l
 turn_stays C G w (spec.forgotten name rest) room live s from o z t h k l = w room (branch live) (with_definition s name None) rest o z t h l
 turn_stays C G w (spec.included a name rest) room live s from o z t h k l =
-    let inside : State = entered s name h.1 h.2 in
+    let inside : State = entered s name h.2 in
     let one : length inside.files ≡ suc (length s.files) = omega (arith, length-append s.files (name ∷ [])) in
     let own : LineUp (length inside.files) h.2 = cuts_in (length inside.files) (omega (arith, one)) h.7.cut.1 in
     let a : Stay inside h.3 h.5 [] = w h.0 (branch true) inside h.2 h.3 h.5 [] h.8 own in
@@ -229,7 +229,7 @@ whole_stays : (C : Contents) (main : List ℕ) (tokens : TokenList) → IsWholeT
 whole_stays C main tokens h =
     let x = h.whole in
     let first : LineUp 1 x.tokens = cuts_in 1 (omega arith) x.file.cut.1 in
-    let inside : State = entered at_first main x.text x.tokens in
+    let inside : State = entered at_first main x.tokens in
     let all : Stay inside tokens.list h.last [] = stands_stay C x.stands.0 _ (branch true) inside x.tokens tokens.list h.last [] x.stands.1 first in
     let same : length h.last.files ≡ length tokens.files = sym (ap length x.files) in
     (subst (λ i. Lie i tokens.list) same all.2, omega (arith, all.0, same))

@@ -174,13 +174,9 @@ step_on C D one room (spec.included a name rest) p q e h out last g = at D room 
     let v = u.1 in
     let less = suc_is h.0 v.0 (sym h.5 ∙ v.6) in
     let file = one_file C D one (length p.state.files) name h.1 v.1 h.2 v.2 h.6 v.7 in
-    let inner : Holds D h.0 (branch true) (entered p.state name h.1 h.2) h.2 v.3 v.5 []
-    = (
-      u.0,
-      subst (λ i. Stands D u.0 i (branch true) (entered p.state name h.1 h.2) h.2 v.3 v.5 []) (sym less) (subst (λ i. Stands D u.0 v.0 (branch true) (entered p.state name h.1 i) i v.3 v.5 []) (sym file.1)
-          (subst (λ i. Stands D u.0 v.0 (branch true) (entered p.state name i v.2) v.2 v.3 v.5 []) (sym file.0) v.8)),
-    ) in
-    let same = holds_one C D one h.0 (branch true) (entered p.state name h.1 h.2) h.2 h.3 h.4 [] v.3 v.5 [] h.7 inner in
+    let inner : Holds D h.0 (branch true) (entered p.state name h.2) h.2 v.3 v.5 []
+    = (u.0, subst (λ i. Stands D u.0 i (branch true) (entered p.state name h.2) h.2 v.3 v.5 []) (sym less) (subst (λ i. Stands D u.0 v.0 (branch true) (entered p.state name i) i v.3 v.5 []) (sym file.1) v.8)) in
+    let same = holds_one C D one h.0 (branch true) (entered p.state name h.2) h.2 h.3 h.4 [] v.3 v.5 [] h.7 inner in
     (v.4, v.9 ∙ ap (λ i. i ++ v.4) (sym same.out), (u.0, subst (λ i. Stands D u.0 room (branch p.live) i rest v.4 z t) (sym same.state) v.10))) g)
 step_on C D one room (spec.opened wanted name rest) p q e h out last g =
     at D room _ q out last h (g.0, g.1, right_opened D room p.frames p.live wanted p.state p.rest name rest g.0 last e g.2)

@@ -1,4 +1,4 @@
--- What is counted does not fall, nor what is read.
+-- What is counted does not fall.
 use Rattle.std.proofs.Common.{◌≡◌, ℕ, zero, suc, ◌+◌, ◌≤◌, List, [], ◌∷◌, Bool, true, ap, arith, length, Some, None}
 use Rattle.std.specs.Prelude.{◌&&◌, ◌||◌, not}
 use Rattle.sv_outside.specs.declared.text.Token.{Token}
@@ -7,48 +7,37 @@ use Rattle.sv_preproc.specs.declared.role.Role.{Role}
 use Rattle.sv_preproc.specs.declared.role.Role.TheVariants as role
 use Rattle.sv_preproc.specs.Roles.{role_of}
 use Rattle.sv_preproc.specs.Directives as spec
-use Rattle.sv_preproc.specs.Directives.{Item, item, State, Part, branch, choice, Contents, Relation, Turn, Choose, Elsif, Level, Stands, Holds, IsFile, Expands, Macros, has, is_taken, name_of, with_definition, with_count, entered, deepest_use, IsWithinLimits}
-
--- no less is counted, and no less is read
-abbrev pub NoLess : State → State → Type 0
-NoLess s z = (s.counted ≤ z.counted) × (s.read ≤ z.read)
-
-pub less_on : (s m z : State) → NoLess s m → NoLess m z → NoLess s z
-less_on s m z h k = (omega (arith, h.0, k.0), omega (arith, h.1, k.1))
-
-pub same_count : (s z : State) → z ≡ s → NoLess s z
-same_count s z e = (omega (arith, ap (λ i. i.counted) e), omega (arith, ap (λ i. i.read) e))
-
--- what is within the limits behind more was within them before
-pub within_before : (s z : State) → NoLess s z → IsWithinLimits z → IsWithinLimits s
-within_before s z h w = (omega (arith, h.0, w.0), omega (arith, h.1, w.1))
+use Rattle.sv_preproc.specs.Directives.{Item, item, State, Part, branch, choice, Contents, Relation, Turn, Choose, Elsif, Level, Stands, Holds, IsFile, Expands, Macros, has, is_taken, name_of, with_definition, with_count, entered, deepest_use, most_counted}
 
 abbrev Rises : Relation → Type 0
-Rises G = (room : ℕ) (part : Part) (s : State) (from : List Lined) (o : List Token) (z : State) (t : List Lined) → G room part s from o z t → NoLess s z
+Rises G = (room : ℕ) (part : Part) (s : State) (from : List Lined) (o : List Token) (z : State) (t : List Lined) → G room part s from o z t → s.counted ≤ z.counted
 
-turn_rises : (C : Contents) (G : Relation) → Rises G → (i : Item) (room : ℕ) (live : Bool) (s : State) (from : List Lined) (o : List Token) (z : State) (t : List Lined) → Turn C G room live s i from o z t → NoLess s z
+same_count : (s z : State) → z ≡ s → s.counted ≤ z.counted
+same_count s z e = omega (arith, ap (λ i. i.counted) e)
+
+turn_rises : (C : Contents) (G : Relation) → Rises G → (i : Item) (room : ℕ) (live : Bool) (s : State) (from : List Lined) (o : List Token) (z : State) (t : List Lined) → Turn C G room live s i from o z t → s.counted ≤ z.counted
 turn_rises C G w spec.ended room live s from o z t h = same_count s z h.1
 turn_rises C G w (spec.kept a rest) room live s from o z t h = w room (branch live) s rest h.0 z t h.2
 turn_rises C G w (spec.passed rest) room live s from o z t h = w room (branch live) s rest o z t h
-turn_rises C G w (spec.used a rest) room live s from o z t h = let k : (s.counted + h.3 ≤ z.counted) × (s.read ≤ z.read) = w room (branch live) (with_count s h.3) rest h.2 z t h.7 in (omega (arith, k.0), k.1)
+turn_rises C G w (spec.used a rest) room live s from o z t h = let k : s.counted + h.3 ≤ z.counted = w room (branch live) (with_count s h.3) rest h.2 z t h.7 in omega (arith, k)
 turn_rises C G w (spec.defined name text rest) room live s from o z t h = w room (branch live) (with_definition s name (Some text)) rest o z t h
 turn_rises C G w (spec.forgotten name rest) room live s from o z t h = w room (branch live) (with_definition s name None) rest o z t h
 turn_rises C G w (spec.included a name rest) room live s from o z t h =
-    let k : (s.counted + length h.2 ≤ h.5.counted) × (s.read + length h.1 ≤ h.5.read) = w h.0 (branch true) (entered s name h.1 h.2) h.2 h.3 h.5 [] h.8 in
-    let l = w room (branch live) h.5 rest h.4 z t h.10 in (omega (arith, k.0, l.0), omega (arith, k.1, l.1))
+    let k : s.counted + length h.2 ≤ h.5.counted = w h.0 (branch true) (entered s name h.2) h.2 h.3 h.5 [] h.8 in
+    let l = w room (branch live) h.5 rest h.4 z t h.10 in omega (arith, k, l)
 turn_rises C G w (spec.opened wanted name rest) room live s from o z t h =
     let a = w room (branch (live && is_taken wanted name s.macros)) s rest h.0 h.3 h.5 h.7 in
     let b = w room (choice live (is_taken wanted name s.macros)) h.3 h.5 h.1 h.4 h.6 h.8 in
-    let c = w room (branch live) h.4 h.6 h.2 z t h.10 in less_on s h.3 z a (less_on h.3 h.4 z b c)
+    let c = w room (branch live) h.4 h.6 h.2 z t h.10 in omega (arith, a, b, c)
 turn_rises C G w (spec.broken number place) room live s from o z t h = absurd h
 
-choose_rises : (G : Relation) → Rises G → (r : Role) (room : ℕ) (live taken : Bool) (s : State) (ts : List Lined) (o : List Token) (z : State) (t : List Lined) → Choose G r room live taken s ts o z t → NoLess s z
+choose_rises : (G : Relation) → Rises G → (r : Role) (room : ℕ) (live taken : Bool) (s : State) (ts : List Lined) (o : List Token) (z : State) (t : List Lined) → Choose G r room live taken s ts o z t → s.counted ≤ z.counted
 choose_rises G w role.Endif room live taken s ts o z t h = same_count s z h.1
 choose_rises G w role.Else room live taken s ts o z t h = w room (branch (live && not taken)) s ts o z (h.0 ∷ t) h.2
 choose_rises G w role.Elsif room live taken s [] o z t h = absurd h
 choose_rises G w role.Elsif room live taken s (name ∷ ts) o z t h =
     let a = w room (branch (live && not taken && has name.token.text s.macros)) s ts h.0 h.2 h.3 h.5 in
-    let b = w room (choice live (taken || has name.token.text s.macros)) h.2 h.3 h.1 z t h.6 in less_on s h.2 z a b
+    let b = w room (choice live (taken || has name.token.text s.macros)) h.2 h.3 h.1 z t h.6 in omega (arith, a, b)
 choose_rises G w role.Kept room live taken s ts o z t h = absurd h
 choose_rises G w role.Continued room live taken s ts o z t h = absurd h
 choose_rises G w role.Used room live taken s ts o z t h = absurd h

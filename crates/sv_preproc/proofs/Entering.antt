@@ -13,11 +13,11 @@ use Rattle.sv_preproc.specs.declared.error.ItemErr.{ItemErr}
 use Rattle.sv_preproc.specs.declared.error.ItemErr.TheVariants.{Refused, OutOfMemory}
 use Rattle.sv_preproc.specs.declared.error.PreErr.{PreErr}
 use Rattle.sv_preproc.specs.declared.error.PreErr.TheVariants.{No, Read, Memory}
-use Rattle.sv_preproc.specs.Directives.{Contents, State, most_counted, most_read}
+use Rattle.sv_preproc.specs.Directives.{Contents, State, most_counted}
 use Rattle.sv_preproc.specs.Laws.{Possible}
 use Rattle.sv_preproc.specs.Reached as reached
 use Rattle.sv_preproc.specs.Reached.{Stop, no, unread, IsUnfit}
-use Rattle.sv_preproc.specs.Seen.{Names, IsNotRead, NotEntered, NotIncluded, NotCut, uncut, many, large, HasCause, IsTakenIn, Enters}
+use Rattle.sv_preproc.specs.Seen.{Names, IsNotRead, NotEntered, NotIncluded, NotCut, uncut, many, HasCause, IsTakenIn, Enters}
 use Rattle.sv_preproc.proofs.Errors.{caused_as}
 
 pub named : (Why : Stop → List ℕ → Type 0) (e : ItemErr) (place : Place) (file : List ℕ) (p : PreErr) → Names e place file p
@@ -58,10 +58,6 @@ too_many s name text lines left d l c h =
     many (take left lines) (get_or lines left d) (drop (suc left) lines) (subst (λ i. LexesLines (length s.files) text i) (split_there lines left d h) l)
     (omega (arith, c, length-take left lines, h))
 
--- with the bytes of the text more are read than may be
-pub too_large : (s : State) (name text : List ℕ) (here : Place) (e : PreErr) → Names (Refused 4) here name e → here ≡ start (length s.files) → most_read < s.read + length text → HasCause (NotCut s name text) e
-too_large s name text here e n p k = named_as (NotCut s name text) 4 here name e n (subst (λ i. NotCut s name text (no (refused 4 i)) name) (sym p) (large k))
-
 pub not_entered : (C : Contents) (s : State) (name text : List ℕ) (at : Place) (asked : List ℕ) → C name text → length text ≤ most_bytes → (e : PreErr) → HasCause (NotCut s name text) e
     → HasCause (NotEntered C s name at asked) e
 not_entered C s name text at asked held short e h = caused_as (NotCut s name text) (NotEntered C s name at asked) e step h
@@ -69,7 +65,6 @@ not_entered C s name text at asked held short e h = caused_as (NotCut s name tex
     step : (stop : Stop) (file : List ℕ) → NotCut s name text stop file → NotEntered C s name at asked stop file
     step stop file (uncut r) = (reached.uncut text held r, refl)
     step stop file (many before a after l k) = (reached.many before a after (record { held = held; short = short; cut = l }) k, refl)
-    step stop file (large k) = (reached.large text held short k, refl)
 
 -- a file that is not entered is not included
 pub not_included : (C : Contents) (room : ℕ) (s : State) (name other : List ℕ) (at : Place) (asked : List ℕ) (e : PreErr) → 1 ≤ room → name ≡ other → HasCause (NotEntered C s name at asked) e

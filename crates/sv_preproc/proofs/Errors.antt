@@ -1,5 +1,5 @@
 -- Errors that are handed on.
-use Rattle.std.proofs.Common.{◌≡◌, ◌≤◌, ℕ, List, length, refl, sym, subst, arith, Result, Ok, Err}
+use Rattle.std.proofs.Common.{◌≡◌, ◌≤◌, ℕ, List, refl, sym, subst, arith, Result, Ok, Err}
 use Rattle.sv_outside.specs.Outside.{counted, is_failed}
 use Rattle.sv_outside.specs.declared.outside.FileErr.{FileErr}
 use Rattle.sv_outside.specs.declared.outside.FileErr.TheVariants as fault
@@ -9,10 +9,10 @@ use Rattle.sv_preproc.specs.declared.error.ItemErr.{ItemErr}
 use Rattle.sv_preproc.specs.declared.error.ItemErr.TheVariants.{Refused, OutOfMemory}
 use Rattle.sv_preproc.specs.declared.error.PreErr.{PreErr}
 use Rattle.sv_preproc.specs.declared.error.PreErr.TheVariants.{No, Read, Memory}
-use Rattle.sv_token.specs.Cut.{refused, start}
+use Rattle.sv_token.specs.Cut.{refused}
 use Rattle.sv_preproc.specs.Directives.{State}
 use Rattle.sv_preproc.specs.Reached.{Point, Stop, no, unread}
-use Rattle.sv_preproc.specs.Seen.{IfRefused, HasCause, IsFaultyIn, IsNotRead, Names, NotCut, uncut, many, large, is_read_fault}
+use Rattle.sv_preproc.specs.Seen.{IfRefused, HasCause, IsFaultyIn, IsNotRead, Names, NotCut, uncut, many, is_read_fault}
 
 -- what `?` returns is the error that came
 pub handed_on : {T E : Type 0} (r : Result T E) (e : E) (P : E → Type 0) → IsErrAnd r (λ y. y ≡ e) → P e → IfErr r P
@@ -53,7 +53,6 @@ faulty_counts p file Memory before now c k = k
 not_cut_unread : {s : State} {name text at : List ℕ} {stop : Stop} → NotCut s name text stop at → (place : Place) → stop ≡ unread place → ⊥
 not_cut_unread (uncut {refusal = refusal} r) place e = let bad : no refusal ≡ unread place = e in cc
 not_cut_unread (many before a after l k) place e = let bad : no (refused 4 a.token.place) ≡ unread place = e in cc
-not_cut_unread {s} (large k) place e = let bad : no (refused 4 (start (length s.files))) ≡ unread place = e in cc
 
 -- nor is a text that is not cut
 pub cut_counts : (s : State) (name text : List ℕ) (e : PreErr) (before now : ℕ) → HasCause (NotCut s name text) e → now ≡ before → now ≡ counted (is_read_fault e) before

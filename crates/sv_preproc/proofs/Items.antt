@@ -20,8 +20,8 @@ use Rattle.sv_preproc.proofs.Grows.{holds_as}
 use Rattle.sv_preproc.proofs.Entering.{named, named_as}
 use Rattle.sv_preproc.proofs.Errors.{caused_as}
 
-abbrev pub state_of : Macros → List (List ℕ) → ℕ → ℕ → State
-state_of macros files counted bytes = record { macros = macros; files = files; counted = counted; read = bytes }
+abbrev pub state_of : Macros → List (List ℕ) → ℕ → State
+state_of macros files counted = record { macros = macros; files = files; counted = counted }
 
 -- ---- one item
 
@@ -36,13 +36,13 @@ pub one_passed : (C : Contents) (room : ℕ) (live : Bool) (frames : List Frame)
     → item live from ≡ spec.passed rest → Passes C room (item live from) (point live frames s old from) (point live frames s old rest)
 one_passed C room live frames s old from rest e = over C room (point live frames s old from) (point live frames s old rest) (spec.passed rest) e refl
 
-pub one_used : (C : Contents) (room : ℕ) (live : Bool) (frames : List Frame) (macros : Macros) (files : List (List ℕ)) (bytes counted total : ℕ) (old new : List Token) (from rest : List Lined) (a : Token)
+pub one_used : (C : Contents) (room : ℕ) (live : Bool) (frames : List Frame) (macros : Macros) (files : List (List ℕ)) (counted total : ℕ) (old new : List Token) (from rest : List Lined) (a : Token)
     → item live from ≡ spec.used a rest → Uses macros a old new counted total
-    → Passes C room (item live from) (point live frames (state_of macros files counted bytes) old from) (point live frames (state_of macros files total bytes) new rest)
-one_used C room live frames macros files bytes counted total old new from rest a e u =
+    → Passes C room (item live from) (point live frames (state_of macros files counted) old from) (point live frames (state_of macros files total) new rest)
+one_used C room live frames macros files counted total old new from rest a e u =
     let w = u.2 in
-    over C room (point live frames (state_of macros files counted bytes) old from) (point live frames (state_of macros files total bytes) new rest) (spec.used a rest) e
-    (u.0, w.0, w.1, u.1, w.2, ap (λ i. point live frames (state_of macros files total bytes) i rest) w.3 ∙ ap (λ (n : ℕ). point live frames (state_of macros files n bytes) (old ++ w.0) rest) w.4)
+    over C room (point live frames (state_of macros files counted) old from) (point live frames (state_of macros files total) new rest) (spec.used a rest) e
+    (u.0, w.0, w.1, u.1, w.2, ap (λ i. point live frames (state_of macros files total) i rest) w.3 ∙ ap (λ (n : ℕ). point live frames (state_of macros files n) (old ++ w.0) rest) w.4)
 
 pub one_defined : (C : Contents) (room : ℕ) (live : Bool) (frames : List Frame) (s now : State) (old : List Token) (from rest after : List Lined) (name : List ℕ) (text : List Token)
     → item live from ≡ spec.defined name text rest → now ≡ with_definition s name (Some text) → after ≡ rest
@@ -102,8 +102,8 @@ pub one_included : (told now started : List ℕ → Option (List ℕ)) (room les
     → Reaches (Possible started) room first (point live frames middle new rest)
 one_included told now started room less first live frames s one middle old new from rest inner lines a name file end h e f r t n k l w =
     let held : IsFile (Possible started) (length s.files) name k.text inner = subst (λ i. IsFile (Possible started) (length s.files) i k.text inner) f (file_as told started t (length s.files) file k.text inner k.file) in
-    let begins : one ≡ entered s name k.text inner = k.counted ∙ ap (λ i. entered s i k.text inner) f in
-    let stands : Holds (Possible started) less (branch true) (entered s name k.text inner) inner w.0 middle [] = subst (λ i. Holds (Possible started) less (branch true) i inner w.0 middle []) begins
+    let begins : one ≡ entered s name inner = k.counted ∙ ap (λ i. entered s i inner) f in
+    let stands : Holds (Possible started) less (branch true) (entered s name inner) inner w.0 middle [] = subst (λ i. Holds (Possible started) less (branch true) i inner w.0 middle []) begins
     (subst (λ i. Holds (Possible started) less (branch true) one i w.0 middle []) l (holds_as (Possible now) (Possible started) (possible_as now started n) less (branch true) one lines w.0 middle [] w.1)) in
     onwards h (over (Possible started) room (point live frames s old from) (point live frames middle new rest) (spec.included a name rest) e
     (less, k.text, inner, w.0, middle, r, held, stands, ap (λ i. point live frames middle i rest) w.2))
@@ -164,7 +164,7 @@ module _ (C : Contents) (room : ℕ) (s : State) (old : List Token) (tokens : Li
   pub inner_stops : (less : ℕ) (one : State) (a : Token) (rest inner : List Lined) (name : List ℕ) (back : Place) (error : PreErr) → item p.live p.rest ≡ spec.included a name rest → room ≡ suc less
       → Enters C p.state one name inner back → HasCause (Stops C less one inner back name) error → HasCause Why error
   inner_stops less one a rest inner name back error e r k c = caused_as (Stops C less one inner back name) Why error
-      (λ stop at x. reached.deeper h e r k.file (subst (λ i. Stops C less (entered p.state name k.text inner) inner i name stop at) k.ends (subst (λ i. Stops C less i inner back name stop at) k.counted x))) c
+      (λ stop at x. reached.deeper h e r k.file (subst (λ i. Stops C less (entered p.state name inner) inner i name stop at) k.ends (subst (λ i. Stops C less i inner back name stop at) k.counted x))) c
 
 -- what is told before and now
 pub told_as : (told now : List ℕ → Option (List ℕ)) → IsToldAs told now → told ≡ now

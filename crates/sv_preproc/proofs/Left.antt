@@ -181,7 +181,7 @@ step_back C room (spec.included a name rest) p q e h out last g =
       h.4,
       h.5,
       h.6,
-      stands_grow C h.7.0 (h.7.0 + k.0) (first_of_two h.7.0 k.0) h.0 (branch true) (entered p.state name h.1 h.2) h.2 h.3 h.4 [] h.7.1,
+      stands_grow C h.7.0 (h.7.0 + k.0) (first_of_two h.7.0 k.0) h.0 (branch true) (entered p.state name h.2) h.2 h.3 h.4 [] h.7.1,
       refl,
       stands_grow C k.0 (h.7.0 + k.0) (second_of_two h.7.0 k.0) room (branch p.live) h.4 rest o z t k.1,
     )) (at C room q _ out last h.8 g)

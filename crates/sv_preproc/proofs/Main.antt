@@ -39,8 +39,8 @@ rose_where_read (Err (Read place file)) before now h = rose before now h
 rose_where_read (Err Memory) before now h = tt
 
 -- nothing is known yet
-pub first_state : (macros : Macros) (files : List (List ℕ)) → macros ≡ no_macros → files ≡ [] → record { macros = macros; files = files; counted = 0; read = 0 } ≡ at_first
-first_state macros files e f = ap (λ (m : Macros). record { macros = m; files = files; counted = 0; read = 0 }) e ∙ ap (λ (l : List (List ℕ)). record { macros = no_macros; files = l; counted = 0; read = 0 }) f
+pub first_state : (macros : Macros) (files : List (List ℕ)) → macros ≡ no_macros → files ≡ [] → record { macros = macros; files = files; counted = 0 } ≡ at_first
+first_state macros files e f = ap (λ (m : Macros). record { macros = m; files = files; counted = 0 }) e ∙ ap (λ (l : List (List ℕ)). record { macros = no_macros; files = l; counted = 0 }) f
 
 main_stops : (C : Contents) (main : List ℕ) (stop : Stop) (at : List ℕ) → NotEntered C at_first main (start 0) main stop at → StopsIn C main stop at
 main_stops C main (no refusal) at h = subst (λ i. StopsIn C main (no refusal) i) (sym h.1) (reached.unfit h.0)
@@ -55,4 +55,4 @@ pub main_stopped : (C : Contents) (s one : State) (main : List ℕ) (tokens : Li
 main_stopped C s one main tokens end e f k c =
     let n = subst (λ i. Enters C i one main tokens end) f k in
     caused_as (Stops C deepest_include one tokens end main) (StopsIn C main) e
-    (λ stop at x. reached.deeper n.file (subst (λ i. Stops C deepest_include (entered at_first main n.text tokens) tokens i main stop at) n.ends (subst (λ i. Stops C deepest_include i tokens end main stop at) n.counted x))) c
+    (λ stop at x. reached.deeper n.file (subst (λ i. Stops C deepest_include (entered at_first main tokens) tokens i main stop at) n.ends (subst (λ i. Stops C deepest_include i tokens end main stop at) n.counted x))) c

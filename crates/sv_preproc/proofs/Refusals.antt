@@ -12,11 +12,11 @@ use Rattle.sv_preproc.specs.declared.role.Role.{Role}
 use Rattle.sv_preproc.specs.declared.role.Role.TheVariants as role
 use Rattle.sv_preproc.specs.Roles.{role_of, is_word}
 use Rattle.sv_preproc.specs.Directives as spec
-use Rattle.sv_preproc.specs.Directives.{Item, item, State, branch, choice, Contents, Turn, Elsif, Stands, Holds, IsFile, IsText, Expands, Macros, has, is_taken, name_of, with_count, entered, deepest_use, deepest_include, most_counted, IsWithinLimits, at_first}
+use Rattle.sv_preproc.specs.Directives.{Item, item, State, branch, choice, Contents, Turn, Elsif, Stands, Holds, IsFile, IsText, Expands, Macros, has, is_taken, name_of, with_count, entered, deepest_use, deepest_include, most_counted, at_first}
 use Rattle.sv_preproc.specs.Reached as reached
 use Rattle.sv_preproc.specs.Reached.{Point, begun, Reaches, Overruns, IsMisplaced, IsFaulty, IsUnfit, Stop, no, unread, Stops, StopsIn}
 use Rattle.sv_preproc.proofs.Left.{Behind, Left, Gives}
-use Rattle.sv_preproc.proofs.Counts.{NoLess, less_on, same_count, within_before, holds_rise}
+use Rattle.sv_preproc.proofs.Counts.{holds_rise}
 use Rattle.sv_preproc.proofs.Ahead.{turn_of, choice_of, no_choice, stays, reaches_on, head_is, suc_is}
 use Rattle.sv_preproc.proofs.Unique.{Agree, one_file, one_expansion, same_text}
 
@@ -51,25 +51,25 @@ none_overrun {macros = macros} {place = place} (reached.past_used {depth = depth
 
 -- ---- one place
 
-behind_rises : (D : Contents) (room : ℕ) (v : Bool) (frame : Frame) (s : State) (from : List Lined) (o : List Token) (z : State) (t : List Lined) → Behind D room v frame s from o z t → NoLess s z
-behind_rises D room true frame s from o z t k = same_count s z k.4
+behind_rises : (D : Contents) (room : ℕ) (v : Bool) (frame : Frame) (s : State) (from : List Lined) (o : List Token) (z : State) (t : List Lined) → Behind D room v frame s from o z t → s.counted ≤ z.counted
+behind_rises D room true frame s from o z t k = omega (arith, ap (λ i. i.counted) k.4)
 behind_rises D room false frame s from o z t k = holds_rise D room (choice frame.live frame.taken) s from o z t k
 
-left_rises : (D : Contents) (room : ℕ) (frames : List Frame) (live : Bool) (s : State) (from : List Lined) (o : List Token) (last : State) → Left D room frames live s from o last → NoLess s last
+left_rises : (D : Contents) (room : ℕ) (frames : List Frame) (live : Bool) (s : State) (from : List Lined) (o : List Token) (last : State) → Left D room frames live s from o last → s.counted ≤ last.counted
 left_rises D room [] live s from o last h = holds_rise D room (branch live) s from o last [] h
 left_rises D room (frame ∷ frames) live s from o last h =
     let a = holds_rise D room (branch live) s from h.0 h.3 h.5 h.7 in
     let b = behind_rises D room frame.last frame h.3 h.5 h.1 h.4 h.6 h.8 in
-    let c = left_rises D room frames frame.live h.4 h.6 h.2 last h.9 in less_on s h.3 last a (less_on h.3 h.4 last b c)
+    let c = left_rises D room frames frame.live h.4 h.6 h.2 last h.9 in omega (arith, a, b, c)
 
 -- the first branch that is left
 pub front_of : (D : Contents) (room : ℕ) (frames : List Frame) (live : Bool) (s : State) (from : List Lined) (o : List Token) (last : State) → Left D room frames live s from o last
-    → (front : List Token) × (z : State) × (t : List Lined) × Holds D room (branch live) s from front z t × NoLess z last
-front_of D room [] live s from o last h = (o, last, [], h, same_count last last refl)
+    → (front : List Token) × (z : State) × (t : List Lined) × Holds D room (branch live) s from front z t × (z.counted ≤ last.counted)
+front_of D room [] live s from o last h = (o, last, [], h, omega arith)
 front_of D room (frame ∷ frames) live s from o last h =
     let b = behind_rises D room frame.last frame h.3 h.5 h.1 h.4 h.6 h.8 in
     let c = left_rises D room frames frame.live h.4 h.6 h.2 last h.9 in
-    (h.0, h.3, h.5, h.7, less_on h.3 h.4 last b c)
+    (h.0, h.3, h.5, h.7, omega (arith, b, c))
 
 else_is_not_endif : (r : Role) → (r ≡ role.Else) ⊎ (r ≡ role.Elsif) → r ≡ role.Endif → ⊥
 else_is_not_endif r (inl e) f = let bad : role.Else ≡ role.Endif = sym e ∙ f in cc
@@ -116,7 +116,7 @@ none_unclosed D room frame round live s o last h =
     none_on D room frame s k.others k.two k.back frame.last k.on
 
 pub none_faulty : (D : Contents) (room : ℕ) (end : Place) (p : Point) (number : ℕ) (place : Place) (out : List Token) (last : State) → IsFaulty room end p number place → Gives D room p out last
-    → IsWithinLimits last → ⊥
+    → last.counted ≤ most_counted → ⊥
 none_faulty D room end p number place out last (reached.broken e) g w =
     let f = front_of D room p.frames p.live p.state p.rest g.0 last g.2 in
     (turn_of D room p.live p.state (spec.broken number place) p.rest f.0 f.1 f.2 e f.3).1
@@ -133,9 +133,9 @@ none_faulty D room end p number place out last (reached.overrun {a = a} {text = 
     let u = turn_of D room p.live p.state (spec.used a rest) p.rest f.0 f.1 f.2 e f.3 in
     let t = u.1 in
     let same = same_text (name_of a) p.state.macros t.0 text t.4 m in
-    let more = with_count p.state t.3 in
-    let rise = less_on more f.1 last (holds_rise D room (branch p.live) more rest t.2 f.1 f.2 (u.0, t.7)) f.4 in
-    none_overrun v (subst (λ i. Expands p.state.macros a.place deepest_use i t.1 t.3) same t.5) (within_before more last rise w).0
+    let rise : p.state.counted + t.3 ≤ f.1.counted = holds_rise D room (branch p.live) (with_count p.state t.3) rest t.2 f.1 f.2 (u.0, t.7) in
+    let less = f.4 in
+    none_overrun v (subst (λ i. Expands p.state.macros a.place deepest_use i t.1 t.3) same t.5) (omega (arith, rise, less, w))
 none_faulty D room end p number place out last (reached.misplaced {a = a} {ts = ts} e i m) g w =
     none_misplaced D room p.frames p.live p.state a ts g.0 last number (subst (λ r. item p.live r ≡ spec.ended) e i) m (subst (λ r. Left D room p.frames p.live p.state r g.0 last) e g.2)
 none_faulty D room end p number place out last (reached.unclosed {frame = frame} {round = round} e f) g w =
@@ -144,20 +144,18 @@ none_faulty D room end p number place out last (reached.unclosed {frame = frame}
 -- ---- files
 
 pub none_unfit : (C D : Contents) → Agree C D → (s : State) (name : List ℕ) (refusal : Refusal) (text : List ℕ) (tokens : List Lined) → IsUnfit C s name refusal → IsFile D (length s.files) name text tokens
-    → IsWithinLimits (entered s name text tokens) → ⊥
+    → s.counted + length tokens ≤ most_counted → ⊥
 none_unfit C D one s name refusal text tokens (reached.uncut other h r) f w =
     let same = one name other text h f.held in
-    let few : length tokens ≤ most_counted = omega (arith, w.0) in
+    let few : length tokens ≤ most_counted = omega (arith, w) in
     none_refused f.cut (f.short, few) (subst (λ i. IsRefused (length s.files) i refusal) same r)
 none_unfit C D one s name refusal text tokens (reached.many {text = other} before a after h k) f w =
     let same = one_file C D one (length s.files) name other text (before ++ a ∷ after) tokens h f in
     let longer : length tokens ≡ length before + suc (length after) = ap length (sym same.1) ∙ length-append before (a ∷ after) in
-    absurd (omega (arith, longer, k, w.0))
-none_unfit C D one s name refusal text tokens (reached.large other h n k) f w =
-    let same : length other ≡ length text = ap length (one name other text h f.held) in absurd (omega (arith, same, k, w.1))
+    absurd (omega (arith, longer, k, w))
 
 pub none_stop : {C D : Contents} {room : ℕ} {s : State} {tokens : List Lined} {end : Place} {name at : List ℕ} {stop : Stop} → Agree C D → Stops C room s tokens end name stop at
-    → (refusal : Refusal) → stop ≡ no refusal → (out : List Token) (last : State) → Holds D room (branch true) s tokens out last [] → IsWithinLimits last → ⊥
+    → (refusal : Refusal) → stop ≡ no refusal → (out : List Token) (last : State) → Holds D room (branch true) s tokens out last [] → last.counted ≤ most_counted → ⊥
 none_stop {D = D} {room = room} {end = end} one (reached.faulty {number = number} {old = old} {place = place} {p = p} h f) refusal e out last g w =
     none_faulty D room end p number place (old ++ out) last f (reaches_on one h (old ++ out) last (out, refl, g)) w
 none_stop one (reached.missing {a = a} h i r) refusal e out last g w = let bad : unread a.place ≡ no refusal = e in cc
@@ -166,10 +164,10 @@ none_stop {C = C} {D = D} {room = room} one (reached.unfit {old = old} {rest = r
     let f = front_of D room p.frames p.live p.state p.rest k.0 last k.2 in
     let v = turn_of D room p.live p.state (spec.included a file rest) p.rest f.0 f.1 f.2 i f.3 in
     let t = v.1 in
-    let begins = entered p.state file t.1 t.2 in
-    let inner = holds_rise D t.0 (branch true) begins t.2 t.3 t.5 [] (v.0, t.8) in
+    let inner : p.state.counted + length t.2 ≤ t.5.counted = holds_rise D t.0 (branch true) (entered p.state file t.2) t.2 t.3 t.5 [] (v.0, t.8) in
     let outer = holds_rise D room (branch p.live) t.5 rest t.4 f.1 f.2 (v.0, t.10) in
-    none_unfit C D one p.state file other t.1 t.2 u t.7 (within_before begins last (less_on begins t.5 last inner (less_on t.5 f.1 last outer f.4)) w)
+    let less = f.4 in
+    none_unfit C D one p.state file other t.1 t.2 u t.7 (omega (arith, inner, outer, less, w))
 none_stop {C = C} {D = D} {room = room} one (reached.deeper {less = less} {old = old} {rest = rest} {others = others} {file = file} {text = text} {p = p} {a = a} h i r f q) refusal e out last g w =
     let k = reaches_on one h (old ++ out) last (out, refl, g) in
     let b = front_of D room p.frames p.live p.state p.rest k.0 last k.2 in
@@ -177,23 +175,18 @@ none_stop {C = C} {D = D} {room = room} one (reached.deeper {less = less} {old =
     let t = v.1 in
     let same = one_file C D one (length p.state.files) file text t.1 others t.2 f t.7 in
     let fewer = suc_is t.0 less (sym t.6 ∙ r) in
-    let inner : Holds D less (branch true) (entered p.state file text others) others t.3 t.5 []
-    = (
-      v.0,
-      subst (λ n. Stands D v.0 n (branch true) (entered p.state file text others) others t.3 t.5 []) fewer (subst (λ l. Stands D v.0 t.0 (branch true) (entered p.state file text l) l t.3 t.5 []) (sym same.1)
-          (subst (λ x. Stands D v.0 t.0 (branch true) (entered p.state file x t.2) t.2 t.3 t.5 []) (sym same.0) t.8)),
-    ) in
+    let inner : Holds D less (branch true) (entered p.state file others) others t.3 t.5 []
+    = (v.0, subst (λ n. Stands D v.0 n (branch true) (entered p.state file others) others t.3 t.5 []) fewer (subst (λ l. Stands D v.0 t.0 (branch true) (entered p.state file l) l t.3 t.5 []) (sym same.1) t.8)) in
     let outer = holds_rise D room (branch p.live) t.5 rest t.4 b.1 b.2 (v.0, t.10) in
-    none_stop one q refusal e t.3 t.5 inner (within_before t.5 last (less_on t.5 b.1 last outer b.4) w)
+    let under = b.4 in
+    none_stop one q refusal e t.3 t.5 inner (omega (arith, outer, under, w))
 
 pub none_stops : {C D : Contents} {main at : List ℕ} {stop : Stop} → Agree C D → StopsIn C main stop at → (refusal : Refusal) → stop ≡ no refusal → (result : TokenList) (last : State) → IsText D main result last
-    → IsWithinLimits last → ⊥
+    → last.counted ≤ most_counted → ⊥
 none_stops one reached.missing refusal e result last t w = let bad : unread (start 0) ≡ no refusal = e in cc
 none_stops {C} {D} {main} one (reached.unfit {refusal = other} u) refusal e result last t w =
-    let begins = entered at_first main t.text t.tokens in
-    let rise = holds_rise D deepest_include (branch true) begins t.tokens result.list last [] t.stands in
-    none_unfit C D one at_first main other t.text t.tokens u t.file (within_before begins last rise w)
+    let rise : at_first.counted + length t.tokens ≤ last.counted = holds_rise D deepest_include (branch true) (entered at_first main t.tokens) t.tokens result.list last [] t.stands in
+    none_unfit C D one at_first main other t.text t.tokens u t.file (omega (arith, rise, w))
 none_stops {C} {D} {main} one (reached.deeper {text = text} {tokens = tokens} f q) refusal e result last t w =
     let same = one_file C D one 0 main text t.text tokens t.tokens f t.file in
-    none_stop one q refusal e result.list last (subst (λ i. Holds D deepest_include (branch true) (entered at_first main text i) i result.list last []) (sym same.1)
-    (subst (λ i. Holds D deepest_include (branch true) (entered at_first main i t.tokens) t.tokens result.list last []) (sym same.0) t.stands)) w
+    none_stop one q refusal e result.list last (subst (λ i. Holds D deepest_include (branch true) (entered at_first main i) i result.list last []) (sym same.1) t.stands) w

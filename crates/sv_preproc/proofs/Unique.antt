@@ -85,9 +85,8 @@ turn_one C D G H one agrees (spec.included a name rest) room live s from o s1 t 
     let same : suc h.0 ≡ suc k.0 = sym h.6 ∙ k.6 in
     let less : h.0 ≡ k.0 = cc in
     let file = one_file C D one (length s.files) name h.1 k.1 h.2 k.2 h.7 k.7 in
-    let g = agrees h.0 (branch true) (entered s name h.1 h.2) h.2 h.3 h.5 [] k.3 k.5 [] h.8
-    (subst (λ i. H i (branch true) (entered s name h.1 h.2) h.2 k.3 k.5 []) (sym less) (subst (λ i. H k.0 (branch true) (entered s name h.1 i) i k.3 k.5 []) (sym file.1)
-    (subst (λ i. H k.0 (branch true) (entered s name i k.2) k.2 k.3 k.5 []) (sym file.0) k.8))) in
+    let g = agrees h.0 (branch true) (entered s name h.2) h.2 h.3 h.5 [] k.3 k.5 [] h.8
+    (subst (λ i. H i (branch true) (entered s name h.2) h.2 k.3 k.5 []) (sym less) (subst (λ i. H k.0 (branch true) (entered s name i) i k.3 k.5 []) (sym file.1) k.8)) in
     let r = agrees room (branch live) h.5 rest h.4 s1 t k.4 s2 u h.10 (moved H room (branch live) h.5 k.5 rest rest k.4 s2 u g.state refl k.10) in
     record { out = h.9 ∙ joined h.3 k.3 h.4 k.4 g.out r.out ∙ sym k.9; state = r.state; rest = r.rest }
 turn_one C D G H one agrees (spec.opened wanted name rest) room live s from o s1 t p s2 u h k =
@@ -146,9 +145,8 @@ lists a b e f g = ap (λ (x : List Token). record { list = x; files = a.files; e
 pub one_list : (C D : Contents) → Agree C D → (main : List ℕ) (a b : TokenList) (s t : State) → IsText C main a s → IsText D main b t → a ≡ b
 one_list C D one main a b s t h k =
     let file = one_file C D one 0 main h.text k.text h.tokens k.tokens h.file k.file in
-    let r = holds_one C D one deepest_include (branch true) (entered spec.at_first main h.text h.tokens) h.tokens a.list s [] b.list t [] h.stands
-    (subst (λ i. Holds D deepest_include (branch true) (entered spec.at_first main h.text i) i b.list t []) (sym file.1)
-    (subst (λ i. Holds D deepest_include (branch true) (entered spec.at_first main i k.tokens) k.tokens b.list t []) (sym file.0) k.stands)) in
+    let r = holds_one C D one deepest_include (branch true) (entered spec.at_first main h.tokens) h.tokens a.list s [] b.list t [] h.stands
+    (subst (λ i. Holds D deepest_include (branch true) (entered spec.at_first main i) i b.list t []) (sym file.1) k.stands) in
     lists a b r.out (h.files ∙ ap (λ i. i.files) r.state ∙ sym k.files) (h.end ∙ ap (past (start 0)) file.0 ∙ sym k.end)
 
 pub told_once : (told : List ℕ → Option (List ℕ)) → Agree (Told told) (Told told)

@@ -114,25 +114,24 @@ item live (a ∷ ts) = item_by live (role_of a.token) a ts
 
 -- ---- what tokens stand for
 
--- what is known between two tokens: the macros, the files that were read, in order, what was counted, and how many bytes were read
+-- what is known between two tokens: the macros, the files that were read, in order, and what was counted
 pub record State : Type 0 where
   pub macros : Macros
   pub files : List (List ℕ)
   pub counted : ℕ
-  pub read : ℕ
 
 abbrev pub with_macros : State → Macros → State
-with_macros s macros = record { macros = macros; files = s.files; counted = s.counted; read = s.read }
+with_macros s macros = record { macros = macros; files = s.files; counted = s.counted }
 
 abbrev pub with_definition : State → List ℕ → Option (List Token) → State
 with_definition s name text = with_macros s (update bytes_eq s.macros name text)
 
 abbrev pub with_count : State → ℕ → State
-with_count s n = record { macros = s.macros; files = s.files; counted = s.counted + n; read = s.read }
+with_count s n = record { macros = s.macros; files = s.files; counted = s.counted + n }
 
--- one file more, whose text is read, and whose tokens are each counted once
-abbrev pub entered : State → List ℕ → List ℕ → List Lined → State
-entered s name text tokens = record { macros = s.macros; files = s.files ++ name ∷ []; counted = s.counted + length tokens; read = s.read + length text }
+-- one file more, whose tokens are each counted once
+abbrev pub entered : State → List ℕ → List Lined → State
+entered s name tokens = record { macros = s.macros; files = s.files ++ name ∷ []; counted = s.counted + length tokens }
 
 -- which texts a file may hold
 abbrev pub Contents : Type 1
@@ -175,7 +174,7 @@ Turn C G room live s (forgotten name rest) from out after to = G room (branch li
 -- an include stands for the tokens of its file, whose conditionals balance
 Turn C G room live s (included a name rest) from out after to = (less : ℕ) × (text : List ℕ) × (tokens : List Lined)
     × (front : List Token) × (more : List Token) × (middle : State)
-    × (room ≡ suc less) × IsFile C (length s.files) name text tokens × G less (branch true) (entered s name text tokens) tokens front middle []
+    × (room ≡ suc less) × IsFile C (length s.files) name text tokens × G less (branch true) (entered s name tokens) tokens front middle []
     × (out ≡ front ++ more) × G room (branch live) middle rest more after to
 -- a conditional is its first branch, its other branches, and what stands behind it
 Turn C G room live s (opened wanted name rest) from out after to = (first : List Token) × (others : List Token) × (more : List Token) × (one : State) × (two : State)
@@ -228,28 +227,20 @@ deepest_include = 16
 abbrev pub most_counted : ℕ
 most_counted = 4000000
 
--- so many bytes may be read, of all files together, each as often as it is read
-abbrev pub most_read : ℕ
-most_read = 268435456
-
--- no more is counted, and no more is read, than may be
-abbrev pub IsWithinLimits : State → Type 0
-IsWithinLimits s = (s.counted ≤ most_counted) × (s.read ≤ most_read)
-
 abbrev pub at_first : State
-at_first = record { macros = no_macros; files = []; counted = 0; read = 0 }
+at_first = record { macros = no_macros; files = []; counted = 0 }
 
 -- The text of the main file, and of the files that it includes, stands for this list. The last state is told.
 pub record IsText (C : Contents) (main : List ℕ) (result : TokenList) (last : State) : Type 0 where
   pub text : List ℕ
   pub tokens : List Lined
   pub file : IsFile C 0 main text tokens
-  pub stands : Holds C deepest_include (branch true) (entered at_first main text tokens) tokens result.list last []
+  pub stands : Holds C deepest_include (branch true) (entered at_first main tokens) tokens result.list last []
   pub files : result.files ≡ last.files
   pub end : result.end ≡ past (start 0) text
 
--- The text of the main file stands for this list, within the limits on what is counted and on what is read.
+-- The text of the main file stands for this list, within the limit on what is counted.
 pub record IsWholeText (C : Contents) (main : List ℕ) (result : TokenList) : Type 0 where
   pub last : State
   pub whole : IsText C main result last
-  pub within : IsWithinLimits last
+  pub within : last.counted ≤ most_counted

@@ -1,15 +1,15 @@
 -- How far a file's tokens are read: the places that are reached, what is left behind them, and why reading stops there.
-use Rattle.std.specs.Prelude.{◌≡◌, ◌⊎◌, ◌≤◌, ◌<◌, ◌&&◌, ◌||◌, ◌+◌, not, ℕ, suc, Bool, true, false, List, [], ◌∷◌, ◌++◌, Some, None, length}
+use Rattle.std.specs.Prelude.{◌≡◌, ◌⊎◌, ◌&&◌, ◌||◌, ◌+◌, not, ℕ, suc, Bool, true, false, List, [], ◌∷◌, ◌++◌, Some, None, length}
 use Rattle.sv_outside.specs.declared.text.Token.{Token}
 use Rattle.sv_outside.specs.declared.refusal.Place.{Place}
 use Rattle.sv_outside.specs.declared.refusal.Refusal.{Refusal}
 use Rattle.sv_token.specs.declared.lexer.Lined.{Lined}
-use Rattle.sv_token.specs.Cut.{IsRefused, refused, past, start, most_bytes}
+use Rattle.sv_token.specs.Cut.{IsRefused, refused, past, start}
 use Rattle.sv_preproc.specs.declared.role.Role.TheVariants as role
 use Rattle.sv_preproc.specs.declared.known.Frame.{Frame}
 use Rattle.sv_preproc.specs.Roles.{role_of, is_word}
 use Rattle.sv_preproc.specs.Directives as spec
-use Rattle.sv_preproc.specs.Directives.{Macros, Expands, Item, item, State, Contents, Holds, IsFile, branch, choice, has, is_taken, name_of, with_definition, with_count, entered, deepest_use, deepest_include, most_counted, most_read, at_first}
+use Rattle.sv_preproc.specs.Directives.{Macros, Expands, Item, item, State, Contents, Holds, IsFile, branch, choice, has, is_taken, name_of, with_definition, with_count, entered, deepest_use, deepest_include, most_counted, at_first}
 
 -- ---- places that are reached
 
@@ -62,7 +62,7 @@ Passes C room (spec.used a rest) p q = (text : List Token) × (front : List Toke
 Passes C room (spec.defined name text rest) p q = q ≡ behind p (with_definition p.state name (Some text)) p.written rest
 Passes C room (spec.forgotten name rest) p q = q ≡ behind p (with_definition p.state name None) p.written rest
 Passes C room (spec.included a name rest) p q = (less : ℕ) × (text : List ℕ) × (tokens : List Lined) × (front : List Token) × (middle : State)
-    × (room ≡ suc less) × IsFile C (length p.state.files) name text tokens × Holds C less (branch true) (entered p.state name text tokens) tokens front middle []
+    × (room ≡ suc less) × IsFile C (length p.state.files) name text tokens × Holds C less (branch true) (entered p.state name tokens) tokens front middle []
     × (q ≡ behind p middle (p.written ++ front) rest)
 Passes C room (spec.opened wanted name rest) p q =
     q ≡ among p (p.live && is_taken wanted name p.state.macros) (first_branch p.live (is_taken wanted name p.state.macros) ∷ p.frames) rest
@@ -134,8 +134,6 @@ pub data IsUnfit (C : Contents) (s : State) (name : List ℕ) : Refusal → Type
   -- with its tokens more are counted than may be
   many : {text : List ℕ} (before : List Lined) (a : Lined) (after : List Lined) → IsFile C (length s.files) name text (before ++ a ∷ after)
       → s.counted + length before ≡ most_counted → IsUnfit C s name (refused 4 a.token.place)
-  -- with its bytes more are read than may be
-  large : (text : List ℕ) → C name text → length text ≤ most_bytes → most_read < s.read + length text → IsUnfit C s name (refused 4 (start (length s.files)))
 
 -- A text is refused, or the file that a directive at a place asks for is not read.
 pub data Stop : Type 0 where
@@ -154,11 +152,11 @@ pub data Stops (C : Contents) : ℕ → State → List Lined → Place → List 
   deeper : {room less : ℕ} {s : State} {old : List Token} {tokens rest others : List Lined} {end : Place} {name file text at : List ℕ} {p : Point} {a : Token} {stop : Stop}
       → Reaches C room (begun s old tokens) p → item p.live p.rest ≡ spec.included a file rest → room ≡ suc less
       → IsFile C (length p.state.files) file text others
-      → Stops C less (entered p.state file text others) others (past (start (length p.state.files)) text) file stop at → Stops C room s tokens end name stop at
+      → Stops C less (entered p.state file others) others (past (start (length p.state.files)) text) file stop at → Stops C room s tokens end name stop at
 
 -- Reading the main file and the files that it includes stops: why, and in which file.
 pub data StopsIn (C : Contents) (main : List ℕ) : Stop → List ℕ → Type 0 where
   missing : StopsIn C main (unread (start 0)) main
   unfit : {refusal : Refusal} → IsUnfit C at_first main refusal → StopsIn C main (no refusal) main
   deeper : {text at : List ℕ} {tokens : List Lined} {stop : Stop} → IsFile C 0 main text tokens
-      → Stops C deepest_include (entered at_first main text tokens) tokens (past (start 0) text) main stop at → StopsIn C main stop at
+      → Stops C deepest_include (entered at_first main tokens) tokens (past (start 0) text) main stop at → StopsIn C main stop at

@@ -1,5 +1,5 @@
 -- What contracts see of the reader's values, and of its errors.
-use Rattle.std.specs.Prelude.{◌≡◌, ◌≤◌, ◌<◌, ◌⊎◌, ◌+◌, ◌++◌, Some, None, if◌then◌else◌, ℕ, Bool, true, false, List, [], ◌∷◌, length, option_map, Result, Ok, Err}
+use Rattle.std.specs.Prelude.{◌≡◌, ◌≤◌, ◌⊎◌, ◌+◌, ◌++◌, Some, None, if◌then◌else◌, ℕ, Bool, true, false, List, [], ◌∷◌, length, option_map, Result, Ok, Err}
 use denote.Ref.{Bor}
 use Rattle.std.specs.BTreeMap.{get_by}
 use Rattle.std.specs.Cmp.Lexicographic.{slice_cmp}
@@ -35,7 +35,7 @@ unfoldable pub texts : Macros → spec.Macros
 texts m name = option_map (λ text. text.items) (get_by (λ key. slice_cmp nat_cmp name key.items) m.texts)
 
 abbrev pub seen : Known → spec.State
-seen k = record { macros = texts k.macros; files = k.files.items; counted = k.counted; read = k.read }
+seen k = record { macros = texts k.macros; files = k.files.items; counted = k.counted }
 
 -- the item that the code finds
 abbrev pub shown : Item → spec.Item
@@ -153,24 +153,23 @@ IsFaultyIn room end p file (unread place) at = ⊥
 abbrev pub NotIncluded : Contents → ℕ → spec.State → List ℕ → Place → List ℕ → Stop → List ℕ → Type 0
 NotIncluded C room s name at asked stop file = ((room ≡ 0) × (stop ≡ no (refused 3 at)) × (file ≡ asked)) ⊎ ((1 ≤ room) × NotEntered C s name at asked stop file)
 
--- A text is not cut as the next file, or with its tokens more are counted than may be, or with its bytes more are read.
+-- A text is not cut as the next file, or with its tokens more are counted than may be.
 pub data NotCut (s : spec.State) (name text : List ℕ) : Stop → List ℕ → Type 0 where
   uncut : {refusal : Refusal} → IsRefused (length s.files) text refusal → NotCut s name text (no refusal) name
   many : (before : List Lined) (a : Lined) (after : List Lined) → LexesLines (length s.files) text (before ++ a ∷ after) → s.counted + length before ≡ spec.most_counted
       → NotCut s name text (no (refused 4 a.token.place)) name
-  large : spec.most_read < s.read + length text → NotCut s name text (no (refused 4 (start (length s.files)))) name
 
--- a text is cut as the next file, and its tokens and its bytes are counted
+-- a text is cut as the next file, and its tokens are counted
 pub record IsTakenIn (before after : spec.State) (name text : List ℕ) (tokens : List Lined) (end : Place) : Type 0 where
   pub cut : LexesLines (length before.files) text tokens
-  pub counted : after ≡ spec.entered before name text tokens
+  pub counted : after ≡ spec.entered before name tokens
   pub ends : end ≡ past (start (length before.files)) text
 
--- the file is read and cut, and its tokens and its bytes are counted
+-- the file is read and cut, and its tokens are counted
 pub record Enters (C : Contents) (before after : spec.State) (name : List ℕ) (tokens : List Lined) (end : Place) : Type 0 where
   pub text : List ℕ
   pub file : spec.IsFile C (length before.files) name text tokens
-  pub counted : after ≡ spec.entered before name text tokens
+  pub counted : after ≡ spec.entered before name tokens
   pub ends : end ≡ past (start (length before.files)) text
 
 -- the tokens of a file stand for what is written behind the old

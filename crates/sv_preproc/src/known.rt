@@ -2,13 +2,12 @@
 use crate::macros::Macros;
 use sv_outside::Name;
 
-/// The macros, the files that were read, in order, how many tokens were counted, and how many bytes were read.
+/// The macros, the files that were read, in order, and how many tokens were counted.
 #[derive(Drop)]
 pub struct Known {
     pub macros: Macros,
     pub files: Vec<Name>,
     pub counted: usize,
-    pub read: usize,
 }
 
 /// A conditional that is open: whether the branch round it counts, whether one of its branches was taken, and

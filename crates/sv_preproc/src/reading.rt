@@ -1,8 +1,7 @@
-// Reads files with their directives. A file is read by one call of the files. Its bytes are counted before it is cut, so
-// that files without tokens end at a bound too, and its tokens before they are looked at. What it includes is read in the
-// same way, by one more call of `read_all` with one include less that may nest. All else that an item does stands in
-// `stepping`, outside of that cycle, since each exit of a function in a cycle is dear to prove. Reading ends at the first
-// failed read, so each call says exactly how many have failed.
+// Reads files with their directives. A file is read by one call of the files, cut and counted before its tokens are
+// looked at, and what it includes is read in the same way, by one more call of `read_all` with one include less that may
+// nest. All else that an item does stands in `stepping`, outside of that cycle, since each exit of a function in a cycle
+// is dear to prove. Reading ends at the first failed read, so each call says exactly how many have failed.
 ghost use Rattle.std.specs.Prelude.{◌≡◌, ◌≤◌, ◌<◌, ◌+◌, [], ℕ, List, length, IfOk, OnOk, IfErr};
 ghost use Rattle.sv_outside.specs.Outside.{counted};
 ghost use Rattle.sv_token.specs.Cut as cut;
@@ -20,9 +19,6 @@ use crate::stepping::{Step, read_item, refusal};
 use std::alloc::Global;
 use sv_outside::{FileErr, Files, Name, Place, TextErr, Token};
 use sv_token::{Lined, end_of, lex_lines};
-
-// The most bytes that are read, of all files together.
-const MOST_READ: usize = 268_435_456;
 
 /// Where a file begins.
 pub fn start_of(file: usize) -> Place
@@ -106,16 +102,13 @@ impl Drop for Entered {
     }
 }
 
-// Cuts a file's text as the next file, where its bytes may be read, and counts its bytes and its tokens.
+// Cuts a file's text as the next file, and counts its tokens.
 fn take_in(alloc: Global, known: &mut Known, name: &Name, text: &[u8]) -> Result<Entered, PreErr>
-    requires { spec.IsWithinLimits (seen known.old) × (length text.now ≤ cut.most_bytes) }
+    requires { (known.old.counted ≤ spec.most_counted) × (length text.now ≤ cut.most_bytes) }
     ensures taken { IfOk result (λ v. IsTakenIn (seen known.old) (seen known.new) name.now text.now v.lines.items v.end) }
-    ensures within { OnOk result (spec.IsWithinLimits (seen known.new)) }
+    ensures within { OnOk result (known.new.counted ≤ spec.most_counted) }
     ensures caused { IfErr result (HasCause (NotCut (seen known.old) name.now text.now)) }
 {
-    if text.len() > MOST_READ - known.read {
-        return Err(refusal(ItemErr::Refused(4), start_of(known.files.len()), name));
-    }
     let file = name.copy()?;
     let entered = Entered {
         lines: cut_file(alloc, known, name, text)?,
@@ -123,11 +116,10 @@ fn take_in(alloc: Global, known: &mut Known, name: &Name, text: &[u8]) -> Result
     };
     known.files.push(file)?;
     known.counted += entered.lines.len();
-    known.read += text.len();
     Ok(entered)
 }
 
-/// Reads a file for the directive at a place of another file, and counts its bytes and its tokens.
+/// Reads a file for the directive at a place of another file, and counts its tokens.
 pub fn enter<F: Files>(
     alloc: Global,
     files: &mut F,
@@ -136,9 +128,9 @@ pub fn enter<F: Files>(
     at: Place,
     asked: &Name,
 ) -> Result<Entered, PreErr>
-    requires { spec.IsWithinLimits (seen known.old) }
+    requires { known.old.counted ≤ spec.most_counted }
     ensures enters { IfOk result (λ v. Enters (Possible (F.contents files.old)) (seen known.old) (seen known.new) name.now v.lines.items v.end) }
-    ensures within { OnOk result (spec.IsWithinLimits (seen known.new)) }
+    ensures within { OnOk result (known.new.counted ≤ spec.most_counted) }
     ensures caused { IfErr result (HasCause (NotEntered (Possible (F.contents files.old)) (seen known.old) name.now at asked.now)) }
     ensures kept { OnOk result (F.faults files.new ≡ F.faults files.old) }
     ensures counts { IfErr result (λ e. F.faults files.new ≡ counted (is_read_fault e) (F.faults files.old)) }
@@ -184,11 +176,11 @@ fn include<F: Files>(
     path: &Token,
     asked: &Name,
 ) -> Result<Included, PreErr>
-    requires { spec.IsWithinLimits (seen known.old) }
+    requires { known.old.counted ≤ spec.most_counted }
     ensures allowed { IfOk result (λ _. 1 ≤ room) }
     ensures named { IfOk result (λ v. v.name ≡ roles.between_quotes path.now.text) }
     ensures enters { IfOk result (λ v. Enters (Possible (F.contents files.old)) (seen known.old) (seen known.new) v.name v.file.lines.items v.file.end) }
-    ensures within { OnOk result (spec.IsWithinLimits (seen known.new)) }
+    ensures within { OnOk result (known.new.counted ≤ spec.most_counted) }
     ensures caused { IfErr result (HasCause (NotIncluded (Possible (F.contents files.old)) room (seen known.old) (roles.between_quotes path.now.text) directive.now.place asked.now)) }
     ensures kept { OnOk result (F.faults files.new ≡ F.faults files.old) }
     ensures counts { IfErr result (λ e. F.faults files.new ≡ counted (is_read_fault e) (F.faults files.old)) }
@@ -225,9 +217,9 @@ pub fn read_all<F: Files>(
     known: &mut Known,
     out: &mut Vec<Token>,
 ) -> Result<(), PreErr>
-    requires { spec.IsWithinLimits (seen known.old) }
+    requires { known.old.counted ≤ spec.most_counted }
     ensures reads { OnOk result (Reads (Possible (F.contents files.old)) room (seen known.old) lines.now out.old.items out.new.items (seen known.new)) }
-    ensures within { OnOk result (spec.IsWithinLimits (seen known.new)) }
+    ensures within { OnOk result (known.new.counted ≤ spec.most_counted) }
     ensures caused { IfErr result (HasCause (reached.Stops (Possible (F.contents files.old)) room (seen known.old) lines.now end file.now)) }
     ensures kept { OnOk result (F.faults files.new ≡ F.faults files.old) }
     ensures counts { IfErr result (λ e. F.faults files.new ≡ counted (is_read_fault e) (F.faults files.old)) }

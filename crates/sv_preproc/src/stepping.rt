@@ -68,10 +68,10 @@ fn use_macro<'a>(
     out: &mut Vec<Token>,
     file: &Name,
 ) -> Result<Step<'a>, PreErr>
-    requires { spec.IsWithinLimits (seen known.old) }
+    requires { known.old.counted ≤ spec.most_counted }
     ensures used { IfOk result (GoesOn (λ inside rest. (inside ≡ live) × (rest ≡ behind.now) × Uses (texts known.old.macros) token.now out.old.items out.new.items known.old.counted known.new.counted)) }
-    ensures same { (texts known.new.macros ≡ texts known.old.macros) × (known.new.files ≡ known.old.files) × (known.new.read ≡ known.old.read) }
-    ensures within { OnOk result (spec.IsWithinLimits (seen known.new)) }
+    ensures same { (texts known.new.macros ≡ texts known.old.macros) × (known.new.files ≡ known.old.files) }
+    ensures within { OnOk result (known.new.counted ≤ spec.most_counted) }
     ensures refused { IfErr result (IsRefusedAt (CanNotUse (texts known.old.macros) token.now known.old.counted) token.now.place file.now) }
 {
     match expand_use(&known.macros, token, out, known.counted) {
@@ -147,10 +147,10 @@ pub fn read_item<'a>(
     out: &mut Vec<Token>,
     file: &Name,
 ) -> Result<Step<'a>, PreErr>
-    requires { spec.IsWithinLimits (seen known.old) }
+    requires { known.old.counted ≤ spec.most_counted }
     ensures steps { IfOk result (λ step. (told : List ℕ → Option (List ℕ)) (room : ℕ) → Steps (Possible told) room (point live (reverse frames.old.items) (seen known.old) out.old.items (first.now ∷ after.now)) step (reverse frames.new.items) (seen known.new) out.new.items) }
     ensures short { IfOk result (λ step. length (left step) ≤ length after.now) }
-    ensures within { OnOk result (spec.IsWithinLimits (seen known.new)) }
+    ensures within { OnOk result (known.new.counted ≤ spec.most_counted) }
     ensures faulty { IfErr result (HasCause (λ stop at. (room : ℕ) (end : Place) → IsFaultyIn room end (point live (reverse frames.old.items) (seen known.old) out.old.items (first.now ∷ after.now)) file.now stop at)) }
 {
     match item_at(live, first, after) {

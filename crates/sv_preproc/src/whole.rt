@@ -28,7 +28,6 @@ fn read_main<F: Files>(alloc: Global, files: &mut F, main: &Name) -> Result<Toke
         macros: Macros::new(alloc),
         files: Vec::new(alloc),
         counted: 0,
-        read: 0,
     };
     let file = enter(alloc, files, &mut known, main, start_of(0), main)?;
     let mut list = Vec::new(alloc);
@@ -54,9 +53,8 @@ fn read_main<F: Files>(alloc: Global, files: &mut F, main: &Name) -> Result<Toke
 ///
 /// A refusal names the file of its place. E1, E2 and E4 are those of `lex`, and besides: E2, a directive without its name, a `define`
 /// of a directive's name, or a backslash at a line's end outside a directive's line; E3, includes nested over 16; E4, over 4,000,000
-/// tokens counted, each token of a file once and each token of a macro's text once for every use, or over 268,435,456 bytes read, those
-/// of a file as often as it is read, at 1:1 of the file with which there are so many; E5, a conditional that is not balanced; E6, a name
-/// that is not defined, or a directive's name in a macro's text; E7, uses nested over 64; E25, a macro with arguments.
+/// tokens counted, each token of a file once and each token of a macro's text once for every use; E5, a conditional that is not
+/// balanced; E6, a name that is not defined, or a directive's name in a macro's text; E7, uses nested over 64; E25, a macro with arguments.
 /// `Read` has the place of the directive that asked for the file; of the main file that is its own line 1 and column 1.
 #[tactic(auto, using(crate::proofs::Main::only_this, crate::proofs::Main::refused_somehow, crate::proofs::Main::rose_where_read))]
 pub fn preprocess<F: Files>(alloc: Global, files: &mut F, main: &Name) -> Result<Tokens, PreErr>

@@ -1,6 +1,6 @@
 use Rattle.std.proofs.lemmas.Result.{on_ok_weaker}
-use Rattle.std.proofs.Common.{◌≡◌, ◌∷◌, ◌++◌, [], sym, ◌∙◌, ap, refl, subst, Some, None, reverse}
-use Rattle.std.specs.Prelude.{◌&&◌, ℕ, Bool, List}
+use Rattle.std.proofs.Common.{◌≡◌, ◌∷◌, ◌++◌, [], sym, ◌∙◌, ap, refl, subst, arith, Some, None, reverse, ◌≤◌}
+use Rattle.std.specs.Prelude.{◌&&◌, Bool, List}
 use Rattle.sv_token.specs.declared.lexer.Lined.{Lined}
 use Rattle.std.specs.Map.{update}
 use Rattle.std.specs.Str.{bytes_eq}
@@ -43,13 +43,11 @@ pub returns-in-Used-clause-steps : goal.returns-in-Used-clause-steps
 returns-in-Used-clause-steps c =
     let Read : Bool → List Lined → Type 0 = λ inside rest. (inside ≡ c.args.live) × (rest ≡ c.in-Used.behind.now) × Uses (texts c.args.known.now.macros) c.in-Used.token.now c.args.out.now.items c.use_macro.new.out.items c.args.known.now.counted c.use_macro.new.known.counted in
     let at : item c.args.live (c.args.first.now ∷ c.args.after.now) ≡ spec.used c.in-Used.token.now c.in-Used.behind.now = sym c.item_at.ensures ∙ ap shown c.in-Used.is in
-    let now : State = state_of (texts c.args.known.now.macros) c.args.known.now.files.items c.use_macro.new.known.counted c.args.known.now.read in
-    let same : seen c.use_macro.new.known ≡ now = ap (λ m. state_of m c.use_macro.new.known.files.items c.use_macro.new.known.counted c.use_macro.new.known.read) c.use_macro.ensures.same.0
-    ∙ ap (λ f. state_of (texts c.args.known.now.macros) f.items c.use_macro.new.known.counted c.use_macro.new.known.read) c.use_macro.ensures.same.1
-    ∙ ap (λ (n : ℕ). state_of (texts c.args.known.now.macros) c.args.known.now.files.items c.use_macro.new.known.counted n) c.use_macro.ensures.same.2 in
+    let now : State = state_of (texts c.args.known.now.macros) c.args.known.now.files.items c.use_macro.new.known.counted in
+    let same : seen c.use_macro.new.known ≡ now = ap (λ m. state_of m c.use_macro.new.known.files.items c.use_macro.new.known.counted) c.use_macro.ensures.same.0 ∙ ap (λ f. state_of (texts c.args.known.now.macros) f.items c.use_macro.new.known.counted) c.use_macro.ensures.same.1 in
     goes_on _ Read _ c.use_macro.ensures.used (λ inside rest h told room. subst (λ s. Passes (Possible told) room (item c.args.live (c.args.first.now ∷ c.args.after.now)) (point c.args.live (reverse c.args.frames.now.items) (seen c.args.known.now) c.args.out.now.items (c.args.first.now ∷ c.args.after.now)) (point inside (reverse c.args.frames.now.items) s c.use_macro.new.out.items rest.now)) (sym same)
     (subst (λ i. Passes (Possible told) room (item c.args.live (c.args.first.now ∷ c.args.after.now)) (point c.args.live (reverse c.args.frames.now.items) (seen c.args.known.now) c.args.out.now.items (c.args.first.now ∷ c.args.after.now)) (point i (reverse c.args.frames.now.items) now c.use_macro.new.out.items rest.now)) (sym h.0)
-    (one_used (Possible told) room c.args.live (reverse c.args.frames.now.items) (texts c.args.known.now.macros) c.args.known.now.files.items c.args.known.now.read c.args.known.now.counted c.use_macro.new.known.counted c.args.out.now.items c.use_macro.new.out.items
+    (one_used (Possible told) room c.args.live (reverse c.args.frames.now.items) (texts c.args.known.now.macros) c.args.known.now.files.items c.args.known.now.counted c.use_macro.new.known.counted c.args.out.now.items c.use_macro.new.out.items
     (c.args.first.now ∷ c.args.after.now) rest.now c.in-Used.token.now (at ∙ ap (λ i. spec.used c.in-Used.token.now i) (sym h.1)) h.2)))
 
 pub returns-in-Used-clause-short : goal.returns-in-Used-clause-short
@@ -88,8 +86,8 @@ returns-in-Defined-clause-faulty c =
 
 pub returns-in-Defined-clause-within : goal.returns-in-Defined-clause-within
 returns-in-Defined-clause-within c =
-    let kept : seen c.define.new.known ≡ with_definition (seen c.args.known.now) c.in-Defined.name.now.text (Some (line_text c.in-Defined.line c.in-Defined.behind.now)) → spec.IsWithinLimits (seen c.define.new.known)
-    = λ d. subst spec.IsWithinLimits (sym d) c.requires in
+    let kept : seen c.define.new.known ≡ with_definition (seen c.args.known.now) c.in-Defined.name.now.text (Some (line_text c.in-Defined.line c.in-Defined.behind.now)) → c.define.new.known.counted ≤ spec.most_counted
+    = λ d. let same : c.define.new.known.counted ≡ c.args.known.now.counted = ap {A = State} (λ i. i.counted) d in omega (arith, same, c.requires) in
     on_ok_weaker _ kept c.define.ensures.defined
 
 pub returns-in-Opened-clause-steps : goal.returns-in-Opened-clause-steps
@@ -147,9 +145,9 @@ returns-in-Passed-clause-short c =
 pub returns-in-Forgotten-clause-steps : goal.returns-in-Forgotten-clause-steps
 returns-in-Forgotten-clause-steps c =
     let at : item c.args.live (c.args.first.now ∷ c.args.after.now) ≡ spec.forgotten c.in-Forgotten.name.now.text c.in-Forgotten.behind.now = sym c.item_at.ensures ∙ ap shown c.in-Forgotten.is in
-    let now : State = state_of (texts c.forget.new.self) c.args.known.now.files.items c.args.known.now.counted c.args.known.now.read in
+    let now : State = state_of (texts c.forget.new.self) c.args.known.now.files.items c.args.known.now.counted in
     let state : now ≡ with_definition (seen c.args.known.now) c.in-Forgotten.name.now.text None
-    = ap (λ m. state_of m c.args.known.now.files.items c.args.known.now.counted c.args.known.now.read) (c.forget.ensures ∙ ap (λ n. update bytes_eq (texts c.args.known.now.macros) n None) c.bytes.ensures) in
+    = ap (λ m. state_of m c.args.known.now.files.items c.args.known.now.counted) (c.forget.ensures ∙ ap (λ n. update bytes_eq (texts c.args.known.now.macros) n None) c.bytes.ensures) in
     λ told room. one_forgotten (Possible told) room c.args.live (reverse c.args.frames.now.items) (seen c.args.known.now) now c.args.out.now.items (c.args.first.now ∷ c.args.after.now) c.in-Forgotten.behind.now c.in-Forgotten.name.now.text at state
 
 pub returns-in-Forgotten-clause-short : goal.returns-in-Forgotten-clause-short
