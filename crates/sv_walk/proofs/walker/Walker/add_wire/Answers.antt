@@ -1,6 +1,6 @@
 use Rattle.std.proofs.Common.{◌∙◌, ℕ, ◌+◌, refl, sym, ap}
 use Rattle.sv_names.specs.Kinds.{layout_is}
-use Rattle.sv_names.proofs.Sound.{sound_is, sound_most}
+use Rattle.sv_names.proofs.Sound.{sound_is}
 use Rattle.sv_hierarchy.specs.Scopes as m
 use Rattle.sv_walk.specs.Walks.{state_of}
 use Rattle.sv_walk.proofs.Declaring.{handed, ran_out}
@@ -11,9 +11,6 @@ pub returns-in_err-declare_at : goal.returns-in_err-declare_at
 returns-in_err-declare_at c =
     handed (m.add_wire c.args.input (layout_is c.args.layout.now) c.args.word.now (state_of c.args.self.now c.args.current.now)) c.args.self.now c.args.self.now c.declare_at.new.self c.declare_at.new.self c.from_residual.result c.in_err-declare_at.field-0.0 c.from_residual.ensures.1
     (wire_taken c.args.self.now c.args.self.now c.args.current.now c.declare_at.new.self c.declare_at.new.self c.args.input (layout_is c.args.layout.now) c.args.word.now c.bytes.result.now c.in_err-declare_at.field-0.0 c.bytes.ensures (c.in_err-declare_at.ensures c.args.self.now))
-
-pub with_bits-requires : goal.with_bits-requires
-with_bits-requires c = sound_most c.args.layout.now c.requires
 
 pub returns-in_err-tally : goal.returns-in_err-tally
 returns-in_err-tally c =
