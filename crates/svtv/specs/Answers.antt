@@ -1,8 +1,8 @@
 -- Which answer comes when, and what it writes.
-use Rattle.std.specs.Prelude.{◌≡◌, ◌⊎◌, ℕ, true, false, List, []}
+use Rattle.std.specs.Prelude.{◌≡◌, ◌⊎◌, ℕ, Bool, true, false, List, [], Option}
 use Rattle.fourvec.specs.declared.Bit.{Bit}
 use Rattle.sv_meaning.specs.Designs.{Design}
-use Rattle.sv_outside.specs.Outside.{one_more}
+use Rattle.sv_outside.specs.Outside.{one_more, AtMostOneMore, IsPartWritten}
 use Rattle.sv_outside.specs.declared.refusal.Place.{Place}
 use Rattle.sv_outside.specs.declared.refusal.Refusal.{Refusal}
 use Rattle.svtv_commands.specs.Done.{Dumps, Proves, SelfTests, Simulates}
@@ -54,6 +54,26 @@ Answers told words Refused text message = (text ≡ []) × RefusesIf told words 
 Answers told words ReadFault text message = (text ≡ []) × UnreadIf told words message
 Answers told words Memory text message = (text ≡ []) × (message ≡ memory_text)
 Answers told words WriteFault text message = ⊥
+
+-- the answers that print a text on the output; each other one prints a message on the errors
+abbrev pub prints_text : Status → Bool
+prints_text AllProved = true
+prints_text NotAll = true
+prints_text Done = true
+prints_text _ = false
+
+-- The count of reads that failed: one more where a file was not read, one more at most where memory ran out, and else as it was.
+abbrev pub CountsReads : Status → ℕ → ℕ → Type 0
+CountsReads ReadFault before now = now ≡ one_more before
+CountsReads Memory before now = AtMostOneMore before now
+CountsReads _ before now = now ≡ before
+
+-- A write failed on a sink, behind a front of what was to be written there. The other sink is as it was.
+pub record IsCutOff (text : Text) (cut cut_now : Option Text) (faults faults_now : ℕ) (other other_now : Option Text) (others others_now : ℕ) : Type 0 where
+  pub part : IsPartWritten cut cut_now text
+  pub failed : faults_now ≡ one_more faults
+  pub other : other_now ≡ other
+  pub others : others_now ≡ others
 
 -- one write failed, on the output or on the errors
 abbrev pub OneFailed : ℕ → ℕ → ℕ → ℕ → Type 0

@@ -1,10 +1,10 @@
 // Does the work of the words: a command, its work, and the text or the message that it ends with. How the work ends is one
 // value, from which status, text and message follow, so that the three can not contradict each other. Where a message can not
 // be made for want of memory, that is how the work ends, and its own message stands ready.
-ghost use Rattle.std.specs.Prelude.{◌≡◌, ◌≤◌, ◌<◌, ℕ, List, map, string_bytes, IfOk, IfSome};
+ghost use Rattle.std.specs.Prelude.{◌≡◌, ◌≤◌, ◌<◌, ℕ, List, map, string_bytes, IfErr, IfOk, IfSome};
 ghost use Rattle.std.specs.Option.{option_copied};
 ghost use Rattle.sv_outside.specs.Outside.{Rose};
-ghost use Rattle.svtv.specs.Answers.{Answers};
+ghost use Rattle.svtv.specs.Answers.{Answers, CountsReads, prints_text};
 ghost use Rattle.svtv.specs.Outcomes.{status_of, text_of, message_of, IfLeft, IsDump, IsProof, IsSelfTest, IsSimulation, IsStopped, IsWork};
 ghost use Rattle.svtv_words.specs.Commands as m;
 ghost use Rattle.svtv_selftest.specs.Texts as test;
@@ -44,6 +44,19 @@ impl Outcome {
             Outcome::Unread(_) => Status::ReadFault,
             Outcome::Misused => Status::Usage,
             Outcome::Memory => Status::Memory,
+        }
+    }
+
+    /// Whether a text is to be printed, and no message.
+    pub fn prints_text(&self) -> bool
+        ensures { result ≡ prints_text (status_of self.now) }
+    {
+        match self {
+            Outcome::Proved(_, _)
+            | Outcome::Simulated(_)
+            | Outcome::Dumped(_)
+            | Outcome::Tested(_) => true,
+            _ => false,
         }
     }
 
@@ -103,6 +116,7 @@ fn proved<F: Files>(
     requires budget { IfSome budget (λ n. 0 < n) }
     ensures is { IsProof (F.contents files.old) design.now table.now goals.now (option_copied top.entry) budget result }
     ensures rose { IfLeft (Rose (F.faults files.old) (F.faults files.new)) result }
+    ensures counts { CountsReads (status_of result) (F.faults files.old) (F.faults files.new) }
     ensures unchanged { (other : List ℕ) → F.contents files.new other ≡ F.contents files.old other }
     ensures counts_up { F.faults files.old ≤ F.faults files.new }
 {
@@ -122,6 +136,7 @@ fn simulated<F: Files>(
 ) -> Outcome
     ensures is { IsSimulation (F.contents files.old) design.now table.now values.now (option_copied top.entry) result }
     ensures rose { IfLeft (Rose (F.faults files.old) (F.faults files.new)) result }
+    ensures counts { CountsReads (status_of result) (F.faults files.old) (F.faults files.new) }
     ensures unchanged { (other : List ℕ) → F.contents files.new other ≡ F.contents files.old other }
     ensures counts_up { F.faults files.old ≤ F.faults files.new }
 {
@@ -134,6 +149,7 @@ fn simulated<F: Files>(
 fn dumped<F: Files>(alloc: Global, files: &mut F, design: &Name, top: Option<&Name>) -> Outcome
     ensures is { IsDump (F.contents files.old) design.now (option_copied top.entry) result }
     ensures rose { IfLeft (Rose (F.faults files.old) (F.faults files.new)) result }
+    ensures counts { CountsReads (status_of result) (F.faults files.old) (F.faults files.new) }
     ensures unchanged { (other : List ℕ) → F.contents files.new other ≡ F.contents files.old other }
     ensures counts_up { F.faults files.old ≤ F.faults files.new }
 {
@@ -177,6 +193,8 @@ fn worked<F: Files>(
     requires count { HasCount command.now.verb command.now.count }
     ensures is { IfOk result (IsWork (F.contents files.old) (command_is command.now)) }
     ensures rose { IfOk result (IfLeft (Rose (F.faults files.old) (F.faults files.new))) }
+    ensures counts { IfOk result (λ outcome. CountsReads (status_of outcome) (F.faults files.old) (F.faults files.new)) }
+    ensures failed { IfErr result (λ e. F.faults files.new ≡ F.faults files.old) }
     ensures unchanged { (other : List ℕ) → F.contents files.new other ≡ F.contents files.old other }
     ensures counts_up { F.faults files.old ≤ F.faults files.new }
 {
@@ -205,6 +223,7 @@ pub fn answer<F: Files>(alloc: Global, words: &[String], files: &mut F) -> Outco
     ensures answers { Answers (F.contents files.old) (map string_bytes words.now) (status_of result) (text_of result) (message_of result) }
     ensures usage { ((c : m.Command) → IsCommand (map string_bytes words.now) c → ⊥) → status_of result ≡ status.Usage }
     ensures fault { IfLeft (Rose (F.faults files.old) (F.faults files.new)) result }
+    ensures counts { CountsReads (status_of result) (F.faults files.old) (F.faults files.new) }
     ensures unchanged { (other : List ℕ) → F.contents files.new other ≡ F.contents files.old other }
     ensures counts_up { F.faults files.old ≤ F.faults files.new }
 {

@@ -1,5 +1,5 @@
 // The design: its text, its tree, its flat form.
-ghost use Rattle.std.specs.Prelude.{◌≡◌, ◌≤◌, ℕ, List, IfOk, IfErr};
+ghost use Rattle.std.specs.Prelude.{◌≡◌, ◌≤◌, ℕ, List, IfOk, OnOk, IfErr};
 ghost use Rattle.std.specs.Option.{option_copied};
 ghost use Rattle.flat_net.specs.Flats.{IsFlat};
 ghost use Rattle.sv_elab.specs.Elaborated.{IsElaborated};
@@ -9,7 +9,7 @@ ghost use Rattle.sv_preproc.specs.Directives.{IsWholeText};
 ghost use Rattle.sv_preproc.specs.Laws.{Possible};
 ghost use Rattle.svtv_files.specs.Files.{IsDesignFile};
 ghost use Rattle.svtv_files.specs.Refusals.{RefusesDesign, UnreadDesign};
-ghost use Rattle.svtv_files.specs.Stopping.{IfUnread, IsInFile, IsInOneOf, Stops, StopsText};
+ghost use Rattle.svtv_files.specs.Stopping.{Counts, IfUnread, IsInFile, IsInOneOf, Stops, StopsText};
 
 use flat_net::Flat;
 use std::alloc::Global;
@@ -24,6 +24,8 @@ fn tokens_of<F: Files>(alloc: Global, files: &mut F, name: &Name) -> Result<Toke
     ensures text { IfOk result (λ tokens. IsWholeText (Possible (F.contents files.old)) name.now tokens) }
     ensures stop { IfErr result (StopsText (F.contents files.old) name.now) }
     ensures rose { IfErr result (IfUnread (Rose (F.faults files.old) (F.faults files.new))) }
+    ensures kept { OnOk result (F.faults files.new ≡ F.faults files.old) }
+    ensures counts { IfErr result (λ stop. Counts stop (F.faults files.old) (F.faults files.new)) }
     ensures unchanged { (other : List ℕ) → F.contents files.new other ≡ F.contents files.old other }
     ensures counts_up { F.faults files.old ≤ F.faults files.new }
 {
@@ -60,6 +62,8 @@ pub fn load_design<F: Files>(
     ensures sound { IfOk result IsFlat }
     ensures stop { IfErr result (Stops (RefusesDesign (F.contents files.old) name.now (option_copied top.entry)) (UnreadDesign (F.contents files.old) name.now)) }
     ensures rose { IfErr result (IfUnread (Rose (F.faults files.old) (F.faults files.new))) }
+    ensures kept { OnOk result (F.faults files.new ≡ F.faults files.old) }
+    ensures counts { IfErr result (λ stop. Counts stop (F.faults files.old) (F.faults files.new)) }
     ensures unchanged { (other : List ℕ) → F.contents files.new other ≡ F.contents files.old other }
     ensures counts_up { F.faults files.old ≤ F.faults files.new }
 {

@@ -1,10 +1,10 @@
 // Dumps.
-ghost use Rattle.std.specs.Prelude.{◌≡◌, ◌≤◌, ℕ, List, IfOk, IfErr};
+ghost use Rattle.std.specs.Prelude.{◌≡◌, ◌≤◌, ℕ, List, IfOk, OnOk, IfErr};
 ghost use Rattle.std.specs.Option.{option_copied};
 ghost use Rattle.sv_outside.specs.Outside.{Rose};
 ghost use Rattle.svtv_commands.specs.Done.{Dumps};
 ghost use Rattle.svtv_files.specs.Refusals.{RefusesDesign, UnreadDesign};
-ghost use Rattle.svtv_files.specs.Stopping.{IfUnread, Stops};
+ghost use Rattle.svtv_files.specs.Stopping.{Counts, IfUnread, Stops};
 
 use crate::design::load_design;
 use flat_print::print_flat;
@@ -22,6 +22,8 @@ pub fn dump<F: Files>(
     ensures dumps { IfOk result (λ text. Dumps (F.contents files.old) design.now (option_copied top.entry) text.items) }
     ensures stop { IfErr result (Stops (RefusesDesign (F.contents files.old) design.now (option_copied top.entry)) (UnreadDesign (F.contents files.old) design.now)) }
     ensures rose { IfErr result (IfUnread (Rose (F.faults files.old) (F.faults files.new))) }
+    ensures kept { OnOk result (F.faults files.new ≡ F.faults files.old) }
+    ensures counts { IfErr result (λ stop. Counts stop (F.faults files.old) (F.faults files.new)) }
     ensures unchanged { (other : List ℕ) → F.contents files.new other ≡ F.contents files.old other }
     ensures counts_up { F.faults files.old ≤ F.faults files.new }
 {

@@ -1,11 +1,11 @@
 // The goals.
-ghost use Rattle.std.specs.Prelude.{◌≡◌, ◌≤◌, ℕ, List, All, IfOk, IfErr};
+ghost use Rattle.std.specs.Prelude.{◌≡◌, ◌≤◌, ℕ, List, All, IfOk, OnOk, IfErr};
 ghost use Rattle.sv_outside.specs.Outside.{Rose};
 ghost use Rattle.svex_arena.specs.Arenas.{Extends};
 ghost use Rattle.svtv_table.specs.Binding.{HasWidth};
 ghost use Rattle.svtv_commands.specs.Inputs.{AreGoalsIn};
 ghost use Rattle.svtv_files.specs.Refusals.{RefusesGoals, at_first};
-ghost use Rattle.svtv_files.specs.Stopping.{IfUnread, Stops};
+ghost use Rattle.svtv_files.specs.Stopping.{Counts, IfUnread, Stops};
 
 use goal_text::{Goal, read_goals};
 use items::Items;
@@ -30,6 +30,8 @@ pub fn load_goals<F: Files>(
     ensures goals { IfOk result (AreGoalsIn (F.contents files.old) name.now vars.now samples.now arena.new) }
     ensures stop { IfErr result (Stops (λ file r. (file ≡ name.now) × RefusesGoals (F.contents files.old) name.now vars.now samples.now r) (λ file place. (file ≡ name.now) × (place ≡ at_first))) }
     ensures rose { IfErr result (IfUnread (Rose (F.faults files.old) (F.faults files.new))) }
+    ensures kept { OnOk result (F.faults files.new ≡ F.faults files.old) }
+    ensures counts { IfErr result (λ stop. Counts stop (F.faults files.old) (F.faults files.new)) }
     ensures unchanged { (other : List ℕ) → F.contents files.new other ≡ F.contents files.old other }
     ensures counts_up { F.faults files.old ≤ F.faults files.new }
 {

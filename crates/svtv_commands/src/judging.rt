@@ -1,7 +1,7 @@
 // The goals of a command's files, decided. They are read before the design's machine is made, so their refusals come first, and their nodes
 // stand in the graph of the flat design, behind its own and before those of the machine. The machine takes the flat design; failures are
 // simulated on a copy. What is made of the verdicts, the report of a proof or the line of a self test, is left to the caller.
-ghost use Rattle.std.specs.Prelude.{◌≡◌, ◌≤◌, ◌<◌, ℕ, All, List, IfOk, IfErr, IfSome, length, map};
+ghost use Rattle.std.specs.Prelude.{◌≡◌, ◌≤◌, ◌<◌, ℕ, All, List, IfOk, OnOk, IfErr, IfSome, length, map};
 ghost use Rattle.std.specs.List.{AllZip};
 ghost use Rattle.std.specs.Option.{option_copied};
 ghost use Rattle.fourvec.specs.declared.Bit.{Bit};
@@ -15,7 +15,7 @@ ghost use Rattle.svtv_commands.specs.Judged.{AreAsLong, IsJudgement};
 ghost use Rattle.svtv_commands.specs.Machines.{IsWideStop, StopsWide};
 ghost use Rattle.svtv_texts.specs.Passed.{IsThere, Poses, bench};
 ghost use Rattle.svtv_files.specs.Refusals.{LeavesProof, RefusesProof};
-ghost use Rattle.svtv_files.specs.Stopping.{IfUnread, Stops};
+ghost use Rattle.svtv_files.specs.Stopping.{Counts, IfUnread, Stops};
 ghost use Rattle.svtv_runs.specs.Runs.{Asked};
 ghost use Rattle.svtv_table.specs.Binding.{HasWidth, IsBound};
 ghost use Rattle.svtv_report.specs.Seen.{verdict_is};
@@ -118,6 +118,8 @@ pub(crate) fn judge<F: Files>(
     ensures long { IfOk result AreAsLong }
     ensures stop { IfErr result (Stops (RefusesProof (F.contents files.old) design.now table.now goals.now (option_copied top.entry)) (LeavesProof (F.contents files.old) design.now table.now goals.now (option_copied top.entry))) }
     ensures rose { IfErr result (IfUnread (Rose (F.faults files.old) (F.faults files.new))) }
+    ensures kept { OnOk result (F.faults files.new ≡ F.faults files.old) }
+    ensures counts { IfErr result (λ stop. Counts stop (F.faults files.old) (F.faults files.new)) }
     ensures unchanged { (other : List ℕ) → F.contents files.new other ≡ F.contents files.old other }
     ensures counts_up { F.faults files.old ≤ F.faults files.new }
 {

@@ -1,10 +1,10 @@
 // Proofs.
-ghost use Rattle.std.specs.Prelude.{◌≡◌, ◌≤◌, ◌<◌, ℕ, List, IfOk, IfErr, IfSome};
+ghost use Rattle.std.specs.Prelude.{◌≡◌, ◌≤◌, ◌<◌, ℕ, List, IfOk, OnOk, IfErr, IfSome};
 ghost use Rattle.std.specs.Option.{option_copied};
 ghost use Rattle.sv_outside.specs.Outside.{Rose};
 ghost use Rattle.svtv_commands.specs.Done.{Proves};
 ghost use Rattle.svtv_files.specs.Refusals.{LeavesProof, RefusesProof};
-ghost use Rattle.svtv_files.specs.Stopping.{IfUnread, Stops};
+ghost use Rattle.svtv_files.specs.Stopping.{Counts, IfUnread, Stops};
 
 use crate::judging::judge;
 use std::alloc::Global;
@@ -26,6 +26,8 @@ pub fn prove<F: Files>(
     ensures proves { IfOk result (λ x. Proves (F.contents files.old) design.now table.now goals.now (option_copied top.entry) budget x.0 x.1.items) }
     ensures stop { IfErr result (Stops (RefusesProof (F.contents files.old) design.now table.now goals.now (option_copied top.entry)) (LeavesProof (F.contents files.old) design.now table.now goals.now (option_copied top.entry))) }
     ensures rose { IfErr result (IfUnread (Rose (F.faults files.old) (F.faults files.new))) }
+    ensures kept { OnOk result (F.faults files.new ≡ F.faults files.old) }
+    ensures counts { IfErr result (λ stop. Counts stop (F.faults files.old) (F.faults files.new)) }
     ensures unchanged { (other : List ℕ) → F.contents files.new other ≡ F.contents files.old other }
     ensures counts_up { F.faults files.old ≤ F.faults files.new }
 {

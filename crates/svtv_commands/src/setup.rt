@@ -1,11 +1,11 @@
 // The design and the table.
-ghost use Rattle.std.specs.Prelude.{◌≡◌, ◌≤◌, ℕ, List, IfOk, IfErr};
+ghost use Rattle.std.specs.Prelude.{◌≡◌, ◌≤◌, ℕ, List, IfOk, OnOk, IfErr};
 ghost use Rattle.std.specs.Option.{option_copied};
 ghost use Rattle.flat_net.specs.Flats.{IsFlat};
 ghost use Rattle.sv_outside.specs.Outside.{Rose};
 ghost use Rattle.svtv_commands.specs.Inputs.{Stands};
 ghost use Rattle.svtv_files.specs.Refusals.{LeavesSetup, RefusesSetup};
-ghost use Rattle.svtv_files.specs.Stopping.{IfUnread, Stops};
+ghost use Rattle.svtv_files.specs.Stopping.{Counts, IfUnread, Stops};
 
 use crate::design::load_design;
 use crate::table::{Loaded, load_table};
@@ -35,6 +35,8 @@ pub fn load_setup<F: Files>(
     ensures sound { IfOk result (λ x. IsFlat x.flat) }
     ensures stop { IfErr result (Stops (RefusesSetup (F.contents files.old) design.now table.now (option_copied top.entry)) (LeavesSetup (F.contents files.old) design.now table.now (option_copied top.entry))) }
     ensures rose { IfErr result (IfUnread (Rose (F.faults files.old) (F.faults files.new))) }
+    ensures kept { OnOk result (F.faults files.new ≡ F.faults files.old) }
+    ensures counts { IfErr result (λ stop. Counts stop (F.faults files.old) (F.faults files.new)) }
     ensures unchanged { (other : List ℕ) → F.contents files.new other ≡ F.contents files.old other }
     ensures counts_up { F.faults files.old ≤ F.faults files.new }
 {

@@ -1,10 +1,10 @@
 // Simulations.
-ghost use Rattle.std.specs.Prelude.{◌≡◌, ◌≤◌, ℕ, List, IfOk, IfErr};
+ghost use Rattle.std.specs.Prelude.{◌≡◌, ◌≤◌, ℕ, List, IfOk, OnOk, IfErr};
 ghost use Rattle.std.specs.Option.{option_copied};
 ghost use Rattle.sv_outside.specs.Outside.{Rose};
 ghost use Rattle.svtv_commands.specs.Done.{Simulates};
 ghost use Rattle.svtv_files.specs.Refusals.{LeavesSimulation, RefusesSimulation};
-ghost use Rattle.svtv_files.specs.Stopping.{IfUnread, Stops};
+ghost use Rattle.svtv_files.specs.Stopping.{Counts, IfUnread, Stops};
 
 use crate::setup::{Setup, load_setup};
 use crate::values::load_values;
@@ -25,6 +25,8 @@ pub fn simulate<F: Files>(
     ensures simulates { IfOk result (λ text. Simulates (F.contents files.old) design.now table.now values.now (option_copied top.entry) text.items) }
     ensures stop { IfErr result (Stops (RefusesSimulation (F.contents files.old) design.now table.now values.now (option_copied top.entry)) (LeavesSimulation (F.contents files.old) design.now table.now values.now (option_copied top.entry))) }
     ensures rose { IfErr result (IfUnread (Rose (F.faults files.old) (F.faults files.new))) }
+    ensures kept { OnOk result (F.faults files.new ≡ F.faults files.old) }
+    ensures counts { IfErr result (λ stop. Counts stop (F.faults files.old) (F.faults files.new)) }
     ensures unchanged { (other : List ℕ) → F.contents files.new other ≡ F.contents files.old other }
     ensures counts_up { F.faults files.old ≤ F.faults files.new }
 {

@@ -1,12 +1,12 @@
 // The table, over the wires of the design.
-ghost use Rattle.std.specs.Prelude.{◌≡◌, ◌≤◌, ℕ, List, All, IfOk, IfErr};
+ghost use Rattle.std.specs.Prelude.{◌≡◌, ◌≤◌, ℕ, List, All, IfOk, OnOk, IfErr};
 ghost use Rattle.sv_outside.specs.Outside.{Rose};
 ghost use Rattle.svtv_table.specs.Binding as binding;
 ghost use Rattle.svtv_table.specs.Binding.{HasWidth};
 ghost use Rattle.svtv_table.specs.Faults as faults;
 ghost use Rattle.svtv_files.specs.Files.{IsTableFile};
 ghost use Rattle.svtv_files.specs.Refusals.{RefusesTable, at_first};
-ghost use Rattle.svtv_files.specs.Stopping.{IfUnread, Stops};
+ghost use Rattle.svtv_files.specs.Stopping.{Counts, IfUnread, Stops};
 
 use std::alloc::Global;
 use sv_outside::{Files, Name, Signal};
@@ -32,6 +32,8 @@ pub fn load_table<F: Files>(
     ensures bound { IfOk result (λ x. x.bound ≡ binding.bound_of wires.now x.table) }
     ensures stop { IfErr result (Stops (λ file r. (file ≡ name.now) × RefusesTable (F.contents files.old) name.now wires.now r) (λ file place. (file ≡ name.now) × (place ≡ at_first))) }
     ensures rose { IfErr result (IfUnread (Rose (F.faults files.old) (F.faults files.new))) }
+    ensures kept { OnOk result (F.faults files.new ≡ F.faults files.old) }
+    ensures counts { IfErr result (λ stop. Counts stop (F.faults files.old) (F.faults files.new)) }
     ensures unchanged { (other : List ℕ) → F.contents files.new other ≡ F.contents files.old other }
     ensures counts_up { F.faults files.old ≤ F.faults files.new }
 {

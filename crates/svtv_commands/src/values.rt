@@ -1,5 +1,5 @@
 // The values of variables.
-ghost use Rattle.std.specs.Prelude.{◌≡◌, ◌≤◌, ℕ, List, All, IfOk, IfErr, map};
+ghost use Rattle.std.specs.Prelude.{◌≡◌, ◌≤◌, ℕ, List, All, IfOk, OnOk, IfErr, map};
 ghost use Rattle.std.specs.List.{IsDistinct};
 ghost use Rattle.std.specs.Str.{bytes_eq};
 ghost use Rattle.sv_outside.specs.Outside.{Rose};
@@ -7,7 +7,7 @@ ghost use Rattle.svtv_table.specs.Binding.{HasWidth};
 ghost use Rattle.svtv_table.specs.Names.{name_of};
 ghost use Rattle.svtv_files.specs.Files.{IsValuesFile};
 ghost use Rattle.svtv_files.specs.Refusals.{RefusesValues, at_first};
-ghost use Rattle.svtv_files.specs.Stopping.{IfUnread, Stops};
+ghost use Rattle.svtv_files.specs.Stopping.{Counts, IfUnread, Stops};
 
 use fourvec::Four;
 use std::alloc::Global;
@@ -27,6 +27,8 @@ pub fn load_values<F: Files>(
     ensures values { IfOk result (λ values. IsValuesFile (F.contents files.old) name.now vars.now values.items) }
     ensures stop { IfErr result (Stops (λ file r. (file ≡ name.now) × RefusesValues (F.contents files.old) name.now vars.now r) (λ file place. (file ≡ name.now) × (place ≡ at_first))) }
     ensures rose { IfErr result (IfUnread (Rose (F.faults files.old) (F.faults files.new))) }
+    ensures kept { OnOk result (F.faults files.new ≡ F.faults files.old) }
+    ensures counts { IfErr result (λ stop. Counts stop (F.faults files.old) (F.faults files.new)) }
     ensures unchanged { (other : List ℕ) → F.contents files.new other ≡ F.contents files.old other }
     ensures counts_up { F.faults files.old ≤ F.faults files.new }
 {
