@@ -27,8 +27,8 @@ use Rattle.sv_tree.specs.Spelling.{Text, Spelled, token, nothing, never, ◌⨟�
 use Rattle.sv_tree.specs.GrammarExprs.{Spells, SpellsSelect}
 use Rattle.sv_tree.specs.GrammarForms.{bits_key, sign_key, SpellsRange, given, SpellsLabel, SpellsType, SpellsMembers, MoreMembers, SpellsMember, whole_key}
 use Rattle.sv_tree.specs.GrammarStmts.{SpellsChain, SpellsLvalue, SpellsLvalues, MoreLvalues, SpellsStep, uniq_key, case_key, assign_text, block_name, colon_if, is_closed, SpellsStmt, SpellsElse, SpellsStmts, SpellsArms, MoreArms, SpellsArm}
-use Rattle.sv_tree.specs.Nesting.{Depths, in_stmt, in_type, if_given, each_depths, commas_depths, after_commas_depths, word_depths, label_depths, expr_depths, select_depths}
-use Rattle.sv_tree.specs.NestingDesign.{range_depths, given_depths, enum_label_depths, type_depths, members_depths, member_depths, lvalue_depths, lvalues_depths, more_lvalues_depths, step_depths, turns_depths, if_true, stmt_depths, else_depths, stmts_depths, arms_depths, arm_depths}
+use Rattle.sv_tree.specs.Nesting.{Depths, one, in_stmt, in_type, if_given, each_depths, commas_depths, after_commas_depths, word_depths, label_depths, expr_depths, select_depths}
+use Rattle.sv_tree.specs.NestingDesign.{range_depths, given_depths, enum_label_depths, named_type_depths, type_depths, members_depths, member_depths, lvalue_depths, lvalues_depths, more_lvalues_depths, step_depths, turns_depths, if_true, stmt_depths, else_depths, stmts_depths, arms_depths, arm_depths}
 use Rattle.sv_tree.proofs.Framed.{Framed, frame, frame_select, length_in}
 
 -- so many tokens
@@ -154,6 +154,10 @@ pub length_in_type : (d : Depths) → length (in_type d) ≡ length d
 unfolding in_type
 length_in_type d = length-map d _
 
+pub length_named : (w : Word) (ranges : List Range) → length (named_type_depths w ranges) ≡ length (one ++ each_depths range_depths ranges)
+length_named w [] = refl
+length_named w (r ∷ more) = length_in_type (one ++ each_depths range_depths (r ∷ more))
+
 pub length_in_stmt : (d : Depths) → length (in_stmt d) ≡ length d
 unfolding in_stmt
 length_in_stmt d = length-map d _
@@ -183,7 +187,7 @@ mutual
       counted_as _ (simp (length_in_type, length-append) (omega arith))
       (counted_key (codes "enum") ⋈ counted_bits w ⋈ counted_maybe sign_key word_depths counted_sign s ⋈ counted_maybe SpellsRange range_depths counted_range r ⋈ counted_mark (codes "{")
       ⋈ counted_commas SpellsLabel enum_label_depths counted_label all ⋈ counted_mark (codes "}"))
-  counted_type (Named w ranges) = counted_as _ (simp (length_in_type, length-append) (omega arith)) (counted_name w ⋈ counted_ranges ranges)
+  counted_type (Named w ranges) = counted_as _ (omega (arith, length_named w ranges)) (counted_name w ⋈ counted_ranges ranges)
 
   counted_members : {m : _} (all : Row_of-Member m) → Counted (SpellsMembers all) (length (members_depths all))
   counted_members end_of-Member = counted_never _

@@ -14,7 +14,7 @@ use Rattle.sv_tree.specs.declared.forms.Member.TheVariants as mem
 use Rattle.sv_tree.specs.Spelling.{Spelled, never, ◌⨟◌, mark, key, name, maybe, each, commas}
 use Rattle.sv_tree.specs.GrammarForms.{bits_key, sign_key, SpellsRange, SpellsLabel, SpellsType, SpellsMembers, MoreMembers, SpellsMember}
 use Rattle.sv_tree.specs.Nesting.{one, two, in_type, if_given, each_depths, commas_depths, word_depths}
-use Rattle.sv_tree.specs.NestingDesign.{range_depths, enum_label_depths, type_depths, members_depths, member_depths}
+use Rattle.sv_tree.specs.NestingDesign.{range_depths, enum_label_depths, named_type_depths, type_depths, members_depths, member_depths}
 use Rattle.sv_tree.proofs.MadeStmts.{some}
 
 -- ---- lists of members
@@ -99,7 +99,7 @@ to_named w ranges i o h = h
 pub of_named : (w : Word) (ranges : List Range) (i o : List Token) → SpellsType (ty.Named w ranges) i o → (name w ⨟ each SpellsRange ranges) i o
 of_named w ranges i o h = h
 
-pub nests_named : (w : Word) (ranges : List Range) → type_depths (ty.Named w ranges) ≡ in_type (one ++ each_depths range_depths ranges)
+pub nests_named : (w : Word) (ranges : List Range) → type_depths (ty.Named w ranges) ≡ named_type_depths w ranges
 unfolding type_depths
 nests_named w ranges = refl
 

@@ -1,6 +1,7 @@
 -- The depths of the tokens of types, statements and designs.
 use Rattle.std.specs.Prelude.{Bool, true, false, List, [], ◌∷◌, ◌++◌, Option}
 use mathlib.Core.Former.{Count}
+use Rattle.sv_tree.specs.declared.word.Word.{Word}
 use Rattle.sv_tree.specs.declared.forms.Range.{Range}
 use Rattle.sv_tree.specs.declared.forms.EnumLabel.{EnumLabel}
 use Rattle.sv_tree.specs.declared.forms.TypeTree.{TypeTree, Vector, Integer, Struct', Enum, Named, Row_of-Member, end_of-Member, more_of-Member}
@@ -39,7 +40,7 @@ use Rattle.sv_tree.specs.declared.design.SourcePart.TheVariants as source_part
 use Rattle.sv_tree.specs.declared.design.Source.{Source}
 use Rattle.sv_tree.specs.Nesting.{Depths, one, two, three, in_expr, in_stmt, in_generate, in_type, if_given, each_depths, commas_depths, word_depths, label_depths, expr_depths, select_depths}
 
--- ---- types: each is one part
+-- ---- types: each is one part, but a name alone is none (this project's rule)
 
 abbrev pub range_depths : Range → Depths
 range_depths r = one ++ expr_depths r.left ++ one ++ expr_depths r.right ++ one
@@ -51,6 +52,11 @@ given_depths depths x = one ++ depths x
 abbrev pub enum_label_depths : EnumLabel → Depths
 enum_label_depths x = one ++ if_given (given_depths expr_depths) x.value
 
+-- a name, and its ranges
+abbrev pub named_type_depths : Word → List Range → Depths
+named_type_depths w [] = one
+named_type_depths w (r ∷ more) = in_type (one ++ each_depths range_depths (r ∷ more))
+
 unfoldable mutual
   pub type_depths : TypeTree → Depths
   type_depths (Vector w s ranges) = in_type (if_given word_depths w ++ if_given word_depths s ++ each_depths range_depths ranges)
@@ -58,7 +64,7 @@ unfoldable mutual
   type_depths (Struct' s r all ranges) = in_type (two ++ if_given word_depths s ++ one ++ members_depths all ++ one ++ each_depths range_depths ranges)
   type_depths (Enum w s r all) =
       in_type (two ++ if_given word_depths s ++ if_given range_depths r ++ one ++ commas_depths enum_label_depths all ++ one)
-  type_depths (Named w ranges) = in_type (one ++ each_depths range_depths ranges)
+  type_depths (Named w ranges) = named_type_depths w ranges
 
   pub members_depths : {m : Count} → Row_of-Member m → Depths
   members_depths end_of-Member = []

@@ -1,10 +1,13 @@
 -- Tokens that lie too deep by a limit for each kind of nesting, and what stops an expression.
-use Rattle.std.proofs.Common.{◌≡◌, ℕ, zero, suc, ◌+◌, ◌≤◌, ◌⊎◌, inl, inr, Bool, true, false, List, [], ◌∷◌, None, refl, subst, sym, arith}
+use Rattle.std.proofs.Common.{◌≡◌, ℕ, zero, suc, ◌+◌, ◌≤◌, ◌⊎◌, inl, inr, Bool, true, false, List, [], ◌∷◌, ◌++◌, None, refl, subst, sym, arith}
 use Rattle.sv_outside.specs.declared.text.Token.{Token}
+use Rattle.sv_tree.specs.declared.word.Word.{Word}
 use Rattle.sv_tree.specs.declared.exprs.Expr.{Expr}
+use Rattle.sv_tree.specs.declared.forms.Range.{Range}
 use Rattle.sv_tree.specs.Spelling.{mark as mark_spelled}
 use Rattle.sv_tree.specs.GrammarExprs.{Spells}
-use Rattle.sv_tree.specs.Nesting.{Nesting, Depths, in_stmt, in_generate, in_type, expr_depths}
+use Rattle.sv_tree.specs.Nesting.{Nesting, Depths, one, in_stmt, in_generate, in_type, each_depths, expr_depths}
+use Rattle.sv_tree.specs.NestingDesign.{range_depths, named_type_depths}
 use Rattle.sv_tree.proofs.Counted.{counted_expr, length_in_type, length_in_stmt}
 use Rattle.sv_tree.proofs.CountedDesign.{length_in_generate}
 use Rattle.sv_cursor.specs.declared.sort.Mark.{Mark as MarkName}
@@ -60,6 +63,29 @@ stmt_lifts s g t d k h = bad_map (Over s g t) (Over (suc s) g t) (λ n. record n
 pub generate_lifts : (s g t : ℕ) (d : Depths) (k : ℕ) → BadAt (Over s g t) d k → BadAt (Over s (suc g) t) (in_generate d) k
 unfolding in_generate
 generate_lifts s g t d k h = bad_map (Over s g t) (Over s (suc g) t) (λ n. record n { generates = n.generates + 1 }) (generate_up s g t) d k h
+
+-- the same limit
+typed_up : (s g t : ℕ) (n : Nesting) → Over s g t n → Over s g t (record n { types = n.types + 1 })
+typed_up s g t n (inl h) = inl h
+typed_up s g t n (inr (inl h)) = inr (inl h)
+typed_up s g t n (inr (inr (inl h))) = inr (inr (inl h))
+typed_up s g t n (inr (inr (inr h))) = inr (inr (inr (omega arith)))
+
+bad_typed : (s g t : ℕ) (a b : Depths) (k : ℕ) → BadAt (Over s g t) (a ++ b) k → BadAt (Over s g t) (in_type a ++ b) k
+unfolding in_type
+bad_typed s g t [] b k h = h
+bad_typed s g t (n ∷ a) b zero h = typed_up s g t n h
+bad_typed s g t (n ∷ a) b (suc k) h = bad_typed s g t a b k h
+
+-- a name with its ranges, before other tokens
+pub named_lifts : (s g t : ℕ) (w : Word) (ranges : List Range) (b : Depths) (k : ℕ) → BadAt (Over s g t) ((one ++ each_depths range_depths ranges) ++ b) k → BadAt (Over s g t) (named_type_depths w ranges ++ b) k
+named_lifts s g t w [] b k h = h
+named_lifts s g t w (r ∷ more) b k h = bad_typed s g t (one ++ each_depths range_depths (r ∷ more)) b k h
+
+pub named_bad : (s g t : ℕ) (w : Word) (ranges : List Range) (k : ℕ) → BadAt (Over s g t) (one ++ each_depths range_depths ranges) k → BadAt (Over s g t) (named_type_depths w ranges) k
+unfolding in_type
+named_bad s g t w [] k h = h
+named_bad s g t w (r ∷ more) k h = bad_map (Over s g t) (Over s g t) (λ n. record n { types = n.types + 1 }) (typed_up s g t) (one ++ each_depths range_depths (r ∷ more)) k h
 
 -- the tokens of the rule lie in one type more
 abbrev pub typed : {A : Type 0} {depth : ℕ} (s g t : ℕ) → Rule (Over s g t) depth A → Rule (Over s g (suc t)) depth A

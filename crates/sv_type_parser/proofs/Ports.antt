@@ -1,5 +1,5 @@
 -- Names with types, and ports, are read as they are spelled.
-use Rattle.std.proofs.Common.{◌≡◌, ℕ, zero, suc, ◌+◌, ◌≤◌, ◌⊎◌, inl, inr, List, [], ◌∷◌, ◌++◌, length, Option, Some, None, refl, sym, ◌∙◌, ap, subst, append_assoc, length-append, arith}
+use Rattle.std.proofs.Common.{◌≡◌, ℕ, ◌≤◌, ◌⊎◌, inl, inr, List, [], ◌∷◌, ◌++◌, length, Option, Some, None, refl, sym, ◌∙◌, ap, subst, append_assoc, length-append, arith}
 use Rattle.sv_outside.specs.declared.text.Token.{Token}
 use Rattle.sv_tree.specs.declared.word.Word.{Word}
 use Rattle.sv_tree.specs.declared.forms.Range.{Range}
@@ -11,10 +11,10 @@ use Rattle.sv_tree.specs.declared.design.NetWord.TheVariants as net_word
 use Rattle.sv_tree.specs.declared.design.Port.{Port}
 use Rattle.sv_tree.specs.Spelling.{Spelled, ◌⨟◌, name, maybe, each}
 use Rattle.sv_tree.specs.GrammarForms.{SpellsRange, SpellsType, way_key, net_key, SpellsPort}
-use Rattle.sv_tree.specs.Nesting.{Nesting, Depths, one, in_type, if_given, each_depths}
-use Rattle.sv_tree.specs.NestingDesign.{range_depths, type_depths, port_depths}
+use Rattle.sv_tree.specs.Nesting.{Depths, one, if_given}
+use Rattle.sv_tree.specs.NestingDesign.{type_depths, port_depths}
 use Rattle.sv_tree.proofs.MadeForms as made
-use Rattle.sv_tree.proofs.Counted.{length_in_type}
+use Rattle.sv_tree.proofs.Counted.{length_named}
 use Rattle.sv_tree.proofs.CountedDesign.{counted_port}
 use Rattle.sv_cursor.specs.declared.sort.Keyword.{Keyword}
 use Rattle.sv_cursor.specs.declared.sort.Keyword.TheVariants as k
@@ -31,23 +31,9 @@ use Rattle.sv_word_parser.specs.Words.{type_by_word, type_by_sort, word_type_by_
 use Rattle.sv_type_parser.specs.Params.{TypedName, made_typed, made_untyped, behind_type, untyped, typed, typed_name, made_port, port}
 use Rattle.sv_type_parser.proofs.Rules.{Rule, seq, optional, tree_reads, rule_of, renested, name_rule, Way, fork_reads, fork_moved, ReadBy, IsFirst, first_of_name, told_sort, told_word}
 use Rattle.sv_type_parser.proofs.Words.{way_rule, way_begins, net_rule, net_first, net_begins, net_word_name}
-use Rattle.sv_type_parser.proofs.Limits.{Over}
+use Rattle.sv_type_parser.proofs.Limits.{Over, named_lifts}
 use Rattle.sv_type_parser.proofs.Types.{range_first, ranges_rule, type_stops_name, type_split, type_begins}
 use Rattle.sv_type_parser.proofs.Params.{form_rule}
-
--- ---- one type more
-
-typed_up : (s g t : ℕ) (n : Nesting) → Over s g t n → Over s g t (record n { types = n.types + 1 })
-typed_up s g t n (inl h) = inl h
-typed_up s g t n (inr (inl h)) = inr (inl h)
-typed_up s g t n (inr (inr (inl h))) = inr (inr (inl h))
-typed_up s g t n (inr (inr (inr h))) = inr (inr (inr (omega arith)))
-
-pub bad_typed : (s g t : ℕ) (a b : Depths) (k : ℕ) → BadAt (Over s g t) (a ++ b) k → BadAt (Over s g t) (in_type a ++ b) k
-unfolding in_type
-bad_typed s g t [] b k h = h
-bad_typed s g t (n ∷ a) b zero h = typed_up s g t n h
-bad_typed s g t (n ∷ a) b (suc k) h = bad_typed s g t a b k h
 
 -- ---- names with types
 
@@ -83,11 +69,11 @@ module _ (s g d : ℕ) (le : d ≤ 200) where
 
   untyped_length : (c : Word × Option (List Range × Word)) → length (typed_nests (made_untyped c)) ≡ length (untyped_tuple.nests c)
   untyped_length (w, None) = refl
-  untyped_length (w, Some c) = ap (λ l. length (l ++ one)) (made.nests_named w c.0) ∙ simp (length-append, length_in_type) (omega arith)
+  untyped_length (w, Some c) = ap (λ l. length (l ++ one)) (made.nests_named w c.0) ∙ simp length-append (omega (arith, length_named w c.0))
 
   untyped_lifts : (c : Word × Option (List Range × Word)) (k : ℕ) → BadAt (Over s g 201) (untyped_tuple.nests c) k → BadAt (Over s g 201) (typed_nests (made_untyped c)) k
   untyped_lifts (w, None) k h = h
-  untyped_lifts (w, Some c) k h = subst (λ l. BadAt (Over s g 201) (l ++ one) k) (sym (made.nests_named w c.0)) (bad_typed s g 201 (one ++ each_depths range_depths c.0) one k h)
+  untyped_lifts (w, Some c) k h = subst (λ l. BadAt (Over s g 201) (l ++ one) k) (sym (made.nests_named w c.0)) (named_lifts s g 201 w c.0 one k h)
 
   untyped_to : (c : Word × Option (List Range × Word)) (i o : List Token) → untyped_tuple.spelled c i o → TypedSpelled (made_untyped c) i o
   untyped_to (w, None) i o h = (i, refl, subst (λ t. name w i t) h.2 h.1)

@@ -1,5 +1,5 @@
 -- Ranges, names and types are read as they are spelled.
-use Rattle.std.proofs.Common.{◌≡◌, ℕ, zero, suc, ◌<◌, ◌≤◌, Bool, true, false, ◌⊎◌, inl, inr, List, [], ◌∷◌, length, Option, Some, None, refl, sym, ◌∙◌, ap, subst, append_assoc, length-append, arith}
+use Rattle.std.proofs.Common.{◌≡◌, ℕ, zero, suc, ◌-◌, ◌<◌, ◌≤◌, Bool, true, false, ◌⊎◌, inl, inr, List, [], ◌∷◌, ◌++◌, length, take, Option, Some, None, Err, refl, sym, ◌∙◌, ap, subst, append_assoc, length-append, arith}
 use Rattle.sv_outside.specs.declared.refusal.Place.{Place}
 use Rattle.sv_outside.specs.declared.text.Token.{Token}
 use Rattle.sv_tree.specs.declared.word.Word.{Word}
@@ -15,11 +15,12 @@ use Rattle.sv_tree.specs.declared.forms.TypeTree.TheVariants as ty
 use Rattle.sv_tree.specs.declared.forms.Member.{Member}
 use Rattle.sv_tree.specs.Spelling.{Spelled, ◌⨟◌, mark as mark_spelled, key, key_at, name, maybe, each, commas}
 use Rattle.sv_tree.specs.GrammarForms.{bits_key, sign_key, SpellsRange, given as given_spelled, SpellsLabel, SpellsType, SpellsMember}
-use Rattle.sv_tree.specs.Nesting.{Depths, in_type, each_depths, commas_depths, word_depths, expr_depths}
-use Rattle.sv_tree.specs.NestingDesign.{range_depths, given_depths, enum_label_depths, type_depths, member_depths}
+use Rattle.sv_tree.specs.Nesting.{Nesting, Depths, one, in_type, each_depths, commas_depths, word_depths, expr_depths}
+use Rattle.sv_tree.specs.NestingDesign.{range_depths, given_depths, enum_label_depths, named_type_depths, type_depths, member_depths}
 use Rattle.sv_tree.proofs.MadeStmts.{some}
 use Rattle.sv_tree.proofs.MadeForms as made
-use Rattle.sv_tree.proofs.Counted.{length_in_type, counted_range, counted_given, counted_label, counted_names, counted_each, counted_type, counted_member}
+use Rattle.sv_tree.proofs.Counted.{length_in_type, length_named, counted_range, counted_given, counted_label, counted_names, counted_each, counted_type, counted_member}
+use Rattle.sv_cursor.specs.declared.error.ParseErr.TheVariants.{TooDeep}
 use Rattle.sv_cursor.specs.declared.sort.Keyword.{Keyword}
 use Rattle.sv_cursor.specs.declared.sort.Keyword.TheVariants as k
 use Rattle.sv_cursor.specs.declared.sort.Mark.{Mark as MarkName}
@@ -27,18 +28,19 @@ use Rattle.sv_cursor.specs.declared.sort.Mark.TheVariants as m
 use Rattle.sv_cursor.specs.declared.sort.Sort.{Sort}
 use Rattle.sv_cursor.specs.declared.sort.Sort.TheVariants as so
 use Rattle.sv_cursor.specs.Sorts.{mark_text, keyword_text}
-use Rattle.sv_cursor.specs.Tests.{first_sort, same_mark, is_mark, mark_test}
-use Rattle.sv_cursor.specs.Parsers.{Parser, told}
-use Rattle.sv_cursor.proofs.Readers.{IsReader, BadAt, deep_reader}
+use Rattle.sv_cursor.specs.Tests.{first_sort, same_mark, is_mark, mark_test, id_test}
+use Rattle.sv_cursor.specs.Parsers.{Parser, and_then, pure, too_deep, told, next, take_told, token, branch}
+use Rattle.sv_cursor.proofs.Readers.{IsReader, Meets, Placed, Agrees, BadAt, then_meets, then_placed, none_shared, same_told, choose_reader, deep_reader, moved_less}
+use Rattle.sv_cursor.proofs.Tested.{name_of, told_of_name}
 use Rattle.sv_expr_reader.proofs.Tokens.{Any, Stops, told_of_mark}
 use Rattle.sv_word_parser.specs.declared.openers.TypeOpener.{TypeOpener}
 use Rattle.sv_word_parser.specs.declared.openers.TypeOpener.TheVariants as type_by
 use Rattle.sv_word_parser.specs.Combined.{word_of, word_test, sort_test}
 use Rattle.sv_word_parser.specs.Words.{sign_by_word, type_by_word, type_by_sort, word_type_by_sort}
-use Rattle.sv_type_parser.specs.Forms.{made_range, range, ranges, given, names, maybe_sign, made_label, enum_label, made_word_vector, word_vector, made_sign_vector, sign_vector, made_range_vector, range_vector, whole, made_enum, enumeration, made_named, named, made_member, member, made_struct, members, structure, type_for, type_level, form}
-use Rattle.sv_type_parser.proofs.Rules.{Rule, Fixed, the_mark, the_key, placed, before, opening, seq, closing, optional, several, tree_reads, rule_of, until, some_rule, list_rule, name_rule, Way, choose_reads, ReadBy, reader_of, IsFirst, first_of_mark, first_of_mark_at, first_of_key, first_of_name, placed_key, some_key, told_sort, told_word, no_mark, mark_begins, moved_counted}
+use Rattle.sv_type_parser.specs.Forms.{made_range, range, ranges, given, names, maybe_sign, made_label, enum_label, made_word_vector, word_vector, made_sign_vector, sign_vector, made_range_vector, range_vector, whole, made_enum, enumeration, made_named, named, made_member, member, made_struct, members, structure, type_for, type_level, unranged, name_alone, form}
+use Rattle.sv_type_parser.proofs.Rules.{Rule, Fixed, the_mark, the_key, placed, before, opening, seq, closing, optional, several, tree_reads, rule_of, until, some_rule, list_rule, renested, name_reads, name_moved, name_rule, Way, choose_reads, ReadBy, reader_of, IsFirst, first_of_mark, first_of_mark_at, first_of_key, first_of_name, placed_key, some_key, told_sort, told_word, no_mark, mark_begins, moved_counted}
 use Rattle.sv_type_parser.proofs.Words.{sign_rule, sign_first, sign_begins, bits_rule, bits_first, sign_word_name, bits_word_name}
-use Rattle.sv_type_parser.proofs.Limits.{Over, expression_rule, is_end, first_end, end_mark, typed}
+use Rattle.sv_type_parser.proofs.Limits.{Over, expression_rule, is_end, first_end, end_mark, typed, named_bad}
 
 -- what stops ranges
 abbrev pub NoRange : List Token → Type 0
@@ -58,6 +60,11 @@ range_first r i o h = first_of_mark_at m.LeftBracket r.place i h.0 h.1
 pub range_begins : (r : Range) (i o : List Token) → SpellsRange r i o → (p : Place) × (told (mark_test m.LeftBracket) i ≡ Some p)
 unfolding mark_text
 range_begins r i o h = let g = told_of_mark m.LeftBracket r.place i h.0 h.1 in (r.place, g)
+
+-- the first token of a name
+pub told_name : (w : Word) (i o : List Token) → name w i o → told id_test i ≡ Some w
+told_name w [] o h = absurd h
+told_name w (a ∷ i) o h = (told_of_name w (a ∷ i) o h).0
 
 -- what stops several names
 abbrev pub NamesStops : List Token → Type 0
@@ -307,9 +314,12 @@ vector_grows None None [] i o h = absurd (made.of_vector None None [] i o h)
 struct_grows : (sg : Option Sign) (all : List Member) (ranges : List Range) → TypeGrows (ty.Struct sg all ranges)
 struct_grows sg all ranges i o h = subst (λ l. 0 < length l) (sym (made.nests_struct sg all ranges)) (simp (length_in_type, length-append) (omega arith))
 
+named_grows : (w : Word) (ranges : List Range) → TypeGrows (ty.Named w ranges)
+named_grows w ranges i o h = omega (arith, ap length (made.nests_named w ranges), length_named w ranges)
+
 pub type_grows : (x : TypeTree) (i o : List Token) → SpellsType x i o → 0 < length (type_depths x)
 unfolding type_depths in_type
-type_grows = made.by_cases_type TypeGrows vector_grows (λ i o h. omega arith) struct_grows (λ w sg r all i o h. omega arith) (λ w ranges i o h. omega arith)
+type_grows = made.by_cases_type TypeGrows vector_grows (λ i o h. omega arith) struct_grows (λ w sg r all i o h. omega arith) named_grows
 
 pub member_begins : (x : Member) (i o : List Token) → SpellsMember x i o → (c : TypeOpener) × (told (sort_test type_by_sort) i ≡ Some c)
 member_begins = made.by_cases_member (λ x. (i o : List Token) → SpellsMember x i o → (c : TypeOpener) × (told (sort_test type_by_sort) i ≡ Some c)) (λ x all i o h. let g = made.of_of x all i o h in type_begins x i g.0 g.1)
@@ -434,7 +444,7 @@ module _ (s g limit t : ℕ) (le : suc t ≤ 200) (f : Parser TypeTree) (reads :
   }
   ways type_by.Name = record {
     A = Word × List Range;
-    rule = typed s g limit (named_rule s g limit (suc t) le);
+    rule = renested (named_rule s g (suc limit) (suc t) le) (λ c. named_type_depths c.0 c.1) (λ c. length_named c.0 c.1) (λ c k h. named_bad s g (suc limit) c.0 c.1 k h);
     made = made_named;
     nested = λ c. sym (made.nests_named c.0 c.1);
     to = λ c i o h. h;
@@ -469,19 +479,109 @@ unfolding in_type
 typed_over s g l [] e some = absurd (omega (arith, ap length e))
 typed_over s g l (n ∷ m) e some = subst (λ l. BadAt (Over s g 1) l 0) (sym e) (inr (inr (inr (omega arith))))
 
--- each token of a type is held by it
-none_typed : (s g : ℕ) (x : TypeTree) (i o : List Token) → SpellsType x i o → BadAt (Over s g 1) (type_depths x) 0
-none_typed s g x i o h =
-    made.by_cases_type (λ x. 0 < length (type_depths x) → BadAt (Over s g 1) (type_depths x) 0)
-    (λ w sg ranges some. typed_over s g _ _ (made.nests_vector w sg ranges) some)
-    (λ some. typed_over s g _ _ made.nests_integer some)
-    (λ sg all ranges some. typed_over s g _ _ (made.nests_struct sg all ranges) some)
-    (λ w sg r all some. typed_over s g _ _ (made.nests_enum w sg r all) some)
-    (λ w ranges some. typed_over s g _ _ (made.nests_named w ranges) some)
-    x (type_grows x i o h)
+-- a type that is no name holds its tokens
+no_name_typed : (s g : ℕ) (x : TypeTree) (i o : List Token) → (told id_test i ≡ None) × SpellsType x i o → BadAt (Over s g 1) (type_depths x) 0
+no_name_typed s g x i o h =
+    made.by_cases_type (λ x. SpellsType x i o → 0 < length (type_depths x) → BadAt (Over s g 1) (type_depths x) 0)
+    (λ w sg ranges read some. typed_over s g _ _ (made.nests_vector w sg ranges) some)
+    (λ read some. typed_over s g _ _ made.nests_integer some)
+    (λ sg all ranges read some. typed_over s g _ _ (made.nests_struct sg all ranges) some)
+    (λ w sg r all read some. typed_over s g _ _ (made.nests_enum w sg r all) some)
+    (λ w ranges read some. let g = made.of_named w ranges i o read in let e = told_name w i g.0 g.1 in let f = h.0 in absurd (cc))
+    x h.1 (type_grows x i o h.1)
+
+-- a name with ranges holds its tokens
+ranged_typed : (s g : ℕ) (w : Word) (r : Range) (more : List Range) → BadAt (Over s g 1) (type_depths (ty.Named w (r ∷ more))) 0
+ranged_typed s g w r more = subst (λ l. BadAt (Over s g 1) l 0) (sym (made.nests_named w (r ∷ more))) (typed_over s g (named_type_depths w (r ∷ more)) (one ++ each_depths range_depths (r ∷ more)) refl (omega (arith, length_named w (r ∷ more))))
+
+-- the same tokens stand behind a first one
+same_behind : (n : ℕ) (a b : Token) (s i : List Token) → take (suc (suc n)) (a ∷ s) ≡ take (suc (suc n)) (b ∷ i) → told (mark_test m.LeftBracket) s ≡ told (mark_test m.LeftBracket) i
+same_behind n a b s i e = let f : take (suc n) s ≡ take (suc n) i = cc in same_told (mark_test m.LeftBracket) n s i f
+
+some_left : {A : Type 0} (test : Token → Option A) (x : A) (i : List Token) → told test i ≡ Some x → 0 < length i
+some_left test x [] e = absurd (cc)
+some_left test x (a ∷ i) e = omega arith
+
+-- a type that begins with that name
+named_split : (v : Word) (x : TypeTree) (a : Token) (s o : List Token) → told id_test (a ∷ s) ≡ Some v → SpellsType x (a ∷ s) o → (ranges : List Range) × (ty.Named v ranges ≡ x) × each SpellsRange ranges s o
+named_split v x a s o e h = by_split (type_split x (a ∷ s) o h)
+  where
+    first : IsFirst so.Id (a ∷ s)
+    first = first_of_name v (a ∷ s) s (name_of v (a ∷ s) s (e, refl))
+
+    by_split : ((c : TypeOpener) × (told (sort_test word_type_by_sort) (a ∷ s) ≡ Some c)) ⊎ ((c : Word × List Range) × (made_named c ≡ x) × (name c.0 ⨟ each SpellsRange c.1) (a ∷ s) o)
+        → (ranges : List Range) × (ty.Named v ranges ≡ x) × each SpellsRange ranges s o
+    by_split (inl c) = let f = told_sort word_type_by_sort (a ∷ s) refl ∙ ap word_type_by_sort first in let g = c.1 in absurd (cc)
+    by_split (inr c) =
+        let f = told_name c.0.0 (a ∷ s) c.2.0 c.2.1 in
+        let g : c.0.0 ≡ v = cc in
+        (c.0.1, ap (λ w. ty.Named w c.0.1) (sym g) ∙ c.1, subst (λ t. each SpellsRange c.0.1 t o) (sym c.2.1.1) c.2.2)
+
+module _ (s g : ℕ) where
+  abbrev NoTypes : Nesting → Type 0
+  NoTypes = Over s g 1
+
+  abbrev behind : Option Place → ℕ → Word → Parser TypeTree
+  behind q left w = branch q (λ _ i. Err (TooDeep left (length i))) (pure (ty.Named w []))
+
+  behind_sound : (q : Option Place) (w : Word) (i j : List Token) → name w i j → Meets (behind q (length i) w j) (λ x k. SpellsType x i k)
+  behind_sound None w i j h = made.to_named w [] i j (j, h, refl)
+  behind_sound (Some p) w i j h = tt
+
+  alone_sound : (i : List Token) → Meets (and_then (token id_test i) (unranged (length i))) (λ x j. SpellsType x i j)
+  alone_sound i =
+      then_meets (token id_test i) (unranged (length i)) (λ w j. name w i j) (λ x j. SpellsType x i j) ((name_reads NoTypes 0).sound i)
+      (λ w j h. behind_sound (told (mark_test m.LeftBracket) j) w i j h)
+
+  behind_placed : (q : Option Place) (w : Word) (i j : List Token) → name w i j → told (mark_test m.LeftBracket) j ≡ q → Placed 0 i (behind q (length i) w j)
+  behind_placed None w i j h e = tt
+  behind_placed (Some p) w i j h e =
+      let c = name_moved.count w i j h in
+      let some = some_left (mark_test m.LeftBracket) p j e in (omega arith, omega arith, omega arith, omega arith)
+
+  alone_placed : (i : List Token) → Placed 0 i (and_then (token id_test i) (unranged (length i)))
+  alone_placed i =
+      then_placed (token id_test i) (unranged (length i)) (λ w j. name w i j) i 0 ((name_reads NoTypes 0).sound i) ((name_reads NoTypes 0).placed i)
+      (λ w j h. behind_placed (told (mark_test m.LeftBracket) j) w i j h refl)
+
+  -- the name and no range, or the name and a range, in the tree and in the tokens that are read
+  behind_agrees : (q : Option Place) (v : Word) (ranges : List Range) (n : ℕ) (a b : Token) (t o i : List Token) → each SpellsRange ranges t o → TypeStops o → take (suc n) (a ∷ t) ≡ take (suc n) (b ∷ i)
+      → told (mark_test m.LeftBracket) i ≡ q → Agrees NoTypes type_depths (ty.Named v ranges) (suc n) (b ∷ i) (behind q (length (b ∷ i)) v i)
+  behind_agrees None v [] n a b t o i h stops same e = λ shown. refl
+  behind_agrees None v (r ∷ more) zero a b t o i h stops same e = λ shown. absurd (omega (arith, ap length (made.nests_named v [])))
+  behind_agrees None v (r ∷ more) (suc n) a b t o i h stops same e = let f = same_behind n a b t i same in let g = (range_begins r t h.0 h.1).1 in λ shown. absurd (cc)
+  behind_agrees (Some p) v ranges zero a b t o i h stops same e = λ shown. absurd (omega arith)
+  behind_agrees (Some p) v [] (suc n) a b t o i h stops same e = let f = same_behind n a b t i same in let g = ap (told (mark_test m.LeftBracket)) h ∙ stops.0 in λ shown. absurd (cc)
+  behind_agrees (Some p) v (r ∷ more) (suc n) a b t o i h stops same e = λ shown.
+      let e : length (b ∷ i) - length (b ∷ i) ≡ 0 = omega arith in subst (BadAt NoTypes (type_depths (ty.Named v (r ∷ more)))) (sym e) (ranged_typed s g v r more)
+
+  taken_agrees : (q : Option Word) (v : Word) (x : TypeTree) (n : ℕ) (i : List Token) → q ≡ Some v → Agrees NoTypes type_depths x n i (unranged (length i) v (next i))
+      → Agrees NoTypes type_depths x n i (and_then (take_told q i) (unranged (length i)))
+  taken_agrees q v x n i e h = subst (λ q. Agrees NoTypes type_depths x n i (and_then (take_told q i) (unranged (length i)))) (sym e) h
+
+  alone_agrees : (v : Word) (x : TypeTree) (t o : List Token) (n : ℕ) (i : List Token) → told id_test t ≡ Some v → SpellsType x t o → TypeStops o → take n t ≡ take n i
+      → Agrees NoTypes type_depths x n i (and_then (token id_test i) (unranged (length i)))
+  unfolding token
+  alone_agrees v x t o zero i e h stops same = none_shared NoTypes type_depths x 0 i (and_then (token id_test i) (unranged (length i))) (alone_placed i)
+  alone_agrees v x [] o (suc n) i e h stops same = absurd (cc)
+  alone_agrees v x (a ∷ t) o (suc n) [] e h stops same = absurd (cc)
+  alone_agrees v x (a ∷ t) o (suc n) (b ∷ i) e h stops same =
+      let c = named_split v x a t o e h in
+      taken_agrees (id_test b) v x (suc n) (b ∷ i) (sym (same_told id_test n (a ∷ t) (b ∷ i) same) ∙ e)
+      (subst (λ x. Agrees NoTypes type_depths x (suc n) (b ∷ i) (unranged (length (b ∷ i)) v i)) c.1
+      (behind_agrees (told (mark_test m.LeftBracket) i) v c.0 n a b t o i c.2 stops same refl))
+
+  -- Where no type may hold a token, a name alone is read.
+  pub name_alone_reads : IsTypes s g 1 0 name_alone
+  unfolding name_alone
+  name_alone_reads =
+      choose_reader NoTypes 0 id_test SpellsType SpellsType type_depths TypeStops (λ _ i. and_then (token id_test i) (unranged (length i))) too_deep
+      (λ v. record { sound = alone_sound; placed = alone_placed; agrees = λ x t o n i h stops same. alone_agrees v x t o n i h.0 h.1 stops same })
+      (deep_reader NoTypes (λ x i o. (told id_test i ≡ None) × SpellsType x i o) type_depths (moved_less SpellsType (λ x i o. (told id_test i ≡ None) × SpellsType x i o) type_depths (moved_counted counted_type) (λ x i o h. h.1))
+      (no_name_typed s g) SpellsType TypeStops)
 
 -- Types, of which at most so many hold a token.
 pub form_reads : (s g t : ℕ) → t ≤ 200 → IsTypes s g (suc t) t (form t)
 unfolding form
-form_reads s g zero le = deep_reader (Over s g 1) SpellsType type_depths (moved_counted counted_type) (none_typed s g) SpellsType TypeStops
+form_reads s g zero le = name_alone_reads s g
 form_reads s g (suc t) le = type_level_reads s g (suc t) t le (form t) (form_reads s g t (omega arith))

@@ -1,14 +1,17 @@
 -- Words of the grammar: each is told by its keyword.
-use Rattle.std.proofs.Common.{◌≡◌, ℕ, List, Some, refl, ap}
+use Rattle.std.proofs.Common.{◌≡◌, ℕ, List, [], ◌∷◌, Some, is_some, refl, ap}
 use Rattle.sv_outside.specs.declared.text.Token.{Token}
+use Rattle.sv_tree.specs.declared.word.Word.{Word}
 use Rattle.sv_tree.specs.Spelling.{Spelled, key, mark as mark_spelled}
 use Rattle.sv_tree.specs.Nesting.{Nesting}
 use Rattle.sv_cursor.specs.declared.sort.Keyword.{Keyword}
 use Rattle.sv_cursor.specs.declared.sort.Keyword.TheVariants as key_of
 use Rattle.sv_cursor.specs.declared.sort.Mark.{Mark as MarkName}
 use Rattle.sv_cursor.specs.declared.sort.Mark.TheVariants as m
+use Rattle.sv_cursor.specs.declared.sort.Sort.{Sort}
 use Rattle.sv_cursor.specs.declared.sort.Sort.TheVariants as s
-use Rattle.sv_cursor.specs.Sorts.{keyword_text, mark_text}
+use Rattle.sv_cursor.specs.Sorts.{sort, keyword_text, mark_text}
+use Rattle.sv_cursor.specs.Tests.{first_sort, id_by, id_test, is_id_sort}
 use Rattle.sv_cursor.specs.Parsers.{told}
 use Rattle.sv_tree.specs.declared.exprs.Sign.{Sign}
 use Rattle.sv_tree.specs.declared.exprs.Sign.TheVariants as sign
@@ -39,6 +42,22 @@ use Rattle.sv_tree.specs.GrammarStmts.{uniq_key, case_key, edge_key, step_text, 
 use Rattle.sv_word_parser.specs.Combined.{word_test, sign_test}
 use Rattle.sv_word_parser.specs.Words.{sign_by_word, bits_by_word, whole_by_word, param_bits_by_word, param_by_word, way_by_word, net_by_word, uniq_by_word, case_by_word, edge_by_word, step_by_mark, step_sign_by_mark}
 use Rattle.sv_type_parser.proofs.Rules.{Rule, IsFirst, keyword_rule, keyword_first, keyword_begins, marks_rule, marks_first, marks_begins}
+
+-- ---- names
+
+id_seen : (x : Sort) (w : Word) → is_some (id_by x w) ≡ is_id_sort x
+id_seen s.Other w = refl
+id_seen s.Id w = refl
+id_seen s.Literal w = refl
+id_seen (s.Keyword k) w = refl
+id_seen (s.Mark m) w = refl
+id_seen (s.System n) w = refl
+
+-- whether a name comes next is told by the sort
+pub name_seen : (i : List Token) → is_some (told id_test i) ≡ is_id_sort (first_sort i)
+unfolding id_test
+name_seen [] = refl
+name_seen (a ∷ t) = id_seen (sort a) (record { text = a.text; place = a.place })
 
 -- ---- sign
 

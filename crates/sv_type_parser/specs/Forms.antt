@@ -1,5 +1,5 @@
 -- Types, parameters and ports on lists of tokens.
-use Rattle.std.specs.Prelude.{ℕ, zero, suc, List, ◌∷◌, Option, Some, None}
+use Rattle.std.specs.Prelude.{ℕ, zero, suc, List, [], ◌∷◌, length, Option, Some, None, Err}
 use Rattle.sv_outside.specs.declared.refusal.Place.{Place}
 use Rattle.sv_tree.specs.declared.word.Word.{Word}
 use Rattle.sv_tree.specs.declared.exprs.Expr.{Expr}
@@ -12,9 +12,10 @@ use Rattle.sv_tree.specs.declared.forms.TypeTree.TheVariants as ty
 use Rattle.sv_tree.specs.declared.forms.Member.{Member}
 use Rattle.sv_tree.specs.declared.forms.Member.TheVariants as mem
 use Rattle.sv_tree.specs.declared.forms.Typedef.{Typedef}
+use Rattle.sv_cursor.specs.declared.error.ParseErr.TheVariants.{TooDeep}
 use Rattle.sv_cursor.specs.declared.sort.Keyword.TheVariants as key
 use Rattle.sv_cursor.specs.declared.sort.Mark.TheVariants as m
-use Rattle.sv_cursor.specs.Parsers.{Parser, ◌<$>◌, ◌⊗◌, refuse, too_deep, token, by_told, maybe_read, many}
+use Rattle.sv_cursor.specs.Parsers.{Parser, and_then, ◌<$>◌, ◌⊗◌, pure, refuse, too_deep, token, by_told, maybe_read, many}
 use Rattle.sv_cursor.specs.Tests.{mark_test, id_test, mark, keyword}
 use Rattle.sv_expr_reader.specs.Reading.{expr}
 use Rattle.sv_word_parser.specs.declared.openers.TypeOpener.{TypeOpener}
@@ -142,9 +143,17 @@ module _ (form : Parser TypeTree) where
   unfoldable pub type_level : Parser TypeTree
   type_level = by_told (sort_test type_by_sort) type_for refuse
 
+-- Behind a name: where a range follows, the name lies too deep, and so many tokens stand from it on.
+abbrev pub unranged : ℕ → Word → Parser TypeTree
+unranged left w = by_told (mark_test m.LeftBracket) (λ _ i. Err (TooDeep left (length i))) (pure (ty.Named w []))
+
+-- a name that no range follows is no part of the types; any other type lies too deep here
+unfoldable pub name_alone : Parser TypeTree
+name_alone = by_told id_test (λ _ i. and_then (token id_test i) (unranged (length i))) too_deep
+
 -- types, of which at most so many hold a token
 unfoldable pub form : ℕ → Parser TypeTree
-form zero = too_deep
+form zero = name_alone
 form (suc t) = type_level (form t)
 
 abbrev pub made_typedef : TypeTree × Word → Typedef

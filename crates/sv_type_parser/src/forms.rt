@@ -383,12 +383,41 @@ impl<F: Fn(Global, &mut Cursor<'_>, u8) -> Result<TypeTree, ParseErr>> Types<F> 
     }
 }
 
+fn is_name(sort: Sort) -> bool
+    ensures { result ≡ test.is_id_sort sort }
+{
+    matches!(sort, Sort::Id)
+}
+
+#[tactic(auto, using(crate::proofs::Words::name_seen))]
+fn sees_name(tokens: &Cursor<'_>) -> bool
+    ensures { result ≡ is_some (told test.id_test tokens.now) }
+{
+    is_name(tokens.sort())
+}
+
+// Where no type may hold a token: a name alone is no part of the types. With ranges it is one, as the bracket behind it shows.
+#[tactic(auto, unfolding(crate::specs::Forms::name_alone))]
+fn name_alone(alloc: Global, tokens: &mut Cursor<'_>) -> Result<TypeTree, ParseErr>
+    ensures { Reads (spec.name_alone tokens.old) result tokens.new }
+{
+    if !sees_name(tokens) {
+        return Err(tokens.too_deep());
+    }
+    let left = tokens.left();
+    let name = tokens.id(alloc)?;
+    if sees(tokens, Mark::LeftBracket) {
+        return Err(ParseErr::TooDeep(left, tokens.left()));
+    }
+    Ok(TypeTree::Named(name, Items::new(alloc)))
+}
+
 /// A type (A.2.2.1, data_type), of which at most `depth` hold a token. The cursor stands behind it then.
 pub fn form(alloc: Global, tokens: &mut Cursor<'_>, depth: u8) -> Result<TypeTree, ParseErr>
     ensures { Reads (spec.form depth tokens.old) result tokens.new }
 {
     if depth == 0 {
-        return Err(tokens.too_deep());
+        return name_alone(alloc, tokens);
     }
     Types {
         alloc,
