@@ -9,3 +9,4 @@ pub mod Packs
 pub mod Reading
 pub mod Known
 pub mod Rows
+pub mod Judging

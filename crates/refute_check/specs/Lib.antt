@@ -1,5 +1,6 @@
 pub mod Entry
 pub mod Accepted
+pub mod Certs
 pub mod Fresh
 pub mod Count
 pub mod Trail

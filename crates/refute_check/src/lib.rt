@@ -6,6 +6,7 @@
 //! number of variables does not count. (No proof bounds the time.)
 #![tactic(auto)]
 
+mod checked;
 mod checker;
 mod follow;
 mod laws;
@@ -17,6 +18,7 @@ mod reader;
 mod readers;
 mod row;
 
+pub use checked::{Checked, judge};
 pub use checker::{CheckErr, Checker};
 pub use follow::clause_of;
 pub use laws::fresh_logs_are_short;
