@@ -1,6 +1,5 @@
 -- What comes of questions, and of the two questions of a goal.
-use Rattle.std.proofs.Common.{◌≡◌, ℕ, Bool, false, List, [], length, take, Option, Some, None, Result, Ok, Err, refl, sym, ◌∙◌, subst, arith, ⊎_elim, IsSomeAnd, IfOk, IfNone, slice_index_or, ext_get_or, get_or-take, length-take-le}
-use Rattle.std.specs.declared.alloc.AllocError.{AllocError}
+use Rattle.std.proofs.Common.{◌≡◌, ℕ, Bool, false, List, [], length, take, Option, Some, None, refl, sym, ◌∙◌, subst, arith, ⊎_elim, IsSomeAnd, IfNone, slice_index_or, ext_get_or, get_or-take, length-take-le}
 use Rattle.aig.specs.declared.gate.Gate.{Gate}
 use Rattle.aig.specs.declared.gate.Lit.{Lit}
 use Rattle.aig.specs.Graph.{IsGraph, IsIn, count_inputs}
@@ -15,6 +14,7 @@ use Rattle.goal_gates.specs.Goals.{Goal, IsAnswer, IsBreaking, IsMeeting, Questi
 use Rattle.goal_gates.specs.declared.posing.Posed.{Posed}
 use Rattle.refute_check.specs.Accepted.{IsAccepted}
 use Rattle.refute_check.proofs.Refutes.{accepted_refutes}
+use Rattle.refute_check.specs.Certs.{Certificate}
 use Rattle.refute_check.specs.Fresh.{IsFresh}
 use Rattle.sat_core.specs.End.{IsRightEnd}
 use Rattle.sat_core.specs.declared.solver.SatEnd.{SatEnd}
@@ -24,25 +24,14 @@ use Rattle.svex_shape.specs.declared.shape.Shape.TheVariants.{Const}
 use Rattle.svtv_choices.specs.Choices.{bits_of}
 use Rattle.svtv_table.specs.Stimuli.{IsChoice}
 use Rattle.svtv_table.specs.declared.bound.VarDecl.{VarDecl}
-use Rattle.goal_prove.specs.Asked.{IsAnswered, IsNever, IsSpent}
+use Rattle.goal_prove.specs.Asked.{IsNever, IsSpent}
 use Rattle.goal_prove.specs.Verdicts.{IsPosed, IsProved, IsVacuous, IsUndecided}
-use Rattle.goal_prove.specs.declared.answers.Answer.{Answer}
-use Rattle.goal_prove.specs.declared.answers.Answer.TheVariants.{Never}
 use Rattle.goal_prove.specs.declared.certs.Cert.{Cert}
-
-if_ok : {A E : Type 0} (r : Result A E) (P Q : A → Type 0) → IfOk r P → ((x : A) → P x → Q x) → IfOk r Q
-if_ok (Ok x) P Q h f = f x h
-if_ok (Err e) P Q h f = h
 
 -- ---- one question
 
--- a certificate that is answered says so
-pub never_by : (vars : List VarDecl) (gates : List Gate) (root : Lit) (cert : Cert) (r : Result Answer AllocError) → IfOk r (λ a. a ≡ Never cert) → IsNever vars (IsTold gates root) cert → (budget : Option ℕ) → IfOk r (IsAnswered vars gates root budget)
-never_by vars gates root cert r h never budget =
-    if_ok r (λ a. a ≡ Never cert) (IsAnswered vars gates root budget) h (λ a e. subst (IsAnswered vars gates root budget) (sym e) never)
-
 -- all choices are ruled out one by one
-pub never_by_table : (vars : List VarDecl) (gates : List Gate) (root : Lit) (cert : Cert) (bits : ℕ) (found : Option (List (List Bit))) → cert.cnf ≡ all_ruled_out bits → IsAccepted cert.cnf cert.log
+pub never_by_table : (vars : List VarDecl) (gates : List Gate) (root : Lit) (cert : Certificate) (bits : ℕ) (found : Option (List (List Bit))) → cert.cnf ≡ all_ruled_out bits → IsAccepted cert.cnf cert.log
     → found ≡ None → IfNone found (NoneAnswers vars (IsTold gates root)) → IsNever vars (IsTold gates root) cert
 never_by_table vars gates root cert bits found e a none h =
     let no : NoneAnswers vars (IsTold gates root) = subst (λ o. IfNone o (NoneAnswers vars (IsTold gates root))) none h in
@@ -53,7 +42,7 @@ never_by_table vars gates root cert bits found e a none h =
     }
 
 -- the clauses of the gates are refuted
-pub never_by_log : (vars : List VarDecl) (gates : List Gate) (root : Lit) (cert : Cert) → IsGraph gates → IsIn gates root → count_inputs gates ≡ bits_of vars → cert.cnf ≡ asking gates root → IsAccepted cert.cnf cert.log → IsNever vars (IsTold gates root) cert
+pub never_by_log : (vars : List VarDecl) (gates : List Gate) (root : Lit) (cert : Certificate) → IsGraph gates → IsIn gates root → count_inputs gates ≡ bits_of vars → cert.cnf ≡ asking gates root → IsAccepted cert.cnf cert.log → IsNever vars (IsTold gates root) cert
 never_by_log vars gates root cert g within n e a =
     let asks : Asks vars (IsTold gates root) cert.cnf = subst (Asks vars (IsTold gates root)) (sym e) (gates_ask vars gates root g within n) in
     record {
@@ -69,7 +58,7 @@ solved_by gates root cnf budget end xs ys e right s same =
 
 -- ---- the two questions
 
-pub proved_by : (g : Goal) (posed : Posed) (first : Cert) (choice : List (List Bit)) → IsPosed g posed → IsNever g.vars (IsTold posed.aig posed.breaks) first → IsChoice g.vars choice → IsTold posed.aig posed.meets choice → IsProved g first
+pub proved_by : (g : Goal) (posed : Posed) (first : Certificate) (choice : List (List Bit)) → IsPosed g posed → IsNever g.vars (IsTold posed.aig posed.breaks) first → IsChoice g.vars choice → IsTold posed.aig posed.meets choice → IsProved g first
 proved_by g posed first choice p never c told = record {
   some = (choice, (p.meets.told choice c).0 told);
   every = λ other m.
@@ -78,7 +67,7 @@ proved_by g posed first choice p never c told = record {
   accepted = never.accepted;
 }
 
-pub vacuous_by : (g : Goal) (posed : Posed) (cert : Cert) → IsPosed g posed → IsNever g.vars (IsTold posed.aig posed.meets) cert → IsVacuous g cert
+pub vacuous_by : (g : Goal) (posed : Posed) (cert : Certificate) → IsPosed g posed → IsNever g.vars (IsTold posed.aig posed.meets) cert → IsVacuous g cert
 vacuous_by g posed cert p never = record {
   none = λ choice m. never.none choice m.is ((p.meets.told choice m.is).1 m);
   asks = asks_told g.vars (IsMeeting g) posed.aig posed.meets cert.cnf p.meets never.asks;

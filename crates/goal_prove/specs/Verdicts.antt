@@ -4,26 +4,26 @@ use Rattle.std.specs.List.{All}
 use Rattle.choice_inputs.specs.Questions.{Asks, Tells, asking}
 use Rattle.fourvec.specs.declared.Bit.{Bit}
 use Rattle.refute_check.specs.Accepted.{IsAccepted}
+use Rattle.refute_check.specs.Certs.{Certificate}
 use Rattle.refute_check.specs.Fresh.{IsFresh}
 use Rattle.svtv_choices.specs.Choices.{bits_of}
 use Rattle.goal_gates.specs.Goals.{Goal, IsAnswer, IsBreaking, IsMeeting, IsOne, Question, some_breaks, some_meets}
 use Rattle.goal_gates.specs.Rooms.{FitsRoom}
 use Rattle.goal_gates.specs.declared.posing.Posed.{Posed}
-use Rattle.goal_prove.specs.declared.certs.Cert.{Cert}
 use Rattle.goal_prove.specs.declared.certs.Left.{Left}
 use Rattle.goal_prove.specs.declared.certs.Verdict.{Verdict}
 use Rattle.goal_prove.specs.declared.certs.Verdict.TheVariants.{Proved, Vacuous, Failed, Undecided}
 
 -- Some choice meets the hypotheses, and under every choice that meets them the claims are 1. The certificate refutes clauses that ask
 -- whether some choice that meets them breaks the claims.
-pub record IsProved (g : Goal) (cert : Cert) : Type 0 where
+pub record IsProved (g : Goal) (cert : Certificate) : Type 0 where
   pub some : (choice : List (List Bit)) × IsMeeting g choice
   pub every : (choice : List (List Bit)) → IsMeeting g choice → All (IsOne g choice) g.claims
   pub asks : Asks g.vars (IsAnswer g some_breaks) cert.cnf
   pub accepted : IsAccepted cert.cnf cert.log
 
 -- No choice meets the hypotheses. The certificate refutes clauses that ask whether some choice does.
-pub record IsVacuous (g : Goal) (cert : Cert) : Type 0 where
+pub record IsVacuous (g : Goal) (cert : Certificate) : Type 0 where
   pub none : (choice : List (List Bit)) → IsMeeting g choice → ⊥
   pub asks : Asks g.vars (IsAnswer g some_meets) cert.cnf
   pub accepted : IsAccepted cert.cnf cert.log

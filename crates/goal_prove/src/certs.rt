@@ -3,7 +3,7 @@ use aig::{Aig, Lit};
 use cnf::Cnf;
 use fourvec::Four;
 use items::Items;
-use refute_check::Log;
+use refute_check::{Checked, Log};
 
 /// Clauses, and a log of steps that follow from them.
 pub struct Cert {
@@ -34,12 +34,12 @@ impl Drop for Left {
     }
 }
 
-/// What is said of a goal. The certificate of the first two refutes the clauses of the question that has no answer, and a failure
-/// has a vector for each variable.
+/// What is said of a goal. The first two have clauses of the question that has no answer, and a log that refutes them, as the judge
+/// has found; a failure has a vector for each variable.
 #[derive(Drop)]
 pub enum Verdict {
-    Proved(Cert),
-    Vacuous(Cert),
+    Proved(Checked),
+    Vacuous(Checked),
     Failed(Items<Four>),
     Undecided(Left),
 }

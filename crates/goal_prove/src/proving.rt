@@ -18,6 +18,7 @@ use crate::answers::{Answer, ask};
 use crate::certs::{Cert, Left, Verdict};
 use aig::Lit;
 use goal_gates::{Posed, pose};
+use refute_check::Checked;
 use std::alloc::{AllocError, Global};
 use svex_arena::{Arena, Node};
 use svtv_table::VarDecl;
@@ -39,7 +40,7 @@ fn second(
     posed: Posed,
     vars: &[VarDecl],
     budget: Option<u64>,
-    first: Cert,
+    first: Checked,
 ) -> Result<Verdict, AllocError>
     requires widths { All (λ var. HasWidth var.width) vars.now }
     requires inputs { count_inputs posed.aig ≡ bits_of vars.now }
