@@ -10,7 +10,7 @@ use Rattle.flat_net.specs.declared.flat.Flat.{Flat}
 use Rattle.goal_gates.specs.Goals as nodes
 use Rattle.goal_gates.specs.Goals.{IsOne, goal_of, rows_of, sampled_under}
 use Rattle.goal_prove.specs.Verdicts as of_nodes
-use Rattle.goal_prove.specs.declared.certs.Cert.{Cert}
+use Rattle.refute_check.specs.Certs.{Certificate}
 use Rattle.goal_prove.specs.declared.certs.Left.{Left}
 use Rattle.goal_prove.specs.declared.certs.Verdict.{Verdict as Found}
 use Rattle.goal_prove.specs.declared.certs.Verdict.TheVariants as found
@@ -144,7 +144,7 @@ module _ (flat : Flat) (bound : Bound) (shapes : List Shape) (samples : List ℕ
 
   -- ---- verdicts
 
-  proved : (cert : Cert) → of_nodes.IsProved g cert → IsProved (bench d asked bound) tree
+  proved : (cert : Certificate) → of_nodes.IsProved g cert → IsProved (bench d asked bound) tree
   proved cert p = record {
     some = (p.some.0, met p.some.0 p.some.1);
     every = λ choice m r run.
@@ -153,7 +153,7 @@ module _ (flat : Flat) (bound : Bound) (shapes : List Shape) (samples : List ℕ
         every_run choice own.0 r own.1 under (held choice own.0 m.is own.1 (p.every choice (met_back choice m)));
   }
 
-  vacuous : (cert : Cert) → of_nodes.IsVacuous g cert → IsVacuous (bench d asked bound) tree
+  vacuous : (cert : Certificate) → of_nodes.IsVacuous g cert → IsVacuous (bench d asked bound) tree
   vacuous cert v choice m = v.none choice (met_back choice m)
 
   failed : (choice shown : List (List Bit)) → nodes.IsBreaking g choice → AreShown flat bound choice shown → IsFailed (bench d asked bound) tree choice shown
