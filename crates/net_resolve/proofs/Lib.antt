@@ -1,5 +1,5 @@
 mod Ranges
-mod Mentioning
+pub mod Mentioning
 mod Making
 mod Piecing
 mod Rows
