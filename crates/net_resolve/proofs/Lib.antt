@@ -3,7 +3,7 @@ pub mod Mentioning
 mod Making
 mod Piecing
 mod Rows
-mod Running
+pub mod Running
 mod Given
 mod Sound
 mod Solving
