@@ -1,5 +1,5 @@
 -- The groups of the equations of nets are groups of the nets: an equation's value mentions exactly what drivers of its net do.
-use Rattle.std.proofs.Common.{◌≡◌, ◌↔◌, ℕ, ◌<◌, List, length, get_or, map, Option, sym, ap, ◌∙◌, subst, arith}
+use Rattle.std.proofs.Common.{◌≡◌, ◌↔◌, ℕ, ◌<◌, List, length, get_or, map, Option, sym, ◌∙◌, subst, arith}
 use Rattle.std.specs.Prelude.{All, IsTrue, slice_index}
 use Rattle.std.proofs.lemmas.Simd.{map-map}
 use Rattle.std.proofs.lemmas.List.{get_or-map, length-map}

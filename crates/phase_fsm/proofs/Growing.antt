@@ -1,5 +1,5 @@
 -- A flat design says the same over an arena that has grown.
-use Rattle.std.proofs.Common.{◌∙◌, ◌≡◌, ◌<◌, ℕ, arith, List, [], ◌∷◌, ◌++◌, length, All, IsTrue, refl, sym, subst, ap}
+use Rattle.std.proofs.Common.{◌∙◌, ◌≡◌, ℕ, arith, List, [], ◌∷◌, ◌++◌, All, IsTrue, refl, sym, subst, ap}
 use Rattle.std.specs.List.{zip}
 use Rattle.std.proofs.lemmas.List.Elements.{All-weaker, All-head, All-tail}
 use Rattle.lhs_alias.specs.Segs.{lhs_bits}

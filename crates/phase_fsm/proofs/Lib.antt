@@ -1,6 +1,7 @@
 pub mod Growing
 pub mod Setting
 pub mod Members
+pub mod Nets
 pub mod Orders
 pub mod Depending
 pub mod Excluding
