@@ -16,7 +16,7 @@ pub record IsOfPhase (overs : List (ℕ × List (Option Drive))) (phases : ℕ) 
   pub wires : AreSet over overs phase
   pub ascending : IsAscending over
 
--- one set is that of a phase before any phase that has another behind it
+-- before each phase that has a set, each set that stands in front of it has a phase of its own
 abbrev pub AreByFirstPhase : List (ℕ × List (Option Drive)) → ℕ → List (List ℕ) → Type 0
 AreByFirstPhase overs phases sets = (s t : ℕ) → s < t → t < length sets → (phase : ℕ) → phase < phases → AreSet (row_of sets t) overs phase
     → (earlier : ℕ) × (earlier < phase) × AreSet (row_of sets s) overs earlier
