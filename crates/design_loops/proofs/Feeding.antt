@@ -1,11 +1,8 @@
--- Where equations depend on each other, the wires of their segments feed each other. The bits of an equation's segment are first bits, so
--- its wire is a first wire. A dependence comes of a driver whose value mentions a wire, and the driver stems from a work: that work names
--- the wire and reaches the driver's target. So chains of dependences are chains of feeding, turned round, and the bits of a group that
--- has more than one member are a loop.
-use Rattle.std.proofs.Common.{◌≡◌, ◌≢◌, ℕ, zero, suc, ◌<◌, ◌≤◌, List, [], ◌∷◌, length, get_or, map, refl, sym, ap, ◌∙◌, subst, inl, inr, arith}
+-- Where nets depend on each other, their wires feed each other. The bits of a net are first bits, so its wire is a first wire. A dependence
+-- comes of a driver whose value mentions a wire, and the driver stems from a work: that work names the wire and reaches the driver's target.
+-- So chains of dependences are chains of feeding, turned round, and the bits of a group that has more than one member are a loop.
+use Rattle.std.proofs.Common.{◌≡◌, ◌≢◌, ℕ, zero, suc, ◌<◌, ◌≤◌, List, [], ◌∷◌, length, get_or, refl, sym, ap, ◌∙◌, subst, inl, inr, arith}
 use Rattle.std.specs.Prelude.{Contains, IsTrue, slice_index, slice_get}
-use Rattle.std.proofs.lemmas.Bool.{cases_lt}
-use Rattle.std.proofs.lemmas.List.{length-map, length-append, get_or-map, get_or_past, get_or_append_left}
 use Rattle.std.proofs.lemmas.List.Elements.{All-contains, Contains-get_or}
 use Rattle.fourvec.proofs.Tables.{left_of}
 use Rattle.sv_outside.specs.declared.text.Signal.{Signal}
@@ -14,29 +11,28 @@ use Rattle.lhs_alias.specs.declared.segs.WireBit.{WireBit}
 use Rattle.lhs_alias.specs.Segs.{bit}
 use Rattle.lhs_alias.specs.Lies.{LiesIn, IsBitOf}
 use Rattle.lhs_alias.specs.Pairs.{Linked}
-use Rattle.lhs_alias.specs.Joined.{Kept, Stands, first_of}
 use Rattle.settling.specs.Settling.{first_bit}
 use Rattle.settling.proofs.Classes.{same-name, joined-first}
-use Rattle.svex_shape.specs.declared.shape.Shape.{Shape}
 use Rattle.svex_arena.specs.Arenas.{IsArena}
-use Rattle.driver_resolve.specs.declared.driver.NetEq.{NetEq}
-use Rattle.driver_resolve.specs.declared.driver.Resolved.{Resolved}
 use Rattle.driver_resolve.specs.Drivers.{widths_of, IsDriver}
 use Rattle.flat_net.specs.declared.flat.Flat.{Flat}
 use Rattle.flat_net.specs.Flats as f
 use Rattle.event_nets.specs.Nets.{is_net_bit}
-use Rattle.net_equations.specs.Equations.{has_bit, seg_at, segs_of}
+use Rattle.net_equations.specs.Equations.{has_bit, seg_at}
 use Rattle.net_equations.specs.Groups as g
-use Rattle.net_equations.specs.Groups.{Mentions, Depends, IsOrder, members_of, bits_in}
+use Rattle.net_equations.specs.Groups.{members_of, bits_in}
 use Rattle.net_equations.specs.Groups.Reaches.{one, more}
-use Rattle.net_resolve.specs.Resolving.{IsNet, IsReadFor}
-use Rattle.phase_fsm.specs.Sets.{AreEquationsOf}
+use Rattle.net_resolve.specs.Resolving.{IsReadFor}
+use Rattle.net_resolve.proofs.Running.{has-parts}
+use Rattle.phase_fsm.specs.Sets.{AreNets, NetDepends, AreGroups}
+use Rattle.phase_fsm.proofs.Members.{seg-there}
+use Rattle.phase_fsm.proofs.Nets.{bit-inside, nets-apart}
 use Rattle.sv_meaning.specs.Designs.{Design, links_of, width_of_wire, width_at, IsFirst, Touches, Feeds, Reaches}
 use Rattle.sv_meaning.specs.Designs.Reaches.{once, further}
 use Rattle.sv_elab.specs.Elaborated.{IsElaborated}
 use Rattle.design_loops.specs.Loops.{IsLoop}
 use Rattle.design_loops.proofs.Stemming.{HasWork, work-of, target-reached, mention-named}
-use Rattle.design_loops.proofs.Segments.{has-parts, has-lowest, group_bits, bit-of, group-distinct, other-member}
+use Rattle.design_loops.proofs.Segments.{has-lowest, group_bits, bit-of, group-distinct, other-member}
 
 width-is : (wires : List Signal) (n : ℕ) → n < length (widths_of wires) → slice_index (widths_of wires) n ≡ width_of_wire (slice_get wires n)
 width-is [] n lt = absurd (omega (arith, lt))
@@ -55,98 +51,59 @@ net-first flat over b t = same-name (first_bit (f.links_of flat.joins) b) b (lef
 abbrev no_seg : Seg
 no_seg = record { wire = 0; lo = 0; width = 0 }
 
-abbrev no_eq : NetEq
-no_eq = record { seg = record { wire = 0; lo = 0; width = 0 }; value = 0 }
-
-module _ (d : Design) (flat : Flat) (over : List ℕ) (kept : Kept) (shapes : List Shape) (set : Resolved) (arena : IsArena flat.arena) (made : IsElaborated d flat) (widths : kept.widths ≡ widths_of flat.wires) (stands : Stands kept (f.links_of flat.joins)) (are : AreEquationsOf flat over kept shapes set) where
-  abbrev segs : List Seg
-  segs = map (λ (e : NetEq). e.seg) set.eqs
-
+module _ (d : Design) (flat : Flat) (over : List ℕ) (segs : List Seg) (arena : IsArena flat.arena) (made : IsElaborated d flat) (nets : AreNets flat over segs) where
   abbrev seg : ℕ → Seg
   seg i = seg_at segs i
 
   -- ---- bits of wires
 
-  inside-wire : (b : WireBit) → IsBitOf kept.widths b → b.at < width_at d b.wire
+  inside-wire : (b : WireBit) → IsBitOf (widths_of flat.wires) b → b.at < width_at d b.wire
   inside-wire b ib =
-      let same : kept.widths ≡ widths_of d.wires = widths ∙ ap widths_of made.wires in
-      let own : IsBitOf (widths_of d.wires) b = subst (λ l. IsBitOf l b) same ib in
+      let own : IsBitOf (widths_of d.wires) b = subst (λ l. IsBitOf l b) (ap widths_of made.wires) ib in
       subst (λ n. b.at < n) (width-is d.wires b.wire own.wire) own.place
 
-  -- ---- each equation
+  lies : (i : ℕ) → i < length segs → LiesIn (widths_of flat.wires) (seg i)
+  lies i lt = nets.inside i no_seg lt
 
-  seg-is : (i : ℕ) → i < length set.eqs → seg i ≡ (get_or set.eqs i no_eq).seg
-  seg-is i lt = get_or-map (λ (e : NetEq). e.seg) set.eqs i no_eq no_seg lt
+  inside : (i : ℕ) (b : WireBit) → i < length segs → IsTrue (has_bit (seg i) b) → IsBitOf (widths_of flat.wires) b
+  inside i b lt h = bit-inside (widths_of flat.wires) (seg i) b (lies i lt) h
 
-  lies : (i : ℕ) → i < length set.eqs → LiesIn kept.widths (seg i)
-  lies i lt = let own = are.resolved.eqs i no_eq lt in subst (LiesIn kept.widths) (sym (seg-is i lt)) own.lies
-
-  net : (i : ℕ) → i < length set.eqs → IsNet flat over (seg i)
-  net i lt = subst (IsNet flat over) (sym (seg-is i lt)) (are.whole i no_eq lt)
-
-  read-for : (i wire : ℕ) → i < length set.eqs → Mentions shapes (slice_index (map (λ (e : NetEq). e.value) set.eqs) i) wire → IsReadFor flat over (seg i) wire
-  read-for i wire lt m =
-      let value : slice_index (map (λ (e : NetEq). e.value) set.eqs) i ≡ (get_or set.eqs i no_eq).value = get_or-map (λ (e : NetEq). e.value) set.eqs i no_eq 0 lt in
-      subst (λ s. IsReadFor flat over s wire) (sym (seg-is i lt)) (are.mentions i no_eq lt wire (subst (λ n. Mentions shapes n wire) value m))
-
-  -- a segment that has a bit is an equation's
-  in-eqs : (j : ℕ) (b : WireBit) → IsTrue (has_bit (seg j) b) → j < length set.eqs
-  in-eqs j b h = elim (cases_lt j (length set.eqs)) [
-    | inl lt ↦ lt
-    | inr past ↦
-        let none : seg j ≡ no_seg = get_or_past segs j no_seg (omega (arith, past, length-map set.eqs (λ (e : NetEq). e.seg))) in
-        let parts = has-parts no_seg b (subst (λ s. IsTrue (has_bit s b)) none h) in
-        let low = parts.1.0 in
-        let high = parts.1.1 in
-        absurd (omega (arith, low, high))
-  ]
-
-  bit-inside : (i : ℕ) (b : WireBit) → i < length set.eqs → IsTrue (has_bit (seg i) b) → IsBitOf kept.widths b
-  bit-inside i b lt h =
-      let l = lies i lt in
-      let parts = has-parts (seg i) b h in
-      record {
-        wire = subst (λ n. n < length kept.widths) parts.0 l.wire;
-        place = subst (λ n. b.at < slice_index kept.widths n) parts.0 (let a = parts.1.1 in let e = l.ends in omega (arith, a, e));
-      }
-
-  bit-first : (i : ℕ) (b : WireBit) → i < length set.eqs → IsTrue (has_bit (seg i) b) → first_bit (links_of d.works) b ≡ b
+  bit-first : (i : ℕ) (b : WireBit) → i < length segs → IsTrue (has_bit (seg i) b) → first_bit (links_of d.works) b ≡ b
   bit-first i b lt h =
-      let inside : IsBitOf (widths_of flat.wires) b = subst (λ l. IsBitOf l b) widths (bit-inside i b lt h) in
-      let test = (net i lt b inside).0 h in
+      let test = (nets.whole i no_seg lt b (inside i b lt h)).0 h in
       subst (λ l. first_bit l b ≡ b) made.links (net-first flat over b test.0)
 
   -- ---- one dependence
 
-  is-first : (i : ℕ) → i < length set.eqs → IsFirst d (seg i).wire
+  is-first : (i : ℕ) → i < length segs → IsFirst d (seg i).wire
   is-first i lt =
       let s = seg i in
       let lowest = has-lowest s (lies i lt).whole.some in
       record {
         at = s.lo;
-        in_wire = inside-wire (bit s.wire s.lo) (bit-inside i (bit s.wire s.lo) lt lowest);
+        in_wire = inside-wire (bit s.wire s.lo) (inside i (bit s.wire s.lo) lt lowest);
         is_first = bit-first i (bit s.wire s.lo) lt lowest;
       }
 
-  -- what is joined to a bit of a segment touches its wire
-  touches : (i : ℕ) (b first : WireBit) → i < length set.eqs → IsTrue (has_bit (seg i) first) → Linked (f.links_of flat.joins) b first → Touches d b (seg i).wire
+  -- what is joined to a bit of a net touches its wire
+  touches : (i : ℕ) (b first : WireBit) → i < length segs → IsTrue (has_bit (seg i) first) → Linked (f.links_of flat.joins) b first → Touches d b (seg i).wire
   touches i b first lt h k =
       let wire : first.wire ≡ (seg i).wire = sym (has-parts (seg i) first h).0 in
       let same : first ≡ bit (seg i).wire first.at = λ p. record { wire = wire p; at = first.at } in
       record {
         place = first.at;
-        in_wire = subst (λ n. first.at < width_at d n) wire (inside-wire first (bit-inside i first lt h));
+        in_wire = subst (λ n. first.at < width_at d n) wire (inside-wire first (inside i first lt h));
         joined = subst (λ l. Linked l b (bit (seg i).wire first.at)) made.links (subst (Linked (f.links_of flat.joins) b) same k);
       }
 
-  feeds : (i j : ℕ) → i < length set.eqs → Depends kept shapes set.eqs i j → (j < length set.eqs) × Feeds d (seg j).wire (seg i).wire
+  feeds : (i j : ℕ) → i < length segs → NetDepends flat over segs i j → (j < length segs) × Feeds d (seg j).wire (seg i).wire
   feeds i j lt x =
+      let links = f.links_of flat.joins in
       let read = bit x.wire x.place in
-      let jl : j < length set.eqs = in-eqs j (first_of kept read) x.joined in
-      let r : IsReadFor flat over (seg i) x.wire = read-for i x.wire lt x.mentions in
+      let jl : j < length segs = seg-there segs j (first_bit links read) x.joined in
+      let r : IsReadFor flat over (seg i) x.wire = x.reads in
       let ok : IsDriver (widths_of flat.wires) flat.arena r.driver = All-contains (IsDriver (widths_of flat.wires) flat.arena) flat.drivers r.driver made.sound.drivers r.stands in
-      let h : HasWork d.wires flat.arena d.works r.driver = work-of d.wires flat.arena d.works flat.drivers r.driver made.stem r.stands in
-      let links = f.links_of flat.joins in (
+      let h : HasWork d.wires flat.arena d.works r.driver = work-of d.wires flat.arena d.works flat.drivers r.driver made.stem r.stands in (
         jl,
         record {
           from_first = is-first j jl;
@@ -160,30 +117,30 @@ module _ (d : Design) (flat : Flat) (over : List ℕ) (kept : Kept) (shapes : Li
           named = mention-named d.wires (widths_of flat.wires) flat.arena d.works r.driver x.wire arena ok r.mentions h;
           place = x.place;
           in_wire = inside-wire read x.inside;
-          from = touches j read (first_of kept read) jl x.joined (stands.first read x.inside).linked;
+          from = touches j read (first_bit links read) jl x.joined (joined-first links read);
         },
       )
 
   -- ---- chains
 
-  chain : (i j : ℕ) → i < length set.eqs → g.Reaches kept shapes set.eqs i j → (j < length set.eqs) × Reaches d (seg j).wire (seg i).wire
+  chain : (i j : ℕ) → i < length segs → g.Reaches (NetDepends flat over segs) i j → (j < length segs) × Reaches d (seg j).wire (seg i).wire
   chain i j lt (one _ _ x) = let first = feeds i j lt x in (first.0, once first.1)
   chain i k lt (more _ j _ x r) =
       let first = feeds i j lt x in
       let rest = chain j k first.0 r in
       (rest.0, reaches-on d (seg k).wire (seg j).wire (seg i).wire rest.1 (once first.1))
 
-  module _ (groups : List (List ℕ)) (order : IsOrder kept shapes set.eqs groups) (group : ℕ) (there : group < length groups) (large : 1024 < bits_in segs (members_of groups group)) where
+  module _ (groups : List (List ℕ)) (order : AreGroups flat over segs groups) (group : ℕ) (there : group < length groups) (large : 1024 < bits_in segs (members_of groups group)) where
     abbrev members : List ℕ
     members = members_of groups group
 
-    member-there : (i : ℕ) → Contains members i → i < length set.eqs
+    member-there : (i : ℕ) → Contains members i → i < length segs
     member-there i c = order.there group i there c
 
     narrow : (i : ℕ) → Contains members i → (seg i).width ≤ 128
     narrow i c = let ends = (lies i (member-there i c)).whole.ends in omega (arith, ends)
 
-    -- an equation reaches another of its group
+    -- a net reaches another of its group
     other-reached : (i j : ℕ) → Contains members i → Contains members j → j ≢ i → Reaches d (seg i).wire (seg j).wire
     other-reached i j ic jc differ = elim (order.loops group j i there jc ic) [
       | inl same ↦ absurd (differ same)
@@ -201,29 +158,17 @@ module _ (d : Design) (flat : Flat) (over : List ℕ) (kept : Kept) (shapes : Li
       | inr r ↦ (chain j i (member-there j jc) r).1
     ]
 
-    own-seg : (i : ℕ) → i < length set.eqs → seg_at (segs_of set) i ≡ seg i
-    own-seg i lt = get_or_append_left segs set.free no_seg i (omega (arith, lt, length-map set.eqs (λ (e : NetEq). e.seg)))
-
-    member-apart : (i j : ℕ) (b : WireBit) → Contains members i → Contains members j → IsTrue (has_bit (seg i) b) → IsTrue (has_bit (seg j) b) → i ≡ j
-    member-apart i j b ic jc ih jh =
-        let il = member-there i ic in
-        let jl = member-there j jc in
-        let long = length-append segs set.free in
-        let many = length-map set.eqs (λ (e : NetEq). e.seg) in
-        are.resolved.apart i j b (omega (arith, il, long, many)) (omega (arith, jl, long, many))
-        (subst (λ s. IsTrue (has_bit s b)) (sym (own-seg i il)) ih) (subst (λ s. IsTrue (has_bit s b)) (sym (own-seg j jl)) jh)
-
     pub is-loop : IsLoop d (group_bits segs members)
     is-loop = record {
       inside = λ k e lt.
           let b = get_or (group_bits segs members) k e in
           let own = bit-of segs members b (Contains-get_or (group_bits segs members) k e lt) in
-          inside-wire b (bit-inside own.member b (member-there own.member own.listed) own.has);
+          inside-wire b (inside own.member b (member-there own.member own.listed) own.has);
       first = λ k e lt.
           let b = get_or (group_bits segs members) k e in
           let own = bit-of segs members b (Contains-get_or (group_bits segs members) k e lt) in
           bit-first own.member b (member-there own.member own.listed) own.has;
-      distinct = group-distinct segs members (order.distinct group there) member-apart;
+      distinct = group-distinct segs members (order.distinct group there) (λ i j b ic jc ih jh. nets-apart flat over segs nets i j b ih jh);
       round = λ a b ac bc.
           let x = bit-of segs members a ac in
           let y = bit-of segs members b bc in

@@ -12,7 +12,7 @@ use Rattle.sv_meaning.specs.Targets.{slots, present, assigned_targets}
 use Rattle.sv_meaning.specs.Deeds.{deed}
 use Rattle.sv_meaning.specs.Blocks.{distinct, manner, block_value}
 use Rattle.sv_meaning.specs.Designs.{Work, assignment, block, port, gives, reaches, driven, wire_slots, bits_of_wire, port_gives, port_reaches, is_joined, index_scope, as_targets}
-use Rattle.design_loops.proofs.Lists.{nothing-in, in-cons, cons-head, cons-tail}
+use Rattle.phase_fsm.proofs.Members.{nothing-in, in-cons, cons-head, cons-tail}
 
 -- the list has only bits of the other
 abbrev pub StandsAt : List Contribution → List WireBit → Type 0

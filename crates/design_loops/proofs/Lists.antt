@@ -1,26 +1,11 @@
 -- Members of lists, and lists in which nothing stands twice.
-use Rattle.std.proofs.Common.{◌≡◌, ◌≢◌, ◌⊎◌, ℕ, zero, suc, ◌+◌, ◌-◌, ◌<◌, ◌≤◌, List, [], ◌∷◌, ◌++◌, length, get_or, refl, sym, ap, ◌∙◌, subst, inl, inr, arith, length-append}
+use Rattle.std.proofs.Common.{◌≡◌, ◌≢◌, ◌⊎◌, ℕ, ◌+◌, ◌-◌, ◌<◌, ◌≤◌, List, [], ◌∷◌, ◌++◌, length, get_or, refl, sym, ap, ◌∙◌, subst, inl, inr, arith, length-append}
 use Rattle.std.specs.Prelude.{Contains, AllPairs}
 use Rattle.std.specs.List.{zip}
 use Rattle.std.proofs.lemmas.Bool.{cases_lt}
 use Rattle.std.proofs.lemmas.List.{get_or_append_left, get_or-append_right}
 use Rattle.std.proofs.lemmas.List.Elements.{Contains-get_or}
-
-pub nothing-in : {X : Type 0} (x : X) → Contains [] x → ⊥
-nothing-in x c = absurd (omega (arith, c.1))
-
-pub in-cons : {X : Type 0} (a : X) (l : List X) (x : X) → Contains (a ∷ l) x → (a ≡ x) ⊎ Contains l x
-in-cons {X} a l x c = go c.0 c.1 c.2
-  where
-    go : (k : ℕ) → k < length (a ∷ l) → get_or (a ∷ l) k x ≡ x → (a ≡ x) ⊎ Contains l x
-    go zero lt e = inl e
-    go (suc k) lt e = inr (k, omega (arith, lt), e)
-
-pub cons-head : {X : Type 0} (a : X) (l : List X) (x : X) → a ≡ x → Contains (a ∷ l) x
-cons-head a l x e = (0, omega arith, e)
-
-pub cons-tail : {X : Type 0} (a : X) (l : List X) (x : X) → Contains l x → Contains (a ∷ l) x
-cons-tail a l x c = (suc c.0, omega (arith, c.1), c.2)
+use Rattle.phase_fsm.proofs.Members.{nothing-in, in-cons, cons-head, cons-tail}
 
 -- a member of one list stands beside a member of another
 pub in-zip : {X Y : Type 0} (xs : List X) (ys : List Y) (x : X) → length xs ≡ length ys → Contains xs x → (y : Y) × Contains (zip xs ys) (x, y)
@@ -33,13 +18,6 @@ in-zip {X} {Y} (a ∷ xs) (b ∷ ys) x long c = pick (in-cons a xs x c) (λ late
     pick (inr later) next = let found = next later in (found.0, cons-tail (a, b) (zip xs ys) (x, found.0) found.1)
 
 -- ---- nothing twice
-
-pub pairs-tail : {X : Type 0} (R : X → X → Type 0) (x : X) (xs : List X) → AllPairs R (x ∷ xs) → AllPairs R xs
-pairs-tail R x xs h = λ i j d lt below. h (suc i) (suc j) d (omega (arith, lt)) (omega (arith, below))
-
--- the first is no later one
-pub first-apart : {X : Type 0} (x : X) (xs : List X) → AllPairs ◌≢◌ (x ∷ xs) → Contains xs x → ⊥
-first-apart x xs h c = h 0 (suc c.0) x (omega arith) (omega (arith, c.1)) (sym c.2)
 
 -- two lists with nothing in common
 pub apart-append : {X : Type 0} (xs ys : List X) → AllPairs ◌≢◌ xs → AllPairs ◌≢◌ ys → ((x : X) → Contains xs x → Contains ys x → ⊥) → AllPairs ◌≢◌ (xs ++ ys)

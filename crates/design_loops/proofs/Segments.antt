@@ -1,27 +1,22 @@
 -- The bits of the segments of a group: each is in some member's segment, none stands twice, and they are as many as are counted for it. A
 -- group that has more bits than a wire has more than one member.
-use Rattle.std.proofs.Common.{◌≡◌, ◌≢◌, ◌⊎◌, ℕ, suc, ◌+◌, ◌<◌, ◌≤◌, Bool, true, false, cond, ltb, List, [], ◌∷◌, ◌++◌, length, Option, Some, None, refl, sym, ap, ◌∙◌, subst, inl, inr, arith, length-append}
+use Rattle.std.proofs.Common.{◌≡◌, ◌≢◌, ◌⊎◌, ℕ, ◌+◌, ◌<◌, ◌≤◌, List, [], ◌∷◌, ◌++◌, length, refl, sym, ap, ◌∙◌, subst, inl, inr, arith, length-append}
 use Rattle.std.specs.Prelude.{Contains, AllPairs, IsTrue}
-use Rattle.std.proofs.lemmas.Bool.{cases_eq, ltb-true, eqb-true, eq-eqb, leb-true, le-leb}
+use Rattle.std.proofs.lemmas.Bool.{cases_eq, eq-eqb, le-leb}
 use Rattle.std.proofs.Common.{lt-ltb}
 use Rattle.std.proofs.lemmas.List.Elements.{Contains-append_cases}
 use Rattle.fourvec.proofs.Order.{both}
-use Rattle.fourvec.proofs.Tables.{left_of, right_of}
 use Rattle.lhs_alias.specs.declared.segs.Seg.{Seg}
 use Rattle.lhs_alias.specs.declared.segs.WireBit.{WireBit}
 use Rattle.lhs_alias.specs.Segs.{bit, seg_bits}
 use Rattle.lhs_alias.specs.Pairs.{AreDistinct}
 use Rattle.lhs_alias.proofs.SegBits.{length-seg_bits, get_or-seg_bits}
 use Rattle.net_equations.specs.Equations.{has_bit, seg_at}
-use Rattle.net_equations.specs.Groups.{bits_in, first_wide, members_of}
-use Rattle.design_loops.proofs.Lists.{nothing-in, cons-head, cons-tail, pairs-tail, first-apart, apart-append}
+use Rattle.net_equations.specs.Groups.{bits_in}
+use Rattle.phase_fsm.proofs.Members.{nothing-in, cons-head, cons-tail, pairs-tail, first-apart}
+use Rattle.design_loops.proofs.Lists.{apart-append}
 
 -- ---- bits of one segment
-
-pub has-parts : (seg : Seg) (b : WireBit) → IsTrue (has_bit seg b) → (seg.wire ≡ b.wire) × ((seg.lo ≤ b.at) × (b.at < seg.lo + seg.width))
-has-parts seg b h =
-    let rest = right_of _ _ h in
-    (eqb-true seg.wire b.wire (left_of _ _ h), (leb-true seg.lo b.at (left_of _ _ rest), ltb-true b.at (seg.lo + seg.width) (right_of _ _ rest)))
 
 pub has-lowest : (seg : Seg) → 1 ≤ seg.width → IsTrue (has_bit seg (bit seg.wire seg.lo))
 has-lowest seg some = both _ _ (eq-eqb seg.wire seg.wire refl) (both _ _ (le-leb seg.lo seg.lo (omega arith)) (lt-ltb seg.lo (seg.lo + seg.width) (omega (arith, some))))
@@ -94,30 +89,3 @@ other-member segs (a ∷ b ∷ rest) apart narrow wide i = elim (cases_eq a i) [
   | inl same ↦ (b, (cons-tail a (b ∷ rest) b (cons-head b rest b refl), λ e. first-apart a (b ∷ rest) apart (subst (Contains (b ∷ rest)) (e ∙ sym same) (cons-head b rest b refl))))
   | inr differ ↦ (a, (cons-head a (b ∷ rest) a refl, differ))
 ]
-
--- ---- the first wide group
-
-pub record IsWideGroup (segs : List Seg) (groups : List (List ℕ)) (bits : ℕ) : Type 0 where
-  pub group : ℕ
-  pub there : group < length groups
-  pub count : bits_in segs (members_of groups group) ≡ bits
-  pub wide : 1024 < bits
-
-some-same : (a b : ℕ) → Some a ≡ Some b → a ≡ b
-some-same a b e = ap value e
-  where
-    value : Option ℕ → ℕ
-    value (Some x) = x
-    value None = 0
-
-pub wide-group : (segs : List Seg) (groups : List (List ℕ)) (bits : ℕ) → first_wide segs groups ≡ Some bits → IsWideGroup segs groups bits
-unfolding first_wide
-wide-group segs [] bits e = let f : None ≡ Some bits = e in cc
-wide-group segs (g ∷ rest) bits e = pick (ltb 1024 (bits_in segs g)) refl e (λ later. wide-group segs rest bits later)
-  where
-    pick : (t : Bool) → ltb 1024 (bits_in segs g) ≡ t → cond t (Some (bits_in segs g)) (first_wide segs rest) ≡ Some bits → (first_wide segs rest ≡ Some bits → IsWideGroup segs rest bits)
-        → IsWideGroup segs (g ∷ rest) bits
-    pick true lt is next =
-        let same : bits_in segs g ≡ bits = some-same (bits_in segs g) bits is in
-        record { group = 0; there = omega arith; count = same; wide = omega (arith, same, ltb-true 1024 (bits_in segs g) lt) }
-    pick false lt is next = let h = next is in record { group = suc h.group; there = omega (arith, h.there); count = h.count; wide = h.wide }

@@ -22,7 +22,8 @@ use Rattle.net_order.proofs.Leading.{Passes, passes-step, reached-have}
 use Rattle.net_order.proofs.Listing.{var-passes}
 use Rattle.sv_meaning.specs.Designs.{Work, reaches, names_now}
 use Rattle.sv_elab.specs.Elaborated.{has_number, names_only, Stem, AllStem, none, more}
-use Rattle.design_loops.proofs.Lists.{nothing-in, in-cons, cons-head, cons-tail, in-zip}
+use Rattle.phase_fsm.proofs.Members.{nothing-in, in-cons, cons-head, cons-tail}
+use Rattle.design_loops.proofs.Lists.{in-zip}
 use Rattle.design_loops.proofs.Giving.{work-stands}
 
 -- ---- the work of a driver

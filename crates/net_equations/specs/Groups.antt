@@ -1,4 +1,4 @@
--- On which others an equation depends, and groups of equations in an order of dependence.
+-- On which others an equation depends, and groups in an order of dependence.
 use Rattle.std.specs.Prelude.{◌≡◌, ◌≢◌, ◌⊎◌, ◌<◌, ◌≤◌, ◌+◌, nat_lt, ℕ, List, [], ◌∷◌, length, map, Contains, AllPairs, IsTrue, Option, None, Some, if◌then◌else◌, slice_index, slice_index_or}
 use Rattle.lhs_alias.specs.declared.segs.Seg.{Seg}
 use Rattle.lhs_alias.specs.Segs.{bit}
@@ -30,25 +30,28 @@ pub record Depends (kept : Kept) (shapes : List Shape) (eqs : List NetEq) (i j :
   pub joined : IsTrue (has_bit (seg_at (map (λ e. e.seg) eqs) j) (first_of kept (bit wire place)))
 
 -- by a chain of dependences, one at least
-pub data Reaches (kept : Kept) (shapes : List Shape) (eqs : List NetEq) : ℕ → ℕ → Type 0 where
-  one : (i j : ℕ) → Depends kept shapes eqs i j → Reaches kept shapes eqs i j
-  more : (i j k : ℕ) → Depends kept shapes eqs i j → Reaches kept shapes eqs j k → Reaches kept shapes eqs i k
+pub data Reaches (On : ℕ → ℕ → Type 0) : ℕ → ℕ → Type 0 where
+  one : (i j : ℕ) → On i j → Reaches On i j
+  more : (i j k : ℕ) → On i j → Reaches On j k → Reaches On i k
 
 -- ---- groups
 
 abbrev pub members_of : List (List ℕ) → ℕ → List ℕ
 members_of groups g = slice_index_or groups g []
 
--- Each equation is a member of one group, once. Members of one group reach each other, and depend only on earlier groups and their own.
+-- Each of so many is a member of one group, once. Members of one group reach each other, and depend only on earlier groups and their own.
 -- (So a group is maximal: what reaches it and is reached by it stands neither before nor behind it.)
-pub record IsOrder (kept : Kept) (shapes : List Shape) (eqs : List NetEq) (groups : List (List ℕ)) : Type 0 where
-  pub there : (g i : ℕ) → g < length groups → Contains (members_of groups g) i → i < length eqs
-  pub covers : (i : ℕ) → i < length eqs → (g : ℕ) × ((g < length groups) × Contains (members_of groups g) i)
+pub record AreInOrder (On : ℕ → ℕ → Type 0) (count : ℕ) (groups : List (List ℕ)) : Type 0 where
+  pub there : (g i : ℕ) → g < length groups → Contains (members_of groups g) i → i < count
+  pub covers : (i : ℕ) → i < count → (g : ℕ) × ((g < length groups) × Contains (members_of groups g) i)
   pub once : (g h i : ℕ) → g < length groups → h < length groups → Contains (members_of groups g) i → Contains (members_of groups h) i → g ≡ h
   pub distinct : (g : ℕ) → g < length groups → AllPairs ◌≢◌ (members_of groups g)
-  pub loops : (g i j : ℕ) → g < length groups → Contains (members_of groups g) i → Contains (members_of groups g) j → (i ≡ j) ⊎ Reaches kept shapes eqs i j
-  pub earlier : (g h i j : ℕ) → g < length groups → h < length groups → Contains (members_of groups g) i → Contains (members_of groups h) j
-      → Depends kept shapes eqs i j → h ≤ g
+  pub loops : (g i j : ℕ) → g < length groups → Contains (members_of groups g) i → Contains (members_of groups g) j → (i ≡ j) ⊎ Reaches On i j
+  pub earlier : (g h i j : ℕ) → g < length groups → h < length groups → Contains (members_of groups g) i → Contains (members_of groups h) j → On i j → h ≤ g
+
+-- groups of equations
+abbrev pub IsOrder : Kept → List Shape → List NetEq → List (List ℕ) → Type 0
+IsOrder kept shapes eqs groups = AreInOrder (Depends kept shapes eqs) (length eqs) groups
 
 -- ---- wide groups
 

@@ -48,10 +48,10 @@ module _ (kept : Kept) (shapes : List Shape) (eqs : List NetEq) (n : ℕ) (rows 
   -- ---- chains of places are chains of dependences
 
   record Leads (p j : ℕ) : Type 0 where
-    node : (i : ℕ) → i < length eqs → (k : ℕ) → IsReached shapes (value i ∷ []) k → p ≡ are.place k → Reaches kept shapes eqs i j
-    eq : (i : ℕ) → i < length eqs → p ≡ n + i → (i ≡ j) ⊎ Reaches kept shapes eqs i j
+    node : (i : ℕ) → i < length eqs → (k : ℕ) → IsReached shapes (value i ∷ []) k → p ≡ are.place k → Reaches (Depends kept shapes eqs) i j
+    eq : (i : ℕ) → i < length eqs → p ≡ n + i → (i ≡ j) ⊎ Reaches (Depends kept shapes eqs) i j
 
-  reaches-on : (i m j : ℕ) → Depends kept shapes eqs i m → (m ≡ j) ⊎ Reaches kept shapes eqs m j → Reaches kept shapes eqs i j
+  reaches-on : (i m j : ℕ) → Depends kept shapes eqs i m → (m ≡ j) ⊎ Reaches (Depends kept shapes eqs) m j → Reaches (Depends kept shapes eqs) i j
   reaches-on i m j d (inl is) = one i j (subst (Depends kept shapes eqs i) is d)
   reaches-on i m j d (inr r) = on i m j d r
 

@@ -1,9 +1,9 @@
 mod Ranges
-mod Mentioning
+pub mod Mentioning
 mod Making
 mod Piecing
 mod Rows
-mod Running
+pub mod Running
 mod Given
 mod Sound
 mod Solving

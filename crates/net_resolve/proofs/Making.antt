@@ -1,5 +1,5 @@
 -- Nodes that are made of sources, of parts, of rows and of pieces.
-use Rattle.std.proofs.Common.{◌≡◌, ℕ, ◌+◌, ◌<◌, List, length, get_or, take, drop, refl, sym, ap, ◌∙◌, subst, arith, lt-ltb}
+use Rattle.std.proofs.Common.{◌≡◌, ◌↔◌, ℕ, ◌+◌, ◌<◌, List, length, get_or, take, drop, refl, sym, ap, ◌∙◌, subst, arith, lt-ltb}
 use Rattle.std.specs.Prelude.{All, IsTrue}
 use Rattle.std.proofs.lemmas.Bool.{eq-eqb}
 use Rattle.std.proofs.lemmas.List.Elements.{All-weaker}
@@ -22,9 +22,11 @@ use Rattle.event_nets.specs.declared.gift.Gift.{Gift}
 use Rattle.event_nets.specs.declared.gift.Source.{Source}
 use Rattle.event_nets.specs.declared.gift.Source.TheVariants.{Value, Stimulus}
 use Rattle.net_equations.specs.Equations.{is_of_phase}
-use Rattle.net_resolve.specs.Pieces.{HasSource, source_width, source_value, IsWithin, row_at, IsGivenRun, bit_of, part_value, MayMention, IsMade, IsOne, IsSource}
+use Rattle.net_equations.specs.Groups.{Mentions}
+use Rattle.net_resolve.specs.Pieces.{HasSource, source_width, source_value, IsWithin, row_at, IsGivenRun, bit_of, part_value, SomeMentions, IsMade, IsOne, IsSource}
 use Rattle.net_resolve.proofs.Ranges.{part-bits, whole-bits}
-use Rattle.net_resolve.proofs.Mentioning.{mentions-child, mentions-older}
+use Rattle.net_resolve.proofs.Mentioning.{mentions-child, mentions-parent, mentions-older, mentions-newer}
+use Rattle.net_resolve.proofs.Sound.{same-value, no-value}
 
 -- ---- sources
 
@@ -54,7 +56,10 @@ value_source widths old g k a e h =
       wide = ap (λ s. source_width widths old s) (sym e);
       value = λ p. ap (λ s. source_value widths old s p) (sym e);
       phase = variables_weaker (is_of_wires widths) (is_of_phase widths) old k a (of-phase widths) has.0 has.1;
-      mentions = λ wire m. record { gift = g; is = refl; node = k; from = e; mentions = m };
+      mentions = λ wire. (
+        λ m. record { gift = g; is = refl; node = k; from = e; mentions = m },
+        λ s. subst (λ n. Mentions old n wire) (same-value s.node k (sym s.from ∙ ap (λ (x : Gift). x.from) s.is ∙ e)) s.mentions,
+      );
     }
 
 pub stimulus_source : (widths : List ℕ) (old new : List Shape) (g : Gift) (n w node : ℕ) → IsArena new → g.from ≡ Stimulus n → HasSource widths old g.from → get_or widths n 0 ≡ w
@@ -69,7 +74,10 @@ stimulus_source widths old new g n w node a e h wide i =
           ∙ ap (λ k. reading p (Stim n) k) (sym wide) ∙ ap (λ s. source_value widths old s p) (sym e);
       phase = variables_follow (is_of_phase widths) new node a i.0 ∙ ap (each_variable_of (is_of_phase widths) (each_variable (is_of_phase widths) new)) i.1
           ∙ both _ _ (lt-ltb n (length widths) has) (eq-eqb (get_or widths n 0) w wide);
-      mentions = λ wire m. mentions-child new node wire (Var (Stim n) w) (MayMention old (IsOne g) wire) i.1 (λ k f. cc) tt m;
+      mentions = λ wire. (
+        λ m. mentions-child new node wire (Var (Stim n) w) (SomeMentions old (IsOne g) wire) i.1 (λ k f. cc) tt m,
+        λ s. no-value n s.node (sym e ∙ ap (λ (x : Gift). x.from) (sym s.is) ∙ s.from),
+      );
     }
 
 -- ---- parts
@@ -109,8 +117,11 @@ sliced_part widths old mid new g width of node a b c h s i =
       phase = variables_follow (is_of_phase widths) new node c i.0
           ∙ ap (each_variable_of (is_of_phase widths) (each_variable (is_of_phase widths) new)) i.1
           ∙ variables-extends (is_of_phase widths) mid new of grows s.there ∙ s.phase;
-      mentions = λ wire m. mentions-child new node wire (Slice of g.at width) (MayMention old (IsOne g) wire) i.1 (λ k f. cc)
-          (λ below. s.mentions wire (mentions-older mid new of wire b grows s.there below)) m;
+      mentions = λ wire. (
+        λ m. mentions-child new node wire (Slice of g.at width) (SomeMentions old (IsOne g) wire) i.1 (λ k f. cc)
+            (λ below. (s.mentions wire).0 (mentions-older mid new of wire b grows s.there below)) m,
+        λ m. mentions-parent new node of wire (Slice of g.at width) i.1 refl (mentions-newer mid new of wire b grows s.there ((s.mentions wire).1 m)),
+      );
     }
 
 -- ---- an arena that grows
@@ -158,15 +169,24 @@ made_kept widths base From width f old new node a e m =
       wide = width-extends old new node e m.there ∙ m.wide;
       value = λ p. value-extends (reading p) old new node e m.there ∙ m.value p;
       phase = variables-extends (is_of_phase widths) old new node e m.there ∙ m.phase;
-      mentions = λ wire n. m.mentions wire (mentions-older old new node wire a e m.there n);
+      mentions = λ wire. (
+        λ n. (m.mentions wire).0 (mentions-older old new node wire a e m.there n),
+        λ s. mentions-newer old new node wire a e m.there ((m.mentions wire).1 s),
+      );
     }
 
--- what a gift of a later arena mentions it mentions in an older one
-may-older : (widths : List ℕ) (base old : List Shape) (From : Gift → Type 0) (wire : ℕ) → IsArena base → Extends base old → ((g : Gift) → From g → HasSource widths base g.from)
-    → MayMention old From wire → MayMention base From wire
-may-older widths base old From wire a e h m =
+-- what a gift of a later arena mentions it mentions in an older one, and the other way round
+some-older : (widths : List ℕ) (base old : List Shape) (From : Gift → Type 0) (wire : ℕ) → IsArena base → Extends base old → ((g : Gift) → From g → HasSource widths base g.from)
+    → SomeMentions old From wire → SomeMentions base From wire
+some-older widths base old From wire a e h m =
     let has : HasSource widths base (Value m.node) = subst (λ s. HasSource widths base s) m.from (h m.gift m.is) in
     record { gift = m.gift; is = m.is; node = m.node; from = m.from; mentions = mentions-older base old m.node wire a e has.0 m.mentions }
+
+some-newer : (widths : List ℕ) (base old : List Shape) (From : Gift → Type 0) (wire : ℕ) → IsArena base → Extends base old → ((g : Gift) → From g → HasSource widths base g.from)
+    → SomeMentions base From wire → SomeMentions old From wire
+some-newer widths base old From wire a e h m =
+    let has : HasSource widths base (Value m.node) = subst (λ s. HasSource widths base s) m.from (h m.gift m.is) in
+    record { gift = m.gift; is = m.is; node = m.node; from = m.from; mentions = mentions-newer base old m.node wire a e has.0 m.mentions }
 
 -- over an older arena, in which the values are the same
 pub made_since : (widths : List ℕ) (base old new : List Shape) (From : Gift → Type 0) (width : ℕ) (f g : Phase → Vector) (node : ℕ) → IsArena base → Extends base old
@@ -176,16 +196,31 @@ made_since widths base old new From width f g node a e h same m = record {
   wide = m.wide;
   value = λ p. m.value p ∙ same p;
   phase = m.phase;
-  mentions = λ wire n. may-older widths base old From wire a e h (m.mentions wire n);
+  mentions = λ wire. (
+    λ n. some-older widths base old From wire a e h ((m.mentions wire).0 n),
+    λ s. (m.mentions wire).1 (some-newer widths base old From wire a e h s),
+  );
 }
 
--- of more gifts
-pub made_of_more : (widths : List ℕ) (base : List Shape) (From More : Gift → Type 0) (width : ℕ) (f g : Phase → Vector) (new : List Shape) (node : ℕ)
-    → ((x : Gift) → From x → More x) → ((p : Phase) → f p ≡ g p) → IsMade widths base From width f new node → IsMade widths base More width g new node
-made_of_more widths base From More width f g new node h same m = record {
+-- of gifts that mention the same
+pub made_alike : (widths : List ℕ) (base : List Shape) (From Other : Gift → Type 0) (width : ℕ) (f g : Phase → Vector) (new : List Shape) (node : ℕ)
+    → ((wire : ℕ) → SomeMentions base From wire ↔ SomeMentions base Other wire) → ((p : Phase) → f p ≡ g p) → IsMade widths base From width f new node → IsMade widths base Other width g new node
+made_alike widths base From Other width f g new node h same m = record {
   there = m.there;
   wide = m.wide;
   value = λ p. m.value p ∙ same p;
   phase = m.phase;
-  mentions = λ wire n. let x = m.mentions wire n in record { gift = x.gift; is = h x.gift x.is; node = x.node; from = x.from; mentions = x.mentions };
+  mentions = λ wire. (
+    λ n. (h wire).0 ((m.mentions wire).0 n),
+    λ s. (m.mentions wire).1 ((h wire).1 s),
+  );
 }
+
+pub some-of : (base : List Shape) (From Other : Gift → Type 0) (wire : ℕ) → ((x : Gift) → From x → Other x) → SomeMentions base From wire → SomeMentions base Other wire
+some-of base From Other wire h s = record { gift = s.gift; is = h s.gift s.is; node = s.node; from = s.from; mentions = s.mentions }
+
+-- of the same gifts
+pub made_same : (widths : List ℕ) (base : List Shape) (From Other : Gift → Type 0) (width : ℕ) (f g : Phase → Vector) (new : List Shape) (node : ℕ)
+    → ((x : Gift) → From x → Other x) → ((x : Gift) → Other x → From x) → ((p : Phase) → f p ≡ g p) → IsMade widths base From width f new node → IsMade widths base Other width g new node
+made_same widths base From Other width f g new node h k same m =
+    made_alike widths base From Other width f g new node (λ wire. (some-of base From Other wire h, some-of base Other From wire k)) same m

@@ -1,5 +1,5 @@
 -- What nodes mention, by their children.
-use Rattle.std.proofs.Common.{◌≡◌, ◌⊎◌, ℕ, zero, suc, ◌<◌, List, [], ◌∷◌, length, refl, sym, ap, ◌∙◌, subst, inl, inr, arith}
+use Rattle.std.proofs.Common.{◌≡◌, ◌⊎◌, ◌↔◌, ℕ, zero, suc, ◌<◌, List, [], ◌∷◌, length, refl, sym, ap, ◌∙◌, subst, inl, inr, arith}
 use Rattle.std.specs.Prelude.{slice_index}
 use Rattle.svex_shape.specs.declared.shape.VarName.TheVariants.{Now}
 use Rattle.svex_shape.specs.declared.shape.Shape.{Shape}
@@ -57,6 +57,16 @@ mentions-child shapes node wire s Q is own h m = elim (reached-parts shapes node
       (record { at = m.at; width = m.width; reached = x.1.1; is = m.is })
 ]
 
+-- what a child mentions, the node mentions
+pub mentions-parent : (shapes : List Shape) (node child wire : ℕ) (s : Shape) → shape_at shapes node ≡ s → IsChild child s → Mentions shapes child wire → Mentions shapes node wire
+mentions-parent shapes node child wire s is c m = record { at = m.at; width = m.width; reached = up m.at m.reached; is = m.is }
+  where
+    up : (at : ℕ) → IsReached shapes (child ∷ []) at → IsReached shapes (node ∷ []) at
+    up at (as_root i _ lt e) =
+        subst (IsReached shapes (node ∷ [])) (sym (root-is child i lt) ∙ e)
+        (as_child node child (as_root 0 node (omega arith) refl) (subst (IsChild child) (sym is) c))
+    up at (as_child j _ r k) = as_child j at (up j r) k
+
 -- nodes of an older arena mention what they did there
 pub mentions-older : (old new : List Shape) (node wire : ℕ) → IsArena old → Extends old new → node < length old → Mentions new node wire → Mentions old node wire
 mentions-older old new node wire a e there m =
@@ -71,3 +81,19 @@ mentions-older old new node wire a e there m =
         let below : at < j = child_of (λ k. k < j) at (shape_at old j) (a.children j up.1) child in
         let inside = up.1 in
         (as_child j at up.0 child, omega (arith, below, inside))
+
+pub mentions-newer : (old new : List Shape) (node wire : ℕ) → IsArena old → Extends old new → node < length old → Mentions old node wire → Mentions new node wire
+mentions-newer old new node wire a e there m =
+    let r = up m.at m.reached in
+    record { at = m.at; width = m.width; reached = r.0; is = e.same m.at r.1 ∙ m.is }
+  where
+    up : (at : ℕ) → IsReached old (node ∷ []) at → IsReached new (node ∷ []) at × (at < length old)
+    up at (as_root i _ lt is) = (as_root i at lt is, subst (λ k. k < length old) (sym (root-is node i lt) ∙ is) there)
+    up at (as_child j _ r c) =
+        let before = up j r in
+        let below : at < j = child_of (λ k. k < j) at (shape_at old j) (a.children j before.1) c in
+        let inside = before.1 in
+        (as_child j at before.0 (subst (IsChild at) (sym (e.same j before.1)) c), omega (arith, below, inside))
+
+pub mentions-same : (old new : List Shape) (node wire : ℕ) → IsArena old → Extends old new → node < length old → Mentions new node wire ↔ Mentions old node wire
+mentions-same old new node wire a e there = (mentions-older old new node wire a e there, mentions-newer old new node wire a e there)

@@ -1,8 +1,8 @@
 -- Equations of nets: what each says, and that they solve exactly where a valuation settles.
-use Rattle.std.proofs.Common.{◌≡◌, ℕ, ◌+◌, ◌-◌, ◌<◌, ◌≤◌, Bool, true, false, eqb, ◌&&◌, List, [], ◌∷◌, length, get_or, map, refl, sym, ap, ◌∙◌, subst, inl, inr, arith, zero-add}
+use Rattle.std.proofs.Common.{◌≡◌, ◌↔◌, ℕ, ◌+◌, ◌-◌, ◌<◌, ◌≤◌, Bool, true, false, eqb, ◌&&◌, List, [], ◌∷◌, length, get_or, map, refl, sym, ap, ◌∙◌, subst, inl, inr, arith, zero-add}
 use Rattle.std.specs.Prelude.{All, Option, Result, Ok, Err, IfOk, IsTrue, filter, slice_index}
 use Rattle.std.specs.List.{Contains, range_with_len}
-use Rattle.std.proofs.lemmas.Bool.{cases_lt, eqb-true}
+use Rattle.std.proofs.lemmas.Bool.{cases_lt, eqb-true, eq-eqb}
 use Rattle.std.proofs.lemmas.Simd.{map-map}
 use Rattle.std.proofs.lemmas.List.{ext_get_or, get_or-map, get_or_past, length-map}
 use Rattle.std.proofs.lemmas.List.Elements.{All-filter, All-contains, filter_passes}
@@ -40,14 +40,14 @@ use Rattle.event_nets.proofs.NetPlaces.{map-same}
 use Rattle.event_nets.proofs.Making.{all-below}
 use Rattle.net_equations.specs.Equations.{has_bit, seg_at, is_of_phase}
 use Rattle.net_equations.specs.Groups.{Mentions}
-use Rattle.net_resolve.specs.Pieces.{IsWithin, row_at, IsGivenRow, IsGivenRun, bit_of, row_bit, MayMention, HasInRun, AreMade}
+use Rattle.net_resolve.specs.Pieces.{IsWithin, row_at, IsGivenRow, IsGivenRun, bit_of, row_bit, SomeMentions, HasInRun, AreMade}
 use Rattle.net_resolve.specs.Runs.{AreRunSegs, begins_in}
 use Rattle.net_resolve.specs.Laid.{AreRows, net_places_of, AreEquations}
 use Rattle.net_resolve.specs.Resolving.{lowest_bit, IsNet, IsReadFor, resolution_at}
 use Rattle.net_resolve.proofs.Ranges.{range-same}
 use Rattle.net_resolve.proofs.Given.{values_in, stimuli_in, gift-same, has_some, some-given, gifts-give, net-given}
-use Rattle.net_resolve.proofs.Sound.{HasKeptOrigin, all-within, all-origin}
-use Rattle.net_resolve.proofs.Running.{has-from, AreLows, IsRun, run-some, run-lies, begin-at, AreRuns, one-run, runs-are, place-up, run-start, run-bit}
+use Rattle.net_resolve.proofs.Sound.{HasKeptOrigin, in-filter, kept-given, all-within, all-origin}
+use Rattle.net_resolve.proofs.Running.{has-parts, has-from, AreLows, IsRun, run-some, run-lies, begin-at, AreRuns, one-run, runs-are, place-up, run-start, run-bit}
 
 -- ---- the nets' runs
 
@@ -232,10 +232,10 @@ pub record IsEquation (flat : Flat) (over : List ℕ) (new : List Shape) (seg : 
   pub wide : width_at new node ≡ seg.width
   pub phase : IsTrue (each_variable (is_of_phase (widths_of flat.wires)) new node)
   pub value : (p : Phase) → value_at (reading p) new node ≡ map (resolution_at flat over p) (seg_bits seg)
-  pub mentions : (wire : ℕ) → Mentions new node wire → IsReadFor flat over seg wire
+  pub mentions : (wire : ℕ) → Mentions new node wire ↔ IsReadFor flat over seg wire
 
 read-for : (flat : Flat) → IsFlat flat → (over : List ℕ) (rows : List (List Gift)) → AreRows flat over rows → (segs : List Seg) → HasNets flat over segs → (i : ℕ) → i < length segs → (wire : ℕ)
-    → MayMention flat.arena (HasInRun rows (slice_index (net_places_of flat over) i) (seg_at segs i).width) wire → IsReadFor flat over (seg_at segs i) wire
+    → SomeMentions flat.arena (HasInRun rows (slice_index (net_places_of flat over) i) (seg_at segs i).width) wire → IsReadFor flat over (seg_at segs i) wire
 read-for flat ok over rows r segs h i lt wire m =
     let widths = widths_of flat.wires in
     let links = links_of flat.joins in
@@ -266,6 +266,38 @@ read-for flat ok over rows r segs h i lt wire m =
       kept = sym (any-overriding flat ok over o.target it) ∙ ap (λ k. has_gift set k) o.home_is ∙ kept.1;
     }
 
+for-read : (flat : Flat) → IsFlat flat → (over : List ℕ) (rows : List (List Gift)) → AreRows flat over rows → (segs : List Seg) → HasNets flat over segs → (i : ℕ) → i < length segs → (wire : ℕ)
+    → IsReadFor flat over (seg_at segs i) wire → SomeMentions flat.arena (HasInRun rows (slice_index (net_places_of flat over) i) (seg_at segs i).width) wire
+for-read flat ok over rows r segs h i lt wire m =
+    let widths = widths_of flat.wires in
+    let links = links_of flat.joins in
+    let home = home_of links widths in
+    let seg = seg_at segs i in
+    let low = slice_index (net_places_of flat over) i in
+    let drives : IsDriver widths flat.arena m.driver = All-contains (IsDriver widths flat.arena) flat.drivers m.driver ok.drivers m.stands in
+    let it : IsBitOf widths m.target = All-contains (IsBitOf widths) (lhs_bits m.driver.target) m.target (lhs_bits-lie widths m.driver.target drives.lies) m.drives in
+    let first = first_bit links m.target in
+    let parts = has-parts seg first m.joined in
+    let from_low = parts.1.0 in
+    let to_high = parts.1.1 in
+    let above = first.at - seg.lo in
+    let below : above < seg.width = omega (arith, from_low, to_high) in
+    let c = bit seg.wire (seg.lo + above) in
+    let same : c ≡ first = λ p. record { wire = parts.0 p; at = (let at : seg.lo + above ≡ first.at = omega (arith, from_low) in at) p } in
+    let n = net-bit flat ok over segs h i above lt below in
+    let test : Gift → Bool = λ g. eqb g.to (place_of widths c) in
+    let gifts = gifts_of flat over in
+    let g = kept-given flat over m.driver m.target m.stands m.drives (any-overriding flat ok over m.target it ∙ m.kept) in
+    let to : g.gift.to ≡ place_of widths c = g.to_is ∙ ap (place_of widths) (sym same) in
+    let here : Contains (filter test gifts) g.gift = in-filter test gifts g.gift g.stands (eq-eqb g.gift.to (place_of widths c) to) in
+    record {
+      gift = g.gift;
+      is = record { above = above; below = below; is = subst (λ row. Contains row g.gift) (sym (row-here flat over rows r (low + above) c n)) here };
+      node = m.driver.value;
+      from = g.from_is;
+      mentions = m.mentions;
+    }
+
 pub equation-is : (flat : Flat) → IsArena flat.arena → IsFlat flat → (over : List ℕ) (rows : List (List Gift)) → AreRows flat over rows → (segs : List Seg) → HasNets flat over segs
     → (new : List Shape) (nodes : List ℕ) → AreMade (widths_of flat.wires) flat.arena rows (net_places_of flat over) segs new nodes
     → (i : ℕ) → i < length segs → IsEquation flat over new (seg_at segs i) (slice_index nodes i)
@@ -288,7 +320,10 @@ equation-is flat a ok over rows r segs h new nodes made i lt =
           (λ j l. row-tells flat a ok over p rows r (low + j) (f j) (net-bit flat ok over segs h i j lt l))
           ∙ sym (map-map (resolution_at flat over p) f (range_with_len 0 seg.width))
           ∙ ap (λ l. map (resolution_at flat over p) l) (sym (seg-bits seg));
-      mentions = λ wire n. read-for flat ok over rows r segs h i lt wire (m.mentions wire n);
+      mentions = λ wire. (
+        λ n. read-for flat ok over rows r segs h i lt wire ((m.mentions wire).0 n),
+        λ n. (m.mentions wire).1 (for-read flat ok over rows r segs h i lt wire n),
+      );
     }
 
 -- all of them

@@ -2,8 +2,8 @@
 use Rattle.std.proofs.Common.{◌≡◌, ℕ, suc, ◌+◌, ◌<◌, ◌≤◌, Bool, true, false, not, cond, List, [], ◌∷◌, ◌++◌, length, get_or, map, refl, sym, ap, ◌∙◌, subst, arith, add-zero}
 use Rattle.std.specs.Prelude.{All, filter}
 use Rattle.std.specs.List.{Contains}
-use Rattle.std.proofs.lemmas.List.{length-map}
-use Rattle.std.proofs.lemmas.List.Elements.{All-head, All-tail, All-nil, All-cons, All-append, All-weaker, All-filter, All-contains_itself, filter_passes}
+use Rattle.std.proofs.lemmas.List.{get_or-map, length-map}
+use Rattle.std.proofs.lemmas.List.Elements.{All-head, All-tail, All-nil, All-cons, All-append, All-weaker, All-filter, All-contains, All-contains_itself, Contains-append_left, Contains-append_right, filter_passes}
 use Rattle.std.proofs.lemmas.List.FromFn.{length-map-range_with_len}
 use Rattle.sv_outside.specs.declared.text.Signal.{Signal}
 use Rattle.lhs_alias.specs.declared.segs.WireBit.{WireBit}
@@ -21,6 +21,25 @@ use Rattle.event_nets.specs.Tables.{home_of, own_gifts, gifts_of}
 use Rattle.event_nets.proofs.Giving.{AreWires, wires-rest, wires-are}
 use Rattle.event_nets.proofs.Cutting.{as_inputs, gifts-as_inputs, wires-as_inputs, All-left}
 use Rattle.net_resolve.specs.Pieces.{HasSource, source_width, IsWithin}
+
+-- ---- lists
+
+filter-keeps : {X : Type 0} (test : X → Bool) (l : List X) → All (λ x. test x ≡ true → Contains (filter test l) x) l
+filter-keeps test [] = All-nil (λ x. test x ≡ true → Contains [] x)
+filter-keeps {X} test (z ∷ l) = pick (test z) refl (filter-keeps test l)
+  where
+    pick : (t : Bool) → test z ≡ t → All (λ x. test x ≡ true → Contains (filter test l) x) l → All (λ x. test x ≡ true → Contains (cond t (z ∷ filter test l) (filter test l)) x) (z ∷ l)
+    pick true e h =
+        All-cons (λ x. test x ≡ true → Contains (z ∷ filter test l) x) z l (λ k. (0, omega arith, refl))
+        (All-weaker (λ x. test x ≡ true → Contains (filter test l) x) (λ x. test x ≡ true → Contains (z ∷ filter test l) x) (λ x here k. let c = here k in (suc c.0, omega (arith, c.1), c.2)) l h)
+    pick false e h = All-cons (λ x. test x ≡ true → Contains (filter test l) x) z l (λ k. absurd (let f : true ≡ false = sym k ∙ e in cc)) h
+
+pub in-filter : {X : Type 0} (test : X → Bool) (l : List X) (x : X) → Contains l x → test x ≡ true → Contains (filter test l) x
+in-filter test l x c = All-contains (λ y. test y ≡ true → Contains (filter test l) y) l x (filter-keeps test l) c
+
+-- what is true of each mapped element
+All-of_map : {X Y : Type 0} (P : Y → Type 0) (f : X → Y) (l : List X) → All P (map f l) → All (λ x. P (f x)) l
+All-of_map P f l h i d lt = subst P (get_or-map f l i d (f d) lt) (h i (f d) (omega (arith, lt, length-map l f)))
 
 -- ---- sources have their bits
 
@@ -68,6 +87,78 @@ all-within flat ok over =
     (All-append P (driver_gifts home flat.drivers) (stimulus_gifts home 0 flat.wires)
     (drivers-within widths flat.arena home flat.drivers ok.drivers) (stimuli-within widths flat.arena home 0 flat.wires (wires-are flat.wires)))
 
+-- ---- what drivers give
+
+-- a gift of a source to a place
+pub record IsGiven (from : Source) (gifts : List Gift) (to : ℕ) : Type 0 where
+  pub gift : Gift
+  pub stands : Contains gifts gift
+  pub from_is : gift.from ≡ from
+  pub to_is : gift.to ≡ to
+
+given-behind : (from : Source) (g : Gift) (gifts : List Gift) (to : ℕ) → IsGiven from gifts to → IsGiven from (g ∷ gifts) to
+given-behind from g gifts to h = record {
+  gift = h.gift;
+  stands = let c = h.stands in (suc c.0, omega (arith, c.1), c.2);
+  from_is = h.from_is;
+  to_is = h.to_is;
+}
+
+places-given : (from : Source) (at : ℕ) (places : List ℕ) → All (IsGiven from (gifts_at from at places)) places
+unfolding gifts_at
+places-given from at [] = All-nil (IsGiven from [])
+places-given from at (to ∷ more) =
+    let g : Gift = record { to = to; from = from; at = at } in
+    let rest = gifts_at from (suc at) more in
+    All-cons (IsGiven from (g ∷ rest)) to more (record { gift = g; stands = (0, omega arith, refl); from_is = refl; to_is = refl })
+    (All-weaker (IsGiven from rest) (IsGiven from (g ∷ rest)) (given-behind from g rest) more (places-given from (suc at) more))
+
+-- a driver gives its value to the class of each bit of its target
+abbrev pub GivesAll : (WireBit → ℕ) → List Gift → Driver → Type 0
+GivesAll home gifts d = All (λ b. IsGiven (Value d.value) gifts (home b)) (lhs_bits d.target)
+
+given-left : (from : Source) (a b : List Gift) (to : ℕ) → IsGiven from a to → IsGiven from (a ++ b) to
+given-left from a b to h = record { gift = h.gift; stands = Contains-append_left a b h.gift h.stands; from_is = h.from_is; to_is = h.to_is }
+
+given-right : (from : Source) (a b : List Gift) (to : ℕ) → IsGiven from b to → IsGiven from (a ++ b) to
+given-right from a b to h = record { gift = h.gift; stands = Contains-append_right a b h.gift h.stands; from_is = h.from_is; to_is = h.to_is }
+
+drivers-give_all : (home : WireBit → ℕ) (drivers : List Driver) → All (GivesAll home (driver_gifts home drivers)) drivers
+unfolding driver_gifts
+drivers-give_all home [] = All-nil (GivesAll home [])
+drivers-give_all home (d ∷ more) =
+    let own = gifts_to home (Value d.value) 0 (lhs_bits d.target) in
+    let rest = driver_gifts home more in
+    let P : WireBit → Type 0 = λ b. IsGiven (Value d.value) own (home b) in
+    let Q : WireBit → Type 0 = λ b. IsGiven (Value d.value) (own ++ rest) (home b) in
+    All-cons (GivesAll home (own ++ rest)) d more
+    (All-weaker P Q (λ b. given-left (Value d.value) own rest (home b)) (lhs_bits d.target)
+    (All-of_map (IsGiven (Value d.value) own) home (lhs_bits d.target) (places-given (Value d.value) 0 (map home (lhs_bits d.target)))))
+    (All-weaker (GivesAll home rest) (GivesAll home (own ++ rest))
+    (λ x h. All-weaker (λ b. IsGiven (Value x.value) rest (home b)) (λ b. IsGiven (Value x.value) (own ++ rest) (home b)) (λ b. given-right (Value x.value) own rest (home b)) (lhs_bits x.target) h)
+    more (drivers-give_all home more))
+
+-- and so where its class is not overridden
+pub kept-given : (flat : Flat) (over : List ℕ) (d : Driver) (b : WireBit) → Contains flat.drivers d → Contains (lhs_bits d.target) b
+    → has_gift (overriding_gifts (home_of (links_of flat.joins) (widths_of flat.wires)) 0 flat.wires over) (home_of (links_of flat.joins) (widths_of flat.wires) b) ≡ false
+    → IsGiven (Value d.value) (gifts_of flat over) (home_of (links_of flat.joins) (widths_of flat.wires) b)
+unfolding left
+kept-given flat over d b stands drives none =
+    let home = home_of (links_of flat.joins) (widths_of flat.wires) in
+    let set = overriding_gifts home 0 flat.wires over in
+    let own = own_gifts flat in
+    let drivers = driver_gifts home flat.drivers in
+    let kept : Gift → Bool = λ g. not (has_gift set g.to) in
+    let all : All (λ c. IsGiven (Value d.value) drivers (home c)) (lhs_bits d.target) = All-contains (GivesAll home drivers) flat.drivers d (drivers-give_all home flat.drivers) stands in
+    let h : IsGiven (Value d.value) drivers (home b) = All-contains (λ c. IsGiven (Value d.value) drivers (home c)) (lhs_bits d.target) b all drives in
+    let passes : kept h.gift ≡ true = ap (λ k. not (has_gift set k)) h.to_is ∙ ap not none in
+    record {
+      gift = h.gift;
+      stands = Contains-append_left (filter kept own) set h.gift (in-filter kept own h.gift (Contains-append_left drivers (stimulus_gifts home 0 flat.wires) h.gift h.stands) passes);
+      from_is = h.from_is;
+      to_is = h.to_is;
+    }
+
 -- ---- where nodes come from
 
 -- a driver with this value, and a bit of its target whose class has this place
@@ -96,14 +187,14 @@ gifts-to home from at all (b ∷ bits) h =
     All-cons (IsTo home from all) _ (gifts_to home from (suc at) bits)
     (record { from_is = refl; target = b; inside = All-head (Contains all) b bits h; home_is = refl }) (gifts-to home from (suc at) all bits (All-tail (Contains all) b bits h))
 
-same-value : (j k : ℕ) → (let s : Source = Value j in s) ≡ Value k → j ≡ k
+pub same-value : (j k : ℕ) → (let s : Source = Value j in s) ≡ Value k → j ≡ k
 same-value j k e = ap node e
   where
     node : Source → ℕ
     node (Value n) = n
     node (Stimulus n) = 0
 
-no-value : {X : Type 0} (n k : ℕ) → (let s : Source = Stimulus n in s) ≡ Value k → X
+pub no-value : {X : Type 0} (n k : ℕ) → (let s : Source = Stimulus n in s) ≡ Value k → X
 no-value n k e = cc
 
 drivers-origin : (home : WireBit → ℕ) (all drivers : List Driver) → All (Contains all) drivers → All (HasOrigin home all) (driver_gifts home drivers)

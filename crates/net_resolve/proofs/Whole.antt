@@ -386,9 +386,9 @@ all-valued flat over new eqs h =
     All-weaker (λ (e : NetEq). IsEquation flat over new e.seg e.value) (λ (e : NetEq). (p : Phase) → value_at (reading p) new e.value ≡ map (resolution_at flat over p) (seg_bits e.seg)) (λ e is. is.value) eqs h
 
 pub all-mention : (flat : Flat) (over : List ℕ) (new : List Shape) (eqs : List NetEq) → All (λ e. IsEquation flat over new e.seg e.value) eqs
-    → All (λ e. (wire : ℕ) → Mentions new e.value wire → IsReadFor flat over e.seg wire) eqs
+    → All (λ e. (wire : ℕ) → Mentions new e.value wire ↔ IsReadFor flat over e.seg wire) eqs
 all-mention flat over new eqs h =
-    All-weaker (λ (e : NetEq). IsEquation flat over new e.seg e.value) (λ (e : NetEq). (wire : ℕ) → Mentions new e.value wire → IsReadFor flat over e.seg wire) (λ e is. is.mentions) eqs h
+    All-weaker (λ (e : NetEq). IsEquation flat over new e.seg e.value) (λ (e : NetEq). (wire : ℕ) → Mentions new e.value wire ↔ IsReadFor flat over e.seg wire) (λ e is. is.mentions) eqs h
 
 pub all-named : (flat : Flat) (over : List ℕ) (new : List Shape) (eqs : List NetEq) → AreEquations flat over new eqs → map (λ (e : NetEq). lowest_bit e.seg) eqs ≡ nets_of flat over
 all-named flat over new eqs h = sym (map-map lowest_bit (λ (e : NetEq). e.seg) eqs) ∙ nets-named flat over (map (λ (e : NetEq). e.seg) eqs) h.segs

@@ -1,5 +1,5 @@
 -- Nodes that are made of what sources give to neighbouring bits.
-use Rattle.std.specs.Prelude.{◌≡◌, ◌⊎◌, ◌&&◌, Bool, ℕ, ◌+◌, ◌<◌, ◌≤◌, List, [], length, map, All, IsTrue, slice_index, slice_index_or}
+use Rattle.std.specs.Prelude.{◌≡◌, ◌↔◌, ◌⊎◌, ◌&&◌, Bool, ℕ, ◌+◌, ◌<◌, ◌≤◌, List, [], length, map, All, IsTrue, slice_index, slice_index_or}
 use Rattle.std.specs.List.{Contains, range_with_len}
 use Rattle.fourvec.specs.declared.Bit.{Bit}
 use Rattle.fourvec.specs.declared.Bit.TheVariants.{Unknown}
@@ -90,8 +90,8 @@ run_value widths shapes rows low width p = map (λ j. row_bit widths shapes p 0 
 
 -- ---- nodes
 
--- a gift of a node that mentions the present value of a wire
-pub record MayMention (shapes : List Shape) (From : Gift → Type 0) (wire : ℕ) : Type 0 where
+-- one of these gifts is of a node that mentions the present value of a wire
+pub record SomeMentions (shapes : List Shape) (From : Gift → Type 0) (wire : ℕ) : Type 0 where
   pub gift : Gift
   pub is : From gift
   pub node : ℕ
@@ -99,13 +99,13 @@ pub record MayMention (shapes : List Shape) (From : Gift → Type 0) (wire : ℕ
   pub mentions : Mentions shapes node wire
 
 -- A node of a later arena has so many bits and this value in each phase, is over the valuations of a phase alone, and mentions in
--- the present no wire but what some of the gifts do.
+-- the present exactly the wires that some of the gifts do.
 pub record IsMade (widths : List ℕ) (old : List Shape) (From : Gift → Type 0) (width : ℕ) (value_of : Phase → Vector) (new : List Shape) (node : ℕ) : Type 0 where
   pub there : node < length new
   pub wide : width_at new node ≡ width
   pub value : (p : Phase) → value_at (reading p) new node ≡ value_of p
   pub phase : IsTrue (each_variable (is_of_phase widths) new node)
-  pub mentions : (wire : ℕ) → Mentions new node wire → MayMention old From wire
+  pub mentions : (wire : ℕ) → Mentions new node wire ↔ SomeMentions old From wire
 
 -- A node of a later arena is an operator on two nodes of an older one: their values make its own, and it mentions what they do.
 pub record IsPair (op : Bin) (old new : List Shape) (a b node : ℕ) : Type 0 where
@@ -113,7 +113,7 @@ pub record IsPair (op : Bin) (old new : List Shape) (a b node : ℕ) : Type 0 wh
   pub wide : width_at new node ≡ binary_width op (width_at old a) (width_at old b)
   pub value : (r : Reading) → value_at r new node ≡ binary_value op (value_at r old a) (value_at r old b)
   pub variables : (p : VarName → ℕ → Bool) → each_variable p new node ≡ (each_variable p old a && each_variable p old b)
-  pub mentions : (wire : ℕ) → Mentions new node wire → Mentions old a wire ⊎ Mentions old b wire
+  pub mentions : (wire : ℕ) → Mentions new node wire ↔ (Mentions old a wire ⊎ Mentions old b wire)
 
 -- one gift alone
 abbrev pub IsOne : Gift → Gift → Type 0

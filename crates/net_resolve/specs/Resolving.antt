@@ -1,4 +1,4 @@
--- Which segments equations and free segments of a flat design have, and which wires an equation's value may mention.
+-- Which segments equations and free segments of a flat design have, and which wires an equation's value mentions.
 use Rattle.std.specs.Prelude.{◌≡◌, ◌&&◌, ℕ, Bool, not, false, List, IsTrue, ◌↔◌}
 use Rattle.std.specs.List.{Contains, list_any}
 use Rattle.lhs_alias.specs.declared.segs.Seg.{Seg}

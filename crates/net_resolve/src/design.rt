@@ -113,8 +113,8 @@ pub fn resolve(alloc: Global, flat: &mut Flat, over: &[usize]) -> Result<Resolve
     ensures least { IfOk result (λ set. (stim previous now : Store) → IsLeastSettling flat.old over.now stim previous now
         ↔ IsLeastSolution (links_of flat.old.joins) flat.new.arena set.eqs stim previous now) }
 
-    // Values mention in the present only what the drivers of a bit joined to one of theirs do.
-    ensures mentions { IfOk result (λ set. All (λ e. (wire : ℕ) → Mentions flat.new.arena e.value wire → IsReadFor flat.old over.now e.seg wire) set.eqs) }
+    // Values mention in the present exactly what the drivers of a bit joined to one of theirs do.
+    ensures mentions { IfOk result (λ set. All (λ e. (wire : ℕ) → Mentions flat.new.arena e.value wire ↔ IsReadFor flat.old over.now e.seg wire) set.eqs) }
 {
     let _ = flat.arena.len();
     let widths = wire_widths(alloc, flat.wires.as_slice())?;

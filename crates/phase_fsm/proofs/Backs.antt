@@ -1,23 +1,27 @@
 -- What is found of a design over a larger arena holds of the design itself.
-use Rattle.std.proofs.Common.{◌∙◌, ◌≡◌, ℕ, List, Option, ap}
-use Rattle.std.proofs.lemmas.List.Elements.{All-weaker, All-contains}
+use Rattle.std.proofs.Common.{◌∙◌, ◌≡◌, ◌↔◌, ◌<◌, ℕ, List, length, Option, ap}
+use Rattle.std.specs.Prelude.{Contains}
+use Rattle.std.proofs.lemmas.List.Elements.{All-contains}
 use Rattle.svex_shape.specs.declared.shape.Shape.{Shape}
 use Rattle.svex_arena.specs.Arenas.{IsArena, Extends}
-use Rattle.svex_arena.proofs.Keeping.{extends_on}
 use Rattle.lhs_alias.specs.declared.segs.Seg.{Seg}
-use Rattle.driver_resolve.specs.declared.driver.NetEq.{NetEq}
+use Rattle.lhs_alias.specs.Segs.{bit}
+use Rattle.settling.specs.Settling.{first_bit}
 use Rattle.driver_resolve.specs.Drivers.{widths_of, IsDriver}
 use Rattle.driver_resolve.specs.declared.driver.Driver.{Driver}
 use Rattle.flat_net.specs.declared.flat.Flat.{Flat}
 use Rattle.flat_net.specs.declared.flat.Join.{Join}
 use Rattle.sv_outside.specs.declared.text.Signal.{Signal}
 use Rattle.event_nets.specs.Nets.{is_net_bit}
-use Rattle.flat_net.specs.Flats.{IsFlat}
-use Rattle.net_equations.specs.Groups.{Mentions}
-use Rattle.net_resolve.specs.Resolving.{IsReadFor, is_free_bit}
+use Rattle.flat_net.specs.Flats.{IsFlat, links_of}
+use Rattle.net_equations.specs.Equations.{seg_at}
+use Rattle.net_resolve.specs.Resolving.{IsReadFor}
+use Rattle.net_resolve.proofs.Mentioning.{mentions-older, mentions-newer}
 use Rattle.phase_fsm.specs.Machines.{IsWireNode, AreWireNodes}
-use Rattle.phase_fsm.specs.Sets.{HasGroups}
-use Rattle.phase_fsm.proofs.Growing.{over_nodes, settles-stays, settles-stays-back, least-stays, mentions-back}
+use Rattle.phase_fsm.specs.Sets.{NetDepends, HasGroups}
+use Rattle.phase_fsm.proofs.Growing.{over_nodes, least-stays}
+use Rattle.phase_fsm.proofs.Members.{seg-there}
+use Rattle.phase_fsm.proofs.Orders.{order-alike}
 
 own : List Shape → List Signal → List Driver → List Join → Flat
 own shapes wires drivers joins = record { arena = shapes; wires = wires; drivers = drivers; joins = joins }
@@ -43,42 +47,46 @@ wires-back flat own e ok over new nodes h = record {
   each = λ n l. wire-back flat own e ok over new n _ _ (h.each n l);
 }
 
+-- what a net reads stays
 read-back : (flat : Flat) (own : List Shape) → IsArena flat.arena → Extends flat.arena own → IsFlat flat → (over : List ℕ) (seg : Seg) (wire : ℕ)
-    → IsReadFor (over_nodes flat own) over seg wire → IsReadFor flat over seg wire
-read-back flat own i e ok over seg wire h = record {
-  driver = h.driver;
-  stands = h.stands;
-  mentions = mentions-back flat.arena own i e h.driver.value wire (All-contains (IsDriver (widths_of flat.wires) flat.arena) flat.drivers h.driver ok.drivers h.stands).there h.mentions;
-  target = h.target;
-  drives = h.drives;
-  joined = h.joined;
-  kept = h.kept;
-}
+    → IsReadFor (over_nodes flat own) over seg wire ↔ IsReadFor flat over seg wire
+read-back flat own i e ok over seg wire = (
+  λ h. record {
+    driver = h.driver;
+    stands = h.stands;
+    mentions = mentions-older flat.arena own h.driver.value wire i e (there h.driver h.stands) h.mentions;
+    target = h.target;
+    drives = h.drives;
+    joined = h.joined;
+    kept = h.kept;
+  },
+  λ h. record {
+    driver = h.driver;
+    stands = h.stands;
+    mentions = mentions-newer flat.arena own h.driver.value wire i e (there h.driver h.stands) h.mentions;
+    target = h.target;
+    drives = h.drives;
+    joined = h.joined;
+    kept = h.kept;
+  },
+)
+  where
+    there : (d : Driver) → Contains flat.drivers d → d.value < length flat.arena
+    there d c = (All-contains (IsDriver (widths_of flat.wires) flat.arena) flat.drivers d ok.drivers c).there
 
 pub groups-back : (flat : Flat) (own : List Shape) → IsArena flat.arena → Extends flat.arena own → IsFlat flat → (over : List ℕ) (wide : Option ℕ)
     → HasGroups (over_nodes flat own) over wide → HasGroups flat over wide
-unfolding is_net_bit is_free_bit
+unfolding is_net_bit
 groups-back flat own i e ok over wide h = record {
-  kept = h.kept;
-  widths = h.widths;
-  stands = h.stands;
-  shapes = h.shapes;
-  set = h.set;
-  equations = record {
-    behind = extends_on flat.arena own h.shapes e h.equations.behind;
-    resolved = h.equations.resolved;
-    nets = h.equations.nets;
-    whole = h.equations.whole;
-    free = h.equations.free;
-    settles = λ stim previous now. (
-      (λ s. (h.equations.settles stim previous now).0 (settles-stays-back flat own e ok over stim previous now s)),
-      (λ s. settles-stays flat own e ok over stim previous now ((h.equations.settles stim previous now).1 s)),
-    );
-    mentions = All-weaker (λ (q : NetEq). (wire : ℕ) → Mentions h.shapes q.value wire → IsReadFor (over_nodes flat own) over q.seg wire)
-        (λ (q : NetEq). (wire : ℕ) → Mentions h.shapes q.value wire → IsReadFor flat over q.seg wire)
-        (λ q r wire m. read-back flat own i e ok over q.seg wire (r wire m)) h.set.eqs h.equations.mentions;
-  };
+  segs = h.segs;
+  nets = record { named = h.nets.named; inside = h.nets.inside; whole = h.nets.whole };
   groups = h.groups;
-  order = h.order;
+  order = order-alike (NetDepends (over_nodes flat own) over h.segs) (NetDepends flat over h.segs) (length h.segs)
+      (λ a b lt d. (
+        seg-there h.segs b (first_bit (links_of flat.joins) (bit d.wire d.place)) d.joined,
+        record { wire = d.wire; reads = (read-back flat own i e ok over (seg_at h.segs a) d.wire).0 d.reads; place = d.place; inside = d.inside; joined = d.joined },
+      ))
+      (λ a b lt d. record { wire = d.wire; reads = (read-back flat own i e ok over (seg_at h.segs a) d.wire).1 d.reads; place = d.place; inside = d.inside; joined = d.joined })
+      h.groups h.order;
   first = h.first;
 }

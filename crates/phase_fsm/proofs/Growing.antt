@@ -1,5 +1,5 @@
 -- A flat design says the same over an arena that has grown.
-use Rattle.std.proofs.Common.{◌∙◌, inl, inr, zero, suc, ◌≡◌, ◌<◌, ℕ, arith, List, [], ◌∷◌, ◌++◌, length, All, IsTrue, refl, sym, subst, ap}
+use Rattle.std.proofs.Common.{◌∙◌, ◌≡◌, ℕ, arith, List, [], ◌∷◌, ◌++◌, All, IsTrue, refl, sym, subst, ap}
 use Rattle.std.specs.List.{zip}
 use Rattle.std.proofs.lemmas.List.Elements.{All-weaker, All-head, All-tail}
 use Rattle.lhs_alias.specs.Segs.{lhs_bits}
@@ -7,17 +7,13 @@ use Rattle.settling.specs.Settling.{Store, Link, SettlesBy}
 use Rattle.settling.specs.Least.{Giving, IsLeast}
 use Rattle.settling.specs.Overriding.{overridden}
 use Rattle.svex_shape.specs.declared.shape.Shape.{Shape}
-use Rattle.svex_shape.specs.declared.shape.Shape.TheVariants.{Const, Var, Unary, Binary, Cond, Pick, Slice, Zext, Sext, DynSlice, DynPut}
-use Rattle.svex_shape.specs.Shapes.{shape_at, ChildrenBelow, IsChild}
 use Rattle.svex_shape.specs.Values.{value_at}
-use Rattle.svex_arena.specs.Arenas.{IsArena, Extends}
-use Rattle.svex_arena.specs.Marks.{IsReached, as_root, as_child}
+use Rattle.svex_arena.specs.Arenas.{Extends}
 use Rattle.svex_arena.proofs.Steps.{value-extends, width-extends, variables-extends}
 use Rattle.driver_resolve.specs.declared.driver.Driver.{Driver}
 use Rattle.driver_resolve.specs.Drivers.{Phase, reading, drivers_give, stimuli_from, overriding_from, widths_of, is_of_wires, IsDriver}
 use Rattle.flat_net.specs.declared.flat.Flat.{Flat}
 use Rattle.flat_net.specs.Flats.{IsFlat, links_of, given, given_in, Settles, IsLeastSettling}
-use Rattle.net_equations.specs.Groups.{Mentions}
 use Rattle.compose_rounds.specs.States.{is_outer}
 use Rattle.phase_fsm.specs.Machines.{IsWireNode, AreWireNodes}
 
@@ -81,43 +77,6 @@ pub least-stays : (flat : Flat) (new : List Shape) → Extends flat.arena new �
 least-stays flat new e h over stim prev now l =
     least-alike (links_of flat.joins) (given_in flat over stim prev) (given_in (over_nodes flat new) over stim prev)
     (λ s. sym (given-stays flat new e h over (record { stim = stim; previous = prev; present = s }))) now l
-
--- ---- what is reached
-
-child-below : (k j : ℕ) (s : Shape) → ChildrenBelow k s → IsChild j s → j < k
-child-below k j (Const v) h c = absurd c
-child-below k j (Var name width) h c = absurd c
-child-below k j (Unary op a) h c = omega (arith, h, c)
-child-below k j (Binary op a b) h (inl c) = omega (arith, h.0, c)
-child-below k j (Binary op a b) h (inr c) = omega (arith, h.1, c)
-child-below k j (Cond t a b) h (inl c) = omega (arith, h.0, c)
-child-below k j (Cond t a b) h (inr (inl c)) = omega (arith, h.1, c)
-child-below k j (Cond t a b) h (inr (inr c)) = omega (arith, h.2, c)
-child-below k j (Pick t a b) h (inl c) = omega (arith, h.0, c)
-child-below k j (Pick t a b) h (inr (inl c)) = omega (arith, h.1, c)
-child-below k j (Pick t a b) h (inr (inr c)) = omega (arith, h.2, c)
-child-below k j (Slice a lo width) h c = omega (arith, h, c)
-child-below k j (Zext a width) h c = omega (arith, h, c)
-child-below k j (Sext a width) h c = omega (arith, h, c)
-child-below k j (DynSlice a at spot) h (inl c) = omega (arith, h.0, c)
-child-below k j (DynSlice a at spot) h (inr c) = omega (arith, h.1, c)
-child-below k j (DynPut a at spot put) h (inl c) = omega (arith, h.0, c)
-child-below k j (DynPut a at spot put) h (inr (inl c)) = omega (arith, h.1, c)
-child-below k j (DynPut a at spot put) h (inr (inr c)) = omega (arith, h.2, c)
-
-reached-back : (old new : List Shape) → IsArena old → Extends old new → (k : ℕ) → k < length old → (j : ℕ) → IsReached new (k ∷ []) j
-    → (j < length old) × IsReached old (k ∷ []) j
-reached-back old new i e k l j (as_root zero _ lt is) = (subst (λ m. m < length old) is l, as_root 0 j (omega arith) is)
-reached-back old new i e k l j (as_root (suc m) _ lt is) = absurd (omega (arith, lt))
-reached-back old new i e k l j (as_child m _ r c) =
-    let before = reached-back old new i e k l m r in
-    let own = subst (IsChild j) (e.same m before.0) c in
-    (omega (arith, child-below m j (shape_at old m) (i.children m before.0) own, before.0), as_child m j before.1 own)
-
-pub mentions-back : (old new : List Shape) → IsArena old → Extends old new → (k wire : ℕ) → k < length old → Mentions new k wire → Mentions old k wire
-mentions-back old new i e k wire l h =
-    let before = reached-back old new i e k l h.at h.reached in
-    record { at = h.at; width = h.width; reached = before.1; is = sym (e.same h.at before.0) ∙ h.is }
 
 -- ---- nodes of wires
 

@@ -1,4 +1,9 @@
 pub mod Growing
 pub mod Setting
+pub mod Members
+pub mod Nets
+pub mod Orders
+pub mod Depending
+pub mod Excluding
 pub mod Backs
 pub mod Steps

@@ -2,6 +2,8 @@
 //! before and what comes from outside.
 #![tactic(auto)]
 
+mod laws;
 mod machine;
 
+pub use laws::groups_exclude;
 pub use machine::{Fsm, make_fsm};

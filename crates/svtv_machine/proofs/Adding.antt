@@ -10,9 +10,9 @@ use Rattle.driver_resolve.specs.Drivers.{has_wire}
 use Rattle.phase_fsm.specs.Machines.{row_of}
 use Rattle.svtv_table.specs.declared.bound.Drive.{Drive}
 use Rattle.svtv_table.specs.Overs.{is_overridden_at, IsAscending}
-use Rattle.svtv_unroll.specs.Unrolled.{HasSet}
-use Rattle.svtv_unroll.proofs.Choosing.{set_is}
-use Rattle.svtv_machine.specs.Sets.{HasMore, IsOfPhase}
+use Rattle.svtv_unroll.specs.Unrolled.{AreSet, HasSet}
+use Rattle.svtv_unroll.proofs.Choosing.{set_is, same_ascending}
+use Rattle.svtv_machine.specs.Sets.{HasMore, IsOfPhase, AreByFirstPhase}
 
 module _ (overs : List (ℕ × List (Option Drive))) (phase : ℕ) (old new : List (List ℕ)) (over : List ℕ) (more : HasMore old over new) where
   -- the set of a phase is still among them
@@ -65,8 +65,51 @@ module _ (overs : List (ℕ × List (Option Drive))) (phase : ℕ) (old new : Li
     only_more h =
         let P : List ℕ → Type 0 = IsOfPhase overs (phase + 1) in
         let before : All P old =
-        All-weaker (IsOfPhase overs phase) P (λ o p. let below = p.below in record { phase = p.phase; below = omega (arith, below); wires = p.wires }) old h in
+        All-weaker (IsOfPhase overs phase) P (λ o p. let below = p.below in record { phase = p.phase; below = omega (arith, below); wires = p.wires; ascending = p.ascending }) old h in
         elim more as (λ _. All P new) [
           | inl m ↦ subst (All P) (sym m.1) before
-          | inr m ↦ subst (All P) (sym m.1) (All-push P old over before (record { phase = phase; below = omega arith; wires = set_is (over ∷ []) overs phase over 0 is refl }))
+          | inr m ↦ subst (All P) (sym m.1) (All-push P old over before (record { phase = phase; below = omega arith; wires = set_is (over ∷ []) overs phase over 0 is refl; ascending = up }))
         ]
+
+    -- the sets so far, with one phase more
+    order-old : All (IsOfPhase overs phase) old → AreByFirstPhase overs phase old → AreByFirstPhase overs (phase + 1) old
+    order-old only order s t lt tl k kl wires = elim (cases_lt k phase) [
+      | inl before ↦ order s t lt tl k before wires
+      | inr behind ↦
+          let p = only t [] tl in
+          let e = order s t lt tl p.phase p.below p.wires in
+          let below = p.below in
+          (e.0, omega (arith, e.1, below, behind), e.2)
+    ]
+
+    -- the set of the phase, behind those of the phases before
+    order-push : (Contains old over → ⊥) → ((k : ℕ) → k < phase → HasSet old overs k) → All (IsOfPhase overs phase) old → AreByFirstPhase overs phase old → AreByFirstPhase overs (phase + 1) (old ++ over ∷ [])
+    order-push fresh all only order s t lt tl k kl wires = elim (cases_lt t (length old)) [
+      | inl inside ↦
+          let e = order-old only order s t lt inside k kl (subst (λ r. AreSet r overs k) (front t inside) wires) in
+          (e.0, e.1, subst (λ r. AreSet r overs e.0) (sym (front s (omega (arith, lt, inside)))) e.2)
+      | inr end ↦
+          let last : t ≡ length old = omega (arith, end, tl, length_push old over) in
+          let sl : s < length old = omega (arith, lt, last) in
+          let own : AreSet over overs k = subst (λ r. AreSet r overs k) (get_or_push old over [] t (sym last)) wires in
+          elim (cases_lt k phase) [
+            | inl before ↦
+                let h = all k before in
+                let same : row_of old h.place ≡ over = same_ascending (row_of old h.place) over h.ascending up (λ n. h.wires n ∙ sym (own n)) in
+                absurd (fresh (h.place, h.there, get_or_default old h.place over [] h.there ∙ same))
+            | inr here ↦
+                let p = only s [] sl in
+                let below = p.below in
+                (p.phase, omega (arith, below, here), subst (λ r. AreSet r overs p.phase) (sym (front s sl)) p.wires)
+          ]
+    ]
+      where
+        front : (i : ℕ) → i < length old → row_of (old ++ over ∷ []) i ≡ row_of old i
+        front i lt = get_or_append_left old (over ∷ []) [] i lt
+
+    -- the sets stand in the order of first phases
+    pub order_more : ((k : ℕ) → k < phase → HasSet old overs k) → All (IsOfPhase overs phase) old → AreByFirstPhase overs phase old → AreByFirstPhase overs (phase + 1) new
+    order_more all only order = elim more as (λ _. AreByFirstPhase overs (phase + 1) new) [
+      | inl m ↦ subst (AreByFirstPhase overs (phase + 1)) (sym m.1) (order-old only order)
+      | inr m ↦ subst (AreByFirstPhase overs (phase + 1)) (sym m.1) (order-push m.0 all only order)
+    ]

@@ -6,5 +6,5 @@ mod laws;
 mod machine;
 mod sets;
 
-pub use laws::designs_grow;
+pub use laws::{designs_grow, narrow_tables_are_not_wide};
 pub use machine::sample_nodes;

@@ -1,12 +1,14 @@
 // The machine of a table.
-ghost use Rattle.std.specs.Prelude.{◌≡◌, ℕ, IfOk, Err};
+ghost use Rattle.std.specs.Prelude.{◌≡◌, ℕ, List, length, IfOk, Err};
 ghost use Rattle.design_loops.specs.Loops.{HasWideLoop};
 ghost use Rattle.flat_net.specs.Flats.{IsFlat};
 ghost use Rattle.net_equations.specs.declared.group.ComposeErr.TheVariants.{LoopTooWide};
+ghost use Rattle.phase_fsm.specs.Sets.{AreNarrow, IsFirstWide};
 ghost use Rattle.svex_arena.specs.Arenas.{Extends, IsArena};
 ghost use Rattle.design_loops.specs.Passed.{IsElaborated};
 ghost use Rattle.sv_meaning.specs.Designs.{Design};
 ghost use Rattle.svtv_machine.specs.Least.{AreLeastNodes};
+ghost use Rattle.svtv_machine.specs.Sets.{AreSetsOf};
 ghost use Rattle.svtv_table.specs.Binding.{IsBound};
 ghost use Rattle.svtv_unroll.specs.Unrolled.{AreSampleNodes};
 
@@ -33,6 +35,13 @@ pub fn sample_nodes(alloc: Global, flat: Flat, bound: &Bound) -> Result<Svtv, Co
     ensures extends { IfOk result (λ s. Extends flat.arena s.fsm.flat.arena) }
     ensures arena { IfOk result (λ s. IsArena s.fsm.flat.arena) }
     ensures wide { (bits : ℕ) → result ≡ Err (LoopTooWide bits) → (d : Design) → IsElaborated d flat → HasWideLoop d bits }
+
+    // The count is that of the first group over 1,024 bits of the first of the table's sets that has one.
+    ensures first { (bits : ℕ) → result ≡ Err (LoopTooWide bits)
+        → (sets : List (List ℕ)) × AreSetsOf bound.now.overs bound.now.phases sets × IsFirstWide flat sets bits }
+
+    // There are nodes only where none of them has one.
+    ensures narrow { IfOk result (λ s. (sets : List (List ℕ)) × AreSetsOf bound.now.overs bound.now.phases sets × AreNarrow flat sets (length sets)) }
 {
     let _ = flat.arena.len();
     let sets = sets_of(alloc, bound)?;

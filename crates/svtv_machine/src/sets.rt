@@ -1,7 +1,7 @@
 // The sets of wires that a table overrides: few, so one is found by going through them.
 ghost use Rattle.std.specs.Prelude.{◌≢◌, ◌↔◌, ℕ, ◌<◌, All, AllPairs, Contains, IsTrue, IfOk, OnOk};
 ghost use Rattle.svtv_unroll.specs.Unrolled.{HasSet};
-ghost use Rattle.svtv_machine.specs.Sets.{HasMore, IsOfPhase};
+ghost use Rattle.svtv_machine.specs.Sets.{HasMore, IsOfPhase, AreByFirstPhase};
 
 use items::Items;
 use std::alloc::{AllocError, Global};
@@ -24,11 +24,12 @@ fn add_set(sets: &mut Items<Items<usize>>, over: Items<usize>) -> Result<(), All
     sets.push(over)
 }
 
-/// The wires that are overridden in each phase; phases in which the same ones are have one set.
+/// The wires that are overridden in each phase; phases in which the same ones are have one set, which stands where the first of them comes.
 pub(crate) fn sets_of(alloc: Global, bound: &Bound) -> Result<Items<Items<usize>>, AllocError>
     ensures all { IfOk result (λ sets. (phase : ℕ) → phase < bound.now.phases → HasSet sets bound.now.overs phase) }
     ensures once { IfOk result (AllPairs ◌≢◌) }
     ensures only { IfOk result (All (IsOfPhase bound.now.overs bound.now.phases)) }
+    ensures order { IfOk result (AreByFirstPhase bound.now.overs bound.now.phases) }
 {
     let mut sets = Items::new(alloc);
     'phases: for phase in 0..bound.phases {

@@ -92,7 +92,7 @@ returns-clause-mentions c =
     let over = c.args.over.now in
     let new = c.laid.new.flat.arena in
     if_ok _ (λ set. (o : List ℕ) → AreTables flat o c.in_ok-tables.tables → IsLaid flat o new set)
-    (λ set. All (λ (e : NetEq). (wire : ℕ) → Mentions new e.value wire → IsReadFor flat over e.seg wire) set.eqs) c.laid.ensures.laid
+    (λ set. All (λ (e : NetEq). (wire : ℕ) → Mentions new e.value wire ↔ IsReadFor flat over e.seg wire) set.eqs) c.laid.ensures.laid
     (λ set h. let l = h over c.in_ok-tables.ensures in all-mention flat over new set.eqs (equations-are flat c.len.ensures.arena c.requires over new set.eqs l.eqs))
 
 pub returns-in_err-tables-clause-free : goal.returns-in_err-tables-clause-free

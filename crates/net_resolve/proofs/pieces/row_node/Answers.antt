@@ -6,7 +6,7 @@ use Rattle.svex_arena.proofs.Steps.{width-extends}
 use Rattle.driver_resolve.specs.Drivers.{widths_of}
 use Rattle.net_resolve.specs.Pieces.{IsWithin}
 use Rattle.net_resolve.proofs.Making.{within_kept}
-use Rattle.net_resolve.proofs.Piecing.{first_of_row, more_of_row}
+use Rattle.net_resolve.proofs.Piecing.{first_of_row, more_of_row, whole_row}
 use Rattle.net_resolve.proofs.pieces.row_node.Goals as goal
 
 pub gifts-init : goal.gifts-init
@@ -54,3 +54,6 @@ returns-in_err-node-2-clause-made c = IfOk-from_err _ _ c.from_residual-in_err-n
 
 pub returns-in_err-node-clause-made : goal.returns-in_err-node-clause-made
 returns-in_err-node-clause-made c = IfOk-from_err _ _ c.from_residual.ensures.0
+
+pub returns-clause-made : goal.returns-clause-made
+returns-clause-made c = whole_row (widths_of c.args.wires.now) c.args.arena.now c.gifts.arena c.args.row.now c.gifts.at c.args.width c.gifts.node (omega arith) c.gifts.invariant.made

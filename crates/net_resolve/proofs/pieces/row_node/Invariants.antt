@@ -10,5 +10,5 @@ invariant-gifts l = record {
   arena : IsArena l.arena;
   extends : Extends l.fn.arena l.arena;
   some : 1 ≤ l.at;
-  made : IsMade (widths_of l.wires) l.fn.arena (Contains l.row) l.width (row_value (widths_of l.wires) l.fn.arena (take l.at l.row) l.width) l.arena l.node;
+  made : IsMade (widths_of l.wires) l.fn.arena (Contains (take l.at l.row)) l.width (row_value (widths_of l.wires) l.fn.arena (take l.at l.row) l.width) l.arena l.node;
 }

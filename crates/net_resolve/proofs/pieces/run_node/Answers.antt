@@ -6,7 +6,7 @@ use Rattle.driver_resolve.specs.Drivers.{widths_of}
 use Rattle.event_nets.specs.Needs.{gift_rows}
 use Rattle.net_resolve.specs.Pieces.{IsMade, IsGivenRun, HasInRun, run_value}
 use Rattle.net_resolve.proofs.Making.{run_kept}
-use Rattle.net_resolve.proofs.Piecing.{run-part, run_front, more_of_run}
+use Rattle.net_resolve.proofs.Piecing.{run-part, more_of_run}
 use Rattle.net_resolve.proofs.pieces.run_node.Goals as goal
 
 pub pieces-init : goal.pieces-init
@@ -14,7 +14,7 @@ pieces-init c = record {
   arena = c.in_ok-node.ensures.arena;
   extends = c.in_ok-node.ensures.extends;
   most = c.piece_width-at.ensures.most;
-  made = run_front (widths_of c.args.wires.now) c.args.arena.now c.piece_node.new.arena (gift_rows c.args.rows.now) c.args.low c.args.width c.piece_width-at.result c.in_ok-node.node c.piece_width-at.ensures.most c.in_ok-node.ensures.made;
+  made = c.in_ok-node.ensures.made;
 }
 
 pub piece_node-requires-in-pieces-clause-run : goal.piece_node-requires-in-pieces-clause-run

@@ -10,7 +10,7 @@ invariant-pieces l = record {
   arena : IsArena l.arena;
   extends : Extends l.fn.arena l.arena;
   most : l.at ≤ l.width;
-  made : IsMade (widths_of l.wires) l.fn.arena (HasInRun (gift_rows l.rows) l.low l.width) l.at (run_value (widths_of l.wires) l.fn.arena (gift_rows l.rows) l.low l.at) l.arena l.node;
+  made : IsMade (widths_of l.wires) l.fn.arena (HasInRun (gift_rows l.rows) l.low l.at) l.at (run_value (widths_of l.wires) l.fn.arena (gift_rows l.rows) l.low l.at) l.arena l.node;
 }
 
 abbrev pub decreases-pieces : goal.decreases-pieces

@@ -1,4 +1,4 @@
-use Rattle.std.proofs.Common.{ℕ, List, Err, ◌≤◌}
+use Rattle.std.proofs.Common.{ℕ, List, Err, None, Some, ◌≤◌}
 use Rattle.net_equations.specs.declared.group.ComposeErr.TheVariants.{LoopTooWide}
 use Rattle.std.proofs.Common.{◌∙◌, ap, sym, map, subst}
 use Rattle.std.proofs.lemmas.Result.{err_from_is_err_and}
@@ -9,6 +9,7 @@ use Rattle.phase_fsm.proofs.Setting.{wires-are, same-error}
 use Rattle.net_equations.specs.declared.group.Group.{Group}
 use Rattle.net_equations.specs.Groups.{IsOrder}
 use Rattle.phase_fsm.proofs.Growing.{flat-stays}
+use Rattle.phase_fsm.proofs.Depending.{groups-are}
 use Rattle.phase_fsm.proofs.machine.set_nodes.Goals as goal
 
 -- src/machine.rt:74:18
@@ -27,25 +28,11 @@ returns-in_err-composed-clause-flat c = flat-stays c.resolve.new.flat c.compose.
 pub returns-in_err-composed-clause-wide : goal.returns-in_err-composed-clause-wide
 returns-in_err-composed-clause-wide c = λ bits is.
     let p = err_from_is_err_and c.from_residual-in_err-composed.result c.from_residual-in_err-composed.ensures.1 in
-    record {
-      kept = c.args.joins.now;
-      widths = c.requires.widths;
-      stands = c.requires.stands;
-      shapes = c.resolve.new.flat.arena;
-      set = c.in_ok-set.set;
-      equations = record {
-        behind = c.resolve.ensures.kept.arena;
-        resolved = c.in_ok-set.ensures.resolved c.args.joins.now c.requires.stands c.requires.widths;
-        nets = c.in_ok-set.ensures.nets;
-        whole = c.in_ok-set.ensures.whole;
-        free = c.in_ok-set.ensures.free;
-        settles = c.in_ok-set.ensures.settles;
-        mentions = c.in_ok-set.ensures.mentions;
-      };
-      groups = map (λ g. g.members) c.as_slice.result.now;
-      order = subst (λ (all : List Group). IsOrder c.args.joins.now c.resolve.new.flat.arena c.in_ok-set.set.eqs (map (λ g. g.members) all)) (sym c.as_slice.ensures) c.in_ok-groups.ensures.order;
-      first = c.compose.ensures.wide bits (c.in_err-composed.was ∙ ap Err (sym p.2 ∙ same-error p.0 (LoopTooWide bits) (sym p.1 ∙ is)));
-    }
+    let set = c.in_ok-set.ensures in
+    groups-are c.args.flat.now c.args.over.now c.args.joins.now c.resolve.new.flat.arena c.in_ok-set.set c.requires.widths c.requires.stands set.mentions
+    (set.resolved c.args.joins.now c.requires.stands c.requires.widths) set.nets set.whole (map (λ g. g.members) c.as_slice.result.now)
+    (subst (λ (all : List Group). IsOrder c.args.joins.now c.resolve.new.flat.arena c.in_ok-set.set.eqs (map (λ g. g.members) all)) (sym c.as_slice.ensures) c.in_ok-groups.ensures.order)
+    (Some bits) (c.compose.ensures.wide bits (c.in_err-composed.was ∙ ap Err (sym p.2 ∙ same-error p.0 (LoopTooWide bits) (sym p.1 ∙ is))))
 
 -- src/machine.rt:76:8
 pub wire_nodes-requires-clause-composed : goal.wire_nodes-requires-clause-composed
@@ -79,22 +66,9 @@ returns-clause-nodes c = wires-are c.args.flat.now c.args.over.now c.args.joins.
 
 -- src/machine.rt:55:1
 pub returns-clause-narrow : goal.returns-clause-narrow
-returns-clause-narrow c = record {
-  kept = c.args.joins.now;
-  widths = c.requires.widths;
-  stands = c.requires.stands;
-  shapes = c.resolve.new.flat.arena;
-  set = c.in_ok-set.set;
-  equations = record {
-    behind = c.resolve.ensures.kept.arena;
-    resolved = c.in_ok-set.ensures.resolved c.args.joins.now c.requires.stands c.requires.widths;
-    nets = c.in_ok-set.ensures.nets;
-    whole = c.in_ok-set.ensures.whole;
-    free = c.in_ok-set.ensures.free;
-    settles = c.in_ok-set.ensures.settles;
-    mentions = c.in_ok-set.ensures.mentions;
-  };
-  groups = map (λ g. g.members) c.as_slice.result.now;
-  order = subst (λ (all : List Group). IsOrder c.args.joins.now c.resolve.new.flat.arena c.in_ok-set.set.eqs (map (λ g. g.members) all)) (sym c.as_slice.ensures) c.in_ok-groups.ensures.order;
-  first = c.in_ok-composed.ensures.narrow;
-}
+returns-clause-narrow c =
+    let set = c.in_ok-set.ensures in
+    groups-are c.args.flat.now c.args.over.now c.args.joins.now c.resolve.new.flat.arena c.in_ok-set.set c.requires.widths c.requires.stands set.mentions
+    (set.resolved c.args.joins.now c.requires.stands c.requires.widths) set.nets set.whole (map (λ g. g.members) c.as_slice.result.now)
+    (subst (λ (all : List Group). IsOrder c.args.joins.now c.resolve.new.flat.arena c.in_ok-set.set.eqs (map (λ g. g.members) all)) (sym c.as_slice.ensures) c.in_ok-groups.ensures.order)
+    None c.in_ok-composed.ensures.narrow

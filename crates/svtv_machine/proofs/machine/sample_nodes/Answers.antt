@@ -11,6 +11,17 @@ returns-in-Err-clause-wide c = λ bits is d elaborated.
     let same : c.in-Err.error ≡ LoopTooWide bits = IfErr-at_err (λ e. c.in-Err.error ≡ e) is refl in
     wide-groups-loop d c.args.flat c.in_ok-sets.sets bits c.len.ensures.arena elaborated (c.make_fsm.ensures.wide bits (c.in-Err.is ∙ ap Err same))
 
+pub returns-in-Err-clause-first : goal.returns-in-Err-clause-first
+returns-in-Err-clause-first c = λ bits is.
+    let same : c.in-Err.error ≡ LoopTooWide bits = IfErr-at_err (λ e. c.in-Err.error ≡ e) is refl in
+    let own = c.in_ok-sets.ensures in
+    (c.in_ok-sets.sets, record { all = own.all; once = own.once; only = own.only; order = own.order }, c.make_fsm.ensures.wide bits (c.in-Err.is ∙ ap Err same))
+
+pub returns-in-Ok-unroll-clause-narrow : goal.returns-in-Ok-unroll-clause-narrow
+returns-in-Ok-unroll-clause-narrow c =
+    let own = c.in_ok-sets.ensures in
+    (c.in_ok-sets.sets, record { all = own.all; once = own.once; only = own.only; order = own.order }, c.in-Ok.ensures.narrow)
+
 -- src/machine.rt:35:1
 pub returns-in-Ok-unroll-clause-least : goal.returns-in-Ok-unroll-clause-least
 returns-in-Ok-unroll-clause-least c = λ d elaborated.

@@ -1,4 +1,5 @@
-use Rattle.svtv_machine.proofs.Adding.{all_more, once_more, only_more}
+use Rattle.std.proofs.Common.{arith}
+use Rattle.svtv_machine.proofs.Adding.{all_more, once_more, only_more, order_more}
 use Rattle.svtv_machine.proofs.sets.sets_of.Goals as goal
 
 pub phases-preserved : goal.phases-preserved
@@ -14,4 +15,8 @@ phases-preserved c =
       all = all_more overs phase old new over more c.in_ok-over.ensures.ascending c.in_ok-over.ensures.wires kept.all;
       once = once_more overs phase old new over more kept.once;
       only = only_more overs phase old new over more c.in_ok-over.ensures.ascending c.in_ok-over.ensures.wires kept.only;
+      order = order_more overs phase old new over more c.in_ok-over.ensures.ascending c.in_ok-over.ensures.wires kept.all kept.only kept.order;
     }
+
+pub returns-clause-order : goal.returns-clause-order
+returns-clause-order c = λ s t lt tl phase below wires. c.phases.invariant.order s t lt tl phase (omega (arith, below)) wires

@@ -1,7 +1,7 @@
 use Rattle.std.proofs.Common.{◌≢◌, ℕ, ◌<◌}
 use Rattle.std.specs.List.{All, AllPairs}
 use Rattle.svtv_unroll.specs.Unrolled.{HasSet}
-use Rattle.svtv_machine.specs.Sets.{IsOfPhase}
+use Rattle.svtv_machine.specs.Sets.{IsOfPhase, AreByFirstPhase}
 use Rattle.svtv_machine.proofs.sets.sets_of.Given as goal
 
 abbrev pub invariant-phases : goal.invariant-phases
@@ -9,4 +9,5 @@ invariant-phases l = record {
   all : (k : ℕ) → k < l.phase → HasSet l.sets l.bound.overs k;
   once : AllPairs ◌≢◌ l.sets;
   only : All (IsOfPhase l.bound.overs l.phase) l.sets;
+  order : AreByFirstPhase l.bound.overs l.phase l.sets;
 }
