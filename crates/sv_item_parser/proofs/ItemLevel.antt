@@ -1,5 +1,5 @@
 -- Items are read as they are spelled, at each depth.
-use Rattle.std.proofs.Common.{◌≡◌, ℕ, zero, suc, ◌+◌, ◌<◌, ◌≤◌, inl, inr, true, List, [], ◌∷◌, ◌++◌, length, Some, None, Err, refl, sym, ◌∙◌, ap, subst, append_assoc, length-append, arith}
+use Rattle.std.proofs.Common.{◌≡◌, ℕ, zero, suc, ◌<◌, ◌≤◌, inl, inr, true, List, [], ◌∷◌, ◌++◌, length, Some, None, Err, refl, sym, ◌∙◌, ap, subst, append_assoc, length-append, arith}
 use Rattle.sv_outside.specs.declared.text.Token.{Token}
 use Rattle.sv_tree.specs.declared.word.Word.{Word}
 use Rattle.sv_tree.specs.declared.forms.TypeTree.{TypeTree}
@@ -14,11 +14,11 @@ use Rattle.sv_tree.specs.declared.design.Item.TheVariants as it
 use Rattle.sv_tree.specs.Spelling.{◌⨟◌, mark as mark_spelled, key, name, commas, after_commas}
 use Rattle.sv_tree.specs.GrammarDesign.{SpellsPair, is_closed}
 use Rattle.sv_stmt_parser.specs.Stmts.{is_given}
-use Rattle.sv_tree.specs.Nesting.{Nesting, Depths, one as one_token, in_type, in_generate, each_depths, commas_depths, word_depths}
-use Rattle.sv_tree.specs.NestingDesign.{range_depths, pair_depths, item_depths}
+use Rattle.sv_tree.specs.Nesting.{Nesting, Depths, one as one_token, in_generate, each_depths, commas_depths, word_depths}
+use Rattle.sv_tree.specs.NestingDesign.{range_depths, named_type_depths, pair_depths, item_depths}
 use Rattle.sv_tree.proofs.MadeForms as made_forms
 use Rattle.sv_tree.proofs.MadeDesign as made
-use Rattle.sv_tree.proofs.Counted.{length_in_type}
+use Rattle.sv_tree.proofs.Counted.{length_named}
 use Rattle.sv_tree.proofs.CountedDesign.{counted_pair}
 use Rattle.sv_cursor.specs.declared.error.ParseErr.TheVariants.{Syntax}
 use Rattle.sv_cursor.specs.declared.sort.Keyword.TheVariants as k
@@ -41,10 +41,10 @@ use Rattle.sv_instance_parser.specs.Instances.{made_inst, made_named_item, named
 use Rattle.sv_item_parser.specs.Items.{made_net, net, made_variable, variable, genvar, made_pair, pair, assigns, region, gen_loop, gen_if, item_for, item_level, item}
 use Rattle.sv_type_parser.proofs.Rules.{Rule, the_mark, the_key, before, seq, closing, tree_reads, rule_of, list_rule, renested, Way, way_reader, name_rule, IsFirst, first_of_mark, no_mark}
 use Rattle.sv_type_parser.proofs.Words.{net_rule}
-use Rattle.sv_type_parser.proofs.Limits.{Over, first_end, end_mark}
+use Rattle.sv_type_parser.proofs.Limits.{Over, first_end, end_mark, named_type_lifts}
 use Rattle.sv_type_parser.proofs.Types.{type_stops_name, names_first, names_end}
 use Rattle.sv_type_parser.proofs.Params.{form_rule, typedef_rule, param_tree_rule}
-use Rattle.sv_type_parser.proofs.Ports.{TypedStops, typed_ends, typed_name_rule, bad_typed}
+use Rattle.sv_type_parser.proofs.Ports.{TypedStops, typed_ends, typed_name_rule}
 use Rattle.sv_stmt_parser.proofs.Targets.{NoSelect, no_select, lvalue_rule}
 use Rattle.sv_type_parser.proofs.Types.{given_rule}
 use Rattle.sv_stmt_parser.proofs.Steps.{NoColon}
@@ -62,19 +62,19 @@ named_equal_over w p all = sym (made.nests_inst (made_inst w (Some p) all) ∙ s
 named_equal_inst : (w n : Word) (p : _) (all : _) → one_token ++ tail_nests (name_tail.Plain n (plain_tail.Instances p all)) ≡ item_depths (made_named_item (w, name_tail.Plain n (plain_tail.Instances p all)))
 named_equal_inst w n p all = sym (made.nests_inst (made_inst w None (record { name = n; pins = p } ∷ all)) ∙ simp append_assoc)
 
-variable_equal : (w : Word) (ranges : _) (names : List Word) → item_depths (it.Variable (ty.Named w ranges) names) ≡ in_type (one_token ++ each_depths range_depths ranges) ++ (commas_depths word_depths names ++ one_token)
+variable_equal : (w : Word) (ranges : _) (names : List Word) → item_depths (it.Variable (ty.Named w ranges) names) ≡ named_type_depths w ranges ++ (commas_depths word_depths names ++ one_token)
 variable_equal w ranges names =
-    made.nests_variable (ty.Named w ranges) names ∙ (ap (λ l. l ++ commas_depths word_depths names ++ one_token) (made_forms.nests_named w ranges) ∙ append_assoc (in_type (one_token ++ each_depths range_depths ranges)) (commas_depths word_depths names) one_token)
+    made.nests_variable (ty.Named w ranges) names ∙ (ap (λ l. l ++ commas_depths word_depths names ++ one_token) (made_forms.nests_named w ranges) ∙ append_assoc (named_type_depths w ranges) (commas_depths word_depths names) one_token)
 
 variable_length : (w : Word) (ranges : _) (names : List Word) (l : Depths) → l ≡ (one_token ++ each_depths range_depths ranges) ++ (commas_depths word_depths names ++ one_token)
     → length (item_depths (it.Variable (ty.Named w ranges) names)) ≡ length l
-variable_length w ranges names l e = ap length (variable_equal w ranges names) ∙ (simp (length-append, length_in_type) (omega arith) ∙ sym (ap length e))
+variable_length w ranges names l e = ap length (variable_equal w ranges names) ∙ (simp length-append (omega (arith, length_named w ranges)) ∙ sym (ap length e))
 
 variable_lifts : (h : ℕ) (w : Word) (ranges : _) (names : List Word) (l : Depths) (k : ℕ) → l ≡ (one_token ++ each_depths range_depths ranges) ++ (commas_depths word_depths names ++ one_token)
     → BadAt (Over 201 h 201) l k → BadAt (Over 201 h 201) (item_depths (it.Variable (ty.Named w ranges) names)) k
 variable_lifts h w ranges names l k e v =
     subst (λ l. BadAt (Over 201 h 201) l k) (sym (variable_equal w ranges names))
-    (bad_typed 201 h 201 (one_token ++ each_depths range_depths ranges) (commas_depths word_depths names ++ one_token) k (subst (λ l. BadAt (Over 201 h 201) l k) e v))
+    (named_type_lifts 201 h 201 w ranges (commas_depths word_depths names ++ one_token) k (subst (λ l. BadAt (Over 201 h 201) l k) e v))
 
 named_length : (c : Word × NameTail) → length (item_depths (made_named_item c)) ≡ length (one_token ++ tail_nests c.1)
 named_length (w, name_tail.Overridden p all) = ap length (sym (named_equal_over w p all))

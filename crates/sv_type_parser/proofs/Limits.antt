@@ -78,14 +78,14 @@ bad_typed s g t (n ∷ a) b zero h = typed_up s g t n h
 bad_typed s g t (n ∷ a) b (suc k) h = bad_typed s g t a b k h
 
 -- a name with its ranges, before other tokens
-pub named_lifts : (s g t : ℕ) (w : Word) (ranges : List Range) (b : Depths) (k : ℕ) → BadAt (Over s g t) ((one ++ each_depths range_depths ranges) ++ b) k → BadAt (Over s g t) (named_type_depths w ranges ++ b) k
-named_lifts s g t w [] b k h = h
-named_lifts s g t w (r ∷ more) b k h = bad_typed s g t (one ++ each_depths range_depths (r ∷ more)) b k h
+pub named_type_lifts : (s g t : ℕ) (w : Word) (ranges : List Range) (b : Depths) (k : ℕ) → BadAt (Over s g t) ((one ++ each_depths range_depths ranges) ++ b) k → BadAt (Over s g t) (named_type_depths w ranges ++ b) k
+named_type_lifts s g t w [] b k h = h
+named_type_lifts s g t w (r ∷ more) b k h = bad_typed s g t (one ++ each_depths range_depths (r ∷ more)) b k h
 
-pub named_bad : (s g t : ℕ) (w : Word) (ranges : List Range) (k : ℕ) → BadAt (Over s g t) (one ++ each_depths range_depths ranges) k → BadAt (Over s g t) (named_type_depths w ranges) k
+pub named_type_bad : (s g t : ℕ) (w : Word) (ranges : List Range) (k : ℕ) → BadAt (Over s g t) (one ++ each_depths range_depths ranges) k → BadAt (Over s g t) (named_type_depths w ranges) k
 unfolding in_type
-named_bad s g t w [] k h = h
-named_bad s g t w (r ∷ more) k h = bad_map (Over s g t) (Over s g t) (λ n. record n { types = n.types + 1 }) (typed_up s g t) (one ++ each_depths range_depths (r ∷ more)) k h
+named_type_bad s g t w [] k h = h
+named_type_bad s g t w (r ∷ more) k h = bad_map (Over s g t) (Over s g t) (λ n. record n { types = n.types + 1 }) (typed_up s g t) (one ++ each_depths range_depths (r ∷ more)) k h
 
 -- the tokens of the rule lie in one type more
 abbrev pub typed : {A : Type 0} {depth : ℕ} (s g t : ℕ) → Rule (Over s g t) depth A → Rule (Over s g (suc t)) depth A

@@ -31,7 +31,7 @@ use Rattle.sv_word_parser.specs.Words.{type_by_word, type_by_sort, word_type_by_
 use Rattle.sv_type_parser.specs.Params.{TypedName, made_typed, made_untyped, behind_type, untyped, typed, typed_name, made_port, port}
 use Rattle.sv_type_parser.proofs.Rules.{Rule, seq, optional, tree_reads, rule_of, renested, name_rule, Way, fork_reads, fork_moved, ReadBy, IsFirst, first_of_name, told_sort, told_word}
 use Rattle.sv_type_parser.proofs.Words.{way_rule, way_begins, net_rule, net_first, net_begins, net_word_name}
-use Rattle.sv_type_parser.proofs.Limits.{Over, named_lifts}
+use Rattle.sv_type_parser.proofs.Limits.{Over, named_type_lifts}
 use Rattle.sv_type_parser.proofs.Types.{range_first, ranges_rule, type_stops_name, type_split, type_begins}
 use Rattle.sv_type_parser.proofs.Params.{form_rule}
 
@@ -73,7 +73,7 @@ module _ (s g d : ℕ) (le : d ≤ 200) where
 
   untyped_lifts : (c : Word × Option (List Range × Word)) (k : ℕ) → BadAt (Over s g 201) (untyped_tuple.nests c) k → BadAt (Over s g 201) (typed_nests (made_untyped c)) k
   untyped_lifts (w, None) k h = h
-  untyped_lifts (w, Some c) k h = subst (λ l. BadAt (Over s g 201) (l ++ one) k) (sym (made.nests_named w c.0)) (named_lifts s g 201 w c.0 one k h)
+  untyped_lifts (w, Some c) k h = subst (λ l. BadAt (Over s g 201) (l ++ one) k) (sym (made.nests_named w c.0)) (named_type_lifts s g 201 w c.0 one k h)
 
   untyped_to : (c : Word × Option (List Range × Word)) (i o : List Token) → untyped_tuple.spelled c i o → TypedSpelled (made_untyped c) i o
   untyped_to (w, None) i o h = (i, refl, subst (λ t. name w i t) h.2 h.1)

@@ -40,7 +40,7 @@ use Rattle.sv_word_parser.specs.Words.{sign_by_word, type_by_word, type_by_sort,
 use Rattle.sv_type_parser.specs.Forms.{made_range, range, ranges, given, names, maybe_sign, made_label, enum_label, made_word_vector, word_vector, made_sign_vector, sign_vector, made_range_vector, range_vector, whole, made_enum, enumeration, made_named, named, made_member, member, made_struct, members, structure, type_for, type_level, unranged, name_alone, form}
 use Rattle.sv_type_parser.proofs.Rules.{Rule, Fixed, the_mark, the_key, placed, before, opening, seq, closing, optional, several, tree_reads, rule_of, until, some_rule, list_rule, renested, name_reads, name_moved, name_rule, Way, choose_reads, ReadBy, reader_of, IsFirst, first_of_mark, first_of_mark_at, first_of_key, first_of_name, placed_key, some_key, told_sort, told_word, no_mark, mark_begins, moved_counted}
 use Rattle.sv_type_parser.proofs.Words.{sign_rule, sign_first, sign_begins, bits_rule, bits_first, sign_word_name, bits_word_name}
-use Rattle.sv_type_parser.proofs.Limits.{Over, expression_rule, is_end, first_end, end_mark, typed, named_bad}
+use Rattle.sv_type_parser.proofs.Limits.{Over, expression_rule, is_end, first_end, end_mark, typed, named_type_bad}
 
 -- what stops ranges
 abbrev pub NoRange : List Token → Type 0
@@ -444,7 +444,7 @@ module _ (s g limit t : ℕ) (le : suc t ≤ 200) (f : Parser TypeTree) (reads :
   }
   ways type_by.Name = record {
     A = Word × List Range;
-    rule = renested (named_rule s g (suc limit) (suc t) le) (λ c. named_type_depths c.0 c.1) (λ c. length_named c.0 c.1) (λ c k h. named_bad s g (suc limit) c.0 c.1 k h);
+    rule = renested (named_rule s g (suc limit) (suc t) le) (λ c. named_type_depths c.0 c.1) (λ c. length_named c.0 c.1) (λ c k h. named_type_bad s g (suc limit) c.0 c.1 k h);
     made = made_named;
     nested = λ c. sym (made.nests_named c.0 c.1);
     to = λ c i o h. h;
