@@ -72,8 +72,8 @@ CountsReads _ before now = now ≡ before
 pub record IsCutOff (text : Text) (cut cut_now : Option Text) (faults faults_now : ℕ) (other other_now : Option Text) (others others_now : ℕ) : Type 0 where
   pub part : IsPartWritten cut cut_now text
   pub failed : faults_now ≡ one_more faults
-  pub other : other_now ≡ other
-  pub others : others_now ≡ others
+  pub stays : other_now ≡ other
+  pub unfailed : others_now ≡ others
 
 -- one write failed, on the output or on the errors
 abbrev pub OneFailed : ℕ → ℕ → ℕ → ℕ → Type 0

@@ -104,6 +104,7 @@ fn stopped(alloc: Global, stop: Stop) -> Outcome
     }
 }
 
+#[tactic(auto, using(crate::proofs::Counted::stopped_counts))]
 fn proved<F: Files>(
     alloc: Global,
     files: &mut F,
@@ -126,6 +127,7 @@ fn proved<F: Files>(
     }
 }
 
+#[tactic(auto, using(crate::proofs::Counted::stopped_counts))]
 fn simulated<F: Files>(
     alloc: Global,
     files: &mut F,
@@ -146,6 +148,7 @@ fn simulated<F: Files>(
     }
 }
 
+#[tactic(auto, using(crate::proofs::Counted::stopped_counts))]
 fn dumped<F: Files>(alloc: Global, files: &mut F, design: &Name, top: Option<&Name>) -> Outcome
     ensures is { IsDump (F.contents files.old) design.now (option_copied top.entry) result }
     ensures rose { IfLeft (Rose (F.faults files.old) (F.faults files.new)) result }
@@ -184,6 +187,7 @@ fn top_name(alloc: Global, top: Option<&[u8]>) -> Result<Option<Name>, AllocErro
 }
 
 // Does the work of a command.
+#[tactic(auto, using(crate::proofs::Counted::test_counts))]
 fn worked<F: Files>(
     alloc: Global,
     files: &mut F,
@@ -219,6 +223,7 @@ fn worked<F: Files>(
 }
 
 /// Does the work of the words.
+#[tactic(auto, using(crate::proofs::Counted::memory_counts))]
 pub fn answer<F: Files>(alloc: Global, words: &[String], files: &mut F) -> Outcome
     ensures answers { Answers (F.contents files.old) (map string_bytes words.now) (status_of result) (text_of result) (message_of result) }
     ensures usage { ((c : m.Command) → IsCommand (map string_bytes words.now) c → ⊥) → status_of result ≡ status.Usage }

@@ -4,3 +4,4 @@ pub mod Growing
 pub mod Judgements
 pub mod Tables
 pub mod Turns
+mod Counting

@@ -20,6 +20,7 @@ use sv_preproc::{PreErr, preprocess};
 use svtv_files::Stop;
 
 // The tokens of the design's text.
+#[tactic(auto, using(crate::proofs::Counting::memory_counts))]
 fn tokens_of<F: Files>(alloc: Global, files: &mut F, name: &Name) -> Result<Tokens, Stop>
     ensures text { IfOk result (λ tokens. IsWholeText (Possible (F.contents files.old)) name.now tokens) }
     ensures stop { IfErr result (StopsText (F.contents files.old) name.now) }
@@ -52,6 +53,7 @@ fn in_file(tokens: &Tokens, error: TextErr) -> Stop
 }
 
 /// The flat form of the design that the file of that name is the text of, with the files that it includes.
+#[tactic(auto, using(crate::proofs::Counting::in_file_counts))]
 pub fn load_design<F: Files>(
     alloc: Global,
     files: &mut F,

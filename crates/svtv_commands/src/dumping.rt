@@ -13,6 +13,7 @@ use sv_outside::{Files, Name};
 use svtv_files::Stop;
 
 /// The text of the design's flat form, or why there is none.
+#[tactic(auto, using(crate::proofs::Counting::memory_counts))]
 pub fn dump<F: Files>(
     alloc: Global,
     files: &mut F,

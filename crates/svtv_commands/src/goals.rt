@@ -16,6 +16,7 @@ use svtv_files::{Stop, read, refused};
 use svtv_table::{Sample, VarDecl};
 
 /// The goals of the file of that name, over variables and samples. Nodes that are there keep their numbers and shapes.
+#[tactic(auto, using(crate::proofs::Counting::of_counts))]
 pub fn load_goals<F: Files>(
     alloc: Global,
     files: &mut F,

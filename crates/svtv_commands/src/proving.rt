@@ -13,6 +13,7 @@ use svtv_files::Stop;
 use svtv_texts::reported;
 
 /// Whether all goals are proved, and the report, or why there is none.
+#[tactic(auto, using(crate::proofs::Counting::memory_counts))]
 pub fn prove<F: Files>(
     alloc: Global,
     files: &mut F,

@@ -14,6 +14,7 @@ use svtv_files::Stop;
 use svtv_texts::sampled;
 
 /// The samples of the least run, or why there are none.
+#[tactic(auto, using(crate::proofs::Counting::memory_counts))]
 pub fn simulate<F: Files>(
     alloc: Global,
     files: &mut F,

@@ -21,6 +21,7 @@ pub struct Loaded {
 }
 
 /// The table that the file of that name is, over these wires.
+#[tactic(auto, using(crate::proofs::Counting::of_counts))]
 pub fn load_table<F: Files>(
     alloc: Global,
     files: &mut F,

@@ -16,6 +16,7 @@ use svtv_files::{Stop, read, refused};
 use svtv_table::{VarDecl, read_values};
 
 /// The values that the file of that name gives to variables, in their order.
+#[tactic(auto, using(crate::proofs::Counting::of_counts))]
 pub fn load_values<F: Files>(
     alloc: Global,
     files: &mut F,

@@ -1,8 +1,9 @@
-use Rattle.std.proofs.Common.{refl, subst, sym}
+use Rattle.std.proofs.Common.{◌∙◌, refl, subst, sym}
 use Rattle.std.specs.List.{All}
 use Rattle.std.specs.Option.{option_copied}
 use Rattle.flat_net.specs.declared.flat.Flat.{Flat}
 use Rattle.svtv_commands.specs.Inputs.{AreGoalsIn}
+use Rattle.svtv_commands.proofs.Counting.{wide_counts}
 use Rattle.svtv_commands.proofs.Growing.{none_left}
 use Rattle.svtv_commands.proofs.Turns.{fits, goals_turn, judged, same_told, samples_all_wide, vars_wide, wide_turn}
 use Rattle.svtv_texts.specs.Passed.{IsThere}
@@ -70,3 +71,9 @@ pub returns-in-Err-decided-clause-rose : goal.returns-in-Err-decided-clause-rose
 returns-in-Err-decided-clause-rose g c =
     let s = c.in-Ok.ensures.stands in
     none_left c.args.design.now s.design _ c.in-Err-decided.stop (c.in-Err-decided.ensures.stop s.design (designs_grow s.design c.in-Ok.setup.flat c.load_goals.new.arena s.elaborated c.load_goals.ensures.stays c.len.ensures.arena))
+
+pub returns-in-Err-decided-clause-counts : goal.returns-in-Err-decided-clause-counts
+returns-in-Err-decided-clause-counts g c =
+    let s = c.in-Ok.ensures.stands in
+    wide_counts c.args.design.now s.design c.in-Err-decided.stop _ _
+    (c.in-Err-decided.ensures.stop s.design (designs_grow s.design c.in-Ok.setup.flat c.load_goals.new.arena s.elaborated c.load_goals.ensures.stays c.len.ensures.arena)) (c.in-Ok-load_goals.ensures.kept ∙ c.in-Ok.ensures.kept)
