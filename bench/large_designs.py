@@ -72,14 +72,16 @@ def turns_of_statements():
 
 
 def long_names():
-    """1,000,000 wires below a name of 1,000 bytes."""
-    return ("module leaf;\nfor (genvar i = 0; i < 1000; i++) begin : g logic %s; end\nendmodule\nmodule m;\nfor (genvar i = 0; i < 1000; i++) begin : %s leaf u(); end\nendmodule\n" % ("w", "n" * 1000),
+    """990,000 wires below names of 1,000 bytes."""
+    return ("module leaf;\nfor (genvar i = 0; i < 990; i++) begin : g logic %s; end\nendmodule\nmodule m;\nfor (genvar i = 0; i < 1000; i++) begin : %s leaf u(); end\nendmodule\n" % ("w", "n" * 1000),
             "out,%s[0].u.g[0].w,s\n" % ("n" * 1000))
 
 
 def shared_parameters():
     """Instances that are given one parameter of 64 KB, as many as there may be."""
-    value = " + ".join("%d" % (n % 97) for n in range(13000))
+    value = "7"
+    for count in (50, 50, 8):
+        value = "(%s)" % " + ".join([value] * count)
     pins = ", ".join("u%d()" % n for n in range(60000))
     return "module leaf #(parameter P = 0); endmodule\nmodule m(input logic a);\nleaf #(.P(%s)) %s;\nendmodule\n" % (value, pins), "out,a,s\n"
 
