@@ -1,16 +1,15 @@
 -- How lines that were read so far can go on.
-use Rattle.std.proofs.Common.{◌≡◌, ℕ, zero, suc, ◌<◌, Bool, true, false, cond, eqb, List, [], ◌∷◌, ◌++◌, length, codes, Ok, Err, refl, sym, ap, ◌∙◌, append_assoc, arith}
+use Rattle.std.proofs.Common.{◌≡◌, ℕ, zero, suc, ◌<◌, true, false, cond, eqb, List, [], ◌∷◌, ◌++◌, length, codes, Ok, refl, sym, ap, ◌∙◌, append_assoc, arith}
 use Rattle.std.proofs.lemmas.List.{append-nil}
 use Rattle.std.proofs.lemmas.List.Concat.{flat_map-append}
 use Rattle.cnf.specs.declared.Dim.{Dim}
 use Rattle.cnf.specs.Formula.{formula_of}
 use Rattle.refute_check.specs.Entry.{Entry}
-use Rattle.lrat_text.specs.declared.token.Meaning.{Meaning}
 use Rattle.lrat_text.specs.declared.token.Token.{Token}
 use Rattle.lrat_text.specs.declared.stage.Stage.{Stage}
 use Rattle.lrat_text.specs.declared.stage.Stage.TheVariants.{Begin, Named, Vars, Count, Clauses}
 use Rattle.lrat_text.specs.Texts.{Row, row, value_after, size_of, number_of, meaning_of, is_blank, words_from, words_of, is_comment, token_at}
-use Rattle.lrat_text.specs.Reading.{Outcome, led, State, begin, push, push_all, is_done, known}
+use Rattle.lrat_text.specs.Reading.{led, State, begin, push, push_all, is_done, known}
 use Rattle.lrat_text.specs.Certs.{plain, clause_tokens, AreSteps, StandFor}
 use Rattle.lrat_text.specs.Causes.{CanGoOn}
 use Rattle.lrat_text.proofs.Pushing.{among, push_end}

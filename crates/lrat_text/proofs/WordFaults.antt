@@ -1,8 +1,7 @@
 -- What can be wrong with one word.
-use Rattle.std.proofs.Common.{◌≡◌, ℕ, ◌<◌, ◌^◌, ◌||◌, ◌⊎◌, inl, inr, Bool, true, false, cond, not, eqb, nat_lt, List, [], ◌∷◌, Ok, Err, Option, Some, None, refl, sym, ◌∙◌, arith}
+use Rattle.std.proofs.Common.{◌≡◌, ℕ, ◌<◌, ◌^◌, ◌||◌, ◌⊎◌, inl, inr, Bool, true, false, cond, not, eqb, nat_lt, Ok, Err, Option, Some, None, refl, arith}
 use Rattle.std.proofs.lemmas.Bool.{ltb-true, eqb-false}
 use Rattle.sv_outside.specs.declared.refusal.Refusal.{Refusal}
-use Rattle.sv_outside.specs.declared.refusal.Place.{Place}
 use Rattle.cnf.specs.declared.Dim.{Dim}
 use Rattle.lrat_text.specs.declared.token.Number.{Number}
 use Rattle.lrat_text.specs.declared.token.Meaning.{Meaning}
