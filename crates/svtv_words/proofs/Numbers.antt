@@ -1,11 +1,11 @@
 -- The number that a text is.
-use Rattle.std.proofs.Common.{◌≡◌, ℕ, ◌≤◌, Bool, true, false, cond, leb, ◌&&◌, length, Some, None, refl, sym, ap, ◌∙◌}
+use Rattle.std.proofs.Common.{◌≡◌, ℕ, ◌≤◌, cond, leb, ◌&&◌, length, Some, None, refl, sym, ap, ◌∙◌}
 use Rattle.std.specs.Prelude.{IfSome, IsTrue, Decides}
 use Rattle.std.specs.List.{All, list_all}
 use Rattle.std.proofs.lemmas.Bool.{leb-true, le-leb, and_parts, and_from}
 use Rattle.std.proofs.lemmas.Bool.Decides.{Decides-by_and}
-use Rattle.svtv_words.specs.Commands.{Text, IsNumber, IsBudget, IsCounted, is_digit, number_behind, most_budget, most_count}
-use Rattle.svtv_words.specs.Reading.{budget_of, count_if, number_in, in_bounds}
+use Rattle.svtv_words.specs.Commands.{Text, IsNumber, IsBudget, IsCount, is_digit, number_behind, most_budget, most_count}
+use Rattle.svtv_words.specs.Reading.{budget_of, count_of, number_in, in_bounds}
 use Rattle.svtv_words.proofs.OneWord.{on_if}
 
 digits_decide : (text : Text) → Decides (list_all is_digit text) (All (λ b. IsTrue (is_digit b)) text)
@@ -39,12 +39,8 @@ budget_is text = number_is 8 most_budget text
 pub budget_found : (text : Text) (n : ℕ) → IsBudget text n → budget_of text ≡ Some n
 budget_found text n h = number_found 8 most_budget text n h
 
--- ---- counts
+pub count_is : (text : Text) → IfSome (count_of text) (λ n. IsCount text n)
+count_is text = number_is 2 most_count text
 
-pub count_is : (asked : Bool) (text : Text) → IfSome (count_if asked text) (λ n. IsCounted asked text n)
-count_is true text = number_is 2 most_count text
-count_is false text = refl
-
-pub count_found : (asked : Bool) (text : Text) (n : ℕ) → IsCounted asked text n → count_if asked text ≡ Some n
-count_found true text n h = number_found 2 most_count text n h
-count_found false text n h = ap Some (sym h)
+pub count_found : (text : Text) (n : ℕ) → IsCount text n → count_of text ≡ Some n
+count_found text n h = number_found 2 most_count text n h

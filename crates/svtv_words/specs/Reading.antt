@@ -1,7 +1,7 @@
 -- What reading the words of a command from the left finds, a word at a time.
 use Rattle.std.specs.Prelude.{ℕ, Bool, true, false, not, ◌&&◌, ◌==◌, nat_le, nat_lt, List, [], ◌∷◌, ◌++◌, length, get_or, take, drop, Option, Some, None, is_some, option_map, option_and_then, unwrap_or, bytes_eq, codes, if◌then◌else◌}
 use Rattle.std.specs.List.{list_all}
-use Rattle.svtv_words.specs.Commands.{Text, Option', top, budget, option_text, takes_text, is_among, is_digit, number_behind, most_budget, most_count, Form, Verb', proves, sims, dumps, selftests, form_of}
+use Rattle.svtv_words.specs.Commands.{Text, Option', top, budget, vcd, option_text, takes_text, is_among, is_digit, number_behind, most_budget, most_count, Form, Verb', proves, sims, dumps, selftests, certs, checks, inducts, waves, form_of, Command, selftest, command_from}
 
 -- ---- one word
 
@@ -38,7 +38,7 @@ unfoldable pub option_kind : Option' → Text → Option Kind
 option_kind o w = if bytes_eq w (option_text o) then Some (bare_kind (takes_text o) o) else option_map (λ text. with_text o text) (joined_text o w)
 
 abbrev pub every_option : List Option'
-every_option = top ∷ budget ∷ []
+every_option = top ∷ budget ∷ vcd ∷ []
 
 -- the kind of a dashed word, by the first of these options that it has
 abbrev pub kind_among : List Option' → Text → Kind
@@ -69,27 +69,24 @@ budget_of text = number_in 8 most_budget text
 abbrev pub count_of : Text → Option ℕ
 count_of text = number_in 2 most_count text
 
--- the count that a text is where one is asked for, else 0
-abbrev pub count_if : Bool → Text → Option ℕ
-count_if true text = count_of text
-count_if false text = Some 0
-
 -- ---- what the options were given so far
 
 -- the texts of the options, if they were given
 pub data Texts : Type 0 where
-  texts : (top budget : Option Text) → Texts
+  texts : (top budget vcd : Option Text) → Texts
 
 abbrev pub nothing_given : Texts
-nothing_given = texts None None
+nothing_given = texts None None None
 
 abbrev pub text_at : Option' → Texts → Option Text
-text_at top (texts t b) = t
-text_at budget (texts t b) = b
+text_at top (texts t b v) = t
+text_at budget (texts t b v) = b
+text_at vcd (texts t b v) = v
 
 abbrev pub put : Option' → Text → Texts → Texts
-put top text (texts t b) = texts (Some text) b
-put budget text (texts t b) = texts t (Some text)
+put top text (texts t b v) = texts (Some text) b v
+put budget text (texts t b v) = texts t (Some text) v
+put vcd text (texts t b v) = texts t b (Some text)
 
 -- the number of the budget
 abbrev pub budget_at : Texts → Option ℕ
@@ -98,6 +95,7 @@ budget_at t = option_and_then budget_of (text_at budget t)
 abbrev pub is_good : Option' → Text → Bool
 is_good top text = not (length text == 0)
 is_good budget text = is_some (budget_of text)
+is_good vcd text = true
 
 -- an option of the form that was not given before, with a good text
 abbrev pub may_give : Form → Option Text → Option' → Text → Bool
@@ -166,23 +164,20 @@ found_in form (w ∷ more) f = option_and_then (found_in form more) (with_word f
 -- ---- the whole
 
 abbrev pub every_verb : List Verb'
-every_verb = proves ∷ sims ∷ dumps ∷ selftests ∷ []
+every_verb = proves ∷ sims ∷ dumps ∷ selftests ∷ certs ∷ checks ∷ inducts ∷ waves ∷ []
 
 -- the first of these verbs with this word
 abbrev pub verb_among : List Verb' → Text → Option Verb'
 verb_among [] w = None
 verb_among (v ∷ more) w = if bytes_eq w (form_of v).word then Some v else verb_among more w
 
--- a command's parts: its verb, its names, what its options are given, and its count
-pub data Parts : Type 0 where
-  parts : Verb' → (first second third : Text) → Option Text → Option ℕ → ℕ → Parts
+-- the command of a verb with as many names as it has, if the name of a self test is a count
+abbrev pub command_with : Verb' → List Text → Texts → Option Command
+command_with selftests names t = option_map (λ k. selftest k) (count_of (get_or names 0 []))
+command_with v names t = Some (command_from v names (text_at top t) (budget_at t) (is_some (text_at vcd t)))
 
--- with this count, if it is one
-abbrev pub parts_counted : Verb' → List Text → Texts → Option ℕ → Option Parts
-parts_counted v names t count = option_map (λ k. parts v (get_or names 0 []) (get_or names 1 []) (get_or names 2 []) (text_at top t) (budget_at t) k) count
-
-abbrev pub parts_named : Verb' → List Text → Texts → Option Parts
-parts_named v names t = if length names == (form_of v).positionals then parts_counted v names t (count_if (form_of v).counted (get_or names 0 [])) else None
+abbrev pub command_named : Verb' → List Text → Texts → Option Command
+command_named v names t = if length names == (form_of v).positionals then command_with v names t else None
 
 -- an option still waits for its text
 abbrev pub is_waiting : Next → Bool
@@ -190,9 +185,9 @@ is_waiting anything = false
 is_waiting (text_of o) = true
 is_waiting a_positional = false
 
-abbrev pub command_found : Verb' → Found → Option Parts
-command_found v (found next names t) = if is_waiting next then None else parts_named v names t
+abbrev pub command_found : Verb' → Found → Option Command
+command_found v (found next names t) = if is_waiting next then None else command_named v names t
 
-unfoldable pub command_in : List Text → Option Parts
+unfoldable pub command_in : List Text → Option Command
 command_in [] = None
 command_in (verb ∷ words) = option_and_then (λ v. option_and_then (command_found v) (found_in (form_of v) words nothing_found)) (verb_among every_verb verb)

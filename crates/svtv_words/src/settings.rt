@@ -12,6 +12,7 @@ ghost use Rattle.svtv_words.specs.Seen.{kind_is, option_is};
 pub(crate) enum OptionName {
     Top,
     Budget,
+    Vcd,
 }
 
 /// What a word is where no option waits for its text.
@@ -37,6 +38,7 @@ impl OptionName {
         match self {
             OptionName::Top => b"--top",
             OptionName::Budget => b"--budget",
+            OptionName::Vcd => b"--vcd",
         }
     }
 
@@ -47,6 +49,7 @@ impl OptionName {
         match self {
             OptionName::Top => true,
             OptionName::Budget => true,
+            OptionName::Vcd => false,
         }
     }
 
@@ -57,6 +60,7 @@ impl OptionName {
         match self {
             OptionName::Top => !text.is_empty(),
             OptionName::Budget => budget_of(text).is_some(),
+            OptionName::Vcd => true,
         }
     }
 
@@ -115,6 +119,8 @@ fn dashed_kind(word: &[u8]) -> Kind<'_>
     if let Some(kind) = OptionName::Top.kind(word) {
         kind
     } else if let Some(kind) = OptionName::Budget.kind(word) {
+        kind
+    } else if let Some(kind) = OptionName::Vcd.kind(word) {
         kind
     } else {
         Kind::Unknown
@@ -194,13 +200,9 @@ pub(crate) fn budget_of(text: &[u8]) -> Option<u64>
     number_in(text, BUDGET_DIGITS, MOST_BUDGET)
 }
 
-/// The count that a text is where one is asked for: 1 or 2 decimal digits, of a number from 1 to 30. Else it is 0.
-pub(crate) fn count_if(asked: bool, text: &[u8]) -> Option<u64>
-    ensures { result ≡ spec.count_if asked text.now }
+/// The count that a text is: 1 or 2 decimal digits, of a number from 1 to 30.
+pub(crate) fn count_of(text: &[u8]) -> Option<u64>
+    ensures { result ≡ spec.count_of text.now }
 {
-    if asked {
-        number_in(text, COUNT_DIGITS, MOST_COUNT)
-    } else {
-        Some(0)
-    }
+    number_in(text, COUNT_DIGITS, MOST_COUNT)
 }

@@ -8,11 +8,15 @@ use crate::settings::OptionName;
 
 /// What a command does.
 #[derive(Clone, Copy)]
-pub enum Verb {
+pub(crate) enum Verb {
     Prove,
     Sim,
     Dump,
     Selftest,
+    Cert,
+    Check,
+    Induct,
+    Wave,
 }
 
 impl Verb {
@@ -25,18 +29,10 @@ impl Verb {
             Verb::Sim => 3,
             Verb::Dump => 1,
             Verb::Selftest => 1,
-        }
-    }
-
-    /// Whether the first of them is a count.
-    pub(crate) fn is_counted(self) -> bool
-        ensures { result ≡ (form_of (verb_is self)).counted }
-    {
-        match self {
-            Verb::Prove => false,
-            Verb::Sim => false,
-            Verb::Dump => false,
-            Verb::Selftest => true,
+            Verb::Cert => 4,
+            Verb::Check => 1,
+            Verb::Induct => 4,
+            Verb::Wave => 2,
         }
     }
 
@@ -44,23 +40,13 @@ impl Verb {
     pub(crate) fn takes(self, option: OptionName) -> bool
         ensures { result ≡ is_among (option_is option) (form_of (verb_is self)).options }
     {
-        match self {
-            Verb::Prove => match option {
-                OptionName::Top => true,
-                OptionName::Budget => true,
-            },
-            Verb::Sim => match option {
-                OptionName::Top => true,
-                OptionName::Budget => false,
-            },
-            Verb::Dump => match option {
-                OptionName::Top => true,
-                OptionName::Budget => false,
-            },
-            Verb::Selftest => match option {
-                OptionName::Top => false,
-                OptionName::Budget => false,
-            },
+        match option {
+            OptionName::Top => matches!(
+                self,
+                Verb::Prove | Verb::Sim | Verb::Dump | Verb::Cert | Verb::Induct
+            ),
+            OptionName::Budget => matches!(self, Verb::Prove | Verb::Cert | Verb::Induct),
+            OptionName::Vcd => matches!(self, Verb::Sim),
         }
     }
 }
@@ -77,6 +63,14 @@ pub(crate) fn verb_of(word: &[u8]) -> Option<Verb>
         Some(Verb::Dump)
     } else if word == b"selftest".as_slice() {
         Some(Verb::Selftest)
+    } else if word == b"cert".as_slice() {
+        Some(Verb::Cert)
+    } else if word == b"check".as_slice() {
+        Some(Verb::Check)
+    } else if word == b"induct".as_slice() {
+        Some(Verb::Induct)
+    } else if word == b"wave".as_slice() {
+        Some(Verb::Wave)
     } else {
         None
     }
