@@ -25,8 +25,6 @@ pub enum Command<'a> {
         table: &'a [u8],
         values: &'a [u8],
         top: Option<&'a [u8]>,
-        /// Whether `--vcd` is given.
-        vcd: bool,
     },
     Dump {
         design: &'a [u8],
@@ -45,18 +43,6 @@ pub enum Command<'a> {
     },
     Check {
         file: &'a [u8],
-    },
-    Induct {
-        design: &'a [u8],
-        reset: &'a [u8],
-        period: &'a [u8],
-        invariants: &'a [u8],
-        top: Option<&'a [u8]>,
-        budget: Option<u64>,
-    },
-    Wave {
-        file: &'a [u8],
-        path: &'a [u8],
     },
 }
 
@@ -80,7 +66,6 @@ fn command_with<'a>(verb: Verb, names: Names<'a>, texts: Texts<'a>) -> Option<Co
             table: names.at(1),
             values: names.at(2),
             top,
-            vcd: texts.vcd.is_some(),
         }),
         Verb::Dump => Some(Command::Dump { design, top }),
         Verb::Selftest => Some(Command::Selftest {
@@ -95,18 +80,6 @@ fn command_with<'a>(verb: Verb, names: Names<'a>, texts: Texts<'a>) -> Option<Co
             budget,
         }),
         Verb::Check => Some(Command::Check { file: names.at(0) }),
-        Verb::Induct => Some(Command::Induct {
-            design,
-            reset: names.at(1),
-            period: names.at(2),
-            invariants: names.at(3),
-            top,
-            budget,
-        }),
-        Verb::Wave => Some(Command::Wave {
-            file: names.at(0),
-            path: names.at(1),
-        }),
     }
 }
 

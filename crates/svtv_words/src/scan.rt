@@ -23,7 +23,6 @@ pub(crate) enum Next {
 pub(crate) struct Texts<'a> {
     pub top: Option<&'a [u8]>,
     pub budget: Option<&'a [u8]>,
-    pub vcd: Option<&'a [u8]>,
 }
 
 impl<'a> Texts<'a> {
@@ -33,7 +32,6 @@ impl<'a> Texts<'a> {
         match option {
             OptionName::Top => self.top,
             OptionName::Budget => self.budget,
-            OptionName::Vcd => self.vcd,
         }
     }
 
@@ -47,10 +45,6 @@ impl<'a> Texts<'a> {
             },
             OptionName::Budget => Texts {
                 budget: Some(text),
-                ..self
-            },
-            OptionName::Vcd => Texts {
-                vcd: Some(text),
                 ..self
             },
         }
@@ -157,7 +151,6 @@ pub(crate) fn found_in(verb: Verb, words: &[String]) -> Option<Found<'_>>
         texts: Texts {
             top: None,
             budget: None,
-            vcd: None,
         },
     };
     for word in words {
