@@ -1,5 +1,5 @@
 -- What is printed of values and verdicts (this project's rules).
-use Rattle.std.specs.Prelude.{ℕ, List, [], ◌∷◌, ◌++◌, length, map, reverse, codes, decimal}
+use Rattle.std.specs.Prelude.{ℕ, List, [], ◌∷◌, ◌++◌, length, map, reverse, codes, decimal, Option, Some, None}
 use Rattle.fourvec.specs.declared.Bit.{Bit}
 use Rattle.fourvec.specs.declared.Bit.TheVariants.{Zero, One, Unknown, Floating}
 use Rattle.svtv_verdicts.specs.Verdicts.{Verdict, proved, vacuous, failed, undecided}
@@ -44,3 +44,21 @@ verdict_text vars samples name (undecided n) shown = name ++ (codes ": undecided
 unfoldable pub report : List Text → List Text → List Text → List Verdict → List (List (List Bit)) → Text
 report vars samples (name ∷ names) (v ∷ verdicts) (s ∷ shown) = verdict_text vars samples name v s ++ report vars samples names verdicts shown
 report vars samples names verdicts shown = []
+
+-- ---- certificates
+
+-- the word of a verdict
+abbrev pub verdict_word : Verdict → Text
+verdict_word proved = codes "proved"
+verdict_word vacuous = codes "vacuous"
+verdict_word (failed choice) = codes "failed"
+verdict_word (undecided n) = codes "undecided"
+
+-- what a certificate says of itself: the goal's name, a blank, and the word of its verdict
+abbrev pub cert_note : Text → Verdict → Text
+cert_note name verdict = name ++ (codes " " ++ verdict_word verdict)
+
+-- what is said of a certificate that was checked: `verified`, or the step at which it was not
+abbrev pub checked_text : Option ℕ → Text
+checked_text None = codes "verified" ++ line_feed
+checked_text (Some step) = codes "not verified: step " ++ (decimal step ++ line_feed)

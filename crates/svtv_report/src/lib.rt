@@ -1,10 +1,12 @@
-//! The texts that the tool prints: values, reports and messages.
+//! The texts that the tool prints: values, reports, messages, and what is said of certificates.
 #![tactic(auto)]
 
+mod certs;
 mod message;
 mod refusal;
 mod value;
 mod verdicts;
 
+pub use certs::{cert_note, checked_text};
 pub use message::{memory_text, read_fault_text, refusal_text, usage_text};
 pub use verdicts::{Verdict, report, samples_text};

@@ -46,6 +46,11 @@ pub(crate) fn word_of(number: u8) -> &'static [u8]
         37 => b"VarTwice",
         38 => b"ValueBad",
         39 => b"LoopTooWide",
+        40 => b"Unbuilt",
+        41 => b"GoalUnknown",
+        42 => b"CertSyntax",
+        43 => b"CertId",
+        44 => b"RatHint",
         _ => b"",
     }
 }
