@@ -71,3 +71,8 @@ pub goals_end : (vars samples : List Text) (whole text : Text) (names : List Tex
     → whole ≡ text ++ report vars samples (drop i names) verdicts shown → text ≡ whole
 goals_end vars samples whole text names verdicts shown i all_told rest =
     sym (rest ∙ ap (λ (t : Text). text ++ t) (no_goals vars samples (drop i names) verdicts shown (rw length-drop (omega arith))) ∙ append-nil text)
+
+-- the lines of one goal are its report
+pub one_goal : (vars samples : List Text) (name : Text) (v : Verdict) (s : List (List Bit)) (text : Text) → text ≡ verdict_text vars samples name v s → text ≡ report vars samples (name ∷ []) (v ∷ []) (s ∷ [])
+unfolding report
+one_goal vars samples name v s text e = e ∙ sym (append-nil (verdict_text vars samples name v s))

@@ -9,4 +9,4 @@ mod verdicts;
 
 pub use certs::{cert_note, checked_text};
 pub use message::{memory_text, read_fault_text, refusal_text, usage_text};
-pub use verdicts::{Verdict, report, samples_text};
+pub use verdicts::{Verdict, goal_report, report, samples_text};

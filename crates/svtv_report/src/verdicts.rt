@@ -1,7 +1,7 @@
 // The report of verdicts, and the text of samples. A goal has a line, and where it failed one for each variable of the choice
 // and each sample of its run, so that the failure can be seen. The texts are put behind one another in one vector, and only
 // want of memory can end it. The samples of a simulation are the same lines without what stands before them there.
-ghost use Rattle.std.specs.Prelude.{◌≡◌, ◌++◌, [], IfOk, OnOk, codes, decimal, length, map};
+ghost use Rattle.std.specs.Prelude.{◌≡◌, ◌∷◌, ◌++◌, [], IfOk, OnOk, codes, decimal, length, map};
 ghost use Rattle.svtv_report.specs.Seen.{verdict_is};
 ghost use Rattle.svtv_report.specs.Texts as t;
 ghost use Rattle.svtv_report.specs.Texts.{line_feed, value_lines, verdict_text};
@@ -120,6 +120,23 @@ pub fn report(
             shown[at].as_slice(),
         )?;
     }
+    Ok(text)
+}
+
+/// The report of the verdict of one goal.
+#[tactic(auto, using(crate::proofs::Lines::one_goal))]
+pub fn goal_report(
+    alloc: Global,
+    name: &Name,
+    verdict: &Verdict,
+    vars: &[VarDecl],
+    samples: &[Sample],
+    shown: &[Four],
+) -> Result<Vec<u8>, AllocError>
+    ensures { IfOk result (λ text. text.items ≡ t.report (var_texts vars.now) (sample_texts samples.now) (name.now ∷ []) (verdict_is verdict.now ∷ []) (shown.now ∷ [])) }
+{
+    let mut text = Vec::new(alloc);
+    push_verdict(&mut text, vars, samples, name, verdict, shown)?;
     Ok(text)
 }
 
