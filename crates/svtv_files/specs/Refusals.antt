@@ -4,6 +4,8 @@ use Rattle.std.specs.List.{Contains}
 use Rattle.design_loops.specs.Loops.{HasWideLoop}
 use Rattle.goal_text.specs.Goals.{HasCause}
 use Rattle.goal_tree.specs.declared.tree.GoalTree.{GoalTree}
+use Rattle.lrat_text.specs.Causes.{IsCause}
+use Rattle.lrat_text.specs.Reading as certs
 use Rattle.design_loops.specs.Passed.{sound_design}
 use Rattle.sv_meaning.specs.Designs.{Design}
 use Rattle.sv_meaning.specs.Faults.{Faults}
@@ -27,7 +29,7 @@ use Rattle.svtv_table.specs.Valuing.{values_faults}
 use Rattle.svtv_table.specs.declared.bound.Sample.{Sample}
 use Rattle.svtv_table.specs.declared.bound.VarDecl.{VarDecl}
 use Rattle.table_cells.specs.declared.table.Table.{Table}
-use Rattle.svtv_words.specs.Commands.{Command, prove, sim, dump, selftest}
+use Rattle.svtv_words.specs.Commands.{Command, prove, sim, dump, selftest, cert, check}
 use Rattle.svtv_files.specs.Files.{Text, Told, AreGoalsFile, IsDesignFile, IsTableText, IsTableFile, vars_of, samples_in}
 
 -- ---- designs
@@ -98,6 +100,13 @@ RefusesGoals told name vars samples r = TooLong told name r ⊎ IsBadGoals told 
 abbrev pub RefusesValues : Told → Text → List VarDecl → Refusal → Type 0
 RefusesValues told name vars r = TooLong told name r ⊎ IsFirstFault told name (values_faults vars) r
 
+-- The text breaks the form of certificates at this place, or a number stands there that can not.
+pub record IsBadCert (told : Told) (name : Text) (r : Refusal) : Type 0 where
+  pub text : Text
+  pub stands : Possible told name text
+  pub read : certs.read text ≡ Err r
+  pub cause : IsCause text r
+
 -- ---- turns
 
 -- The two files are a legal design, and a legal table over its wires.
@@ -135,6 +144,29 @@ RefusesProof told d t g top file r = RefusesSetup told d t top file r ⊎ Behind
 abbrev pub LeavesProof : Told → Text → Text → Text → Option Text → Text → Place → Type 0
 LeavesProof told d t g top file place = LeavesSetup told d t top file place ⊎ BehindSetup told d t top (λ design table. (file ≡ g) × (place ≡ at_first))
 
+-- one of the goals has this name
+abbrev pub HasGoal : List GoalTree → Text → Type 0
+HasGoal trees name = (goal : GoalTree) × Contains trees goal × (goal.name.text ≡ name)
+
+-- E41: the goals are legal, and none has the name.
+pub record IsGoalUnknown (told : Told) (g name : Text) (design : Design) (table : Table) (r : Refusal) : Type 0 where
+  pub trees : List GoalTree
+  pub file : AreGoalsFile told g (vars_of design table) (samples_in design table) trees
+  pub none : HasGoal trees name → ⊥
+  pub is : r ≡ record { number = 41; place = at_first; count = 0 }
+
+-- E39: the goals are legal and one has the name, and still the design has no machine.
+pub record IsGoalTooWide (told : Told) (g name : Text) (design : Design) (table : Table) (r : Refusal) : Type 0 where
+  pub trees : List GoalTree
+  pub file : AreGoalsFile told g (vars_of design table) (samples_in design table) trees
+  pub some : HasGoal trees name
+  pub wide : IsTooWide design r
+
+-- which file is refused where one goal is to be certified, and for what
+abbrev pub RefusesCert : Told → Text → Text → Text → Text → Option Text → Text → Refusal → Type 0
+RefusesCert told d t g name top file r = RefusesSetup told d t top file r ⊎ BehindSetup told d t top (λ design table.
+    ((file ≡ g) × RefusesGoals told g (vars_of design table) (samples_in design table) r) ⊎ (((file ≡ g) × IsGoalUnknown told g name design table r) ⊎ ((file ≡ d) × IsGoalTooWide told g name design table r)))
+
 -- which text of a self test is refused; none of them is left unread
 abbrev pub RefusesTest : ℕ → Text → Refusal → Type 0
 RefusesTest n file r = RefusesProof (test.told n) test.design_name test.table_name test.goals_name None file r
@@ -146,14 +178,25 @@ RefusesSimulation told d t v top file r = RefusesSetup told d t top file r ⊎ B
 abbrev pub LeavesSimulation : Told → Text → Text → Text → Option Text → Text → Place → Type 0
 LeavesSimulation told d t v top file place = LeavesSetup told d t top file place ⊎ BehindSetup told d t top (λ design table. (file ≡ v) × (place ≡ at_first))
 
+-- which certificate is refused, and for what
+abbrev pub RefusesCheck : Told → Text → Text → Refusal → Type 0
+RefusesCheck told f file r = (file ≡ f) × (TooLong told f r ⊎ IsBadCert told f r)
+
+abbrev pub LeavesCheck : Text → Text → Place → Type 0
+LeavesCheck f file place = (file ≡ f) × (place ≡ at_first)
+
 abbrev pub Refuses : Told → Command → Text → Refusal → Type 0
 Refuses told (prove d t g top budget) file r = RefusesProof told d t g top file r
 Refuses told (sim d t v top) file r = RefusesSimulation told d t v top file r
 Refuses told (dump d top) file r = RefusesDesign told d top file r
 Refuses told (selftest n) file r = RefusesTest n file r
+Refuses told (cert d t g name top budget) file r = RefusesCert told d t g name top file r
+Refuses told (check f) file r = RefusesCheck told f file r
 
 abbrev pub LeavesUnread : Told → Command → Text → Place → Type 0
 LeavesUnread told (prove d t g top budget) file place = LeavesProof told d t g top file place
 LeavesUnread told (sim d t v top) file place = LeavesSimulation told d t v top file place
 LeavesUnread told (dump d top) file place = UnreadDesign told d file place
 LeavesUnread told (selftest n) file place = ⊥
+LeavesUnread told (cert d t g name top budget) file place = LeavesProof told d t g top file place
+LeavesUnread told (check f) file place = LeavesCheck f file place
