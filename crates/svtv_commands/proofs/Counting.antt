@@ -7,7 +7,7 @@ use Rattle.sv_outside.specs.declared.refusal.TextErr.{TextErr}
 use Rattle.sv_outside.specs.declared.refusal.TextErr.TheVariants as e
 use Rattle.svtv_commands.specs.Machines.{StopsWide}
 use Rattle.svtv_files.specs.Files.{Text}
-use Rattle.svtv_files.specs.Stopping.{Counts, IsInFile, IsOf}
+use Rattle.svtv_files.specs.Stopping.{Counts, IfUnread, IsInFile, IsOf}
 use Rattle.svtv_files.specs.declared.stop.Stop.{Stop}
 use Rattle.svtv_files.specs.declared.stop.Stop.TheVariants.{Refused, Unread, Memory}
 
@@ -34,6 +34,14 @@ of_counts name (e.No r) Memory before now h k = inl k
 of_counts name e.Memory (Refused file own) before now h k = absurd h
 of_counts name e.Memory (Unread file place) before now h k = absurd h
 of_counts name e.Memory Memory before now h k = inl k
+
+pub of_left : (name : Text) (error : TextErr) (P : Type 0) (stop : Stop) → IsOf name error stop → IfUnread P stop
+of_left name (e.No r) P (Refused file own) h = tt
+of_left name (e.No r) P (Unread file place) h = absurd h
+of_left name (e.No r) P Memory h = tt
+of_left name e.Memory P (Refused file own) h = absurd h
+of_left name e.Memory P (Unread file place) h = absurd h
+of_left name e.Memory P Memory h = tt
 
 pub wide_counts : (name : Text) (d : Design) (stop : Stop) (before now : ℕ) → StopsWide name d stop → now ≡ before → Counts stop before now
 unfolding AtMostOneMore

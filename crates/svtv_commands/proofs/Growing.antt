@@ -64,8 +64,11 @@ module _ (old new : List Shape) (h : Extends old new) where
   one_bit_kept : (n : ℕ) → IsOneBit old n → IsOneBit new n
   one_bit_kept n b = record { there = omega (arith, b.there, h.longer); wide = width-extends old new n h b.there ∙ b.wide }
 
+  pub one_there : (goal : Goal) → IsThere old goal → IsThere new goal
+  one_there goal t = record { hyps = λ j n k. one_bit_kept _ (t.hyps j n k); claims = λ j n k. one_bit_kept _ (t.claims j n k) }
+
   pub there_kept : (goals : List Goal) → All (IsThere old) goals → All (IsThere new) goals
-  there_kept goals t i d l = record { hyps = λ j n k. one_bit_kept _ ((t i d l).hyps j n k); claims = λ j n k. one_bit_kept _ ((t i d l).claims j n k) }
+  there_kept goals t i d l = one_there _ (t i d l)
 
 -- What is reported of a copy, over a graph that has grown, is reported of the flat design.
 pub reports : (flat copy : Flat) (bound : Bound) (shapes : List Shape) (nodes : List ℕ) (goals : List Goal) (Report : Design → (List (List Bit) → Asked) → List GoalTree → Type 0) → copy ≡ flat → Extends flat.arena shapes
@@ -74,6 +77,14 @@ pub reports : (flat copy : Flat) (bound : Bound) (shapes : List Shape) (nodes : 
     → (d : Design) (asked : List (List Bit) → Asked) (trees : List GoalTree) → Poses d asked flat bound → AllZip (IsGoal bound.vars bound.samples flat.arena) trees goals → Report d asked trees
 reports flat copy bound shapes nodes goals Report same grown least h d asked trees p z =
     h d asked trees (subst (λ (f : Flat). Poses d asked f bound) (sym same) p) (least d p.elaborated) (goals_kept flat.arena shapes grown bound.vars bound.samples trees goals z)
+
+-- the same of one goal
+pub tells : (flat copy : Flat) (bound : Bound) (shapes : List Shape) (nodes : List ℕ) (goal : Goal) (Report : Design → (List (List Bit) → Asked) → GoalTree → Type 0) → copy ≡ flat → Extends flat.arena shapes
+    → ((d : Design) → IsElaborated d flat → AreLeastNodes d bound shapes nodes)
+    → ((d : Design) (asked : List (List Bit) → Asked) (tree : GoalTree) → Poses d asked copy bound → AreLeastNodes d bound shapes nodes → IsGoal bound.vars bound.samples shapes tree goal → Report d asked tree)
+    → (d : Design) (asked : List (List Bit) → Asked) (tree : GoalTree) → Poses d asked flat bound → IsGoal bound.vars bound.samples flat.arena tree goal → Report d asked tree
+tells flat copy bound shapes nodes goal Report same grown least h d asked tree p g =
+    h d asked tree (subst (λ (f : Flat). Poses d asked f bound) (sym same) p) (least d p.elaborated) (goal_kept flat.arena shapes grown bound.vars bound.samples tree goal g)
 
 -- ---- a design that has no machine
 

@@ -1,5 +1,5 @@
 -- What was decided of the goals of files, reported or counted.
-use Rattle.std.proofs.Common.{◌≡◌, ℕ, ◌<◌, ◌≤◌, Bool, map, Option, None, Result, Ok, Err, ◌∙◌, subst, arith, inl, inr}
+use Rattle.std.proofs.Common.{◌≡◌, ℕ, Bool, map, Option, None, Result, Ok, Err, ◌∙◌, subst, arith, inl, inr}
 use Rattle.std.specs.Prelude.{IfOk, IfErr}
 use Rattle.std.specs.List.{list_all}
 use Rattle.sv_outside.specs.Outside.{Rose}

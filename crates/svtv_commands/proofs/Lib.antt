@@ -1,7 +1,11 @@
 pub mod Benches
+pub mod Certified
+pub mod Checked
 pub mod Designs
 pub mod Growing
 pub mod Judgements
+pub mod Named
+pub mod Posings
 pub mod Tables
 pub mod Turns
 mod Counting

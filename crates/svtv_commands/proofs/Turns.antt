@@ -1,22 +1,19 @@
 -- Files in their turn: those before them are legal.
-use Rattle.std.proofs.Common.{◌≡◌, ℕ, List, [], map, Option, sym, ◌∙◌, ap, subst, inl, inr}
-use Rattle.std.specs.List.{All, AllZip, IsDistinct}
+use Rattle.std.proofs.Common.{◌≡◌, List, [], map, Option, sym, ◌∙◌, ap, subst, inr}
+use Rattle.std.specs.List.{All, IsDistinct}
 use Rattle.std.specs.Str.{bytes_eq}
 use Rattle.flat_net.specs.declared.flat.Flat.{Flat}
 use Rattle.fourvec.specs.declared.Bit.{Bit}
 use Rattle.goal_text.specs.declared.goal.Goal.{Goal}
-use Rattle.goal_text.specs.Nodes.{IsGoal}
-use Rattle.goal_tree.specs.declared.tree.GoalTree.{GoalTree}
 use Rattle.sv_elab.specs.Elaborated.{IsElaborated}
 use Rattle.sv_meaning.specs.Designs.{Design}
 use Rattle.sv_outside.specs.declared.text.Signal.{Signal}
 use Rattle.svex_shape.specs.declared.shape.Shape.{Shape}
 use Rattle.svtv_choices.proofs.Values.{values_choice}
-use Rattle.svtv_texts.specs.Passed.{Poses, bench}
 use Rattle.svtv_report.specs.Shown.{sample_texts}
 use Rattle.svtv_report.specs.Texts.{value_lines}
 use Rattle.svtv_texts.specs.Passed.{AreAsWide}
-use Rattle.svtv_runs.specs.Runs.{Asked, Run, IsLeastRun, asks_of}
+use Rattle.svtv_runs.specs.Runs.{Run, IsLeastRun, asks_of}
 use Rattle.svtv_runs.proofs.Runs.{least_run_stands}
 use Rattle.svtv_table.specs.Binding.{HasWidth, IsBound, bound_of}
 use Rattle.svtv_table.specs.Names.{name_of}
@@ -30,21 +27,15 @@ use Rattle.svtv_table.proofs.Shape.{is_bound}
 use Rattle.svtv_table.specs.Reading.{IsWellFormed}
 use Rattle.svtv_verdicts.specs.Benches.{sampled_in}
 use Rattle.svtv_commands.specs.Done.{Simulates}
-use Rattle.svtv_files.specs.Files.{Text, Told, AreGoalsFile, IsDesignFile, IsValuesFile, bench_of, samples_in, vars_of}
-use Rattle.svtv_commands.specs.Inputs.{AreGoalsIn, Stands}
-use Rattle.svtv_commands.specs.Judged.{IsJudgement}
-use Rattle.svtv_commands.specs.Machines.{StopsWide}
-use Rattle.svtv_texts.specs.Rights.{AreRight, names_of}
-use Rattle.svtv_texts.specs.declared.judging.Decisions.{Decisions}
-use Rattle.svtv_report.specs.Seen.{verdict_is}
-use Rattle.svtv_files.specs.Refusals.{LeavesProof, LeavesSetup, LeavesSimulation, RefusesGoals, RefusesProof, RefusesSetup, RefusesSimulation, RefusesTable, RefusesValues}
+use Rattle.svtv_files.specs.Files.{Text, Told, IsDesignFile, IsValuesFile, samples_in, vars_of}
+use Rattle.svtv_commands.specs.Inputs.{AreGoalsIn, RefusesPosed, Stands}
+use Rattle.svtv_files.specs.Refusals.{LeavesProof, LeavesSetup, LeavesSimulation, RefusesGoals, RefusesSetup, RefusesSimulation, RefusesTable, RefusesValues}
 use Rattle.svtv_files.specs.Stopping.{Stops}
 use Rattle.svtv_commands.specs.declared.setup.Setup.{Setup}
 use Rattle.svtv_files.specs.declared.stop.Stop.{Stop}
 use Rattle.svtv_files.specs.declared.stop.Stop.TheVariants.{Refused, Unread, Memory}
 use Rattle.svtv_commands.proofs.Benches.{poses, samples_wide}
 use Rattle.svtv_commands.proofs.Tables.{StopsAs}
-use Rattle.svtv_texts.proofs.Verdicts.{names_same}
 
 pub same_told : (new told : Told) → ((other : Text) → new other ≡ told other) → new ≡ told
 same_told new told h = λ i other. h other i
@@ -94,61 +85,26 @@ module _ (told : Told) (d t : Text) (top : Option Text) (x : Setup) (s : Stands 
       subst (λ (b : Bound). IsBound x.flat.wires b) (sym s.bound)
       (subst (λ (ws : List Signal). IsBound ws (bound_of s.design.wires x.table)) (sym s.elaborated.wires) (is_bound s.design.wires x.table formed s.setup.is_table.clear))
 
-  -- ---- proofs
+  -- ---- goals
 
-  goals_stop : (g : Text) (stop : Stop) → StopsAs g (RefusesGoals told g (vars_of s.design x.table) (samples_in s.design x.table)) stop → Stops (RefusesProof told d t g top) (LeavesProof told d t g top) stop
-  goals_stop g (Refused file r) h = inr (s.design, x.table, s.setup, inl (h.0, h.1))
+  goals_stop : (g : Text) (stop : Stop) → StopsAs g (RefusesGoals told g (vars_of s.design x.table) (samples_in s.design x.table)) stop → Stops (RefusesPosed told d t g top) (LeavesProof told d t g top) stop
+  goals_stop g (Refused file r) h = inr (s.design, x.table, s.setup, (h.0, h.1))
   goals_stop g (Unread file place) h = inr (s.design, x.table, s.setup, (h.0, h.1))
   goals_stop g Memory h = tt
 
   pub goals_turn : (new : Told) (g : Text) (vars : List VarDecl) (samples : List Sample) (stop : Stop) → new ≡ told → vars ≡ x.bound.vars → samples ≡ x.bound.samples
-      → StopsAs g (RefusesGoals new g vars samples) stop → Stops (RefusesProof told d t g top) (LeavesProof told d t g top) stop
+      → StopsAs g (RefusesGoals new g vars samples) stop → Stops (RefusesPosed told d t g top) (LeavesProof told d t g top) stop
   goals_turn new g vars samples stop n v m h =
       goals_stop g stop
       (subst (λ ss. StopsAs g (RefusesGoals told g (vars_of s.design x.table) ss) stop) (m ∙ samples_are)
       (subst (λ vs. StopsAs g (RefusesGoals told g vs samples) stop) (v ∙ vars_are) (subst (λ (y : Told). StopsAs g (RefusesGoals y g vars samples) stop) n h)))
 
   -- the goals, over the variables and samples of the table
-  goals_in : (new : Told) (g : Text) (vars : List VarDecl) (samples : List Sample) (shapes : List Shape) (goals : List Goal) → new ≡ told → vars ≡ x.bound.vars → samples ≡ x.bound.samples
+  pub goals_in : (new : Told) (g : Text) (vars : List VarDecl) (samples : List Sample) (shapes : List Shape) (goals : List Goal) → new ≡ told → vars ≡ x.bound.vars → samples ≡ x.bound.samples
       → AreGoalsIn new g vars samples shapes goals → AreGoalsIn told g (vars_of s.design x.table) (samples_in s.design x.table) shapes goals
   goals_in new g vars samples shapes goals n v m are =
       subst (λ ss. AreGoalsIn told g (vars_of s.design x.table) ss shapes goals) (m ∙ samples_are)
       (subst (λ vs. AreGoalsIn told g vs samples shapes goals) (v ∙ vars_are) (subst (λ (y : Told). AreGoalsIn y g vars samples shapes goals) n are))
-
-  wide_stop : (g : Text) (trees : List GoalTree) (stop : Stop) → AreGoalsFile told g (vars_of s.design x.table) (samples_in s.design x.table) trees → StopsWide d s.design stop
-      → Stops (RefusesProof told d t g top) (LeavesProof told d t g top) stop
-  wide_stop g trees (Refused file r) file_is h = inr (s.design, x.table, s.setup, inr (h.0, ((trees, file_is), h.1)))
-  wide_stop g trees (Unread file place) file_is h = absurd h
-  wide_stop g trees Memory file_is h = tt
-
-  -- behind legal goals the design alone may still be refused
-  pub wide_turn : (new : Told) (g : Text) (vars : List VarDecl) (samples : List Sample) (shapes : List Shape) (goals : List Goal) (stop : Stop) → new ≡ told → vars ≡ x.bound.vars → samples ≡ x.bound.samples
-      → AreGoalsIn new g vars samples shapes goals → StopsWide d s.design stop → Stops (RefusesProof told d t g top) (LeavesProof told d t g top) stop
-  wide_turn new g vars samples shapes goals stop n v m are h =
-      let own = goals_in new g vars samples shapes goals n v m are in wide_stop g own.trees stop own.file h
-
-  -- verdicts that are right of whatever the flat design and the bound table pose
-  abbrev Rights : Bound → Flat → List Goal → Option ℕ → Decisions → Type 0
-  Rights b flat goals budget y = (design : Design) (asked : List (List Bit) → Asked) (trees : List GoalTree) → Poses design asked flat b → AllZip (IsGoal b.vars b.samples flat.arena) trees goals
-      → AreRight (bench design asked b) trees budget (map verdict_is y.verdicts) y.shown
-
-  pub judged : (new : Told) (g : Text) (vars : List VarDecl) (samples : List Sample) (flat : Flat) (goals : List Goal) (budget : Option ℕ) (y : Decisions) → new ≡ told → vars ≡ x.bound.vars
-      → samples ≡ x.bound.samples → IsElaborated s.design flat → AreGoalsIn new g vars samples flat.arena goals → y.names ≡ names_of goals → Rights x.bound flat goals budget y
-      → IsJudgement told d t g top budget (record { bound = x.bound; decisions = y })
-  unfolding bound_of
-  judged new g vars samples flat goals budget y n v m elaborated are names right =
-      let own : AreGoalsIn told g (vars_of s.design x.table) (samples_in s.design x.table) flat.arena goals = goals_in new g vars samples flat.arena goals n v m are in
-      let rights : Rights (bound_of s.design.wires x.table) flat goals budget y = subst (λ (b : Bound). Rights b flat goals budget y) s.bound right in
-      record {
-        design = s.design;
-        table = x.table;
-        setup = s.setup;
-        bound = s.bound;
-        goals = own.trees;
-        are_goals = own.file;
-        names = names ∙ names_same (vars_of s.design x.table) (samples_in s.design x.table) flat.arena own.trees goals own.each;
-        right = rights s.design (bench_of s.design x.table).asked own.trees (poses s.design flat x.table elaborated s.setup.is_table.clear) own.each;
-      }
 
   -- ---- simulations
 

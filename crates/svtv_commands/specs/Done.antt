@@ -1,23 +1,32 @@
 -- What a command that is done prints.
-use Rattle.std.specs.Prelude.{◌≡◌, ℕ, Bool, List, [], Option, None}
-use Rattle.std.specs.List.{list_all}
+use Rattle.std.specs.Prelude.{◌≡◌, ℕ, Bool, true, false, List, [], ◌∷◌, Option, Some, None}
+use Rattle.std.specs.List.{Contains, list_all}
+use Rattle.cnf.specs.Clauses.{HasNoSolution}
+use Rattle.cnf.specs.Formula.{Formula}
 use Rattle.flat_net.specs.declared.flat.Flat.{Flat}
 use Rattle.flat_print.specs.Printed as print
 use Rattle.flat_text.specs.FlatTexts.{FlatText}
 use Rattle.fourvec.specs.declared.Bit.{Bit}
 use Rattle.goal_tree.specs.declared.tree.GoalTree.{GoalTree}
+use Rattle.lrat_text.specs.Certs.{CertText}
+use Rattle.lrat_text.specs.Printed.{cert_text}
+use Rattle.refute_check.specs.Accepted.{IsAccepted, IsBadAt}
+use Rattle.refute_check.specs.Certs.{certificate_of}
+use Rattle.refute_check.specs.Entry.{Entry}
 use Rattle.sv_elab.specs.Elaborated.{IsElaborated}
 use Rattle.sv_meaning.specs.Designs.{Design}
+use Rattle.sv_preproc.specs.Laws.{Possible}
 use Rattle.svtv_files.specs.Files.{Text, Told, AreGoalsFile, IsDesignFile, IsValuesFile, bench_of, samples_in, vars_of}
 use Rattle.svtv_files.specs.Refusals.{IsSetup}
 use Rattle.svtv_report.specs.Shown.{sample_texts, var_texts}
-use Rattle.svtv_report.specs.Texts.{report, value_lines}
+use Rattle.svtv_report.specs.Texts.{cert_note, checked_text, report, value_lines}
 use Rattle.svtv_runs.specs.Runs.{Run}
 use Rattle.svtv_selftest.specs.Line.{line_text}
 use Rattle.svtv_selftest.specs.Texts as test
 use Rattle.svtv_texts.specs.Rights.{AreRight, goal_names, is_proved}
 use Rattle.svtv_verdicts.specs.Benches.{IsLeastUnder, sampled_in}
-use Rattle.svtv_verdicts.specs.Verdicts.{Verdict}
+use Rattle.svtv_verdicts.specs.Certs.{HasCert}
+use Rattle.svtv_verdicts.specs.Verdicts.{Verdict, proved, vacuous, failed, undecided, IsRight}
 use Rattle.table_cells.specs.declared.table.Table.{Table}
 
 -- The headline: the text is the report of verdicts, one for each goal in order, that are right on what the three files stand for, where this
@@ -67,3 +76,69 @@ pub record Dumps (told : Told) (d : Text) (top : Option Text) (text : Text) : Ty
   pub elaborated : IsElaborated design flat
   pub stands : FlatText text flat
   pub printed : text ≡ print.printed flat
+
+-- ---- certificates
+
+-- The text is a certificate of the goal of this name. Its verdict, proved or vacuous, is right on what the three files stand for, and the text
+-- stands for clauses that ask the question which the verdict closes, and for a log that refutes them.
+pub record Certifies (told : Told) (d t g name : Text) (top : Option Text) (budget : Option ℕ) (text : Text) : Type 0 where
+  pub design : Design
+  pub table : Table
+  pub setup : IsSetup told d t top design table
+  pub goals : List GoalTree
+  pub are_goals : AreGoalsFile told g (vars_of design table) (samples_in design table) goals
+  pub goal : GoalTree
+  pub among : Contains goals goal
+  pub named : goal.name.text ≡ name
+  pub verdict : Verdict
+  pub right : IsRight (bench_of design table) goal budget verdict []
+  pub formula : Formula
+  pub log : List Entry
+  pub closes : HasCert (bench_of design table) goal verdict (Some (certificate_of formula log))
+  pub printed : text ≡ cert_text (cert_note name verdict) formula log
+  pub stands : CertText text formula log
+
+-- A goal that failed or was left undecided is not certified.
+abbrev pub IsUncertified : Verdict → Type 0
+IsUncertified proved = ⊥
+IsUncertified vacuous = ⊥
+IsUncertified (failed choice) = Unit {0}
+IsUncertified (undecided n) = Unit {0}
+
+-- The text is the report of the goal of this name, which is not certified. Its verdict is right on what the three files stand for, where this
+-- budget is given, or none.
+pub record Reports (told : Told) (d t g name : Text) (top : Option Text) (budget : Option ℕ) (text : Text) : Type 0 where
+  pub design : Design
+  pub table : Table
+  pub setup : IsSetup told d t top design table
+  pub goals : List GoalTree
+  pub are_goals : AreGoalsFile told g (vars_of design table) (samples_in design table) goals
+  pub goal : GoalTree
+  pub among : Contains goals goal
+  pub named : goal.name.text ≡ name
+  pub verdict : Verdict
+  pub shown : List (List Bit)
+  pub right : IsRight (bench_of design table) goal budget verdict shown
+  pub uncertified : IsUncertified verdict
+  pub printed : text ≡ report (var_texts (vars_of design table)) (sample_texts (samples_in design table)) (name ∷ []) (verdict ∷ []) (shown ∷ [])
+
+-- what is printed where one goal is to be certified: a certificate, or a report
+abbrev pub Certified : Told → Text → Text → Text → Text → Option Text → Option ℕ → Bool → Text → Type 0
+Certified told d t g name top budget true text = Certifies told d t g name top budget text
+Certified told d t g name top budget false text = Reports told d t g name top budget text
+
+-- what the judge says of clauses and a log: that the log refutes them, or at which step it does not
+abbrev pub IsJudged : Formula → List Entry → Option ℕ → Type 0
+IsJudged formula log None = IsAccepted formula log
+IsJudged formula log (Some step) = IsBadAt formula log step
+
+-- The text says what the judge says of the clauses and the log for which the file stands. Clauses that the log refutes have no solution.
+pub record Checks (told : Told) (file : Text) (bad : Option ℕ) (text : Text) : Type 0 where
+  pub bytes : Text
+  pub has : Possible told file bytes
+  pub formula : Formula
+  pub log : List Entry
+  pub stands : CertText bytes formula log
+  pub judged : IsJudged formula log bad
+  pub refuted : bad ≡ None → HasNoSolution formula.clauses
+  pub printed : text ≡ checked_text bad

@@ -1,6 +1,5 @@
 // The goals of a command's files, decided. They are read before the design's machine is made, so their refusals come first, and their nodes
-// stand in the graph of the flat design, behind its own and before those of the machine. The machine takes the flat design; failures are
-// simulated on a copy. What is made of the verdicts, the report of a proof or the line of a self test, is left to the caller.
+// stand in its graph before those of the machine. The machine takes the flat design; failures are simulated on a copy. What is made of the verdicts, the report of a proof or the line of a self test, is left to the caller.
 ghost use Rattle.std.specs.Prelude.{◌≡◌, ◌≤◌, ◌<◌, ℕ, All, List, IfOk, OnOk, IfErr, IfSome, length, map};
 ghost use Rattle.std.specs.List.{AllZip};
 ghost use Rattle.std.specs.Option.{option_copied};
@@ -21,8 +20,7 @@ ghost use Rattle.svtv_table.specs.Binding.{HasWidth, IsBound};
 ghost use Rattle.svtv_report.specs.Seen.{verdict_is};
 ghost use Rattle.svtv_texts.specs.Rights.{AreRight, names_of};
 
-use crate::goals::load_goals;
-use crate::setup::{Setup, load_setup};
+use crate::posing::{Posed, load_posed};
 use flat_net::Flat;
 use flat_print::copy_flat;
 use goal_text::Goal;
@@ -33,8 +31,8 @@ use svtv_files::{Stop, refused};
 use svtv_table::Bound;
 use svtv_texts::{Decisions, Problem, decide_all, sample_nodes};
 
-// E39 of the design, or want of memory.
-fn too_wide(design: &Name, error: ComposeErr) -> Stop
+/// E39 of the design, or want of memory.
+pub(crate) fn too_wide(design: &Name, error: ComposeErr) -> Stop
     ensures { IsWideStop design.now error result }
 {
     let ComposeErr::LoopTooWide(bits) = error else {
@@ -123,23 +121,15 @@ pub(crate) fn judge<F: Files>(
     ensures unchanged { (other : List ℕ) → F.contents files.new other ≡ F.contents files.old other }
     ensures counts_up { F.faults files.old ≤ F.faults files.new }
 {
-    let Setup { flat, bound, .. } = match load_setup(alloc, files, design, table, top) {
-        Ok(setup) => setup,
+    let Posed {
+        flat,
+        bound,
+        goals: found,
+        ..
+    } = match load_posed(alloc, files, design, table, goals, top) {
+        Ok(posed) => posed,
         Err(stop) => return Err(stop),
     };
-    let mut flat = flat;
-    let found = match load_goals(
-        alloc,
-        files,
-        goals,
-        bound.vars.as_slice(),
-        bound.samples.as_slice(),
-        &mut flat.arena,
-    ) {
-        Ok(found) => found,
-        Err(stop) => return Err(stop),
-    };
-    let _ = flat.arena.len();
     match decided(alloc, design, flat, &bound, found.as_slice(), budget) {
         Ok(decisions) => Ok(Judgement { bound, decisions }),
         Err(stop) => Err(stop),

@@ -1,11 +1,15 @@
 //! The commands over files: the design, the table and the goals or values are read in their turn, and then the proof is done,
-//! or the simulation; of a dump, the design alone, which is printed. A self test proves goals over texts of its own.
+//! or the simulation; of a dump, the design alone, which is printed. A self test proves goals over texts of its own. One goal can be
+//! certified, and the text of a certificate is checked.
 #![tactic(auto)]
 
+mod certifying;
+mod checking;
 mod design;
 mod dumping;
 mod goals;
 mod judging;
+mod posing;
 mod proving;
 mod setup;
 mod simulation;
@@ -13,6 +17,8 @@ mod table;
 mod testing;
 mod values;
 
+pub use certifying::certify;
+pub use checking::check;
 pub use dumping::dump;
 pub use proving::prove;
 pub use simulation::simulate;

@@ -6,4 +6,4 @@ mod samples;
 
 pub use judging::{Decisions, decide_all, reported};
 pub use samples::sampled;
-pub use svtv_decide::{Problem, sample_nodes};
+pub use svtv_decide::{Certified, Problem, certify, sample_nodes};
