@@ -1,7 +1,7 @@
 -- A command with legal files is done, but for faults and want of memory, and but for proofs of designs with wide loops.
 use Rattle.std.proofs.Common.{◌≡◌, ◌⊎◌, List, None, true, false, refl, subst, inl, inr}
 use Rattle.sv_outside.specs.declared.refusal.Refusal.{Refusal}
-use Rattle.svtv_words.specs.Commands.{Command, IsCommand, prove, sim, dump, selftest}
+use Rattle.svtv_words.specs.Commands.{Command, IsCommand, prove, sim, dump, selftest, cert, check}
 use Rattle.svtv_selftest.specs.Texts as test
 use Rattle.svtv_words.proofs.Commands.{one_command}
 use Rattle.svtv.specs.Answers.{Answers, PrintsIf, Prints}
@@ -13,7 +13,7 @@ use Rattle.svtv.specs.declared.status.Status.{Status}
 use Rattle.svtv.specs.declared.status.Status.TheVariants.{AllProved, Done, NotAll, Usage, Refused, ReadFault, WriteFault, Memory}
 use Rattle.svtv.specs.declared.work.Outcome.{Outcome}
 use Rattle.svtv.specs.declared.work.Outcome.TheVariants as outcome
-use Rattle.svtv.proofs.Legal.{design_stands, proof_loops, simulation_stands}
+use Rattle.svtv.proofs.Legal.{cert_stands, design_stands, goal_loops, proof_loops, simulation_stands}
 
 -- legal files are refused for loops alone
 legal_loops : (told : Told) (c : Command) (file : Text) (r : Refusal) → AreLegal told c → Refuses told c file r → IsLooped told c Refused
@@ -22,6 +22,8 @@ legal_loops told (sim d t v top) file r l h = absurd (simulation_stands told d t
 legal_loops told (dump d top) file r l h = absurd (design_stands told d top l.0 l.1 file r h)
 legal_loops told (selftest n) file r l h =
     (l.0, l.2.is_design.file, r.count, proof_loops (test.told n) test.design_name test.table_name test.goals_name None l.0 l.1 l.3 l.2 l.4 file r h)
+legal_loops told (cert d t g name top budget) file r l h = (l.0, l.2.is_design.file, r.count, goal_loops told d t g name top l.0 l.1 l.3 l.2 l.4 l.5 file r h)
+legal_loops told (check f) file r l h = absurd (cert_stands told f l file r h)
 
 -- what a command prints, it is done with
 printed : (told : Told) (c : Command) (status : Status) (text : Text) → Prints told c status text → IsDone c status
@@ -30,6 +32,10 @@ printed told (prove d t g top budget) NotAll text h = tt
 printed told (sim d t v top) Done text h = tt
 printed told (dump d top) Done text h = tt
 printed told (selftest n) Done text h = tt
+printed told (cert d t g name top budget) Done text h = tt
+printed told (cert d t g name top budget) NotAll text h = tt
+printed told (check f) Done text h = tt
+printed told (check f) NotAll text h = tt
 printed told (prove d t g top budget) Done text h = absurd h
 printed told (prove d t g top budget) Usage text h = absurd h
 printed told (prove d t g top budget) Refused text h = absurd h
@@ -57,6 +63,18 @@ printed told (selftest n) Refused text h = absurd h
 printed told (selftest n) ReadFault text h = absurd h
 printed told (selftest n) WriteFault text h = absurd h
 printed told (selftest n) Memory text h = absurd h
+printed told (cert d t g name top budget) AllProved text h = absurd h
+printed told (cert d t g name top budget) Usage text h = absurd h
+printed told (cert d t g name top budget) Refused text h = absurd h
+printed told (cert d t g name top budget) ReadFault text h = absurd h
+printed told (cert d t g name top budget) WriteFault text h = absurd h
+printed told (cert d t g name top budget) Memory text h = absurd h
+printed told (check f) AllProved text h = absurd h
+printed told (check f) Usage text h = absurd h
+printed told (check f) Refused text h = absurd h
+printed told (check f) ReadFault text h = absurd h
+printed told (check f) WriteFault text h = absurd h
+printed told (check f) Memory text h = absurd h
 
 done : (told : Told) (words : List Text) (status : Status) (text : Text) (c : Command) → IsCommand words c → PrintsIf told words status text → IsDone c status
 done told words status text c is h = subst (λ (x : Command). IsDone x status) (one_command words h.0 c h.1 is) (printed told h.0 status text h.2)
@@ -82,6 +100,10 @@ left P (outcome.Proved false text) h e = cc
 left P (outcome.Simulated text) h e = cc
 left P (outcome.Dumped text) h e = cc
 left P (outcome.Tested text) h e = cc
+left P (outcome.Certified true text) h e = cc
+left P (outcome.Certified false text) h e = cc
+left P (outcome.Checked true text) h e = cc
+left P (outcome.Checked false text) h e = cc
 left P (outcome.Refused message) h e = cc
 left P (outcome.Unread message) h e = h
 left P outcome.Misused h e = cc

@@ -10,6 +10,8 @@ use Rattle.goal_tree.specs.Parsed as goals
 use Rattle.goal_tree.specs.Reading as goals_reading
 use Rattle.goal_tree.specs.declared.tree.GoalTree.{GoalTree}
 use Rattle.goal_tree.proofs.Laws as goals_laws
+use Rattle.lrat_text.proofs.Whole as certs
+use Rattle.lrat_text.specs.Reading as certs_reading
 use Rattle.sv_cursor.specs.Parsers.{Outcome}
 use Rattle.sv_cursor.specs.declared.error.ParseErr.TheVariants.{Memory, Syntax, TooDeep}
 use Rattle.sv_elab.specs.Elaborated.{sound_design}
@@ -41,9 +43,9 @@ use Rattle.svtv_table.specs.Valuing.{values_faults}
 use Rattle.svtv_table.specs.declared.bound.Sample.{Sample}
 use Rattle.svtv_table.specs.declared.bound.VarDecl.{VarDecl}
 use Rattle.table_cells.specs.declared.table.Table.{Table}
-use Rattle.svtv_files.specs.Files.{Text, Told, IsDesignFile, IsTableText, samples_in, vars_of}
-use Rattle.svtv.specs.Legal.{IsShallow, IsShort, IsLegalDesign, IsLegalTable, IsLegalSetup, AreLegalGoals, AreLegalValues}
-use Rattle.svtv_files.specs.Refusals.{BehindSetup, HasNoMachine, IsFirstFault, RefusesDesign, RefusesGoals, RefusesProof, RefusesSetup, RefusesSimulation, RefusesTable, RefusesValues, TooLong}
+use Rattle.svtv_files.specs.Files.{Text, Told, AreGoalsFile, IsDesignFile, IsTableText, samples_in, vars_of}
+use Rattle.svtv.specs.Legal.{IsShallow, IsShort, IsLegalCert, IsLegalDesign, IsLegalTable, IsLegalSetup, AreLegalGoals, AreLegalValues}
+use Rattle.svtv_files.specs.Refusals.{BehindSetup, HasGoal, HasNoMachine, IsBadCert, IsFirstFault, IsGoalTooWide, IsGoalUnknown, RefusesCert, RefusesCheck, RefusesDesign, RefusesGoals, RefusesProof, RefusesSetup, RefusesSimulation, RefusesTable, RefusesValues, TooLong}
 use Rattle.svtv.proofs.Records.{one_records}
 
 -- ---- texts
@@ -155,6 +157,26 @@ goals_stand told name vars samples trees l r (inr b) =
     let e = one_text told name b.text l.file.text l.text b.stands in
     no_cause l.file.text vars samples trees l.file.spell.tokens l.file.spell.cut l.file.spell.spelled l.shallow l.file.clear r (subst (λ (x : Text). HasCause 0 x vars samples r) e b.cause)
 
+-- the goals of a file are one list
+one_goals : (told : Told) (name : Text) (vars : List VarDecl) (samples : List Sample) (trees others : List GoalTree) → AreLegalGoals told name vars samples trees → AreGoalsFile told name vars samples others → others ≡ trees
+one_goals told name vars samples trees others l o =
+    let e = one_text told name o.text l.file.text l.text o.stands in
+    let cut = subst (λ (x : Text). IsCut 0 x o.spell.tokens) e o.spell.cut in
+    let tokens = l.file.spell.tokens in
+    let same = one_list_of cut.lexes l.file.spell.cut.lexes in
+    same_goals tokens trees others (goals_reading.source tokens) (goals_laws.decides tokens) l.file.spell.spelled l.shallow (subst (λ (x : List Token). IsGoals others x) same o.spell.spelled)
+
+-- ---- certificates
+
+pub cert_stands : (told : Told) (name : Text) → IsLegalCert told name → (file : Text) (r : Refusal) → RefusesCheck told name file r → ⊥
+cert_stands told name l file r h = by h.1
+  where
+    by : TooLong told name r ⊎ IsBadCert told name r → ⊥
+    by (inl t) = short told name l.bytes r l.text t
+    by (inr b) =
+        let e = one_text told name b.text l.bytes l.text b.stands in
+        certs.refused l.bytes r l.formula l.log (subst (λ (x : Text). certs_reading.read x ≡ Err r) e b.read) l.stands
+
 -- ---- turns
 
 setup_stands : (told : Told) (d t : Text) (top : Option Text) (design : Design) (table : Table) → IsLegalSetup told d t top design table → (file : Text) (r : Refusal) → RefusesSetup told d t top file r → ⊥
@@ -180,6 +202,20 @@ proof_loops told d t g top design table trees l goals file r (inr b) =
     after : ((file ≡ g) × RefusesGoals told g (vars_of design table) (samples_in design table) r) ⊎ ((file ≡ d) × HasNoMachine told g design table r) → HasWideLoop design r.count
     after (inl h) = absurd (goals_stand told g (vars_of design table) (samples_in design table) trees goals r h.1)
     after (inr h) = h.1.1.wide
+
+-- so where one goal is to be certified, and some goal has the name
+pub goal_loops : (told : Told) (d t g name : Text) (top : Option Text) (design : Design) (table : Table) (trees : List GoalTree) → IsLegalSetup told d t top design table
+    → AreLegalGoals told g (vars_of design table) (samples_in design table) trees → HasGoal trees name → (file : Text) (r : Refusal) → RefusesCert told d t g name top file r → HasWideLoop design r.count
+goal_loops told d t g name top design table trees l goals some file r (inl h) = absurd (setup_stands told d t top design table l file r h)
+goal_loops told d t g name top design table trees l goals some file r (inr b) =
+    after (behind told d t top design table (λ design table. ((file ≡ g) × RefusesGoals told g (vars_of design table) (samples_in design table) r)
+    ⊎ (((file ≡ g) × IsGoalUnknown told g name design table r) ⊎ ((file ≡ d) × IsGoalTooWide told g name design table r))) l b)
+  where
+    after : ((file ≡ g) × RefusesGoals told g (vars_of design table) (samples_in design table) r)
+        ⊎ (((file ≡ g) × IsGoalUnknown told g name design table r) ⊎ ((file ≡ d) × IsGoalTooWide told g name design table r)) → HasWideLoop design r.count
+    after (inl h) = absurd (goals_stand told g (vars_of design table) (samples_in design table) trees goals r h.1)
+    after (inr (inl h)) = absurd (h.1.none (subst (λ (ts : List GoalTree). HasGoal ts name) (sym (one_goals told g (vars_of design table) (samples_in design table) trees h.1.trees goals h.1.file)) some))
+    after (inr (inr h)) = h.1.wide.wide
 
 pub simulation_stands : (told : Told) (d t v : Text) (top : Option Text) (design : Design) (table : Table) (choice : List (List Bit)) → IsLegalSetup told d t top design table
     → AreLegalValues told v (vars_of design table) choice → (file : Text) (r : Refusal) → RefusesSimulation told d t v top file r → ⊥

@@ -1,18 +1,21 @@
 -- Which answer comes when, and what it writes.
-use Rattle.std.specs.Prelude.{◌≡◌, ◌⊎◌, ℕ, Bool, true, false, List, [], Option}
+use Rattle.std.specs.Prelude.{◌≡◌, ◌⊎◌, ⊤, ℕ, Bool, true, false, List, [], Option, Some, None}
+use Rattle.cnf.specs.Formula.{Formula}
 use Rattle.fourvec.specs.declared.Bit.{Bit}
+use Rattle.refute_check.specs.Accepted.{IsAccepted, IsBadAt}
+use Rattle.refute_check.specs.Entry.{Entry}
 use Rattle.sv_meaning.specs.Designs.{Design}
 use Rattle.sv_outside.specs.Outside.{one_more, AtMostOneMore, IsPartWritten}
 use Rattle.sv_outside.specs.declared.refusal.Place.{Place}
 use Rattle.sv_outside.specs.declared.refusal.Refusal.{Refusal}
-use Rattle.svtv_commands.specs.Done.{Dumps, Proves, SelfTests, Simulates}
+use Rattle.svtv_commands.specs.Done.{Certifies, Checks, Dumps, Proves, Reports, SelfTests, Simulates}
 use Rattle.svtv_files.specs.Files.{Text, Told, bench_of, vars_of}
 use Rattle.svtv_files.specs.Refusals.{Refuses, LeavesUnread}
 use Rattle.svtv_report.specs.Refusals.{memory_text, read_fault_text, refusal_text, usage_text}
 use Rattle.svtv_table.specs.Binding.{bind_faults}
 use Rattle.svtv_table.specs.Stimuli.{IsChoice}
 use Rattle.svtv_verdicts.specs.Benches.{HasOneLeast}
-use Rattle.svtv_words.specs.Commands.{Command, IsCommand, prove, sim, dump, selftest}
+use Rattle.svtv_words.specs.Commands.{Command, IsCommand, prove, sim, dump, selftest, cert, check}
 use Rattle.table_cells.specs.declared.table.Table.{Table}
 use Rattle.svtv.specs.declared.status.Status.{Status}
 use Rattle.svtv.specs.declared.status.Status.TheVariants.{AllProved, Done, NotAll, Usage, Refused, ReadFault, WriteFault, Memory}
@@ -26,13 +29,18 @@ HaveRuns = (design : Design) (table : Table) → bind_faults design.wires table 
 
 -- ---- answers
 
--- what a command that is done prints; the verdicts of a proof are right by its budget
+-- What a command that is done prints. The verdicts of a proof are right by its budget. A goal that is not certified is reported, and a certificate that
+-- is not verified has a step at which it is not.
 abbrev pub Prints : Told → Command → Status → Text → Type 0
 Prints told (prove d t g top budget) AllProved text = Proves told d t g top budget true text
 Prints told (prove d t g top budget) NotAll text = Proves told d t g top budget false text
 Prints told (sim d t v top) Done text = Simulates told d t v top text
 Prints told (dump d top) Done text = Dumps told d top text
 Prints told (selftest n) Done text = SelfTests n text
+Prints told (cert d t g name top budget) Done text = Certifies told d t g name top budget text
+Prints told (cert d t g name top budget) NotAll text = Reports told d t g name top budget text
+Prints told (check file) Done text = Checks told file None text
+Prints told (check file) NotAll text = (step : ℕ) × Checks told file (Some step) text
 Prints told command status text = ⊥
 
 abbrev pub PrintsIf : Told → List Text → Status → Text → Type 0
@@ -54,6 +62,12 @@ Answers told words Refused text message = (text ≡ []) × RefusesIf told words 
 Answers told words ReadFault text message = (text ≡ []) × UnreadIf told words message
 Answers told words Memory text message = (text ≡ []) × (message ≡ memory_text)
 Answers told words WriteFault text message = ⊥
+
+-- what the answer of `check` says of clauses and a log: that the log refutes the clauses, or that there is a step at which it does not
+abbrev pub IfChecked : Formula → List Entry → Status → Type 0
+IfChecked formula log Done = IsAccepted formula log
+IfChecked formula log NotAll = (step : ℕ) × IsBadAt formula log step
+IfChecked formula log _ = ⊤
 
 -- the answers that print a text on the output; each other one prints a message on the errors
 abbrev pub prints_text : Status → Bool

@@ -1,9 +1,12 @@
 -- Files that are legal by what is told of their contents, and the answer that a command then has.
 use Rattle.std.specs.Prelude.{◌≡◌, ◌≤◌, ◌^◌, ⊤, ℕ, List, length, Option, Some, None}
+use Rattle.cnf.specs.Formula.{Formula}
 use Rattle.design_loops.specs.Loops.{HasWideLoop}
 use Rattle.fourvec.specs.declared.Bit.{Bit}
 use Rattle.goal_tree.specs.Goals.{goals_depths}
 use Rattle.goal_tree.specs.declared.tree.GoalTree.{GoalTree}
+use Rattle.lrat_text.specs.Certs.{CertText}
+use Rattle.refute_check.specs.Entry.{Entry}
 use Rattle.sv_meaning.specs.Designs.{Design}
 use Rattle.sv_outside.specs.declared.text.Signal.{Signal}
 use Rattle.sv_preproc.specs.Directives.{IsWholeText}
@@ -14,8 +17,9 @@ use Rattle.svtv_table.specs.declared.bound.Sample.{Sample}
 use Rattle.svtv_table.specs.declared.bound.VarDecl.{VarDecl}
 use Rattle.table_cells.specs.declared.table.Table.{Table}
 use Rattle.svtv_selftest.specs.Texts as test
-use Rattle.svtv_words.specs.Commands.{Command, prove, sim, dump, selftest}
+use Rattle.svtv_words.specs.Commands.{Command, prove, sim, dump, selftest, cert, check}
 use Rattle.svtv_files.specs.Files.{Text, Told, IsDesignFile, IsTableFile, AreGoalsFile, IsValuesFile, samples_in, vars_of}
+use Rattle.svtv_files.specs.Refusals.{HasGoal}
 use Rattle.svtv.specs.declared.status.Status.{Status}
 use Rattle.svtv.specs.declared.status.Status.TheVariants.{AllProved, Done, NotAll, Refused}
 
@@ -56,6 +60,19 @@ abbrev pub IsLegalProof : Told → Text → Text → Text → Option Text → Ty
 IsLegalProof told d t g top = (design : Design) × (table : Table) × IsLegalSetup told d t top design table
     × (trees : List GoalTree) × AreLegalGoals told g (vars_of design table) (samples_in design table) trees
 
+-- so are they, and one of the goals has this name
+abbrev pub IsLegalGoal : Told → Text → Text → Text → Text → Option Text → Type 0
+IsLegalGoal told d t g name top = (design : Design) × (table : Table) × IsLegalSetup told d t top design table
+    × (trees : List GoalTree) × AreLegalGoals told g (vars_of design table) (samples_in design table) trees × HasGoal trees name
+
+-- The file of that name is a certificate: it stands for clauses and a log.
+pub record IsLegalCert (told : Told) (name : Text) : Type 0 where
+  pub bytes : Text
+  pub text : IsShort told name bytes
+  pub formula : Formula
+  pub log : List Entry
+  pub stands : CertText bytes formula log
+
 -- the files of a command are legal; those of a self test are its own
 abbrev pub AreLegal : Told → Command → Type 0
 AreLegal told (prove d t g top budget) = IsLegalProof told d t g top
@@ -63,6 +80,8 @@ AreLegal told (sim d t v top) = (design : Design) × (table : Table) × IsLegalS
     × (choice : List (List Bit)) × AreLegalValues told v (vars_of design table) choice
 AreLegal told (dump d top) = (design : Design) × IsLegalDesign told d top design
 AreLegal told (selftest n) = IsLegalProof (test.told n) test.design_name test.table_name test.goals_name None
+AreLegal told (cert d t g name top budget) = IsLegalGoal told d t g name top
+AreLegal told (check file) = IsLegalCert told file
 
 -- the answers of a command that is done
 abbrev pub IsDone : Command → Status → Type 0
@@ -71,6 +90,10 @@ IsDone (prove d t g top budget) NotAll = ⊤
 IsDone (sim d t v top) Done = ⊤
 IsDone (dump d top) Done = ⊤
 IsDone (selftest n) Done = ⊤
+IsDone (cert d t g name top budget) Done = ⊤
+IsDone (cert d t g name top budget) NotAll = ⊤
+IsDone (check file) Done = ⊤
+IsDone (check file) NotAll = ⊤
 IsDone command status = ⊥
 
 -- a proof may be refused though its files are legal: over 1,024 bits of the design's wires feed each other
@@ -80,4 +103,5 @@ HasLoops told d top = (design : Design) × IsDesignFile told d top design × (co
 abbrev pub IsLooped : Told → Command → Status → Type 0
 IsLooped told (prove d t g top budget) Refused = HasLoops told d top
 IsLooped told (selftest n) Refused = HasLoops (test.told n) test.design_name None
+IsLooped told (cert d t g name top budget) Refused = HasLoops told d top
 IsLooped told command status = ⊥

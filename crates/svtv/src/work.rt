@@ -5,19 +5,19 @@ ghost use Rattle.std.specs.Prelude.{◌≡◌, ◌≤◌, ◌<◌, ℕ, List, ma
 ghost use Rattle.std.specs.Option.{option_copied};
 ghost use Rattle.sv_outside.specs.Outside.{Rose};
 ghost use Rattle.svtv.specs.Answers.{Answers, CountsReads, prints_text};
-ghost use Rattle.svtv.specs.Outcomes.{status_of, text_of, message_of, IfLeft, IsDump, IsProof, IsSelfTest, IsSimulation, IsStopped, IsWork};
+ghost use Rattle.svtv.specs.Outcomes.{status_of, text_of, message_of, IfLeft, IsCert, IsCheck, IsDump, IsProof, IsSelfTest, IsSimulation, IsStopped, IsWork};
 ghost use Rattle.svtv_words.specs.Commands as m;
 ghost use Rattle.svtv_selftest.specs.Texts as test;
-ghost use Rattle.svtv_words.specs.Commands.{HasCount, IsCommand, command_is};
+ghost use Rattle.svtv_words.specs.Commands.{IsCommand, IsInBounds, command_is};
 ghost use Rattle.svtv.specs.declared.status.Status.TheVariants as status;
 
 use crate::status::Status;
 use std::alloc::{AllocError, Global};
 use sv_outside::{Files, Name};
-use svtv_commands::{dump, prove, selftest, simulate};
+use svtv_commands::{certify, check, dump, prove, selftest, simulate};
 use svtv_files::Stop;
 use svtv_report::{memory_text, read_fault_text, refusal_text, usage_text};
-use svtv_words::{Command, Verb, command_of};
+use svtv_words::{Command, command_of};
 
 /// How the work ends: with a text for the output, or with a message for the errors.
 #[derive(Drop)]
@@ -26,6 +26,10 @@ pub enum Outcome {
     Simulated(Vec<u8>),
     Dumped(Vec<u8>),
     Tested(Vec<u8>),
+    /// A certificate, or the report of a goal that has none.
+    Certified(bool, Vec<u8>),
+    /// Whether a certificate is verified.
+    Checked(bool, Vec<u8>),
     Refused(Vec<u8>),
     Unread(Vec<u8>),
     Misused,
@@ -40,6 +44,8 @@ impl Outcome {
             Outcome::Proved(true, _) => Status::AllProved,
             Outcome::Proved(false, _) => Status::NotAll,
             Outcome::Simulated(_) | Outcome::Dumped(_) | Outcome::Tested(_) => Status::Done,
+            Outcome::Certified(true, _) | Outcome::Checked(true, _) => Status::Done,
+            Outcome::Certified(false, _) | Outcome::Checked(false, _) => Status::NotAll,
             Outcome::Refused(_) => Status::Refused,
             Outcome::Unread(_) => Status::ReadFault,
             Outcome::Misused => Status::Usage,
@@ -55,7 +61,9 @@ impl Outcome {
             Outcome::Proved(_, _)
             | Outcome::Simulated(_)
             | Outcome::Dumped(_)
-            | Outcome::Tested(_) => true,
+            | Outcome::Tested(_)
+            | Outcome::Certified(_, _)
+            | Outcome::Checked(_, _) => true,
             _ => false,
         }
     }
@@ -67,7 +75,9 @@ impl Outcome {
             Outcome::Proved(_, text)
             | Outcome::Simulated(text)
             | Outcome::Dumped(text)
-            | Outcome::Tested(text) => text,
+            | Outcome::Tested(text)
+            | Outcome::Certified(_, text)
+            | Outcome::Checked(_, text) => text,
             _ => &[],
         }
     }
@@ -79,7 +89,9 @@ impl Outcome {
             Outcome::Proved(_, _)
             | Outcome::Simulated(_)
             | Outcome::Dumped(_)
-            | Outcome::Tested(_) => &[],
+            | Outcome::Tested(_)
+            | Outcome::Certified(_, _)
+            | Outcome::Checked(_, _) => &[],
             Outcome::Refused(message) | Outcome::Unread(message) => message,
             Outcome::Misused => usage_text(),
             Outcome::Memory => memory_text(),
@@ -104,45 +116,80 @@ fn stopped(alloc: Global, stop: Stop) -> Outcome
     }
 }
 
+// The names of the files of a command, the last of which holds goals or values.
+#[derive(Drop)]
+struct Names {
+    design: Name,
+    table: Name,
+    last: Name,
+}
+
+// The name of the module that is to be the top, if one is given.
+fn top_name(alloc: Global, top: Option<&[u8]>) -> Result<Option<Name>, AllocError>
+    ensures { IfOk result (λ name. name ≡ option_copied top.entry) }
+{
+    match top {
+        Some(bytes) => {
+            let name = Name::new(alloc, bytes)?;
+            Ok(Some(name))
+        }
+        None => Ok(None),
+    }
+}
+
+fn file_names(alloc: Global, design: &[u8], table: &[u8], last: &[u8]) -> Result<Names, AllocError>
+    ensures { IfOk result (λ n. n ≡ record { design = design.now; table = table.now; last = last.now }) }
+{
+    let design = Name::new(alloc, design)?;
+    let table = Name::new(alloc, table)?;
+    let last = Name::new(alloc, last)?;
+    Ok(Names {
+        design,
+        table,
+        last,
+    })
+}
+
 #[tactic(auto, using(crate::proofs::Counted::stopped_counts))]
 fn proved<F: Files>(
     alloc: Global,
     files: &mut F,
-    design: &Name,
-    table: &Name,
-    goals: &Name,
+    names: &Names,
     top: Option<&Name>,
     budget: Option<u64>,
 ) -> Outcome
     requires budget { IfSome budget (λ n. 0 < n) }
-    ensures is { IsProof (F.contents files.old) design.now table.now goals.now (option_copied top.entry) budget result }
+    ensures is { IsProof (F.contents files.old) names.now.design names.now.table names.now.last (option_copied top.entry) budget result }
     ensures rose { IfLeft (Rose (F.faults files.old) (F.faults files.new)) result }
     ensures counts { CountsReads (status_of result) (F.faults files.old) (F.faults files.new) }
     ensures unchanged { (other : List ℕ) → F.contents files.new other ≡ F.contents files.old other }
     ensures counts_up { F.faults files.old ≤ F.faults files.new }
 {
-    match prove(alloc, files, design, table, goals, top, budget) {
+    let Names {
+        design,
+        table,
+        last,
+    } = names;
+    match prove(alloc, files, design, table, last, top, budget) {
         Ok((all, text)) => Outcome::Proved(all, text),
         Err(stop) => stopped(alloc, stop),
     }
 }
 
 #[tactic(auto, using(crate::proofs::Counted::stopped_counts))]
-fn simulated<F: Files>(
-    alloc: Global,
-    files: &mut F,
-    design: &Name,
-    table: &Name,
-    values: &Name,
-    top: Option<&Name>,
-) -> Outcome
-    ensures is { IsSimulation (F.contents files.old) design.now table.now values.now (option_copied top.entry) result }
+fn simulated<F: Files>(alloc: Global, files: &mut F, names: &Names, top: Option<&Name>) -> Outcome
+    ensures is { IsSimulation (F.contents files.old) names.now.design names.now.table names.now.last (option_copied top.entry) result }
     ensures rose { IfLeft (Rose (F.faults files.old) (F.faults files.new)) result }
     ensures counts { CountsReads (status_of result) (F.faults files.old) (F.faults files.new) }
     ensures unchanged { (other : List ℕ) → F.contents files.new other ≡ F.contents files.old other }
     ensures counts_up { F.faults files.old ≤ F.faults files.new }
 {
-    match simulate(alloc, files, design, table, values, top) {
+    let Names {
+        design,
+        table,
+        last,
+    } = names;
+    match simulate(alloc, files, design, table, last, top) {
         Ok(text) => Outcome::Simulated(text),
         Err(stop) => stopped(alloc, stop),
     }
@@ -173,52 +220,108 @@ fn tested(alloc: Global, count: u64) -> Outcome
     }
 }
 
-// The name of the module that is to be the top, if one is given.
-fn top_name(alloc: Global, top: Option<&[u8]>) -> Result<Option<Name>, AllocError>
-    ensures { IfOk result (λ name. name ≡ option_copied top.entry) }
+#[tactic(auto, using(crate::proofs::Counted::stopped_counts))]
+fn certified<F: Files>(
+    alloc: Global,
+    files: &mut F,
+    names: &Names,
+    goal: &Name,
+    top: Option<&Name>,
+    budget: Option<u64>,
+) -> Outcome
+    requires budget { IfSome budget (λ n. 0 < n) }
+    ensures is { IsCert (F.contents files.old) names.now.design names.now.table names.now.last goal.now (option_copied top.entry) budget result }
+    ensures rose { IfLeft (Rose (F.faults files.old) (F.faults files.new)) result }
+    ensures counts { CountsReads (status_of result) (F.faults files.old) (F.faults files.new) }
+    ensures unchanged { (other : List ℕ) → F.contents files.new other ≡ F.contents files.old other }
+    ensures counts_up { F.faults files.old ≤ F.faults files.new }
 {
-    match top {
-        Some(bytes) => {
-            let name = Name::new(alloc, bytes)?;
-            Ok(Some(name))
-        }
-        None => Ok(None),
+    let Names {
+        design,
+        table,
+        last,
+    } = names;
+    match certify(alloc, files, design, table, last, goal, top, budget) {
+        Ok((certified, text)) => Outcome::Certified(certified, text),
+        Err(stop) => stopped(alloc, stop),
+    }
+}
+
+#[tactic(auto, using(crate::proofs::Counted::stopped_counts))]
+fn checked<F: Files>(alloc: Global, files: &mut F, file: &Name) -> Outcome
+    ensures is { IsCheck (F.contents files.old) file.now result }
+    ensures rose { IfLeft (Rose (F.faults files.old) (F.faults files.new)) result }
+    ensures counts { CountsReads (status_of result) (F.faults files.old) (F.faults files.new) }
+    ensures unchanged { (other : List ℕ) → F.contents files.new other ≡ F.contents files.old other }
+    ensures counts_up { F.faults files.old ≤ F.faults files.new }
+{
+    match check(alloc, files, file) {
+        Ok((None, text)) => Outcome::Checked(true, text),
+        Ok((Some(_), text)) => Outcome::Checked(false, text),
+        Err(stop) => stopped(alloc, stop),
     }
 }
 
 // Does the work of a command.
-#[tactic(auto, using(crate::proofs::Counted::test_counts))]
+#[tactic(auto, using(crate::proofs::Counted::test_counts, crate::proofs::Counted::positive))]
 fn worked<F: Files>(
     alloc: Global,
     files: &mut F,
-    command: &Command<'_>,
+    command: Command<'_>,
 ) -> Result<Outcome, AllocError>
-    requires budget { IfSome command.now.budget (λ n. 0 < n) }
-    requires count { HasCount command.now.verb command.now.count }
-    ensures is { IfOk result (IsWork (F.contents files.old) (command_is command.now)) }
+    requires { IsInBounds (command_is command) }
+    ensures is { IfOk result (IsWork (F.contents files.old) (command_is command.entry)) }
     ensures rose { IfOk result (IfLeft (Rose (F.faults files.old) (F.faults files.new))) }
     ensures counts { IfOk result (λ outcome. CountsReads (status_of outcome) (F.faults files.old) (F.faults files.new)) }
     ensures failed { IfErr result (λ e. F.faults files.new ≡ F.faults files.old) }
     ensures unchanged { (other : List ℕ) → F.contents files.new other ≡ F.contents files.old other }
     ensures counts_up { F.faults files.old ≤ F.faults files.new }
 {
-    let design = Name::new(alloc, command.design)?;
-    let table = Name::new(alloc, command.table)?;
-    let last = Name::new(alloc, command.last)?;
-    let top = top_name(alloc, command.top)?;
-    match command.verb {
-        Verb::Prove => Ok(proved(
-            alloc,
-            files,
-            &design,
-            &table,
-            &last,
-            top.as_ref(),
-            command.budget,
-        )),
-        Verb::Sim => Ok(simulated(alloc, files, &design, &table, &last, top.as_ref())),
-        Verb::Dump => Ok(dumped(alloc, files, &design, top.as_ref())),
-        Verb::Selftest => Ok(tested(alloc, command.count)),
+    match command {
+        Command::Prove {
+            design,
+            table,
+            goals,
+            top,
+            budget,
+        } => {
+            let names = file_names(alloc, design, table, goals)?;
+            let top = top_name(alloc, top)?;
+            Ok(proved(alloc, files, &names, top.as_ref(), budget))
+        }
+        Command::Sim {
+            design,
+            table,
+            values,
+            top,
+        } => {
+            let names = file_names(alloc, design, table, values)?;
+            let top = top_name(alloc, top)?;
+            Ok(simulated(alloc, files, &names, top.as_ref()))
+        }
+        Command::Dump { design, top } => {
+            let design = Name::new(alloc, design)?;
+            let top = top_name(alloc, top)?;
+            Ok(dumped(alloc, files, &design, top.as_ref()))
+        }
+        Command::Selftest { count } => Ok(tested(alloc, count)),
+        Command::Cert {
+            design,
+            table,
+            goals,
+            goal,
+            top,
+            budget,
+        } => {
+            let names = file_names(alloc, design, table, goals)?;
+            let goal = Name::new(alloc, goal)?;
+            let top = top_name(alloc, top)?;
+            Ok(certified(alloc, files, &names, &goal, top.as_ref(), budget))
+        }
+        Command::Check { file } => {
+            let file = Name::new(alloc, file)?;
+            Ok(checked(alloc, files, &file))
+        }
     }
 }
 
@@ -235,7 +338,7 @@ pub fn answer<F: Files>(alloc: Global, words: &[String], files: &mut F) -> Outco
     let Some(command) = command_of(words) else {
         return Outcome::Misused;
     };
-    match worked(alloc, files, &command) {
+    match worked(alloc, files, command) {
         Ok(outcome) => outcome,
         Err(_) => Outcome::Memory,
     }
