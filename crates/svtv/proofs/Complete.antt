@@ -1,5 +1,5 @@
 -- A command with legal files is done, but for faults and want of memory, and but for proofs of designs with wide loops.
-use Rattle.std.proofs.Common.{◌≡◌, ◌⊎◌, List, None, true, false, refl, subst, inl, inr}
+use Rattle.std.proofs.Common.{◌≡◌, ◌⊎◌, List, None, refl, subst, inl, inr}
 use Rattle.sv_outside.specs.declared.refusal.Refusal.{Refusal}
 use Rattle.svtv_words.specs.Commands.{Command, IsCommand, prove, sim, dump, selftest, cert, check}
 use Rattle.svtv_selftest.specs.Texts as test
@@ -13,7 +13,7 @@ use Rattle.svtv.specs.declared.status.Status.{Status}
 use Rattle.svtv.specs.declared.status.Status.TheVariants.{AllProved, Done, NotAll, Usage, Refused, ReadFault, WriteFault, Memory}
 use Rattle.svtv.specs.declared.work.Outcome.{Outcome}
 use Rattle.svtv.specs.declared.work.Outcome.TheVariants as outcome
-use Rattle.svtv.proofs.Legal.{cert_stands, design_stands, goal_loops, proof_loops, simulation_stands}
+use Rattle.svtv.proofs.Legal.{cert_loops, check_stands, design_stands, proof_loops, simulation_stands}
 
 -- legal files are refused for loops alone
 legal_loops : (told : Told) (c : Command) (file : Text) (r : Refusal) → AreLegal told c → Refuses told c file r → IsLooped told c Refused
@@ -22,8 +22,8 @@ legal_loops told (sim d t v top) file r l h = absurd (simulation_stands told d t
 legal_loops told (dump d top) file r l h = absurd (design_stands told d top l.0 l.1 file r h)
 legal_loops told (selftest n) file r l h =
     (l.0, l.2.is_design.file, r.count, proof_loops (test.told n) test.design_name test.table_name test.goals_name None l.0 l.1 l.3 l.2 l.4 file r h)
-legal_loops told (cert d t g name top budget) file r l h = (l.0, l.2.is_design.file, r.count, goal_loops told d t g name top l.0 l.1 l.3 l.2 l.4 l.5 file r h)
-legal_loops told (check f) file r l h = absurd (cert_stands told f l file r h)
+legal_loops told (cert d t g name top budget) file r l h = (l.0, l.2.is_design.file, r.count, cert_loops told d t g name top l.0 l.1 l.3 l.2 l.4 l.5 file r h)
+legal_loops told (check f) file r l h = absurd (check_stands told f l.0 l.1 l.2 file r h)
 
 -- what a command prints, it is done with
 printed : (told : Told) (c : Command) (status : Status) (text : Text) → Prints told c status text → IsDone c status
@@ -32,10 +32,6 @@ printed told (prove d t g top budget) NotAll text h = tt
 printed told (sim d t v top) Done text h = tt
 printed told (dump d top) Done text h = tt
 printed told (selftest n) Done text h = tt
-printed told (cert d t g name top budget) Done text h = tt
-printed told (cert d t g name top budget) NotAll text h = tt
-printed told (check f) Done text h = tt
-printed told (check f) NotAll text h = tt
 printed told (prove d t g top budget) Done text h = absurd h
 printed told (prove d t g top budget) Usage text h = absurd h
 printed told (prove d t g top budget) Refused text h = absurd h
@@ -63,6 +59,10 @@ printed told (selftest n) Refused text h = absurd h
 printed told (selftest n) ReadFault text h = absurd h
 printed told (selftest n) WriteFault text h = absurd h
 printed told (selftest n) Memory text h = absurd h
+printed told (cert d t g name top budget) Done text h = tt
+printed told (cert d t g name top budget) NotAll text h = tt
+printed told (check f) Done text h = tt
+printed told (check f) NotAll text h = tt
 printed told (cert d t g name top budget) AllProved text h = absurd h
 printed told (cert d t g name top budget) Usage text h = absurd h
 printed told (cert d t g name top budget) Refused text h = absurd h
@@ -95,15 +95,9 @@ ends told words Memory text message c is l h n = inr (inl refl)
 
 -- only a file that was not read ends in a read fault
 pub left : (P : Type 0) (outcome : Outcome) → IfLeft P outcome → status_of outcome ≡ ReadFault → P
-left P (outcome.Proved true text) h e = cc
-left P (outcome.Proved false text) h e = cc
-left P (outcome.Simulated text) h e = cc
-left P (outcome.Dumped text) h e = cc
-left P (outcome.Tested text) h e = cc
-left P (outcome.Certified true text) h e = cc
-left P (outcome.Certified false text) h e = cc
-left P (outcome.Checked true text) h e = cc
-left P (outcome.Checked false text) h e = cc
+left P (outcome.AllProved text) h e = cc
+left P (outcome.NotAll text) h e = cc
+left P (outcome.Done text) h e = cc
 left P (outcome.Refused message) h e = cc
 left P (outcome.Unread message) h e = h
 left P outcome.Misused h e = cc

@@ -1,17 +1,20 @@
 -- Legal files are not refused, but for wide loops of the design where it is to be proved something.
 use Rattle.std.proofs.Common.{◌≡◌, ◌⊎◌, ℕ, ◌-◌, ◌<◌, ◌^◌, List, [], length, Option, Some, None, Ok, Err, refl, sym, ◌∙◌, ap, subst, inl, inr, arith}
 use Rattle.std.specs.Prelude.{IfSome, Contains}
+use Rattle.cnf.specs.Formula.{Formula}
 use Rattle.design_loops.specs.Loops.{HasWideLoop}
 use Rattle.fourvec.specs.declared.Bit.{Bit}
 use Rattle.goal_text.specs.Faults.{goal_faults}
-use Rattle.goal_text.specs.Goals.{HasCause, IsCut}
+use Rattle.goal_text.specs.Goals.{HasCause, IsCut, Spell}
 use Rattle.goal_tree.specs.Goals.{IsGoals, goals_depths}
 use Rattle.goal_tree.specs.Parsed as goals
 use Rattle.goal_tree.specs.Reading as goals_reading
 use Rattle.goal_tree.specs.declared.tree.GoalTree.{GoalTree}
 use Rattle.goal_tree.proofs.Laws as goals_laws
-use Rattle.lrat_text.proofs.Whole as certs
-use Rattle.lrat_text.specs.Reading as certs_reading
+use Rattle.lrat_text.specs.Certs.{CertText}
+use Rattle.lrat_text.specs.Reading as certs
+use Rattle.lrat_text.proofs.Whole.{one_cert, refused}
+use Rattle.refute_check.specs.Entry.{Entry}
 use Rattle.sv_cursor.specs.Parsers.{Outcome}
 use Rattle.sv_cursor.specs.declared.error.ParseErr.TheVariants.{Memory, Syntax, TooDeep}
 use Rattle.sv_elab.specs.Elaborated.{sound_design}
@@ -44,8 +47,8 @@ use Rattle.svtv_table.specs.declared.bound.Sample.{Sample}
 use Rattle.svtv_table.specs.declared.bound.VarDecl.{VarDecl}
 use Rattle.table_cells.specs.declared.table.Table.{Table}
 use Rattle.svtv_files.specs.Files.{Text, Told, AreGoalsFile, IsDesignFile, IsTableText, samples_in, vars_of}
-use Rattle.svtv.specs.Legal.{IsShallow, IsShort, IsLegalCert, IsLegalDesign, IsLegalTable, IsLegalSetup, AreLegalGoals, AreLegalValues}
-use Rattle.svtv_files.specs.Refusals.{BehindSetup, HasGoal, HasNoMachine, IsBadCert, IsFirstFault, IsGoalTooWide, IsGoalUnknown, RefusesCert, RefusesCheck, RefusesDesign, RefusesGoals, RefusesProof, RefusesSetup, RefusesSimulation, RefusesTable, RefusesValues, TooLong}
+use Rattle.svtv.specs.Legal.{IsShallow, IsShort, IsLegalDesign, IsLegalTable, IsLegalSetup, IsLegalCert, AreLegalGoals, AreLegalValues}
+use Rattle.svtv_files.specs.Refusals.{BehindSetup, HasNoMachine, IsFirstFault, HasGoal, IsBadCert, IsGoalTooWide, IsGoalUnknown, RefusesCert, RefusesCheck, RefusesDesign, RefusesGoals, RefusesProof, RefusesSetup, RefusesSimulation, RefusesTable, RefusesValues, TooLong}
 use Rattle.svtv.proofs.Records.{one_records}
 
 -- ---- texts
@@ -157,25 +160,35 @@ goals_stand told name vars samples trees l r (inr b) =
     let e = one_text told name b.text l.file.text l.text b.stands in
     no_cause l.file.text vars samples trees l.file.spell.tokens l.file.spell.cut l.file.spell.spelled l.shallow l.file.clear r (subst (λ (x : Text). HasCause 0 x vars samples r) e b.cause)
 
--- the goals of a file are one list
-one_goals : (told : Told) (name : Text) (vars : List VarDecl) (samples : List Sample) (trees others : List GoalTree) → AreLegalGoals told name vars samples trees → AreGoalsFile told name vars samples others → others ≡ trees
+-- the goals that are told are the only ones
+one_goals : (told : Told) (name : Text) (vars : List VarDecl) (samples : List Sample) (trees others : List GoalTree) → AreLegalGoals told name vars samples trees → AreGoalsFile told name vars samples others
+    → others ≡ trees
 one_goals told name vars samples trees others l o =
     let e = one_text told name o.text l.file.text l.text o.stands in
-    let cut = subst (λ (x : Text). IsCut 0 x o.spell.tokens) e o.spell.cut in
+    let spell = subst (λ (x : Text). Spell 0 x others) e o.spell in
     let tokens = l.file.spell.tokens in
-    let same = one_list_of cut.lexes l.file.spell.cut.lexes in
-    same_goals tokens trees others (goals_reading.source tokens) (goals_laws.decides tokens) l.file.spell.spelled l.shallow (subst (λ (x : List Token). IsGoals others x) same o.spell.spelled)
+    let same : spell.tokens ≡ tokens = one_list_of spell.cut.lexes l.file.spell.cut.lexes in
+    same_goals tokens trees others (goals_reading.source tokens) (goals_laws.decides tokens) l.file.spell.spelled l.shallow (subst (λ (x : List Token). IsGoals others x) same spell.spelled)
 
 -- ---- certificates
 
-pub cert_stands : (told : Told) (name : Text) → IsLegalCert told name → (file : Text) (r : Refusal) → RefusesCheck told name file r → ⊥
-cert_stands told name l file r h = by h.1
+cert_bytes : (told : Told) (name own : Text) (formula : Formula) (log : List Entry) → (l : IsLegalCert told name formula log) → laws.Possible told name own → own ≡ l.bytes
+cert_bytes told name own formula log l h = one_text told name own l.bytes l.text h
+
+-- the clauses and the log are the only ones for which the file stands
+pub same_cert : (told : Told) (name own : Text) (formula other : Formula) (log more : List Entry) → IsLegalCert told name formula log → laws.Possible told name own → CertText own other more
+    → (other ≡ formula) × (more ≡ log)
+same_cert told name own formula other log more l h s =
+    one_cert l.bytes other formula more log (subst (λ (x : Text). CertText x other more) (cert_bytes told name own formula log l h) s) l.stands
+
+pub check_stands : (told : Told) (f : Text) (formula : Formula) (log : List Entry) → IsLegalCert told f formula log → (file : Text) (r : Refusal) → RefusesCheck told f file r → ⊥
+check_stands told f formula log l file r h = after h.1
   where
-    by : TooLong told name r ⊎ IsBadCert told name r → ⊥
-    by (inl t) = short told name l.bytes r l.text t
-    by (inr b) =
-        let e = one_text told name b.text l.bytes l.text b.stands in
-        certs.refused l.bytes r l.formula l.log (subst (λ (x : Text). certs_reading.read x ≡ Err r) e b.read) l.stands
+    after : TooLong told f r ⊎ IsBadCert told f r → ⊥
+    after (inl k) = short told f l.bytes r l.text k
+    after (inr k) =
+        let e = cert_bytes told f k.text formula log l k.stands in
+        refused l.bytes r formula log (subst (λ (x : Text). certs.read x ≡ Err r) e k.read) l.stands
 
 -- ---- turns
 
@@ -203,22 +216,23 @@ proof_loops told d t g top design table trees l goals file r (inr b) =
     after (inl h) = absurd (goals_stand told g (vars_of design table) (samples_in design table) trees goals r h.1)
     after (inr h) = h.1.1.wide
 
--- so where one goal is to be certified, and some goal has the name
-pub goal_loops : (told : Told) (d t g name : Text) (top : Option Text) (design : Design) (table : Table) (trees : List GoalTree) → IsLegalSetup told d t top design table
-    → AreLegalGoals told g (vars_of design table) (samples_in design table) trees → HasGoal trees name → (file : Text) (r : Refusal) → RefusesCert told d t g name top file r → HasWideLoop design r.count
-goal_loops told d t g name top design table trees l goals some file r (inl h) = absurd (setup_stands told d t top design table l file r h)
-goal_loops told d t g name top design table trees l goals some file r (inr b) =
-    after (behind told d t top design table (λ design table. ((file ≡ g) × RefusesGoals told g (vars_of design table) (samples_in design table) r)
-    ⊎ (((file ≡ g) × IsGoalUnknown told g name design table r) ⊎ ((file ≡ d) × IsGoalTooWide told g name design table r))) l b)
-  where
-    after : ((file ≡ g) × RefusesGoals told g (vars_of design table) (samples_in design table) r)
-        ⊎ (((file ≡ g) × IsGoalUnknown told g name design table r) ⊎ ((file ≡ d) × IsGoalTooWide told g name design table r)) → HasWideLoop design r.count
-    after (inl h) = absurd (goals_stand told g (vars_of design table) (samples_in design table) trees goals r h.1)
-    after (inr (inl h)) = absurd (h.1.none (subst (λ (ts : List GoalTree). HasGoal ts name) (sym (one_goals told g (vars_of design table) (samples_in design table) trees h.1.trees goals h.1.file)) some))
-    after (inr (inr h)) = h.1.wide.wide
-
 pub simulation_stands : (told : Told) (d t v : Text) (top : Option Text) (design : Design) (table : Table) (choice : List (List Bit)) → IsLegalSetup told d t top design table
     → AreLegalValues told v (vars_of design table) choice → (file : Text) (r : Refusal) → RefusesSimulation told d t v top file r → ⊥
 simulation_stands told d t v top design table choice l values file r (inl h) = setup_stands told d t top design table l file r h
 simulation_stands told d t v top design table choice l values file r (inr b) =
     values_stand told v (vars_of design table) choice values r (behind told d t top design table (λ design table. (file ≡ v) × RefusesValues told v (vars_of design table) r) l b).1
+
+-- where one goal that is there is not certified for a refusal, bits of the design feed each other
+pub cert_loops : (told : Told) (d t g name : Text) (top : Option Text) (design : Design) (table : Table) (trees : List GoalTree) → IsLegalSetup told d t top design table
+    → AreLegalGoals told g (vars_of design table) (samples_in design table) trees → HasGoal trees name → (file : Text) (r : Refusal) → RefusesCert told d t g name top file r → HasWideLoop design r.count
+cert_loops told d t g name top design table trees l goals has file r (inl h) = absurd (setup_stands told d t top design table l file r h)
+cert_loops told d t g name top design table trees l goals has file r (inr b) = after (behind told d t top design table Then l b)
+  where
+    Then : Design → Table → Type 0
+    Then design table = ((file ≡ g) × RefusesGoals told g (vars_of design table) (samples_in design table) r) ⊎ (((file ≡ g) × IsGoalUnknown told g name design table r) ⊎ ((file ≡ d) × IsGoalTooWide told g name design table r))
+    after : Then design table → HasWideLoop design r.count
+    after (inl h) = absurd (goals_stand told g (vars_of design table) (samples_in design table) trees goals r h.1)
+    after (inr (inl h)) =
+        let e = one_goals told g (vars_of design table) (samples_in design table) trees h.1.trees goals h.1.file in
+        absurd (h.1.none (subst (λ (x : List GoalTree). HasGoal x name) (sym e) has))
+    after (inr (inr h)) = h.1.wide.wide

@@ -1,7 +1,8 @@
+pub mod Budgets
 pub mod Complete
-pub mod Exact
 pub mod Legal
 pub mod Records
 pub mod Runs
 pub mod Counted
-pub mod Written
+pub mod Answered
+pub mod Checks

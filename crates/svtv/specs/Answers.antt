@@ -1,9 +1,6 @@
 -- Which answer comes when, and what it writes.
-use Rattle.std.specs.Prelude.{◌≡◌, ◌⊎◌, ⊤, ℕ, Bool, true, false, List, [], Option, Some, None}
-use Rattle.cnf.specs.Formula.{Formula}
+use Rattle.std.specs.Prelude.{◌≡◌, ◌⊎◌, ℕ, Bool, true, false, List, [], Option, Some, None}
 use Rattle.fourvec.specs.declared.Bit.{Bit}
-use Rattle.refute_check.specs.Accepted.{IsAccepted, IsBadAt}
-use Rattle.refute_check.specs.Entry.{Entry}
 use Rattle.sv_meaning.specs.Designs.{Design}
 use Rattle.sv_outside.specs.Outside.{one_more, AtMostOneMore, IsPartWritten}
 use Rattle.sv_outside.specs.declared.refusal.Place.{Place}
@@ -29,8 +26,7 @@ HaveRuns = (design : Design) (table : Table) → bind_faults design.wires table 
 
 -- ---- answers
 
--- What a command that is done prints. The verdicts of a proof are right by its budget. A goal that is not certified is reported, and a certificate that
--- is not verified has a step at which it is not.
+-- what a command that is done prints; the verdicts of a proof are right by its budget
 abbrev pub Prints : Told → Command → Status → Text → Type 0
 Prints told (prove d t g top budget) AllProved text = Proves told d t g top budget true text
 Prints told (prove d t g top budget) NotAll text = Proves told d t g top budget false text
@@ -39,8 +35,8 @@ Prints told (dump d top) Done text = Dumps told d top text
 Prints told (selftest n) Done text = SelfTests n text
 Prints told (cert d t g name top budget) Done text = Certifies told d t g name top budget text
 Prints told (cert d t g name top budget) NotAll text = Reports told d t g name top budget text
-Prints told (check file) Done text = Checks told file None text
-Prints told (check file) NotAll text = (step : ℕ) × Checks told file (Some step) text
+Prints told (check f) Done text = Checks told f None text
+Prints told (check f) NotAll text = (step : ℕ) × Checks told f (Some step) text
 Prints told command status text = ⊥
 
 abbrev pub PrintsIf : Told → List Text → Status → Text → Type 0
@@ -62,12 +58,6 @@ Answers told words Refused text message = (text ≡ []) × RefusesIf told words 
 Answers told words ReadFault text message = (text ≡ []) × UnreadIf told words message
 Answers told words Memory text message = (text ≡ []) × (message ≡ memory_text)
 Answers told words WriteFault text message = ⊥
-
--- what the answer of `check` says of clauses and a log: that the log refutes the clauses, or that there is a step at which it does not
-abbrev pub IfChecked : Formula → List Entry → Status → Type 0
-IfChecked formula log Done = IsAccepted formula log
-IfChecked formula log NotAll = (step : ℕ) × IsBadAt formula log step
-IfChecked formula log _ = ⊤
 
 -- the answers that print a text on the output; each other one prints a message on the errors
 abbrev pub prints_text : Status → Bool
@@ -92,6 +82,11 @@ pub record IsCutOff (text : Text) (cut cut_now : Option Text) (faults faults_now
 -- one write failed, on the output or on the errors
 abbrev pub OneFailed : ℕ → ℕ → ℕ → ℕ → Type 0
 OneFailed out new_out err new_err = ((new_out ≡ one_more out) × (new_err ≡ err)) ⊎ ((new_out ≡ out) × (new_err ≡ one_more err))
+
+-- the answer where the judge finds this bad step, or none
+abbrev pub checked_status : Option ℕ → Status
+checked_status None = Done
+checked_status (Some step) = NotAll
 
 -- the exit code of the process
 abbrev pub exit_code : Status → ℕ

@@ -60,28 +60,22 @@ abbrev pub IsLegalProof : Told → Text → Text → Text → Option Text → Ty
 IsLegalProof told d t g top = (design : Design) × (table : Table) × IsLegalSetup told d t top design table
     × (trees : List GoalTree) × AreLegalGoals told g (vars_of design table) (samples_in design table) trees
 
--- so are they, and one of the goals has this name
-abbrev pub IsLegalGoal : Told → Text → Text → Text → Text → Option Text → Type 0
-IsLegalGoal told d t g name top = (design : Design) × (table : Table) × IsLegalSetup told d t top design table
-    × (trees : List GoalTree) × AreLegalGoals told g (vars_of design table) (samples_in design table) trees × HasGoal trees name
-
--- The file of that name is a certificate: it stands for clauses and a log.
-pub record IsLegalCert (told : Told) (name : Text) : Type 0 where
+-- The file of that name stands for clauses and a log.
+pub record IsLegalCert (told : Told) (name : Text) (formula : Formula) (log : List Entry) : Type 0 where
   pub bytes : Text
   pub text : IsShort told name bytes
-  pub formula : Formula
-  pub log : List Entry
   pub stands : CertText bytes formula log
 
--- the files of a command are legal; those of a self test are its own
+-- the files of a command are legal, and one of the goals is the one to be certified; those of a self test are its own
 abbrev pub AreLegal : Told → Command → Type 0
 AreLegal told (prove d t g top budget) = IsLegalProof told d t g top
 AreLegal told (sim d t v top) = (design : Design) × (table : Table) × IsLegalSetup told d t top design table
     × (choice : List (List Bit)) × AreLegalValues told v (vars_of design table) choice
 AreLegal told (dump d top) = (design : Design) × IsLegalDesign told d top design
 AreLegal told (selftest n) = IsLegalProof (test.told n) test.design_name test.table_name test.goals_name None
-AreLegal told (cert d t g name top budget) = IsLegalGoal told d t g name top
-AreLegal told (check file) = IsLegalCert told file
+AreLegal told (cert d t g name top budget) = (design : Design) × (table : Table) × IsLegalSetup told d t top design table
+    × (trees : List GoalTree) × AreLegalGoals told g (vars_of design table) (samples_in design table) trees × HasGoal trees name
+AreLegal told (check f) = (formula : Formula) × (log : List Entry) × IsLegalCert told f formula log
 
 -- the answers of a command that is done
 abbrev pub IsDone : Command → Status → Type 0
@@ -92,16 +86,16 @@ IsDone (dump d top) Done = ⊤
 IsDone (selftest n) Done = ⊤
 IsDone (cert d t g name top budget) Done = ⊤
 IsDone (cert d t g name top budget) NotAll = ⊤
-IsDone (check file) Done = ⊤
-IsDone (check file) NotAll = ⊤
+IsDone (check f) Done = ⊤
+IsDone (check f) NotAll = ⊤
 IsDone command status = ⊥
 
--- a proof may be refused though its files are legal: over 1,024 bits of the design's wires feed each other
+-- what is proved or certified may be refused though its files are legal: over 1,024 bits of the design's wires feed each other
 abbrev pub HasLoops : Told → Text → Option Text → Type 0
 HasLoops told d top = (design : Design) × IsDesignFile told d top design × (count : ℕ) × HasWideLoop design count
 
 abbrev pub IsLooped : Told → Command → Status → Type 0
 IsLooped told (prove d t g top budget) Refused = HasLoops told d top
-IsLooped told (selftest n) Refused = HasLoops (test.told n) test.design_name None
 IsLooped told (cert d t g name top budget) Refused = HasLoops told d top
+IsLooped told (selftest n) Refused = HasLoops (test.told n) test.design_name None
 IsLooped told command status = ⊥

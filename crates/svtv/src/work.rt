@@ -5,10 +5,11 @@ ghost use Rattle.std.specs.Prelude.{◌≡◌, ◌≤◌, ◌<◌, ℕ, List, ma
 ghost use Rattle.std.specs.Option.{option_copied};
 ghost use Rattle.sv_outside.specs.Outside.{Rose};
 ghost use Rattle.svtv.specs.Answers.{Answers, CountsReads, prints_text};
-ghost use Rattle.svtv.specs.Outcomes.{status_of, text_of, message_of, IfLeft, IsCert, IsCheck, IsDump, IsProof, IsSelfTest, IsSimulation, IsStopped, IsWork};
+ghost use Rattle.svtv.specs.Outcomes.{status_of, text_of, message_of, IfLeft, IsStopped, IsWork};
+ghost use Rattle.svtv_files.specs.Files.{Told};
 ghost use Rattle.svtv_words.specs.Commands as m;
-ghost use Rattle.svtv_selftest.specs.Texts as test;
 ghost use Rattle.svtv_words.specs.Commands.{IsCommand, IsInBounds, command_is};
+ghost use Rattle.svtv_selftest.specs.Texts as test;
 ghost use Rattle.svtv.specs.declared.status.Status.TheVariants as status;
 
 use crate::status::Status;
@@ -22,14 +23,9 @@ use svtv_words::{Command, command_of};
 /// How the work ends: with a text for the output, or with a message for the errors.
 #[derive(Drop)]
 pub enum Outcome {
-    Proved(bool, Vec<u8>),
-    Simulated(Vec<u8>),
-    Dumped(Vec<u8>),
-    Tested(Vec<u8>),
-    /// A certificate, or the report of a goal that has none.
-    Certified(bool, Vec<u8>),
-    /// Whether a certificate is verified.
-    Checked(bool, Vec<u8>),
+    AllProved(Vec<u8>),
+    NotAll(Vec<u8>),
+    Done(Vec<u8>),
     Refused(Vec<u8>),
     Unread(Vec<u8>),
     Misused,
@@ -41,11 +37,9 @@ impl Outcome {
         ensures { result ≡ status_of self.now }
     {
         match self {
-            Outcome::Proved(true, _) => Status::AllProved,
-            Outcome::Proved(false, _) => Status::NotAll,
-            Outcome::Simulated(_) | Outcome::Dumped(_) | Outcome::Tested(_) => Status::Done,
-            Outcome::Certified(true, _) | Outcome::Checked(true, _) => Status::Done,
-            Outcome::Certified(false, _) | Outcome::Checked(false, _) => Status::NotAll,
+            Outcome::AllProved(_) => Status::AllProved,
+            Outcome::NotAll(_) => Status::NotAll,
+            Outcome::Done(_) => Status::Done,
             Outcome::Refused(_) => Status::Refused,
             Outcome::Unread(_) => Status::ReadFault,
             Outcome::Misused => Status::Usage,
@@ -58,12 +52,7 @@ impl Outcome {
         ensures { result ≡ prints_text (status_of self.now) }
     {
         match self {
-            Outcome::Proved(_, _)
-            | Outcome::Simulated(_)
-            | Outcome::Dumped(_)
-            | Outcome::Tested(_)
-            | Outcome::Certified(_, _)
-            | Outcome::Checked(_, _) => true,
+            Outcome::AllProved(_) | Outcome::NotAll(_) | Outcome::Done(_) => true,
             _ => false,
         }
     }
@@ -72,12 +61,7 @@ impl Outcome {
         ensures { result.now ≡ text_of self.now }
     {
         match self {
-            Outcome::Proved(_, text)
-            | Outcome::Simulated(text)
-            | Outcome::Dumped(text)
-            | Outcome::Tested(text)
-            | Outcome::Certified(_, text)
-            | Outcome::Checked(_, text) => text,
+            Outcome::AllProved(text) | Outcome::NotAll(text) | Outcome::Done(text) => text,
             _ => &[],
         }
     }
@@ -86,12 +70,7 @@ impl Outcome {
         ensures { result.now ≡ message_of self.now }
     {
         match self {
-            Outcome::Proved(_, _)
-            | Outcome::Simulated(_)
-            | Outcome::Dumped(_)
-            | Outcome::Tested(_)
-            | Outcome::Certified(_, _)
-            | Outcome::Checked(_, _) => &[],
+            Outcome::AllProved(_) | Outcome::NotAll(_) | Outcome::Done(_) => &[],
             Outcome::Refused(message) | Outcome::Unread(message) => message,
             Outcome::Misused => usage_text(),
             Outcome::Memory => memory_text(),
@@ -137,7 +116,12 @@ fn top_name(alloc: Global, top: Option<&[u8]>) -> Result<Option<Name>, AllocErro
     }
 }
 
-fn file_names(alloc: Global, design: &[u8], table: &[u8], last: &[u8]) -> Result<Names, AllocError>
+fn file_names(
+    alloc: Global,
+    design: &[u8],
+    table: &[u8],
+    last: &[u8],
+) -> Result<Names, AllocError>
     ensures { IfOk result (λ n. n ≡ record { design = design.now; table = table.now; last = last.now }) }
 {
     let design = Name::new(alloc, design)?;
@@ -150,7 +134,7 @@ fn file_names(alloc: Global, design: &[u8], table: &[u8], last: &[u8]) -> Result
     })
 }
 
-#[tactic(auto, using(crate::proofs::Counted::stopped_counts))]
+#[tactic(auto, using(crate::proofs::Counted::stopped_counts, crate::proofs::Answered::stopped_work))]
 fn proved<F: Files>(
     alloc: Global,
     files: &mut F,
@@ -159,7 +143,7 @@ fn proved<F: Files>(
     budget: Option<u64>,
 ) -> Outcome
     requires budget { IfSome budget (λ n. 0 < n) }
-    ensures is { IsProof (F.contents files.old) names.now.design names.now.table names.now.last (option_copied top.entry) budget result }
+    ensures is { IsWork (F.contents files.old) (m.prove names.now.design names.now.table names.now.last (option_copied top.entry) budget) result }
     ensures rose { IfLeft (Rose (F.faults files.old) (F.faults files.new)) result }
     ensures counts { CountsReads (status_of result) (F.faults files.old) (F.faults files.new) }
     ensures unchanged { (other : List ℕ) → F.contents files.new other ≡ F.contents files.old other }
@@ -171,14 +155,20 @@ fn proved<F: Files>(
         last,
     } = names;
     match prove(alloc, files, design, table, last, top, budget) {
-        Ok((all, text)) => Outcome::Proved(all, text),
+        Ok((true, text)) => Outcome::AllProved(text),
+        Ok((false, text)) => Outcome::NotAll(text),
         Err(stop) => stopped(alloc, stop),
     }
 }
 
-#[tactic(auto, using(crate::proofs::Counted::stopped_counts))]
-fn simulated<F: Files>(alloc: Global, files: &mut F, names: &Names, top: Option<&Name>) -> Outcome
-    ensures is { IsSimulation (F.contents files.old) names.now.design names.now.table names.now.last (option_copied top.entry) result }
+#[tactic(auto, using(crate::proofs::Counted::stopped_counts, crate::proofs::Answered::stopped_work))]
+fn simulated<F: Files>(
+    alloc: Global,
+    files: &mut F,
+    names: &Names,
+    top: Option<&Name>,
+) -> Outcome
+    ensures is { IsWork (F.contents files.old) (m.sim names.now.design names.now.table names.now.last (option_copied top.entry)) result }
     ensures rose { IfLeft (Rose (F.faults files.old) (F.faults files.new)) result }
     ensures counts { CountsReads (status_of result) (F.faults files.old) (F.faults files.new) }
     ensures unchanged { (other : List ℕ) → F.contents files.new other ≡ F.contents files.old other }
@@ -190,21 +180,21 @@ fn simulated<F: Files>(alloc: Global, files: &mut F, names: &Names, top: Option<
         last,
     } = names;
     match simulate(alloc, files, design, table, last, top) {
-        Ok(text) => Outcome::Simulated(text),
+        Ok(text) => Outcome::Done(text),
         Err(stop) => stopped(alloc, stop),
     }
 }
 
-#[tactic(auto, using(crate::proofs::Counted::stopped_counts))]
+#[tactic(auto, using(crate::proofs::Counted::stopped_counts, crate::proofs::Answered::stopped_work))]
 fn dumped<F: Files>(alloc: Global, files: &mut F, design: &Name, top: Option<&Name>) -> Outcome
-    ensures is { IsDump (F.contents files.old) design.now (option_copied top.entry) result }
+    ensures is { IsWork (F.contents files.old) (m.dump design.now (option_copied top.entry)) result }
     ensures rose { IfLeft (Rose (F.faults files.old) (F.faults files.new)) result }
     ensures counts { CountsReads (status_of result) (F.faults files.old) (F.faults files.new) }
     ensures unchanged { (other : List ℕ) → F.contents files.new other ≡ F.contents files.old other }
     ensures counts_up { F.faults files.old ≤ F.faults files.new }
 {
     match dump(alloc, files, design, top) {
-        Ok(text) => Outcome::Dumped(text),
+        Ok(text) => Outcome::Done(text),
         Err(stop) => stopped(alloc, stop),
     }
 }
@@ -212,15 +202,15 @@ fn dumped<F: Files>(alloc: Global, files: &mut F, design: &Name, top: Option<&Na
 fn tested(alloc: Global, count: u64) -> Outcome
     requires low { 1 ≤ count }
     requires high { count ≤ test.most }
-    ensures { IsSelfTest count result }
+    ensures is { (told : Told) → IsWork told (m.selftest count) result }
 {
     match selftest(alloc, count) {
-        Ok(text) => Outcome::Tested(text),
+        Ok(text) => Outcome::Done(text),
         Err(stop) => stopped(alloc, stop),
     }
 }
 
-#[tactic(auto, using(crate::proofs::Counted::stopped_counts))]
+#[tactic(auto, using(crate::proofs::Counted::stopped_counts, crate::proofs::Answered::stopped_work))]
 fn certified<F: Files>(
     alloc: Global,
     files: &mut F,
@@ -230,7 +220,7 @@ fn certified<F: Files>(
     budget: Option<u64>,
 ) -> Outcome
     requires budget { IfSome budget (λ n. 0 < n) }
-    ensures is { IsCert (F.contents files.old) names.now.design names.now.table names.now.last goal.now (option_copied top.entry) budget result }
+    ensures is { IsWork (F.contents files.old) (m.cert names.now.design names.now.table names.now.last goal.now (option_copied top.entry) budget) result }
     ensures rose { IfLeft (Rose (F.faults files.old) (F.faults files.new)) result }
     ensures counts { CountsReads (status_of result) (F.faults files.old) (F.faults files.new) }
     ensures unchanged { (other : List ℕ) → F.contents files.new other ≡ F.contents files.old other }
@@ -242,34 +232,35 @@ fn certified<F: Files>(
         last,
     } = names;
     match certify(alloc, files, design, table, last, goal, top, budget) {
-        Ok((certified, text)) => Outcome::Certified(certified, text),
+        Ok((true, text)) => Outcome::Done(text),
+        Ok((false, text)) => Outcome::NotAll(text),
         Err(stop) => stopped(alloc, stop),
     }
 }
 
-#[tactic(auto, using(crate::proofs::Counted::stopped_counts))]
+#[tactic(auto, using(crate::proofs::Counted::stopped_counts, crate::proofs::Answered::stopped_work))]
 fn checked<F: Files>(alloc: Global, files: &mut F, file: &Name) -> Outcome
-    ensures is { IsCheck (F.contents files.old) file.now result }
+    ensures is { IsWork (F.contents files.old) (m.check file.now) result }
     ensures rose { IfLeft (Rose (F.faults files.old) (F.faults files.new)) result }
     ensures counts { CountsReads (status_of result) (F.faults files.old) (F.faults files.new) }
     ensures unchanged { (other : List ℕ) → F.contents files.new other ≡ F.contents files.old other }
     ensures counts_up { F.faults files.old ≤ F.faults files.new }
 {
     match check(alloc, files, file) {
-        Ok((None, text)) => Outcome::Checked(true, text),
-        Ok((Some(_), text)) => Outcome::Checked(false, text),
+        Ok((None, text)) => Outcome::Done(text),
+        Ok((Some(_), text)) => Outcome::NotAll(text),
         Err(stop) => stopped(alloc, stop),
     }
 }
 
 // Does the work of a command.
-#[tactic(auto, using(crate::proofs::Counted::test_counts, crate::proofs::Counted::positive))]
+#[tactic(auto, using(crate::proofs::Budgets::positive))]
 fn worked<F: Files>(
     alloc: Global,
     files: &mut F,
     command: Command<'_>,
 ) -> Result<Outcome, AllocError>
-    requires { IsInBounds (command_is command) }
+    requires bounds { IsInBounds (command_is command) }
     ensures is { IfOk result (IsWork (F.contents files.old) (command_is command.entry)) }
     ensures rose { IfOk result (IfLeft (Rose (F.faults files.old) (F.faults files.new))) }
     ensures counts { IfOk result (λ outcome. CountsReads (status_of outcome) (F.faults files.old) (F.faults files.new)) }
@@ -326,7 +317,7 @@ fn worked<F: Files>(
 }
 
 /// Does the work of the words.
-#[tactic(auto, using(crate::proofs::Counted::memory_counts))]
+#[tactic(auto, using(crate::proofs::Counted::memory_counts, crate::proofs::Answered::answered))]
 pub fn answer<F: Files>(alloc: Global, words: &[String], files: &mut F) -> Outcome
     ensures answers { Answers (F.contents files.old) (map string_bytes words.now) (status_of result) (text_of result) (message_of result) }
     ensures usage { ((c : m.Command) → IsCommand (map string_bytes words.now) c → ⊥) → status_of result ≡ status.Usage }

@@ -1,15 +1,13 @@
-use Rattle.std.proofs.Common.{◌≡◌, ◌⊎◌, ◌∙◌, ap, map, string_bytes, subst, sym}
-use Rattle.sv_outside.specs.Outside.{with_text}
+use Rattle.std.proofs.Common.{◌≡◌, ◌⊎◌, subst, sym, ◌∙◌}
 use Rattle.svtv.specs.Outcomes.{status_of, text_of, message_of}
-use Rattle.svtv.specs.Answers.{Answers, IfChecked}
 use Rattle.svtv.specs.Legal.{IsDone, IsLooped}
 use Rattle.svtv.specs.declared.status.Status.{Status}
 use Rattle.svtv.specs.declared.status.Status.TheVariants.{Memory}
 use Rattle.svtv.proofs.Runs.{have_runs}
 use Rattle.sv_outside.proofs.Counts.{rose}
+use Rattle.sv_outside.specs.Outside.{with_text}
+use Rattle.svtv.proofs.Checks.{checked_ends, unsaid, whole}
 use Rattle.svtv.proofs.Complete.{ends, left}
-use Rattle.svtv.proofs.Exact.{exact}
-use Rattle.svtv.proofs.Written.{no_message, nothing_more}
 use Rattle.svtv.proofs.top.svtv.Goals as goal
 
 pub returns-then-prints_text-clause-complete : goal.returns-then-prints_text-clause-complete
@@ -42,33 +40,20 @@ returns-in-Ok-put_all-clause-runs g c = have_runs
 pub returns-clause-runs : goal.returns-clause-runs
 returns-clause-runs g c = have_runs
 
-pub returns-in-Ok-clause-exact : goal.returns-in-Ok-clause-exact
-returns-in-Ok-clause-exact g c file bytes formula log is has stands =
+pub returns-then-prints_text-clause-checks : goal.returns-then-prints_text-clause-checks
+returns-then-prints_text-clause-checks g c file f log bad is legal judged no_file no_out no_err = absurd (no_out (rose _ _ c.in-Err.ensures.failed))
+
+pub returns-clause-checks : goal.returns-clause-checks
+returns-clause-checks g c file f log bad is legal judged no_file no_out no_err = absurd (no_err (rose _ _ c.in-Err-put_all.ensures.failed))
+
+pub returns-in-Ok-clause-checks : goal.returns-in-Ok-clause-checks
+returns-in-Ok-clause-checks g c file f log bad is legal judged no_file no_out no_err =
     let outcome = c.answer-outcome.result in
-    subst (λ (s : Status). IfChecked formula log s) (sym c.status.ensures)
-    (exact (g.F.Files.contents c.args.files.now) _ (status_of outcome) (text_of outcome) (message_of outcome) file bytes formula log is has stands c.answer-outcome.ensures.answers)
+    let says = checked_ends (g.F.Files.contents c.args.files.now) _ (status_of outcome) (text_of outcome) (message_of outcome) file f log bad is legal judged c.answer-outcome.ensures.answers (λ e. no_file (left _ outcome c.answer-outcome.ensures.fault e)) in
+    whole with_text _ _ c.status.result (status_of outcome) bad (text_of outcome) c.text.result.now c.status.ensures c.in-Ok.ensures.whole c.text.ensures says
 
-pub returns-in-Ok-put_all-clause-exact : goal.returns-in-Ok-put_all-clause-exact
-returns-in-Ok-put_all-clause-exact g c file bytes formula log is has stands =
+pub returns-in-Ok-put_all-clause-checks : goal.returns-in-Ok-put_all-clause-checks
+returns-in-Ok-put_all-clause-checks g c file f log bad is legal judged no_file no_out no_err =
     let outcome = c.answer-outcome.result in
-    subst (λ (s : Status). IfChecked formula log s) (sym c.status-in-Ok-put_all.ensures)
-    (exact (g.F.Files.contents c.args.files.now) _ (status_of outcome) (text_of outcome) (message_of outcome) file bytes formula log is has stands c.answer-outcome.ensures.answers)
-
-pub returns-then-prints_text-clause-exact : goal.returns-then-prints_text-clause-exact
-returns-then-prints_text-clause-exact g c file bytes formula log is has stands = tt
-
-pub returns-clause-exact : goal.returns-clause-exact
-returns-clause-exact g c file bytes formula log is has stands = tt
-
-pub returns-in-Ok-clause-answers : goal.returns-in-Ok-clause-answers
-returns-in-Ok-clause-answers g c other =
-    let outcome = c.answer-outcome.result in
-    let text = text_of outcome in
-    let message = message_of outcome in
-    let silent = no_message outcome (sym c.prints_text.ensures ∙ c.if-prints_text.true) in (
-      text,
-      message,
-      subst (λ (s : Status). Answers (g.F.Files.contents c.args.files.now) (map string_bytes c.args.words.now) s text message) (sym c.status.ensures) c.answer-outcome.ensures.answers,
-      c.in-Ok.ensures.whole ∙ ap (with_text (g.O.Sink.written c.args.out.now)) c.text.ensures,
-      sym (ap (with_text (g.E.Sink.written c.args.err.now)) silent ∙ nothing_more (g.E.Sink.written c.args.err.now)),
-    )
+    let says = checked_ends (g.F.Files.contents c.args.files.now) _ (status_of outcome) (text_of outcome) (message_of outcome) file f log bad is legal judged c.answer-outcome.ensures.answers (λ e. no_file (left _ outcome c.answer-outcome.ensures.fault e)) in
+    unsaid c.status-in-Ok-put_all.result (status_of outcome) bad (text_of outcome) c.status-in-Ok-put_all.ensures (sym c.prints_text.ensures ∙ c.if-prints_text.false) says
