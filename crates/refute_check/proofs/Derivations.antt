@@ -1,16 +1,15 @@
 -- One hint of a derivation.
-use Rattle.std.proofs.Common.{◌≡◌, ◌↔◌, ℕ, ◌<◌, ◌≤◌, ◌+◌, ◌⊎◌, Bool, false, List, [], ◌∷◌, length, get_or, map, take, drop, sym, refl, ap, ◌∙◌, arith, subst, ⊎_elim, length-append, drop-cons, add-one}
+use Rattle.std.proofs.Common.{◌≡◌, ◌↔◌, ℕ, ◌<◌, ◌≤◌, ◌+◌, ◌⊎◌, Bool, false, List, [], ◌∷◌, length, get_or, map, take, sym, refl, ap, ◌∙◌, arith, subst, ⊎_elim, length-append}
 use Rattle.std.specs.List.{All}
-use Rattle.std.proofs.Common.{nat_eq, length-drop, length-take-le, Vec, Global}
+use Rattle.std.proofs.Common.{length-take-le, Vec, Global}
 use Rattle.std.specs.Prelude.{IsTrue}
-use Rattle.std.proofs.lemmas.Bool.{cases_lt, false≢true, eqb-true, eq-eqb}
-use Rattle.std.proofs.lemmas.List.{drop_all}
+use Rattle.std.proofs.lemmas.Bool.{cases_lt, false≢true}
 use Rattle.std.proofs.lemmas.List.{length-map, get_or-take, get_or_default}
-use Rattle.std.proofs.lemmas.List.Elements.{All-contains, All-append, All-map, All-weaker, at_read}
+use Rattle.std.proofs.lemmas.List.Elements.{All-contains, All-append, All-map, at_read}
 use Rattle.cnf.specs.declared.Dim.{Dim}
 use Rattle.cnf.specs.Clauses.{AllBelow, Valuation, assume, denied, IsOpen, IsFalsified, IsConflict, IsUnit}
 use Rattle.refute_check.specs.Entry.{Entry, no_entry, entry_of}
-use Rattle.refute_check.specs.Accepted.{clause_at, Derives, known_of, entry_at, IsConsistent, IsDerived}
+use Rattle.refute_check.specs.Accepted.{clause_at, Derives, known_of, entry_at, HasRoom, IsConsistent, IsDerived}
 
 -- an open literal is not false
 open_false : (a : Valuation) (d : Dim) → IsOpen a d → IsFalsified a d → ⊥
@@ -102,19 +101,22 @@ not_derived_at vars db log k s lt is f =
 entry_default : (log : List Entry) (j : ℕ) → j < length log → entry_at log j ≡ get_or log j (entry_at log j)
 entry_default log j lt = get_or_default log j no_entry (entry_at log j) lt
 
+-- a clause in range for which there is room is within the width
+in_room : (width vars : ℕ) (clause : List Dim) → HasRoom width vars clause → All (λ d. d.var < vars) clause → All (λ d. d.var < width) clause
+in_room width vars clause room below j d lt = room j d lt (below j d lt)
+
 -- what step k may cite is within the width, where the clauses are and the steps before it follow
-pub known_below : (width vars : ℕ) (clauses : List (List Dim)) (log : List Entry) (k : ℕ) → vars ≤ width → k ≤ length log → AllBelow width clauses →
+pub known_below : (width vars : ℕ) (clauses : List (List Dim)) (log : List Entry) (k : ℕ) → All (λ s. HasRoom width vars s.clause) log → k ≤ length log → AllBelow width clauses →
     ((j : ℕ) → j < k → IsDerived vars (known_of clauses log j) (entry_at log j)) → AllBelow width (known_of clauses log k)
-known_below width vars clauses log k le kl h f =
+known_below width vars clauses log k room kl h f =
     let P : Dim → Type 0 = λ d. d.var < width in
-    let Q : Dim → Type 0 = λ d. d.var < vars in
     All-append (All P) clauses (map (λ s. s.clause) (take k log)) h
     (All-map (All P) (λ s. s.clause) (take k log) (λ j e lt.
     let len : length (take k log) ≡ k = length-take-le k log kl in
     let jk : j < k = omega arith in
     let jl : j < length log = omega arith in
     rw (get_or-take k log j e jk) (at_read log (λ x. All P x.clause) j (entry_at log j) jl (entry_default log j jl)
-    (All-weaker Q P (λ d q. omega arith) (entry_at log j).clause (f j jk).in_range) e)))
+    (in_room width vars (entry_at log j).clause (room j no_entry jl) (f j jk).in_range) e)))
 
 -- the entry that the code read, field by field
 pub same_entry : (log : List Entry) (k : ℕ) (r : Entry) (clause : List Dim) (hints : List ℕ) → k < length log →

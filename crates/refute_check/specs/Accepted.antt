@@ -60,8 +60,12 @@ pub record IsFront (formula : Formula) (log : List Entry) (n : ℕ) : Type 0 whe
   pub derived : AllDerived formula log n
   pub stop : n < length log → IsDerivedAt formula log n → ⊥
 
--- A checker with room for `width` variables serves for these clauses, whatever the log: a step that names a variable past
--- `vars` is not derived.
-pub record Fits (width : ℕ) (formula : Formula) : Type 0 where
-  pub vars : formula.vars ≤ width
+-- each variable of the clause that is below `vars` is below the width
+abbrev pub HasRoom : ℕ → ℕ → List Dim → Type 0
+HasRoom width vars clause = All (λ d. d.var < vars → d.var < width) clause
+
+-- A checker with room for `width` variables serves for these clauses and this log: it has room for each variable that the clauses name,
+-- and for those of the steps that are below `vars`. A step that names another is not derived.
+pub record Fits (width : ℕ) (formula : Formula) (log : List Entry) : Type 0 where
   pub clauses : AllBelow width formula.clauses
+  pub steps : All (λ s. HasRoom width formula.vars s.clause) log

@@ -4,7 +4,7 @@ ghost use Rattle.std.specs.Prelude.{◌≡◌, ℕ, ◌+◌, ◌<◌, ◌≤◌,
 ghost use Rattle.cnf.specs.Clauses.{AllBelow, valuation, all_open};
 ghost use Rattle.cnf.specs.State.{IsState};
 ghost use Rattle.refute_check.specs.Entry.{Entry};
-ghost use Rattle.refute_check.specs.Accepted.{clause_at, Derives, IsDerived, entry_at, known_of};
+ghost use Rattle.refute_check.specs.Accepted.{clause_at, Derives, HasRoom, IsDerived, entry_at, known_of};
 
 use crate::log::Step;
 use crate::marks::Marks;
@@ -111,8 +111,8 @@ fn marks_lead(
     steps: &[Step],
     k: usize,
 ) -> bool
-    requires vars { vars ≤ length marks.old }
     requires k { k < length steps.now }
+    requires room { HasRoom (length marks.old) vars (entry_at steps.now k).clause }
     requires width { AllBelow (length marks.old) (known_of (map (λ v. v.items) clauses.now) steps.now k) }
     requires clear { valuation marks.old ≡ all_open }
     ensures answer { IsTrue result ↔ IsDerived vars (known_of (map (λ v. v.items) clauses.now) steps.now k) (entry_at steps.now k) }
@@ -136,8 +136,8 @@ pub fn follows(
     steps: &[Step],
     k: usize,
 ) -> bool
-    requires vars { vars ≤ length marks.old }
     requires k { k < length steps.now }
+    requires room { HasRoom (length marks.old) vars (entry_at steps.now k).clause }
     requires width { AllBelow (length marks.old) (known_of (map (λ v. v.items) clauses.now) steps.now k) }
     requires clear { marks.old ≡ replicate (length marks.old) None }
     ensures answer { IsTrue result ↔ IsDerived vars (known_of (map (λ v. v.items) clauses.now) steps.now k) (entry_at steps.now k) }

@@ -6,7 +6,7 @@ ghost use Rattle.std.specs.Prelude.{◌≡◌, ◌^◌, ◌<◌, ◌≤◌, ◌�
 ghost use Rattle.std.specs.Bool.{OnTrue};
 ghost use Rattle.cnf.specs.Clauses.{AreBelow, valuation, all_open, assume, denied, IsOpen};
 ghost use Rattle.cnf.specs.State.{IsState};
-ghost use Rattle.refute_check.specs.Accepted.{IsConsistent};
+ghost use Rattle.refute_check.specs.Accepted.{HasRoom, IsConsistent};
 ghost use Rattle.refute_check.specs.Trail.{IsTracked};
 
 use crate::readers::Literals;
@@ -109,7 +109,7 @@ impl Marks {
     /// Makes each literal of a clause false, where all variables are open. Answers whether each variable is below `vars`
     /// and none stands with both signs.
     pub fn deny(&mut self, vars: usize, literals: &mut Literals<'_>) -> bool
-        requires vars { vars ≤ length self.old }
+        requires room { HasRoom (length self.old) vars literals.old }
         requires open { valuation self.old ≡ all_open }
         ensures answer { IsTrue result ↔ (AreBelow vars literals.old × IsConsistent literals.old) }
         ensures values { OnTrue result (valuation self.new ≡ denied literals.old) }

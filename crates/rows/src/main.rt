@@ -3,6 +3,7 @@
 
 use blast_rows::BlastRows;
 use case_rows::{Report, judge_file, named, part};
+use cert_rows::CertRows;
 use clause_rows::ClauseRows;
 use event_rows::EventRows;
 use flat_rows::FlatRows;
@@ -15,6 +16,7 @@ use std::{env, io};
 #[derive(Clone, Copy)]
 enum Folder {
     Blast,
+    Cert,
     Clause,
     Event,
     Flat,
@@ -22,8 +24,9 @@ enum Folder {
     Meaning,
 }
 
-static FOLDERS: [(&[u8], Folder); 6] = [
+static FOLDERS: [(&[u8], Folder); 7] = [
     (b"blast", Folder::Blast),
+    (b"cert", Folder::Cert),
     (b"clause", Folder::Clause),
     (b"event", Folder::Event),
     (b"flat", Folder::Flat),
@@ -34,6 +37,7 @@ static FOLDERS: [(&[u8], Folder); 6] = [
 fn judge(rt: &HostRuntime, name: &str, report: &mut Report) -> io::Result<()> {
     match named(&FOLDERS, part(name.as_bytes(), b'/', 0)) {
         Some(Folder::Blast) => judge_file::<BlastRows>(rt, name, report),
+        Some(Folder::Cert) => judge_file::<CertRows>(rt, name, report),
         Some(Folder::Clause) => judge_file::<ClauseRows>(rt, name, report),
         Some(Folder::Event) => judge_file::<EventRows>(rt, name, report),
         Some(Folder::Flat) => judge_file::<FlatRows>(rt, name, report),

@@ -5,7 +5,7 @@ use Rattle.refute_check.proofs.checker.front.Goals as goal
 pub follows-requires-clause-width : goal.follows-requires-clause-width
 follows-requires-clause-width c =
     rw c.loop-k.invariant.clear
-    (known_below (length c.args.marks.now) c.args.vars (map (λ v. v.items) c.args.clauses.now) c.args.steps.now c.loop-k.k c.requires.fits.vars (omega arith) c.requires.fits.clauses c.loop-k.invariant.derived)
+    (known_below (length c.args.marks.now) c.args.vars (map (λ v. v.items) c.args.clauses.now) c.args.steps.now c.loop-k.k c.requires.fits.steps (omega arith) c.requires.fits.clauses c.loop-k.invariant.derived)
 
 pub loop-k-preserved : goal.loop-k-preserved
 loop-k-preserved c = record {

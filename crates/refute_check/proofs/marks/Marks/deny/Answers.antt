@@ -1,14 +1,15 @@
-use Rattle.std.proofs.Common.{◌≡◌, List, refl, sym, ap, ◌∙◌, Some}
+use Rattle.std.proofs.Common.{List, refl, sym, ap, ◌∙◌, Some}
 use Rattle.std.proofs.lemmas.Bool.{false≢true}
 use Rattle.cnf.specs.declared.Dim.{Dim}
 use Rattle.cnf.specs.Clauses.{valuation, assume}
 use Rattle.cnf.proofs.Walks.{same_bool}
 use Rattle.refute_check.proofs.Denials.{Denied, denied_nil, denied_again, denied_more, denied_clash, range_clash}
+use Rattle.refute_check.proofs.Widths.{room_tail}
 use Rattle.refute_check.proofs.Reading.{shorter, walk_start, walk_more, walk_end, walk_whole}
 use Rattle.refute_check.proofs.marks.Marks.deny.Goals as goal
 
 pub loop-d-init : goal.loop-d-init
-loop-d-init c = record { denied = walk_start (Denied c.args.vars (valuation c.args.self.now)) c.args.literals.now (denied_nil _ _ c.requires.open); width = refl }
+loop-d-init c = record { denied = walk_start (Denied c.args.vars (valuation c.args.self.now)) c.args.literals.now (denied_nil _ _ c.requires.open); width = refl; room = c.requires.room }
 
 pub loop-d-smaller : goal.loop-d-smaller
 loop-d-smaller c = shorter _ _ _ c.in-Some.ensures.some
@@ -36,6 +37,7 @@ loop-d-preserved-else-value-d c =
       denied = walk_more P P _ _ c.args.literals.now c.in-Some.d c.in-Some.ensures.some c.loop-d.invariant.denied
           (denied_again c.args.vars (valuation c.loop-d.self) _ c.in-Some.d c.if-d-vars.false (sym c.value_of.ensures ∙ c.in-Some-value_of.is ∙ ap Some (same_bool _ _ c.if-value-d.false)) c.loop-d.invariant.denied.2);
       width = c.loop-d.invariant.width;
+      room = room_tail _ _ _ _ _ c.in-Some.ensures.some c.loop-d.invariant.room;
     }
 
 pub loop-d-preserved : goal.loop-d-preserved
@@ -47,6 +49,7 @@ loop-d-preserved c =
           (denied_more c.args.vars (valuation c.loop-d.self) (valuation c.assume.new.self) _ c.in-Some.d c.if-d-vars.false (sym c.value_of.ensures ∙ c.in-None.is)
           (c.assume.ensures.value ∙ ap (λ (e : Dim). assume (valuation c.loop-d.self) e) c.not.ensures) c.loop-d.invariant.denied.2);
       width = c.assume.ensures.width ∙ c.loop-d.invariant.width;
+      room = room_tail _ _ _ _ _ c.in-Some.ensures.some c.loop-d.invariant.room;
     }
 
 pub returns-clause-answer : goal.returns-clause-answer

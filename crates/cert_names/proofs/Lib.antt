@@ -1,0 +1,4 @@
+pub mod Pairs
+pub mod Logs
+pub mod Places
+pub mod Walks
