@@ -3,7 +3,8 @@ use Rattle.std.proofs.Common.{◌≡◌, ℕ, List, [], ◌∷◌, get_or, lengt
 use Rattle.std.specs.List.{All}
 use Rattle.aig.specs.declared.gate.Gate.{Gate}
 use Rattle.aig.specs.declared.gate.Lit.{Lit}
-use Rattle.choice_inputs.specs.Questions.{Tells}
+use Rattle.choice_inputs.specs.Questions.{Asks, Tells}
+use Rattle.cnf.specs.Formula.{Formula}
 use Rattle.fourvec.specs.declared.Bit.{Bit}
 use Rattle.fourvec.specs.declared.Bit.TheVariants.{Unknown}
 use Rattle.flat_net.specs.declared.flat.Flat.{Flat}
@@ -37,10 +38,11 @@ use Rattle.svtv_table.specs.Stimuli.{IsChoice}
 use Rattle.svtv_table.specs.declared.bound.Bound.{Bound}
 use Rattle.svtv_table.specs.declared.bound.VarDecl.{VarDecl}
 use Rattle.svtv_verdicts.specs.Benches.{IsBreaking, IsMeeting, sampled_in}
+use Rattle.svtv_verdicts.specs.Certs.{AsksOf, HasCert}
 use Rattle.svtv_verdicts.specs.Questions as design
 use Rattle.svtv_verdicts.specs.Verdicts.{IsFailed, IsProved, IsVacuous, IsRight}
-use Rattle.svtv_decide.specs.Posing.{AreShown, IfFails, Poses, bench, said_of}
-use Rattle.svtv_decide.specs.declared.goals.Decided.{Decided}
+use Rattle.svtv_decide.specs.Posing.{AreShown, IfFails, Poses, bench, cert_of, said_of}
+use Rattle.svtv_decide.specs.declared.goals.Certified.{Certified}
 use Rattle.svtv_decide.proofs.Reading.{claim_is, hyp_is, samples_are}
 use Rattle.svtv_decide.proofs.Zips.{all_left, all_right}
 
@@ -134,12 +136,25 @@ module _ (flat : Flat) (bound : Bound) (shapes : List Shape) (samples : List ℕ
   answers_back nodes.some_breaks choice a = breaks_back choice a
   answers_back nodes.some_meets choice a = met_back choice a
 
+  chosen : (question : nodes.Question) (choice : List (List Bit)) → nodes.IsAnswer g question choice → IsChoice bound.vars choice
+  chosen nodes.some_breaks choice a = a.meets.is
+  chosen nodes.some_meets choice a = a.is
+
   tells : (question : nodes.Question) (gates : List Gate) (root : Lit) → Tells bound.vars (nodes.IsAnswer g question) gates root → design.Tells (bench d asked bound) tree (as_asked question) gates root
   tells question gates root t = record {
     graph = t.graph;
     within = t.within;
     inputs = t.inputs;
     told = λ choice c. (λ e. answers question choice ((t.told choice c).0 e), λ a. (t.told choice c).1 (answers_back question choice a));
+  }
+
+  asks : (question : nodes.Question) (f : Formula) → Asks bound.vars (nodes.IsAnswer g question) f → AsksOf (bench d asked bound) tree (as_asked question) f
+  asks question f a = record {
+    below = a.below;
+    asked = (
+      λ found. let c = a.asked.0 found in (c.0, answers question c.0 c.2),
+      λ found. let own = answers_back question found.0 found.1 in a.asked.1 (found.0, chosen question found.0 own, own),
+    );
   }
 
   -- ---- verdicts
@@ -180,11 +195,24 @@ module _ (flat : Flat) (bound : Bound) (shapes : List Shape) (samples : List ℕ
   right budget (found.Failed choice) shown h s = failed choice shown h s
   right budget (found.Undecided left) shown h s = undecided budget left h
 
+  certified : (budget : Option ℕ) (verdict : Found) → of_nodes.IsRight g budget verdict → HasCert (bench d asked bound) tree (verdict_is (said_of verdict)) (cert_of verdict)
+  certified budget (found.Proved cert) h = (asks nodes.some_breaks cert.cnf h.asks, h.accepted)
+  certified budget (found.Vacuous cert) h = (asks nodes.some_meets cert.cnf h.asks, h.accepted)
+  certified budget (found.Failed choice) h = tt
+  certified budget (found.Undecided left) h = tt
+
   -- what is said where this was found
-  pub said_right : {E : Type 0} (budget : Option ℕ) (verdict : Found) (r : Result Decided E) → of_nodes.IsRight g budget verdict → IfOk r (λ x. x.verdict ≡ said_of verdict)
-      → IfOk r (λ x. IfFails verdict (λ choice. AreShown flat bound choice x.shown)) → IfOk r (λ x. IsRight (bench d asked bound) tree budget (verdict_is x.verdict) x.shown)
-  said_right budget verdict (Ok x) h e s = subst (λ v. IsRight (bench d asked bound) tree budget (verdict_is v) x.shown) (sym e) (right budget verdict x.shown h s)
+  pub said_right : {E : Type 0} (budget : Option ℕ) (verdict : Found) (r : Result Certified E) → of_nodes.IsRight g budget verdict → IfOk r (λ x. x.decided.verdict ≡ said_of verdict)
+      → IfOk r (λ x. IfFails verdict (λ choice. AreShown flat bound choice x.decided.shown)) → IfOk r (λ x. IsRight (bench d asked bound) tree budget (verdict_is x.decided.verdict) x.decided.shown)
+  said_right budget verdict (Ok x) h e s = subst (λ v. IsRight (bench d asked bound) tree budget (verdict_is v) x.decided.shown) (sym e) (right budget verdict x.decided.shown h s)
   said_right budget verdict (Err y) h e s = tt
+
+  -- and what certifies it
+  pub said_certified : {E : Type 0} (budget : Option ℕ) (verdict : Found) (r : Result Certified E) → of_nodes.IsRight g budget verdict → IfOk r (λ x. x.decided.verdict ≡ said_of verdict)
+      → IfOk r (λ x. x.cert ≡ cert_of verdict) → IfOk r (λ x. HasCert (bench d asked bound) tree (verdict_is x.decided.verdict) x.cert)
+  said_certified budget verdict (Ok x) h e c = subst (λ cert. HasCert (bench d asked bound) tree (verdict_is x.decided.verdict) cert) (sym c)
+      (subst (λ v. HasCert (bench d asked bound) tree (verdict_is v) (cert_of verdict)) (sym e) (certified budget verdict h))
+  said_certified budget verdict (Err y) h e c = tt
 
 -- the choice of a failure is as wide as the variables
 pub fails_wide : (vars : List VarDecl) (shapes : List Shape) (samples hyps claims : List ℕ) (budget : Option ℕ) (verdict : Found) → of_nodes.IsRight (goal_of shapes vars samples hyps claims) budget verdict → IfFails verdict (AreAsWide vars)

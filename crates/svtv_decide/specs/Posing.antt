@@ -1,11 +1,12 @@
 -- Goals over the nodes of a flat design that stems from a design, under a table that is bound to its wires.
-use Rattle.std.specs.Prelude.{◌≡◌, ◌<◌, ℕ, List, length}
+use Rattle.std.specs.Prelude.{◌≡◌, ◌<◌, ℕ, List, length, Option, Some, None}
 use Rattle.std.specs.List.{All}
 use Rattle.fourvec.specs.declared.Bit.{Bit}
 use Rattle.goal_prove.specs.declared.certs.Verdict.{Verdict as Found}
 use Rattle.goal_prove.specs.declared.certs.Verdict.TheVariants as found
 use Rattle.goal_text.specs.declared.goal.Goal.{Goal}
 use Rattle.svtv_machine.specs.Passed.{IsElaborated}
+use Rattle.refute_check.specs.Certs.{Certificate}
 use Rattle.sv_meaning.specs.Designs.{Design}
 use Rattle.flat_net.specs.declared.flat.Flat.{Flat}
 use Rattle.svex_shape.specs.declared.shape.Shape.{Shape}
@@ -49,6 +50,13 @@ said_of (found.Proved cert) = Proved
 said_of (found.Vacuous cert) = Vacuous
 said_of (found.Failed choice) = Failed choice
 said_of (found.Undecided left) = Undecided (length left.cert.log)
+
+-- what certifies what was found
+abbrev pub cert_of : Found → Option Certificate
+cert_of (found.Proved cert) = Some cert
+cert_of (found.Vacuous cert) = Some cert
+cert_of (found.Failed choice) = None
+cert_of (found.Undecided left) = None
 
 -- the choice of a failure has this property; of anything else nothing is asked
 abbrev pub IfFails : Found → (List (List Bit) → Type 0) → Type 0

@@ -4,6 +4,6 @@
 mod goals;
 mod least;
 
-pub use goals::{Decided, Problem, decide};
+pub use goals::{Certified, Decided, Problem, certify, decide};
 pub use svtv_least::Runner;
 pub use svtv_machine::sample_nodes;

@@ -4,9 +4,9 @@ use Rattle.std.specs.Prelude.{ℕ}
 use Rattle.std.proofs.lemmas.List.Elements.{All-weaker}
 use Rattle.svex_shape.specs.Shapes.{width_at}
 use Rattle.svtv_decide.specs.Posing.{IsOneBit}
-use Rattle.svtv_decide.proofs.Deciding.{fails_wide, right_as, said_right}
+use Rattle.svtv_decide.proofs.Deciding.{fails_wide, right_as, said_certified, said_right}
 use Rattle.svtv_decide.proofs.Reading.{are_chosen, are_there}
-use Rattle.svtv_decide.proofs.goals.decide.Goals as goal
+use Rattle.svtv_decide.proofs.goals.certify.Goals as goal
 
 pub prove_goal-requires-clause-samples : goal.prove_goal-requires-clause-samples
 prove_goal-requires-clause-samples c =
@@ -55,3 +55,10 @@ returns-clause-right c d asked tree poses least is_goal =
     let right = right_as c.args.arena.now p.samples.now p.budget c.in_ok-found.found c.as_slice.ensures c.as_slice-2.ensures c.as_slice-3.ensures c.in_ok-found.ensures.right in
     said_right p.flat.now p.bound.now c.args.arena.now p.samples.now tree c.args.goal.now d asked c.len.ensures.arena is_goal poses least
     p.budget c.in_ok-found.found c.said.result right c.said.ensures.verdict c.said.ensures.shown
+
+pub returns-clause-cert : goal.returns-clause-cert
+returns-clause-cert c d asked tree poses least is_goal =
+    let p = c.args.problem.now in
+    let right = right_as c.args.arena.now p.samples.now p.budget c.in_ok-found.found c.as_slice.ensures c.as_slice-2.ensures c.as_slice-3.ensures c.in_ok-found.ensures.right in
+    said_certified p.flat.now p.bound.now c.args.arena.now p.samples.now tree c.args.goal.now d asked c.len.ensures.arena is_goal poses least
+    p.budget c.in_ok-found.found c.said.result right c.said.ensures.verdict c.said.ensures.cert
