@@ -41,33 +41,39 @@ decode_from (suc f) n h = by_case (n / 94 == 0) refl (λ l. decode_from f (n / 9
         let below : n / 94 < f = omega (arith, h, positive (n / 94) e) in
         omega (arith, rest, more below)
 
-codes_apart : (n m : ℕ) → n < m → bytes_eq (code_of m) (code_of n) ≡ false
+pub codes_apart : (n m : ℕ) → (m ≡ n → ⊥) → bytes_eq (code_of m) (code_of n) ≡ false
 codes_apart n m h =
     false_from_ne_true (bytes_eq (code_of m) (code_of n))
-    (λ same. let e : m ≡ n = sym (decode_from (suc m) m (omega arith)) ∙ ap decode ((bytes_decides (code_of m) (code_of n)).0 same) ∙ decode_from (suc n) n (omega arith) in omega (arith, e, h))
+    (λ same. h (sym (decode_from (suc m) m (omega arith)) ∙ ap decode ((bytes_decides (code_of m) (code_of n)).0 same) ∙ decode_from (suc n) n (omega arith)))
 
 -- ---- signals of wires
+
+-- the signal of a wire, by its number
+pub record IsVar (n : ℕ) (w : Signal) (v : VcdVar) : Type 0 where
+  pub path : v.path ≡ codes "top." ++ w.path
+  pub kind : v.kind ≡ Bits
+  pub width : v.width ≡ w.width
+  pub code : v.code ≡ code_of n
 
 -- the signals of wires from this number on
 abbrev pub AreVars : ℕ → List Signal → List VcdVar → Type 0
 AreVars n [] [] = Unit {0}
-AreVars n (w ∷ wires) (v ∷ vars) = (v.path ≡ codes "top." ++ w.path) × ((v.width ≡ w.width) × ((v.code ≡ code_of n) × AreVars (n + 1) wires vars))
+AreVars n (w ∷ wires) (v ∷ vars) = IsVar n w v × AreVars (n + 1) wires vars
 AreVars n [] (v ∷ vars) = ⊥
 AreVars n (w ∷ wires) [] = ⊥
 
-vars_more : (n m : ℕ) (wires : List Signal) (vars : List VcdVar) (w : Signal) (v : VcdVar) → AreVars n wires vars → m ≡ n + length wires → v.path ≡ codes "top." ++ w.path → v.width ≡ w.width → v.code ≡ code_of m
-    → AreVars n (wires ++ w ∷ []) (vars ++ v ∷ [])
-vars_more n m [] [] w v are e path width code = (path, (width, (code ∙ ap code_of (let same : m ≡ n = omega (arith, e) in same), tt)))
-vars_more n m (x ∷ wires) (y ∷ vars) w v are e path width code = (are.0, (are.1.0, (are.1.1.0, vars_more (n + 1) m wires vars w v are.1.1.1 (omega (arith, e)) path width code)))
-vars_more n m [] (y ∷ vars) w v are e path width code = absurd are
-vars_more n m (x ∷ wires) [] w v are e path width code = absurd are
+vars_more : (n m : ℕ) (wires : List Signal) (vars : List VcdVar) (w : Signal) (v : VcdVar) → AreVars n wires vars → m ≡ n + length wires → IsVar m w v → AreVars n (wires ++ w ∷ []) (vars ++ v ∷ [])
+vars_more n m [] [] w v are e is = (subst (λ k. IsVar k w v) (let same : m ≡ n = omega (arith, e) in same) is, tt)
+vars_more n m (x ∷ wires) (y ∷ vars) w v are e is = (are.0, vars_more (n + 1) m wires vars w v are.1 (omega (arith, e)) is)
+vars_more n m [] (y ∷ vars) w v are e is = absurd are
+vars_more n m (x ∷ wires) [] w v are e is = absurd are
 
 code_free : (n m : ℕ) (wires : List Signal) (vars : List VcdVar) → AreVars n wires vars → n + length wires ≤ m → width_under vars (code_of m) ≡ None
 unfolding width_under
 code_free n m [] [] are h = refl
 code_free n m (x ∷ wires) (y ∷ vars) are h =
-    ap (λ b. if b then Some y.width else width_under vars (code_of m)) (ap (bytes_eq (code_of m)) are.1.1.0 ∙ codes_apart n m (omega (arith, h)))
-    ∙ code_free (n + 1) m wires vars are.1.1.1 (omega (arith, h))
+    ap (λ b. if b then Some y.width else width_under vars (code_of m)) (ap (bytes_eq (code_of m)) are.0.code ∙ codes_apart n m (λ e. omega (arith, h, e)))
+    ∙ code_free (n + 1) m wires vars are.1 (omega (arith, h))
 code_free n m [] (y ∷ vars) are h = absurd are
 code_free n m (x ∷ wires) [] are h = absurd are
 
@@ -190,7 +196,7 @@ top_is = (omega arith, (refl, (refl, refl)))
 path_told : (w : Signal) → HasParts w → path_of (codes "top" ∷ scopes_of w.path) (name_of w.path) ≡ codes "top." ++ w.path
 path_told w h = ap (λ t. codes "top." ++ t) (path_is w h).joined
 
-wire_over : (held : Text) (n : ℕ) (w : Signal) (done : List Signal) (t : Told) → HasParts w → w.width ≤ 128 → n ≡ length done → Declaring (codes "top" ∷ scopes_of held) done t
+wire_over : (held : Text) (n : ℕ) (w : Signal) (done : List Signal) (t : Told) → HasParts w → w.width < 256 → n ≡ length done → Declaring (codes "top" ∷ scopes_of held) done t
     → OverTo t (wire_lines held n w) (Declaring (codes "top" ∷ scopes_of w.path) (done ++ w ∷ []))
 wire_over held n w done t h wide e d =
     over_both t (moved (scopes_of held) (scopes_of w.path)) (var_line n w.width (name_of w.path)) (Declaring (codes "top" ∷ scopes_of w.path) done) (Declaring (codes "top" ∷ scopes_of w.path) (done ++ w ∷ []))
@@ -203,13 +209,13 @@ wire_over held n w done t h wide e d =
       begin = dx.begin;
       none = dx.none;
       vars_are = vars_more 0 n done x.vars w (record { path = path_of x.scopes (name_of w.path); kind = Bits; width = w.width; code = code_of n; place = place }) dx.vars_are (omega (arith, e))
-          (ap (λ l. path_of l (name_of w.path)) dx.scopes_are ∙ path_told w h) refl refl;
+          (record { path = ap (λ l. path_of l (name_of w.path)) dx.scopes_are ∙ path_told w h; kind = refl; width = refl; code = refl });
     }))
 
 -- the parts of all wires' paths
 abbrev pub AreWires : List Signal → Type 0
 AreWires [] = Unit {0}
-AreWires (w ∷ wires) = (HasParts w × (w.width ≤ 128)) × AreWires wires
+AreWires (w ∷ wires) = (HasParts w × (w.width < 256)) × AreWires wires
 
 wires_over : (held : Text) (n : ℕ) (wires done : List Signal) (t : Told) → AreWires wires → n ≡ length done → Declaring (codes "top" ∷ scopes_of held) done t
     → OverTo t (declared held n wires) (Declaring (codes "top" ∷ []) (done ++ wires))

@@ -4,3 +4,7 @@ pub mod Printing
 pub mod Lines
 pub mod Decimals
 pub mod Declaring
+pub mod Adding
+pub mod Standing
+pub mod Changing
+pub mod Showing

@@ -1,15 +1,17 @@
 -- What is printed, piece by piece.
-use Rattle.std.proofs.Common.{◌≡◌, ◌≢◌, ◌↔◌, IsTrue, ℕ, zero, suc, ◌+◌, ◌<◌, ◌≤◌, ◌/◌, ◌%◌, Bool, true, false, List, [], ◌∷◌, ◌++◌, length, map, reverse, drop, get_or, min, All, OnOk, Result, Ok, Err, bytes_eq, inl, inr, ◌⊎◌, refl, sym, ap, ◌∙◌, append_assoc, append-nil, arith}
-use Rattle.std.specs.Prelude.{◌==◌, if◌then◌else◌}
-use Rattle.std.specs.List.{flat_map}
+use Rattle.std.proofs.Common.{◌≡◌, ◌≢◌, ◌↔◌, IsTrue, ℕ, zero, suc, ◌+◌, ◌<◌, ◌≤◌, ◌/◌, ◌%◌, Bool, true, false, List, [], ◌∷◌, ◌++◌, length, map, reverse, take, drop, get_or, All, OnOk, Result, Ok, Err, bytes_eq, inl, inr, ◌⊎◌, refl, sym, ap, ◌∙◌, append_assoc, append-nil, arith}
+use Rattle.std.specs.Prelude.{◌==◌, Some, None, if◌then◌else◌}
+use Rattle.std.specs.List.{flat_map, slice_get}
 use Rattle.std.specs.Cmp.Lexicographic.{bytes_decides}
-use Rattle.std.proofs.lemmas.Bool.{true≢false, ne_eqb}
-use Rattle.std.proofs.lemmas.List.{at_drop_more, at_drop_all, reverse-reverse}
+use Rattle.std.proofs.lemmas.Bool.{true≢false, ne_eqb, eq-eqb, false_from_ne_true}
+use Rattle.std.proofs.lemmas.List.Elements.{All-same}
+use Rattle.std.proofs.lemmas.List.{take_all, at_drop_more, at_drop_all, drop_all, reverse-reverse}
+use Rattle.std.proofs.lemmas.Option.{slice_get_cases}
 use Rattle.fourvec.specs.declared.Bit.{Bit}
 use Rattle.fourvec.specs.declared.Bit.TheVariants.{Zero, One, Unknown, Floating}
 use Rattle.sv_outside.specs.declared.text.Signal.{Signal}
 use Rattle.vcd_text.specs.Words.{Text}
-use Rattle.vcd_print.specs.Printed.{code_from, code_of, scopes_of, name_of, IsCut, scope_line, upscope_line, closed, moved, var_line, opened, wire_lines, declared, digit, digits_of, change_line, is_same, changed_line, all_lines, lines_since, time_line, phases_since}
+use Rattle.vcd_print.specs.Printed.{code_from, code_of, scopes_of, name_of, IsCut, scope_line, upscope_line, closed, moved, var_line, opened, wire_lines, declared, digit, digits_of, is_same, changed_line, lines_since}
 use Rattle.vcd_print.proofs.Paths.{cut_scopes, cut_name, uncut_scopes, uncut_name}
 
 -- a piece more of what is left
@@ -117,35 +119,26 @@ declared_end held n i wires over = at_drop_all (declared held n) wires i over
 
 -- ---- values
 
-pub all_more : (n i : ℕ) (values : List (List Bit)) (v : List Bit) → i < length values → all_lines n (drop i values) ≡ change_line n (get_or values i v) ++ all_lines (n + 1) (drop (i + 1) values)
-unfolding all_lines
-all_more n i values v within = at_drop_more (all_lines n) values i v within
-
-pub all_end : (n i : ℕ) (values : List (List Bit)) → length values ≤ i → all_lines n (drop i values) ≡ []
-unfolding all_lines
-all_end n i values over = at_drop_all (all_lines n) values i over
-
-pub lines_more : (n i : ℕ) (before values : List (List Bit)) (u v : List Bit) → i < length before → i < length values
-    → lines_since n (drop i before) (drop i values) ≡ changed_line n (get_or before i u) (get_or values i v) ++ lines_since (n + 1) (drop (i + 1) before) (drop (i + 1) values)
+pub lines_more : (n i : ℕ) (before values : List (List Bit)) (v : List Bit) → i < length values
+    → lines_since n (drop i before) (drop i values) ≡ changed_line n (slice_get before i) (get_or values i v) ++ lines_since (n + 1) (drop (i + 1) before) (drop (i + 1) values)
 unfolding lines_since
-lines_more n i before values u v h k =
-    at_drop_more (λ l. lines_since n l (drop i values)) before i u h ∙ at_drop_more (lines_since n (get_or before i u ∷ drop (i + 1) before)) values i v k
-
-no_values : (n : ℕ) (before : List (List Bit)) → lines_since n before [] ≡ []
-unfolding lines_since
-no_values n [] = refl
-no_values n (u ∷ before) = refl
-
-pub lines_end : (n i : ℕ) (before values : List (List Bit)) → min (length before) (length values) ≤ i → lines_since n (drop i before) (drop i values) ≡ []
-unfolding lines_since
-lines_end n i before values h = by_case (either_over (length before) (length values) i h)
+lines_more n i before values v h =
+    at_drop_more (lines_since n (drop i before)) values i v h ∙ by_case (slice_get_cases before i).1
   where
-    either_over : (a b i : ℕ) → min a b ≤ i → (a ≤ i) ⊎ (b ≤ i)
-    either_over a b i h = grind arith
+    by_case : ((u : List Bit) × (i < length before) × (slice_get before i ≡ Some u) × (get_or before i u ≡ u)) ⊎ ((length before ≤ i) × (slice_get before i ≡ None))
+        → lines_since n (drop i before) (get_or values i v ∷ drop (i + 1) values)
+        ≡ changed_line n (slice_get before i) (get_or values i v) ++ lines_since (n + 1) (drop (i + 1) before) (drop (i + 1) values)
+    by_case (inl x) =
+        at_drop_more (λ l. lines_since n l (get_or values i v ∷ drop (i + 1) values)) before i x.0 x.1
+        ∙ ap (λ o. changed_line n o (get_or values i v) ++ lines_since (n + 1) (drop (i + 1) before) (drop (i + 1) values)) (ap (λ u. Some u) x.3 ∙ sym x.2)
+    by_case (inr x) =
+        at_drop_all (λ l. lines_since n l (get_or values i v ∷ drop (i + 1) values)) before i x.0
+        ∙ ap (λ l. changed_line n None (get_or values i v) ++ lines_since (n + 1) l (drop (i + 1) values)) (sym (drop_all (i + 1) before (omega (arith, x.0))))
+        ∙ ap (λ o. changed_line n o (get_or values i v) ++ lines_since (n + 1) (drop (i + 1) before) (drop (i + 1) values)) (sym x.1)
 
-    by_case : (length before ≤ i) ⊎ (length values ≤ i) → lines_since n (drop i before) (drop i values) ≡ []
-    by_case (inl over) = at_drop_all (λ l. lines_since n l (drop i values)) before i over
-    by_case (inr over) = at_drop_all (lines_since n (drop i before)) values i over ∙ no_values n (drop i before)
+pub lines_end : (n i : ℕ) (before values : List (List Bit)) → length values ≤ i → lines_since n (drop i before) (drop i values) ≡ []
+unfolding lines_since
+lines_end n i before values h = at_drop_all (lines_since n (drop i before)) values i h
 
 same_digit : (a b : Bit) → digit a ≡ digit b → a ≡ b
 same_digit Zero Zero e = refl
@@ -176,7 +169,7 @@ same_digits (a ∷ u) (b ∷ v) e =
     let tails : u ≡ v = same_digits u v rest in
     ap (λ x. x ∷ u) heads ∙ ap (λ x. b ∷ x) tails
 
-same_values : (u v : List Bit) → digits_of u ≡ digits_of v → u ≡ v
+pub same_values : (u v : List Bit) → digits_of u ≡ digits_of v → u ≡ v
 same_values u v e = sym (reverse-reverse u) ∙ ap reverse (same_digits (reverse u) (reverse v) e) ∙ reverse-reverse v
 
 pub same_told : (r : Bool) (u v : List Bit) → (IsTrue r ↔ (u ≡ v)) → r ≡ is_same u v
@@ -187,6 +180,11 @@ same_told r u v h = by_case r refl (is_same u v) refl
     by_case false e false f = e ∙ sym f
     by_case true e false f = let no : false ≡ true = sym f ∙ (bytes_decides (digits_of u) (digits_of v)).1 (ap digits_of (h.0 e)) in cc
     by_case false e true f = let no : false ≡ true = sym e ∙ h.1 (same_values u v ((bytes_decides (digits_of u) (digits_of v)).0 f)) in cc
+
+-- vectors of other widths differ
+pub same_long : (u v : List Bit) → (length u == length v) ≡ false → is_same u v ≡ false
+same_long u v other =
+    false_from_ne_true (is_same u v) (λ same. let no : true ≡ false = sym (eq-eqb (length u) (length v) (ap length (same_values u v ((bytes_decides (digits_of u) (digits_of v)).0 same)))) ∙ other in cc)
 
 -- ---- steps of the loops
 
@@ -225,48 +223,30 @@ wire_on text pushed whole held n i next wires w within is_w next_is is so_far =
 pub wires_over : (text pushed whole held : Text) (n i : ℕ) (wires : List Signal) → length wires ≤ i → pushed ≡ text ++ closed (length (scopes_of held)) → text ++ declared held n (drop i wires) ≡ whole → pushed ≡ whole
 wires_over text pushed whole held n i wires over is so_far = is ∙ ap (λ t. text ++ t) (sym (declared_end held n i wires over)) ∙ so_far
 
-pub value_on : (text pushed whole : Text) (n i next : ℕ) (values : List (List Bit)) (v : List Bit) → i < length values → next ≡ n + 1
-    → pushed ≡ text ++ change_line n (get_or values i v) → text ++ all_lines n (drop i values) ≡ whole → pushed ++ all_lines next (drop (i + 1) values) ≡ whole
-value_on text pushed whole n i next values v within next_is is so_far =
-    ap (λ k. pushed ++ all_lines k (drop (i + 1) values)) next_is
-    ∙ more_pushed text pushed (change_line n (get_or values i v)) (all_lines (n + 1) (drop (i + 1) values)) whole is (ap (λ t. text ++ t) (sym (all_more n i values v within)) ∙ so_far)
+pub since_on : (text pushed whole : Text) (n i next : ℕ) (before values : List (List Bit)) (v : List Bit) → i < length values → next ≡ n + 1
+    → pushed ≡ text ++ changed_line n (slice_get before i) (get_or values i v) → text ++ lines_since n (drop i before) (drop i values) ≡ whole
+    → pushed ++ lines_since next (drop (i + 1) before) (drop (i + 1) values) ≡ whole
+since_on text pushed whole n i next before values v h next_is is so_far =
+    ap (λ k. pushed ++ lines_since k (drop (i + 1) before) (drop (i + 1) values)) next_is
+    ∙ more_pushed text pushed (changed_line n (slice_get before i) (get_or values i v)) (lines_since (n + 1) (drop (i + 1) before) (drop (i + 1) values)) whole is
+    (ap (λ t. text ++ t) (sym (lines_more n i before values v h)) ∙ so_far)
 
-pub values_over : (text whole : Text) (n i : ℕ) (values : List (List Bit)) → length values ≤ i → text ++ all_lines n (drop i values) ≡ whole → text ≡ whole
-values_over text whole n i values over so_far = sym (append-nil text) ∙ ap (λ t. text ++ t) (sym (all_end n i values over)) ∙ so_far
-
-pub since_on : (text pushed whole : Text) (n : ℕ) (before values : List (List Bit)) (u v : List Bit) → n < length before → n < length values
-    → pushed ≡ text ++ changed_line n (get_or before n u) (get_or values n v) → text ++ lines_since n (drop n before) (drop n values) ≡ whole
-    → pushed ++ lines_since (n + 1) (drop (n + 1) before) (drop (n + 1) values) ≡ whole
-since_on text pushed whole n before values u v h k is so_far =
-    more_pushed text pushed (changed_line n (get_or before n u) (get_or values n v)) (lines_since (n + 1) (drop (n + 1) before) (drop (n + 1) values)) whole is
-    (ap (λ t. text ++ t) (sym (lines_more n n before values u v h k)) ∙ so_far)
-
-pub since_over : (text whole : Text) (n : ℕ) (before values : List (List Bit)) → min (length before) (length values) ≤ n → text ++ lines_since n (drop n before) (drop n values) ≡ whole → text ≡ whole
-since_over text whole n before values over so_far = sym (append-nil text) ∙ ap (λ t. text ++ t) (sym (lines_end n n before values over)) ∙ so_far
-
-pub phase_on : {V : Type 0} (f : V → List (List Bit)) (text timed pushed whole : Text) (t i : ℕ) (before values now : List (List Bit)) (phases : List V) (p : V) → i < length phases → p ≡ get_or phases i p
-    → timed ≡ text ++ time_line t → pushed ≡ timed ++ lines_since 0 before values → values ≡ f p → now ≡ f p → text ++ phases_since t before (map f (drop i phases)) ≡ whole
-    → pushed ++ phases_since (t + 1) now (map f (drop (i + 1) phases)) ≡ whole
-unfolding phases_since
-phase_on f text timed pushed whole t i before values now phases p within is_p is_timed is_pushed is_values is_now so_far =
-    let here : phases_since t before (map f (drop i phases)) ≡ time_line t ++ (lines_since 0 before (f p) ++ phases_since (t + 1) (f p) (map f (drop (i + 1) phases))) =
-    at_drop_more (λ l. phases_since t before (map f l)) phases i p within ∙ ap (λ x. phases_since t before (map f (x ∷ drop (i + 1) phases))) (sym is_p) in
-    ap (λ v. pushed ++ phases_since (t + 1) v (map f (drop (i + 1) phases))) is_now
-    ∙ ap (λ x. x ++ phases_since (t + 1) (f p) (map f (drop (i + 1) phases))) (is_pushed ∙ ap (λ v. timed ++ lines_since 0 before v) is_values ∙ ap (λ x. x ++ lines_since 0 before (f p)) is_timed)
-    ∙ append_assoc (text ++ time_line t) (lines_since 0 before (f p)) (phases_since (t + 1) (f p) (map f (drop (i + 1) phases)))
-    ∙ append_assoc text (time_line t) (lines_since 0 before (f p) ++ phases_since (t + 1) (f p) (map f (drop (i + 1) phases)))
-    ∙ ap (λ x. text ++ x) (sym here) ∙ so_far
-
-pub phases_over : {V : Type 0} (f : V → List (List Bit)) (text whole : Text) (t i : ℕ) (before : List (List Bit)) (phases : List V) → length phases ≤ i → text ++ phases_since t before (map f (drop i phases)) ≡ whole → text ≡ whole
-unfolding phases_since
-phases_over f text whole t i before phases over so_far =
-    sym (append-nil text) ∙ ap (λ x. text ++ x) (sym (at_drop_all (λ l. phases_since t before (map f l)) phases i over)) ∙ so_far
+pub since_over : (text whole : Text) (n i : ℕ) (before values : List (List Bit)) → length values ≤ i → text ++ lines_since n (drop i before) (drop i values) ≡ whole → text ≡ whole
+since_over text whole n i before values over so_far = sym (append-nil text) ∙ ap (λ t. text ++ t) (sym (lines_end n i before values over)) ∙ so_far
 
 -- ---- texts put behind one another
 
 pub on_ok : {A E : Type 0} (r : Result A E) (P Q : Type 0) → (P → Q) → OnOk r P → OnOk r Q
 on_ok (Ok x) P Q f h = f h
 on_ok (Err e) P Q f h = tt
+
+pub always : {A E : Type 0} (r : Result A E) (P : Type 0) → P → OnOk r P
+always (Ok x) P h = h
+always (Err e) P h = tt
+
+-- what holds of each of all that was gone over
+pub all_over : {A : Type 0} (P : A → Type 0) (i : ℕ) (xs : List A) → length xs ≤ i → All P (take i xs) → All P xs
+all_over P i xs over h = All-same P xs (take i xs) (sym (take_all i xs over)) h
 
 pub three_pushed : (t a b c x y z : Text) → x ≡ t ++ a → y ≡ x ++ b → z ≡ y ++ c → z ≡ t ++ (a ++ (b ++ c))
 three_pushed t a b c x y z e f g = g ∙ ap (λ s. s ++ c) (f ∙ ap (λ s. s ++ b) e) ∙ append_assoc (t ++ a) b c ∙ append_assoc t a (b ++ c)

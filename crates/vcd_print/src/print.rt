@@ -1,14 +1,15 @@
-//! Prints wires and their values in phases as a value change dump.
+//! Pieces of a dump: codes, values, declarations and phases.
 
-ghost use Rattle.std.specs.Prelude.{◌≡◌, ◌≢◌, ◌↔◌, IsTrue, ◌%◌, ◌<◌, ◌≤◌, ◌+◌, ◌++◌, ◌∷◌, [], List, ℕ, length, map, reverse, drop, take, codes, decimal, All, IfOk, OnOk, MatchOption, min};
+ghost use Rattle.std.specs.Prelude.{◌≡◌, ◌≢◌, ◌↔◌, IsTrue, ◌%◌, ◌<◌, ◌+◌, ◌++◌, ◌∷◌, [], length, All, OnOk, MatchOption, option_copied, slice_get};
 ghost use Rattle.std.specs.List.{flat_map};
 ghost use Rattle.std.specs.Str.{bytes_eq};
 ghost use Rattle.vcd_print.specs.Printed as printed;
-ghost use Rattle.vcd_print.specs.Printed.{code_of, closed, scope_line, upscope_line, digits_of, change_line, time_line, all_lines, lines_since, scopes_of, name_of, IsCut, moved, var_line, wire_lines, declared, declarations, dump_text, is_same, phases_since, phases_text, HasParts, IsPhase};
+ghost use Rattle.vcd_print.specs.Printed.{code_of, closed, scope_line, digits_of, change_line, time_line, lines_since, phase_text, scopes_of, name_of, IsCut, moved, var_line, wire_lines, declared, declarations, is_same};
+ghost use Rattle.vcd_print.specs.Dumps.{HasBits};
 
 use fourvec::{Bit, Four};
 use itoa::Buffer;
-use std::alloc::{AllocError, Global};
+use std::alloc::AllocError;
 use sv_outside::Signal;
 
 const BASE: usize = 94;
@@ -85,7 +86,8 @@ fn push_scalar(text: &mut Vec<u8>, number: usize, value: &Four) -> Result<(), Al
 
 // The value of a wire.
 fn push_change(text: &mut Vec<u8>, number: usize, value: &Four) -> Result<(), AllocError>
-    ensures { OnOk result (text.new.items ≡ text.old.items ++ change_line number value.now) }
+    ensures text { OnOk result (text.new.items ≡ text.old.items ++ change_line number value.now) }
+    ensures bits { HasBits value.now }
 {
     if value.width() == 1 {
         push_scalar(text, number, value)
@@ -195,7 +197,8 @@ fn push_wire(
     number: usize,
     wire: &Signal,
 ) -> Result<(), AllocError>
-    ensures { OnOk result (text.new.items ≡ text.old.items ++ wire_lines held.now number wire.now) }
+    ensures text { OnOk result (text.new.items ≡ text.old.items ++ wire_lines held.now number wire.now) }
+    ensures width { OnOk result (wire.now.width < 256) }
 {
     let (held, path) = unshared(held, wire.path.bytes());
     push_closed(text, held)?;
@@ -204,7 +207,8 @@ fn push_wire(
 
 // All wires, and the closing of what is open then.
 fn push_declared(text: &mut Vec<u8>, wires: &[Signal]) -> Result<(), AllocError>
-    ensures { OnOk result (text.new.items ≡ text.old.items ++ declared [] 0 wires.now) }
+    ensures text { OnOk result (text.new.items ≡ text.old.items ++ declared [] 0 wires.now) }
+    ensures widths { OnOk result (All (λ w. w.width < 256) wires.now) }
 {
     let mut held: &[u8] = b"";
     let mut number = 0;
@@ -216,25 +220,15 @@ fn push_declared(text: &mut Vec<u8>, wires: &[Signal]) -> Result<(), AllocError>
     push_closed(text, held)
 }
 
-fn push_declarations(text: &mut Vec<u8>, wires: &[Signal]) -> Result<(), AllocError>
-    ensures { OnOk result (text.new.items ≡ text.old.items ++ declarations wires.now) }
+/// All declarations.
+pub fn push_declarations(text: &mut Vec<u8>, wires: &[Signal]) -> Result<(), AllocError>
+    ensures text { OnOk result (text.new.items ≡ text.old.items ++ declarations wires.now) }
+    ensures widths { OnOk result (All (λ w. w.width < 256) wires.now) }
 {
     text.extend_from_slice(b"$timescale 1 ns $end\n")?;
     push_scope(text, b"top")?;
     push_declared(text, wires)?;
     text.extend_from_slice(b"$upscope $end\n$enddefinitions $end\n")?;
-    Ok(())
-}
-
-// The values of all wires.
-fn push_all(text: &mut Vec<u8>, values: &[Four]) -> Result<(), AllocError>
-    ensures { OnOk result (text.new.items ≡ text.old.items ++ all_lines 0 values.now) }
-{
-    let mut number = 0;
-    'wires: for value in values {
-        push_change(text, number, value)?;
-        number += 1;
-    }
     Ok(())
 }
 
@@ -245,71 +239,60 @@ fn same(one: &Four, other: &Four) -> bool
     *one == *other
 }
 
+// Vectors of other widths differ.
+#[tactic(auto, using(crate::proofs::Printing::same_long))]
 fn is_same(one: &Four, other: &Four) -> bool
-    ensures { result ≡ is_same one.now other.now }
+    ensures same { result ≡ is_same one.now other.now }
+    ensures bits { HasBits other.now }
 {
-    same(one, other)
+    one.width() == other.width() && same(one, other)
 }
 
 // The value of a wire, if it is another than before.
 fn push_changed(
     text: &mut Vec<u8>,
     number: usize,
-    before: &Four,
+    before: Option<&Four>,
     value: &Four,
 ) -> Result<(), AllocError>
-    ensures { OnOk result (text.new.items ≡ text.old.items ++ printed.changed_line number before.now value.now) }
+    ensures text { OnOk result (text.new.items ≡ text.old.items ++ printed.changed_line number (option_copied before.entry) value.now) }
+    ensures bits { OnOk result (HasBits value.now) }
 {
-    if is_same(before, value) {
-        return Ok(());
+    match before {
+        Some(old) if is_same(old, value) => Ok(()),
+        _ => push_change(text, number, value),
     }
-    push_change(text, number, value)
 }
 
-// The values that differ from those before.
+fn value_at(values: &[Four], number: usize) -> Option<&Four>
+    ensures { option_copied result ≡ slice_get values.now number }
+{
+    values.get(number)
+}
+
+// The values that differ from those before, or all where there are none before.
 fn push_since(text: &mut Vec<u8>, before: &[Four], values: &[Four]) -> Result<(), AllocError>
-    ensures { OnOk result (text.new.items ≡ text.old.items ++ lines_since 0 before.now values.now) }
+    ensures text { OnOk result (text.new.items ≡ text.old.items ++ lines_since 0 before.now values.now) }
+    ensures bits { OnOk result (All HasBits values.now) }
 {
-    let most = before.len().min(values.len());
-    'wires: for number in 0..most {
-        push_changed(text, number, &before[number], &values[number])?;
+    let mut number = 0;
+    'wires: for value in values {
+        push_changed(text, number, value_at(before, number), value)?;
+        number += 1;
     }
     Ok(())
 }
 
-// All phases.
-fn push_phases(text: &mut Vec<u8>, phases: &[Vec<Four>]) -> Result<(), AllocError>
-    ensures { OnOk result (text.new.items ≡ text.old.items ++ phases_text (map (λ p. p.items) phases.now)) }
+/// A phase, behind one with these values or as the first.
+pub fn push_phase(
+    text: &mut Vec<u8>,
+    time: usize,
+    before: &[Four],
+    values: &[Four],
+) -> Result<(), AllocError>
+    ensures text { OnOk result (text.new.items ≡ text.old.items ++ phase_text time before.now values.now) }
+    ensures bits { OnOk result (All HasBits values.now) }
 {
-    let Some((first, more)) = phases.split_first() else {
-        return Ok(());
-    };
-    push_time(text, 0)?;
-    let start: &[Four] = first;
-    push_all(text, start)?;
-    let mut before = start;
-    let mut time = 1;
-    'phases: for values in more {
-        push_time(text, time)?;
-        push_since(text, before, values)?;
-        before = values;
-        time += 1;
-    }
-    Ok(())
-}
-
-/// The dump of wires and their values in phases, each phase with one value for each wire, at its width.
-pub fn print_vcd(
-    alloc: Global,
-    wires: &[Signal],
-    phases: &[Vec<Four>],
-) -> Result<Vec<u8>, AllocError>
-    requires parts { All HasParts wires.now }
-    requires phases { All (λ p. IsPhase wires.now p.items) phases.now }
-    ensures { IfOk result (λ text. text.items ≡ dump_text wires.now (map (λ p. p.items) phases.now)) }
-{
-    let mut text = Vec::new(alloc);
-    push_declarations(&mut text, wires)?;
-    push_phases(&mut text, phases)?;
-    Ok(text)
+    push_time(text, time)?;
+    push_since(text, before, values)
 }

@@ -55,6 +55,16 @@ stands list last e done =
       whole = not-true last.told.dumping calm.1;
     }
 
+-- the same of a whole text
+pub stands_where : (text : Text) (told : Told) → run at_start (words text) ≡ Some (record { wait = between; told = told }) → told.ended ≡ true → told.dumping ≡ false → Wave text told.vars told.changes
+unfolding is_done
+stands_where text told e ended calm = record {
+  last = told;
+  stand = stands (words text) (record { wait = between; told = told }) e (and_from told.ended (not told.dumping) ended (ap not calm));
+  vars_are = refl;
+  changes_are = refl;
+}
+
 -- and the other way round
 runs : (list : List Word) (last : Told) → Stand list last → run at_start list ≡ Some (record { wait = between; told = last })
 runs list last s = ap (run at_start) s.is ∙ items_taken nothing_told last s.items s.tell
