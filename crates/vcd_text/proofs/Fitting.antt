@@ -1,5 +1,5 @@
 -- The values that changes give.
-use Rattle.std.proofs.Common.{Bool, true, false, map, None, Some, Option, ◌≡◌, ◌⊎◌, inl, inr, ℕ, suc, ◌+◌, ◌-◌, ◌<◌, ◌≤◌, List, [], ◌∷◌, ◌++◌, length, get_or, take, drop, reverse, replicate, refl, sym, ap, ◌∙◌, arith, append-nil, append_assoc, length-append}
+use Rattle.std.proofs.Common.{true, false, map, None, Some, Option, ◌≡◌, ◌⊎◌, inl, inr, ℕ, suc, ◌+◌, ◌-◌, ◌<◌, ◌≤◌, List, [], ◌∷◌, ◌++◌, length, get_or, take, drop, reverse, replicate, refl, sym, ap, ◌∙◌, arith, append-nil, append_assoc, length-append}
 use Rattle.std.proofs.lemmas.List.{drop-map, take-map, at_drop_more, at_drop_all, reverse-append, length-reverse, length-drop, take_all, take-append-le, take-replicate, take-append-drop, get_or-append_right, nil_from_length}
 use Rattle.std.specs.Prelude.{unwrap_or, filter, if◌then◌else◌}
 use Rattle.std.specs.Str.{bytes_eq}
@@ -12,7 +12,7 @@ use Rattle.vcd_text.specs.declared.scan.WrittenChange.{WrittenChange}
 use Rattle.vcd_text.specs.Words.{Text}
 use Rattle.vcd_text.specs.Forms.{bit_of, bits_of, bits_behind, chain}
 use Rattle.vcd_text.specs.Waves.{Change, fitted, filler, changes_under}
-use Rattle.vcd_text.specs.Said.{bit_said, bits_said, kept, onto_bits, widened}
+use Rattle.vcd_text.specs.Said.{bit_said, bits_said, given, onto_bits, widened}
 use Rattle.vcd_text.specs.Changes.{IsWritten}
 
 pub onto_more : (high : List Bit) (bits : Text) (i : ℕ) → i < length bits
@@ -141,39 +141,22 @@ rest_said n kept = sym (take-map bit_said n (drop 1 kept)) ∙ ap (take n) (sym 
 
 -- ---- changes under a code
 
-one_kept : Bool → ℕ → List Bit → List (ℕ × List Bit)
-one_kept true t v = (t, v) ∷ []
-one_kept false t v = []
+-- the first of the changes is under the code
+pub first_own : (code : Text) (width : ℕ) (w : WrittenChange) (c : Change) (left more : List Change) → IsWritten w c → left ≡ c ∷ more → bytes_eq code w.code.now ≡ true
+    → changes_under code width left ≡ given width w ∷ changes_under code width more
+first_own code width w c left more h is own =
+    let same : bytes_eq code c.code ≡ true = ap (bytes_eq code) (sym h.code) ∙ own in
+    ap (changes_under code width) is
+    ∙ ap (λ b. map (λ x. (x.time, fitted width x.bits)) (if b then c ∷ filter (λ x. bytes_eq code x.code) more else filter (λ x. bytes_eq code x.code) more)) same
+    ∙ (λ i. (sym h.time i, sym (ap (fitted width) (said_bits w.bits.now c.bits h.bits)) i) ∷ changes_under code width more)
 
--- what is written of the first of the changes is kept as that
-kept_is : (code : Text) (width : ℕ) (w : WrittenChange) (c : Change) → IsWritten w c → kept code width w ≡ changes_under code width (c ∷ [])
-unfolding one_kept
-kept_is code width w c h =
-    as_one (bytes_eq code w.code.now) w.time (fitted width (bits_said w.bits.now)) ∙ ap (λ t. one_kept (bytes_eq code w.code.now) t (fitted width (bits_said w.bits.now))) h.time
-    ∙ ap (λ b. one_kept (bytes_eq code w.code.now) c.time (fitted width b)) (said_bits w.bits.now c.bits h.bits) ∙ ap (λ k. one_kept (bytes_eq code k) c.time (fitted width c.bits)) h.code
-    ∙ by_case (bytes_eq code c.code)
-  where
-    as_one : (b : Bool) (t : ℕ) (v : List Bit) → (if b then (let p : ℕ × List Bit = (t, v) in p) ∷ [] else []) ≡ one_kept b t v
-    as_one true t v = refl
-    as_one false t v = refl
-
-    by_case : (b : Bool) → one_kept b c.time (fitted width c.bits) ≡ map (λ x. (x.time, fitted width x.bits)) (if b then c ∷ [] else [])
-    by_case true = refl
-    by_case false = refl
-
-under_first : (code : Text) (width : ℕ) (c : Change) (more : List Change) → changes_under code width (c ∷ more) ≡ changes_under code width (c ∷ []) ++ changes_under code width more
-under_first code width c more = by_case (bytes_eq code c.code)
-  where
-    by_case : (b : Bool) → map (λ x. (x.time, fitted width x.bits)) (if b then c ∷ filter (λ x. bytes_eq code x.code) more else filter (λ x. bytes_eq code x.code) more)
-        ≡ map (λ x. (x.time, fitted width x.bits)) (if b then c ∷ [] else []) ++ changes_under code width more
-    by_case true = refl
-    by_case false = refl
-
-pub kept_more : (code : Text) (width : ℕ) (w : WrittenChange) (c : Change) (left more : List Change) (told new all : List (ℕ × List Bit)) → IsWritten w c → left ≡ c ∷ more → new ≡ told ++ kept code width w
-    → told ++ changes_under code width left ≡ all → new ++ changes_under code width more ≡ all
-kept_more code width w c left more told new all h is put so_far =
-    ap (λ l. l ++ changes_under code width more) (put ∙ ap (λ l. told ++ l) (kept_is code width w c h)) ∙ append_assoc told (changes_under code width (c ∷ [])) (changes_under code width more)
-    ∙ ap (λ l. told ++ l) (sym (under_first code width c more)) ∙ ap (λ l. told ++ changes_under code width l) (sym is) ∙ so_far
+-- or it is not
+pub first_other : (code : Text) (width : ℕ) (w : WrittenChange) (c : Change) (left more : List Change) → IsWritten w c → left ≡ c ∷ more → bytes_eq code w.code.now ≡ false
+    → changes_under code width left ≡ changes_under code width more
+first_other code width w c left more h is other =
+    let same : bytes_eq code c.code ≡ false = ap (bytes_eq code) (sym h.code) ∙ other in
+    ap (changes_under code width) is
+    ∙ ap (λ b. map (λ x. (x.time, fitted width x.bits)) (if b then c ∷ filter (λ x. bytes_eq code x.code) more else filter (λ x. bytes_eq code x.code) more)) same
 
 -- ---- bits below the first of those that are kept
 

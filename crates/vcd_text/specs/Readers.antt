@@ -3,6 +3,10 @@ use Rattle.std.specs.Prelude.{◌≡◌, true, false, [], Option, None, Some, �
 use Rattle.std.specs.Str.{bytes_eq}
 use Rattle.name_index.specs.Under.{under}
 use Rattle.name_index.specs.declared.map.NameMap.{NameMap}
+use Rattle.vcd_text.specs.declared.mode.ScopePart.{ScopePart}
+use Rattle.vcd_text.specs.declared.mode.ScopePart.TheVariants as scope
+use Rattle.vcd_text.specs.declared.mode.VarPart.{VarPart}
+use Rattle.vcd_text.specs.declared.mode.VarPart.TheVariants as var
 use Rattle.vcd_text.specs.declared.mode.Mode.{Mode}
 use Rattle.vcd_text.specs.declared.mode.Mode.TheVariants as mode
 use Rattle.vcd_text.specs.declared.declarations.Declarations.{Declarations}
@@ -12,18 +16,24 @@ use Rattle.vcd_text.specs.Words.{Text}
 use Rattle.vcd_text.specs.Waves.{Told, width_under}
 use Rattle.vcd_text.specs.Steps.{State, Wait, at, between, scope_kind, scope_name, scope_end, up_end, var_kind, var_width, var_code, var_name, var_range, var_end, ending_end, skipping}
 
+abbrev pub scope_wait : ScopePart → Wait
+scope_wait scope.Kind = scope_kind
+scope_wait scope.Name = scope_name
+scope_wait (scope.End name) = scope_end name.now
+
+abbrev pub var_wait : VarPart → Wait
+var_wait var.Kind = var_kind
+var_wait (var.Width kind) = var_width kind
+var_wait (var.Code kind width) = var_code kind width
+var_wait (var.Name kind width code) = var_name kind width code.now
+var_wait (var.Range n) = var_range n.kind n.width n.code.now n.name.now n.place
+var_wait (var.End n) = var_end n.kind n.width n.code.now n.name.now n.place
+
 abbrev pub wait_of : Mode → Wait
 wait_of mode.Between = between
-wait_of mode.ScopeKind = scope_kind
-wait_of mode.ScopeName = scope_name
-wait_of (mode.ScopeEnd name) = scope_end name.now
+wait_of (mode.Scope part) = scope_wait part
 wait_of mode.UpEnd = up_end
-wait_of mode.VarKind = var_kind
-wait_of (mode.VarWidth kind) = var_width kind
-wait_of (mode.VarCode kind width) = var_code kind width
-wait_of (mode.VarName kind width code) = var_name kind width code.now
-wait_of (mode.VarRange n) = var_range n.kind n.width n.code.now n.name.now n.place
-wait_of (mode.VarEnd n) = var_end n.kind n.width n.code.now n.name.now n.place
+wait_of (mode.Var part) = var_wait part
 wait_of mode.EndingEnd = ending_end
 wait_of mode.Skipping = skipping
 

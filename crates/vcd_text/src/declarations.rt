@@ -1,15 +1,16 @@
 //! Takes the words of the declarations, one after the other.
 
 ghost use Rattle.std.specs.Prelude.{◌≡◌, ◌&&◌, ◌==◌, ◌++◌, ◌∷◌, [], not, true, if◌then◌else◌, length, IfOk, OnOk};
+ghost use Rattle.sv_outside.specs.declared.refusal.Place.{Place as APlace};
 ghost use Rattle.vcd_text.specs.Forms.{is_code, is_end};
 ghost use Rattle.vcd_text.specs.Words.{begins_with};
 ghost use Rattle.vcd_text.specs.Cursors.{word_of};
 ghost use Rattle.vcd_text.specs.Waves.{with_var, but_last, width_under, agrees, is_open, path_of};
-ghost use Rattle.vcd_text.specs.Steps.{goes, at, between, step, first_step, width_step, range_step, at_start, skipping};
-ghost use Rattle.vcd_text.specs.Readers.{wait_of, told_of, state_of, HoldsWidths, Notes, stepped};
+ghost use Rattle.vcd_text.specs.Steps.{goes, at, between, step, wait_step, first_step, width_step, range_step, at_start, skipping};
+ghost use Rattle.vcd_text.specs.Readers.{wait_of, scope_wait, var_wait, told_of, state_of, HoldsWidths, Notes, stepped};
 
 use crate::forms::{is_code, number};
-use crate::mode::{Mode, Named};
+use crate::mode::{Mode, Named, ScopePart, VarPart};
 use crate::role::{Role, is_end, kind_of, role_of};
 use crate::waves::{VarKind, VcdVar};
 use crate::word::Word;
@@ -70,6 +71,19 @@ fn note(widths: &mut NameMap, code: &[u8], width: usize) -> Result<(), AllocErro
         return Ok(());
     }
     widths.put(code, width)
+}
+
+// The path of a signal in open scopes.
+fn path_in(alloc: Global, scopes: &[Name], name: &[u8]) -> Result<Name, AllocError>
+    ensures { IfOk result (λ path. path ≡ path_of scopes.now name.now) }
+{
+    let mut path = Vec::new(alloc);
+    'scopes: for scope in scopes {
+        path.extend_from_slice(scope.bytes())?;
+        path.push(b'.')?;
+    }
+    path.extend_from_slice(name)?;
+    Name::new(alloc, &path)
 }
 
 impl<'a> Declarations<'a> {
@@ -154,9 +168,9 @@ impl<'a> Declarations<'a> {
         ensures widths { HoldsWidths self.old → HoldsWidths self.new }
     {
         match role_of(word) {
-            Role::Scope => self.wait(true, Mode::ScopeKind),
+            Role::Scope => self.wait(true, Mode::Scope(ScopePart::Kind)),
             Role::Upscope => self.wait(self.may_close(), Mode::UpEnd),
-            Role::Var => self.wait(true, Mode::VarKind),
+            Role::Var => self.wait(true, Mode::Var(VarPart::Kind)),
             Role::Ending => self.wait(true, Mode::EndingEnd),
             Role::Skipped => self.wait(true, Mode::Skipping),
             Role::Dump | Role::End | Role::Other => Progress::Refused,
@@ -169,7 +183,7 @@ impl<'a> Declarations<'a> {
         ensures widths { HoldsWidths self.old → HoldsWidths self.new }
     {
         match number(word, MOST_WIDTH) {
-            Some(width) => self.wait(true, Mode::VarCode(kind, width as usize)),
+            Some(width) => self.wait(true, Mode::Var(VarPart::Code(kind, width as usize))),
             None => Progress::Refused,
         }
     }
@@ -192,25 +206,12 @@ impl<'a> Declarations<'a> {
         is_code(code) && self.agrees(code, width)
     }
 
-    // The path of a signal in the open scopes.
-    fn path(&self, name: &[u8]) -> Result<Name, AllocError>
-        ensures { IfOk result (λ path. path ≡ path_of self.now.scopes name.now) }
-    {
-        let mut path = Vec::new(self.alloc);
-        for scope in self.scopes.as_slice() {
-            path.extend_from_slice(scope.bytes())?;
-            path.push(b'.')?;
-        }
-        path.extend_from_slice(name)?;
-        Name::new(self.alloc, &path)
-    }
-
     // Declares a signal.
     fn declare(&mut self, named: Named<'_>) -> Result<(), AllocError>
         ensures step { OnOk result (state_of self.new ≡ at between (with_var (told_of self.old) named.entry.kind named.entry.width named.entry.code.now named.entry.name.now named.entry.place)) }
         ensures widths { HoldsWidths self.old → OnOk result (HoldsWidths self.new) }
     {
-        let path = self.path(named.name)?;
+        let path = path_in(self.alloc, self.scopes.as_slice(), named.name)?;
         note(&mut self.widths, named.code, named.width)?;
         let code = Name::new(self.alloc, named.code)?;
         self.vars.push(VcdVar {
@@ -234,7 +235,7 @@ impl<'a> Declarations<'a> {
             self.declare(named)?;
             return Ok(Progress::Taken);
         }
-        Ok(self.wait(opens_range(word), Mode::VarEnd(named)))
+        Ok(self.wait(opens_range(word), Mode::Var(VarPart::End(named))))
     }
 
     // Declares a signal at its `$end`.
@@ -273,6 +274,51 @@ impl<'a> Declarations<'a> {
         }
     }
 
+    // Takes a word of a scope.
+    #[tactic(auto, unfolding(crate::specs::Steps::wait_step))]
+    fn scope(&mut self, word: &'a [u8], part: ScopePart<'a>) -> Result<Progress, AllocError>
+        ensures step { IfOk result (λ p. (place : APlace) → stepped p (state_of self.new) ≡ wait_step (scope_wait part.entry) (told_of self.old) (record { text = word.entry.now; place = place })) }
+        ensures widths { HoldsWidths self.old → OnOk result (HoldsWidths self.new) }
+    {
+        match part {
+            ScopePart::Kind => Ok(self.wait(!is_end(word), Mode::Scope(ScopePart::Name))),
+            ScopePart::Name => Ok(self.wait(!is_end(word), Mode::Scope(ScopePart::End(word)))),
+            ScopePart::End(name) => self.open(word, name),
+        }
+    }
+
+    // Takes a word of a signal.
+    #[tactic(auto, unfolding(crate::specs::Steps::wait_step))]
+    fn var(&mut self, word: Word<'a>, part: VarPart<'a>) -> Result<Progress, AllocError>
+        requires { HoldsWidths self.old }
+        ensures step { IfOk result (λ p. stepped p (state_of self.new) ≡ wait_step (var_wait part.entry) (told_of self.old) (word_of word.entry)) }
+        ensures widths { OnOk result (HoldsWidths self.new) }
+    {
+        let text = word.text;
+        match part {
+            VarPart::Kind => {
+                Ok(self.wait(!is_end(text), Mode::Var(VarPart::Width(kind_of(text)))))
+            }
+            VarPart::Width(kind) => Ok(self.width(text, kind)),
+            VarPart::Code(kind, width) => Ok(self.wait(
+                self.is_free(text, width),
+                Mode::Var(VarPart::Name(kind, width, text)),
+            )),
+            VarPart::Name(kind, width, code) => Ok(self.wait(
+                !is_end(text),
+                Mode::Var(VarPart::Range(Named {
+                    kind,
+                    width,
+                    code,
+                    name: text,
+                    place: word.place,
+                })),
+            )),
+            VarPart::Range(named) => self.range(text, named),
+            VarPart::End(named) => self.end_var(text, named),
+        }
+    }
+
     /// Takes one word more, if it may come.
     #[tactic(auto, unfolding(crate::specs::Steps::wait_step))]
     pub fn step(&mut self, word: Word<'a>) -> Result<Progress, AllocError>
@@ -280,33 +326,13 @@ impl<'a> Declarations<'a> {
         ensures step { IfOk result (λ p. stepped p (state_of self.new) ≡ step (state_of self.old) (word_of word.entry)) }
         ensures widths { OnOk result (HoldsWidths self.new) }
     {
-        let text = word.text;
         match self.mode {
-            Mode::Between => Ok(self.first(text)),
-            Mode::ScopeKind => Ok(self.wait(!is_end(text), Mode::ScopeName)),
-            Mode::ScopeName => Ok(self.wait(!is_end(text), Mode::ScopeEnd(text))),
-            Mode::ScopeEnd(name) => self.open(text, name),
-            Mode::UpEnd => Ok(self.close(text)),
-            Mode::VarKind => Ok(self.wait(!is_end(text), Mode::VarWidth(kind_of(text)))),
-            Mode::VarWidth(kind) => Ok(self.width(text, kind)),
-            Mode::VarCode(kind, width) => Ok(self.wait(
-                self.is_free(text, width),
-                Mode::VarName(kind, width, text),
-            )),
-            Mode::VarName(kind, width, code) => Ok(self.wait(
-                !is_end(text),
-                Mode::VarRange(Named {
-                    kind,
-                    width,
-                    code,
-                    name: text,
-                    place: word.place,
-                }),
-            )),
-            Mode::VarRange(named) => self.range(text, named),
-            Mode::VarEnd(named) => self.end_var(text, named),
-            Mode::EndingEnd => Ok(self.end(text)),
-            Mode::Skipping => Ok(self.skip(text)),
+            Mode::Between => Ok(self.first(word.text)),
+            Mode::Scope(part) => self.scope(word.text, part),
+            Mode::UpEnd => Ok(self.close(word.text)),
+            Mode::Var(part) => self.var(word, part),
+            Mode::EndingEnd => Ok(self.end(word.text)),
+            Mode::Skipping => Ok(self.skip(word.text)),
         }
     }
 }

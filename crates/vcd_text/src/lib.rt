@@ -16,5 +16,5 @@ mod word;
 pub use changes::Changes;
 pub use read::read_vcd;
 pub use scan::WrittenChange;
-pub use signal::changes_of;
+pub use signal::{SignalChanges, changes_of, signal_changes};
 pub use waves::{VarKind, VcdVar, Waves};

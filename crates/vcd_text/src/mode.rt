@@ -13,24 +13,34 @@ pub struct Named<'a> {
     pub place: Place,
 }
 
-/// What is waited for among the declarations: an item, or the rest of one, with what the item tells so far.
+/// What is waited for of a scope, with its name where that was told.
+#[derive(Clone, Copy)]
+pub enum ScopePart<'a> {
+    Kind,
+    Name,
+    End(&'a [u8]),
+}
+
+/// What is waited for of a signal, with what was told of it.
+#[derive(Clone, Copy)]
+pub enum VarPart<'a> {
+    Kind,
+    Width(VarKind),
+    Code(VarKind, usize),
+    Name(VarKind, usize, &'a [u8]),
+    /// A word that begins with `[`, or `$end`.
+    Range(Named<'a>),
+    End(Named<'a>),
+}
+
+/// What is waited for among the declarations: an item, or the rest of one.
 #[derive(Clone, Copy)]
 pub enum Mode<'a> {
-    /// An item.
     Between,
-    /// `KIND NAME $end` of a scope, and what is left of it.
-    ScopeKind,
-    ScopeName,
-    ScopeEnd(&'a [u8]),
+    Scope(ScopePart<'a>),
     /// The `$end` behind `$upscope`.
     UpEnd,
-    /// `KIND WIDTH CODE NAME $end` of a signal, and what is left of it.
-    VarKind,
-    VarWidth(VarKind),
-    VarCode(VarKind, usize),
-    VarName(VarKind, usize, &'a [u8]),
-    VarRange(Named<'a>),
-    VarEnd(Named<'a>),
+    Var(VarPart<'a>),
     /// The `$end` behind `$enddefinitions`.
     EndingEnd,
     /// The `$end` of what is skipped.
