@@ -11,6 +11,7 @@ use graph_rows::GraphRows;
 use meaning_rows::MeaningRows;
 use std::io::Write;
 use std::{env, io};
+use vcd_rows::VcdRows;
 
 /// The folder of a file, which says by what it is judged.
 #[derive(Clone, Copy)]
@@ -22,9 +23,10 @@ enum Folder {
     Flat,
     Graph,
     Meaning,
+    Vcd,
 }
 
-static FOLDERS: [(&[u8], Folder); 7] = [
+static FOLDERS: [(&[u8], Folder); 8] = [
     (b"blast", Folder::Blast),
     (b"cert", Folder::Cert),
     (b"clause", Folder::Clause),
@@ -32,6 +34,7 @@ static FOLDERS: [(&[u8], Folder); 7] = [
     (b"flat", Folder::Flat),
     (b"graph", Folder::Graph),
     (b"meaning", Folder::Meaning),
+    (b"vcd", Folder::Vcd),
 ];
 
 fn judge(rt: &HostRuntime, name: &str, report: &mut Report) -> io::Result<()> {
@@ -43,6 +46,7 @@ fn judge(rt: &HostRuntime, name: &str, report: &mut Report) -> io::Result<()> {
         Some(Folder::Flat) => judge_file::<FlatRows>(rt, name, report),
         Some(Folder::Graph) => judge_file::<GraphRows>(rt, name, report),
         Some(Folder::Meaning) => judge_file::<MeaningRows>(rt, name, report),
+        Some(Folder::Vcd) => judge_file::<VcdRows>(rt, name, report),
         None => Err(io::ErrorKind::NotFound.into()),
     }
 }

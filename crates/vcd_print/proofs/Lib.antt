@@ -1,0 +1,10 @@
+pub mod Paths
+pub mod Digits
+pub mod Printing
+pub mod Lines
+pub mod Decimals
+pub mod Declaring
+pub mod Adding
+pub mod Standing
+pub mod Changing
+pub mod Showing

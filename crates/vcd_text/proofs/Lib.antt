@@ -1,0 +1,14 @@
+pub mod Numbers
+pub mod Widths
+pub mod Places
+pub mod Splitting
+pub mod Scanning
+pub mod Behind
+pub mod Telling
+pub mod Outcomes
+pub mod Checking
+pub mod Runs
+pub mod Taking
+pub mod Laws
+pub mod Declared
+pub mod Fitting

@@ -1,0 +1,12 @@
+pub mod Words
+pub mod Forms
+pub mod Cursors
+pub mod Waves
+pub mod Steps
+pub mod Refusals
+pub mod Readers
+pub mod Modes
+pub mod Scans
+pub mod Said
+pub mod Left
+pub mod Changes
