@@ -6,14 +6,15 @@
 import re
 
 USAGE = b"usage: svtv prove DESIGN TABLE GOALS [--top M] [--budget N]\n" + b"".join(
-    b"       svtv " + line for line in (b"sim DESIGN TABLE VALUES [--top M]\n", b"dump DESIGN [--top M]\n", b"selftest N\n"))
+    b"       svtv " + line for line in (b"sim DESIGN TABLE VALUES [--top M]\n", b"dump DESIGN [--top M]\n", b"selftest N\n",
+    b"cert DESIGN TABLE GOALS GOAL [--top M] [--budget N]\n", b"check CERT\n"))
 
-# The refusals by number, each with its word; those of tables and values, of goals, and of the design as a whole.
+# The refusals by number, each with its word; those of tables and values, of goals, of the design as a whole, and of certificates.
 WORDS = dict(enumerate(
     "BadByte BadToken IncludeDeep TooLong Unbalanced MacroUnknown MacroDeep Syntax TooDeep TopUnclear UnknownModule UnknownName Twice "
     "Width ConstUnknown LiteralRange PortUnknown PortTwice BadTarget LoopLong InstanceDeep TooManyBits BadSelect WrongAssign OutOfScope "
     "Shape Phases CellBad SignalUnknown SignalTwice VarWidth SampleTwice GoalSyntax GoalTwice VarMissing VarUnknown VarTwice ValueBad "
-    "LoopTooWide".split(), 1))
+    "LoopTooWide Unbuilt GoalUnknown CertSyntax CertId RatHint".split(), 1))
 COUNTED = (10, 39)
 
 REFUSAL = re.compile(rb"(.*):([1-9][0-9]*):([1-9][0-9]*): E([1-9][0-9]*) ([A-Za-z]+)( [0-9]+)?\n", re.DOTALL)
@@ -21,6 +22,8 @@ UNREAD = re.compile(rb"(.*):([1-9][0-9]*):([1-9][0-9]*): read fault\n", re.DOTAL
 NAME = rb"[A-Za-z_][A-Za-z0-9_$]*"
 VERDICTS = re.compile(rb"(?:%s: (?:proved|vacuous|undecided after [1-9][0-9]*|failed\n(?:  (?:var|sample) %s = [1-9][0-9]*'b[01xz]+\n)*)\n?)*" % (NAME, NAME))
 SAMPLES = re.compile(rb"(?:%s = [1-9][0-9]*'b[01xz]+\n)*" % NAME)
+CERTIFIED = re.compile(rb"c %s (?:proved|vacuous)\np cnf [0-9]+ [0-9]+\n(?:-?[0-9]+ )*0\n(?:(?:-?[0-9]+ )*0\n)*" % NAME)
+CHECKED = re.compile(rb"verified\n|not verified: step [0-9]+\n")
 FLAT = re.compile(rb"flat 1\n(?:(?:wire|join|node|drive) [ -~]+\n)*end\n")
 
 
@@ -43,8 +46,13 @@ def printed_fault(words, status, out):
         whole = VERDICTS.fullmatch(out)
         proved = all(line.endswith(b": proved") for line in out.splitlines())
         return None if whole and out and proved == (status == 0) else "no report, or one of another status"
+    if verb == "cert":
+        whole = CERTIFIED.fullmatch(out) if status == 0 else VERDICTS.fullmatch(out) and out and b": failed" in out or b": undecided" in out
+        return None if whole else "no certificate, or no report, or one of another status"
+    if verb == "check":
+        return None if CHECKED.fullmatch(out) and out.startswith(b"verified") == (status == 0) else "not what is said of a certificate"
     if status != 0:
-        return "status 1 of another command than prove"
+        return "status 1 of another command than prove, cert and check"
     form = {"sim": SAMPLES, "dump": FLAT}.get(verb)
     return None if form is None or form.fullmatch(out) else "no text of this command"
 

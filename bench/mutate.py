@@ -2,12 +2,13 @@
 
 Each run has a number, which says what it changes, so a run that stands out can be made again. A fault is what `answers.fault` says of an
 answer: an end by a signal, a status that the manual does not have, an output beside a refusal, a message or a text that is not of its
-form. The first runs take the fronts of the files of the examples, the others make one to four changes: a byte, a token or some tokens
+form; and of `check`, that it says something else than lrat.py. The first runs take the fronts of the files of the examples, the others make one to four changes: a byte, a token or some tokens
 are deleted, doubled, put elsewhere, or replaced by others, and seldom a word of the command.
 
 Use: mutate.py FIRST LAST     runs with these numbers, the last one not
      mutate.py RUN            shows what this run does
-From the environment: SVTV is the program, JOBS how many run beside each other (2), LIMIT the processor seconds of one run (20).
+From the environment: SVTV is the program, JOBS how many run beside each other (2), LIMIT the processor seconds of one run (20), and COMMAND
+the one command whose texts are changed (all).
 
 Printed are how many runs ended in which status, how many of each refusal, those that took too long, and each fault with its number.
 The status of mutate.py is 1 where there was a fault.
@@ -25,6 +26,7 @@ import sys
 import tempfile
 
 import answers
+import lrat
 
 TOP = os.path.dirname(os.path.dirname(os.path.abspath(__file__)))
 sys.path.insert(0, os.path.join(TOP, "tools"))
@@ -33,6 +35,7 @@ import run_cases
 PROGRAM = os.path.abspath(os.environ.get("SVTV", "./svtv"))
 JOBS = int(os.environ.get("JOBS", "2"))
 LIMIT = int(os.environ.get("LIMIT", "20"))
+COMMAND = os.environ.get("COMMAND")
 TOKEN = re.compile(rb"[A-Za-z_`$][A-Za-z0-9_$]*|[0-9]*'[sS]?[bodhBODH][0-9a-fA-FxzXZ?_]*|[0-9]+|\s+|[<>=!&|~^+*/%:-]+|.", re.DOTALL)
 
 EXAMPLES = [
@@ -42,8 +45,10 @@ EXAMPLES = [
     ("cut", ["prove", "d.sv", "sum.csv", "sum.txt"]), ("cut", ["prove", "d.sv", "product.csv", "product.txt", "--budget", "200"]),
     ("latch", ["prove", "d.sv", "t.csv", "g.txt"]), ("loop", ["prove", "d.sv", "t.csv", "g.txt"]),
     ("pipeline", ["prove", "d.sv", "t.csv", "g.txt"]), ("product", ["prove", "d.sv", "t.csv", "g.txt", "--budget", "1"]),
-    ("reset", ["prove", "d.sv", "t.csv", "g.txt"]),
+    ("reset", ["prove", "d.sv", "t.csv", "g.txt"]), ("bus", ["cert", "d.sv", "t.csv", "g.txt", "agree"]),
 ]
+# Goals of which the program's certificates are changed.
+CERTIFIED = [("and_gate", "eq"), ("bus", "first"), ("pipeline", "sum"), ("pipeline", "never"), ("latch", "either"), ("loop", "ripple"), ("reset", "kept")]
 
 
 def example(name, words):
@@ -56,6 +61,15 @@ def example(name, words):
     return words, files
 
 
+def certificates():
+    """Checks of certificates, as the program prints them."""
+    for name, goal in CERTIFIED:
+        words = [PROGRAM, "cert", "d.sv", "t.csv", "g.txt", goal]
+        printed = subprocess.run(words, cwd=os.path.join(TOP, "examples", name), capture_output=True, check=True).stdout
+        if len(printed) < 6000:
+            yield ["check", "g.lrat"], {"g.lrat": printed}
+
+
 def short_cases():
     """The cases of svtv_cases that ask for no fault and are short."""
     for path in sorted(glob.glob(os.path.join(TOP, "crates/svtv_cases/data/*.cases"))):
@@ -65,9 +79,15 @@ def short_cases():
                 yield case["words"], named
 
 
-BASES = [example(*each) for each in EXAMPLES]
+def chosen(bases):
+    """Those of the command that is chosen."""
+    return [base for base in bases if COMMAND in (None, base[0][0])]
+
+
+BASES = chosen([example(*each) for each in EXAMPLES] + list(certificates()))
+MAIN = len(BASES)
 FRONTS = [(base, name, length) for base, (_, files) in enumerate(BASES) for name, text in files.items() for length in range(len(text))]
-BASES += list(short_cases())
+BASES += chosen(short_cases())
 PIECES = sorted({token for _, files in BASES for text in files.values() for token in TOKEN.findall(text)})
 
 
@@ -106,7 +126,7 @@ def made(number):
         words, files = BASES[base]
         return words, dict(files, **{name: files[name][:length]})
     chance = random.Random(number)
-    words, files = chance.choice(BASES) if chance.random() < 0.7 else chance.choice(BASES[: len(EXAMPLES)])
+    words, files = chance.choice(BASES) if chance.random() < 0.7 else chance.choice(BASES[:MAIN])
     files = dict(files)
     for _ in range(chance.choice([1, 1, 1, 2, 2, 3, 4])):
         if chance.random() < 0.03 or not files:
@@ -116,6 +136,21 @@ def made(number):
         other = chance.choice(sorted(chance.choice(BASES)[1].values()) or [b""])
         files[name] = changed_bytes(chance, files[name]) if chance.random() < 0.35 else changed_tokens(chance, files[name], other)
     return words, files
+
+
+def said_of(text):
+    """What lrat.py says of a certificate; nothing where the text is none."""
+    try:
+        return lrat.judge(*lrat.read(text)).encode() + b"\n"
+    except ValueError:
+        return b""
+
+
+def fault(words, files, ended):
+    """What is wrong with an answer."""
+    if words[:1] == ["check"] and words[1:] == list(files) and ended.returncode in (0, 1, 3) and said_of(files[words[1]]) != ended.stdout:
+        return "another answer than that of lrat.py"
+    return answers.fault(words, ended.returncode, ended.stdout, ended.stderr)
 
 
 def limited():
@@ -137,7 +172,7 @@ def run(number):
     number_of = int(refused[4]) if refused else None
     if ended.returncode == -24:
         return number, "too long", None, None
-    return number, ended.returncode, number_of, answers.fault(words, ended.returncode, ended.stdout, ended.stderr)
+    return number, ended.returncode, number_of, fault(words, files, ended)
 
 
 def show(number):
