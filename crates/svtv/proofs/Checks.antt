@@ -69,6 +69,7 @@ checked_ends told words status text message file formula log bad is l judged = b
   where
     its : (s : Status) → PrintsIf told words s text → Prints told (check file) s text
     its s h = subst (λ (x : Command). Prints told x s text) (one_command words h.0 (check file) h.1 is) h.2
+
     by : (s : Status) → Answers told words s text message → (s ≡ ReadFault → ⊥) → Says bad s text
     by AllProved h n = absurd (its AllProved h.1)
     by NotAll h n =

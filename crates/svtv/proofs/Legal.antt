@@ -230,6 +230,7 @@ cert_loops told d t g name top design table trees l goals has file r (inr b) = a
   where
     Then : Design → Table → Type 0
     Then design table = ((file ≡ g) × RefusesGoals told g (vars_of design table) (samples_in design table) r) ⊎ (((file ≡ g) × IsGoalUnknown told g name design table r) ⊎ ((file ≡ d) × IsGoalTooWide told g name design table r))
+
     after : Then design table → HasWideLoop design r.count
     after (inl h) = absurd (goals_stand told g (vars_of design table) (samples_in design table) trees goals r h.1)
     after (inr (inl h)) =

@@ -116,12 +116,7 @@ fn top_name(alloc: Global, top: Option<&[u8]>) -> Result<Option<Name>, AllocErro
     }
 }
 
-fn file_names(
-    alloc: Global,
-    design: &[u8],
-    table: &[u8],
-    last: &[u8],
-) -> Result<Names, AllocError>
+fn file_names(alloc: Global, design: &[u8], table: &[u8], last: &[u8]) -> Result<Names, AllocError>
     ensures { IfOk result (λ n. n ≡ record { design = design.now; table = table.now; last = last.now }) }
 {
     let design = Name::new(alloc, design)?;
@@ -162,12 +157,7 @@ fn proved<F: Files>(
 }
 
 #[tactic(auto, using(crate::proofs::Counted::stopped_counts, crate::proofs::Answered::stopped_work))]
-fn simulated<F: Files>(
-    alloc: Global,
-    files: &mut F,
-    names: &Names,
-    top: Option<&Name>,
-) -> Outcome
+fn simulated<F: Files>(alloc: Global, files: &mut F, names: &Names, top: Option<&Name>) -> Outcome
     ensures is { IsWork (F.contents files.old) (m.sim names.now.design names.now.table names.now.last (option_copied top.entry)) result }
     ensures rose { IfLeft (Rose (F.faults files.old) (F.faults files.new)) result }
     ensures counts { CountsReads (status_of result) (F.faults files.old) (F.faults files.new) }
