@@ -1,0 +1,196 @@
+"""The command: from its words to what is printed and the status."""
+
+from __future__ import annotations
+
+import os
+import secrets
+import shutil
+import signal
+from collections.abc import Iterator
+from contextlib import contextmanager
+from dataclasses import dataclass
+from pathlib import Path
+
+from goals import hosts, program, run, show
+from goals.kept import Kept, Record, cache, open_kept
+from goals.program import Missing
+from goals.words import Words, read_words
+from goals.work import Unknown, Whole, Work, hand_out, packed, read_work
+
+USAGE, WRITE_FAULT, WITHOUT_VERDICT = 2, 5, 7
+SIGNALS = (signal.SIGINT, signal.SIGTERM, signal.SIGHUP)
+
+
+class Interrupted(BaseException):
+    """A signal asks for the end."""
+
+    def __init__(self, number: int):
+        super().__init__(number)
+        self.number = number
+
+
+def interrupt(number: int, _frame: object) -> None:
+    """The first signal ends the work in order; what comes while that goes on is passed over."""
+    for other in SIGNALS:
+        signal.signal(other, signal.SIG_IGN)
+    raise Interrupted(number)
+
+
+@dataclass(frozen=True)
+class Outcome:
+    """The records of the goals that ended, how the jobs ended of those that have none, and whether all machines worked."""
+
+    records: dict[int, Record]
+    lost: dict[int, str]
+    all_reached: bool
+
+
+@contextmanager
+def handed_out(work: Work, words: Words, svtv: Path, kept: Kept, chosen: list[hosts.Host]) -> Iterator[tuple[str, list[hosts.Reached]]]:
+    """A folder with all that a job needs, on each machine, by its name; it is removed behind the context."""
+    name = run.folder_name(secrets.token_hex(8))
+    folder = kept.folder / name
+    try:
+        hand_out(work, svtv, words.timeout, folder)
+        there = not all(host.is_here for host in chosen)
+        yield name, hosts.reach(chosen, folder, packed(folder) if there else b"")
+    finally:
+        hosts.leave(dict.fromkeys(chosen), name)
+        shutil.rmtree(folder, ignore_errors=True)
+
+
+def decided(parallel: run.Parallel, kept: Kept, work: Work, done: dict[int, Record]) -> dict[int, Record]:
+    """The records of all goals that ended, in this call or before. Whole where svtv does not take the files after all."""
+    count = show.Count(len(work.chosen))
+    for record in done.values():
+        count.ended(record.status == 0, fresh=False)
+    bar, found = show.Bar(count), dict(done)
+    try:
+        for record in parallel.records():
+            if record is not None:
+                if record.is_refused:
+                    raise Whole
+                kept.add(record)
+                found[record.goal] = record
+                count.ended(record.status == 0, fresh=True)
+            bar.draw()
+    finally:
+        bar.wipe()
+    return found
+
+
+def losses(parallel: run.Parallel, kept: Kept, work: Work, found: dict[int, Record]) -> dict[int, str]:
+    """Why goals have no record: their jobs were lost."""
+    ends, lost = kept.job_ends(), {}
+    for place, number in enumerate(work.chosen, 1):
+        if number not in found:
+            host, code, killed = ends.get(place, (":", 0, 0))
+            why = f"killed by signal {killed}" if killed else f"the job ended with {code}" if code else "the job was not run"
+            where = "" if host == ":" else f" on {host}"
+            complaint = parallel.complaint()
+            lost[number] = f"{why}{where}{': ' if complaint else ''}{complaint}"
+    return lost
+
+
+def decide(work: Work, words: Words, svtv: Path, kept: Kept, machines: list[hosts.Host]) -> Outcome:
+    """Decides the goals that have no verdict yet."""
+    done = kept.verdicts()
+    if len(done) == len(work.chosen):
+        return Outcome(done, {}, True)
+    parallel = run.find_parallel()
+    kept.trim_joblog(run.places_done(work.chosen, set(done)))
+    with handed_out(work, words, svtv, kept, machines) as (folder, reached):
+        for it in reached:
+            if it.why:
+                show.say(f"svtv-goals: {it.why}")
+        working = [it.host for it in reached if not it.why]
+        if not working:
+            raise Missing("no machine works")
+        with run.Parallel(parallel, kept, working, folder, work.chosen) as running:
+            found = decided(running, kept, work, done)
+            lost = losses(running, kept, work, found)
+    return Outcome(found, lost, len(working) == len(reached))
+
+
+def printed(report: bytes) -> bool:
+    """Writes all of it on the output, if that can be."""
+    try:
+        with open(1, "wb", closefd=False) as output:
+            output.write(report)
+    except OSError:
+        return False
+    return True
+
+
+def tell(work: Work, words: Words, outcome: Outcome) -> int:
+    """Prints what was decided, and on the error stream what was not."""
+    reports, status = [], 0
+    for number in work.chosen:
+        record, name = outcome.records.get(number), work.goals[number].name
+        if record is not None and record.is_verdict:
+            reports.append(record.out)
+            status = max(status, record.status)
+        else:
+            show.say(f"{name}: {show.trouble(record, words.timeout) if record else outcome.lost.get(number, 'the job was not run')}")
+    if len(reports) < len(work.chosen) or not outcome.all_reached:
+        status = WITHOUT_VERDICT
+    if words.times:
+        show.say(show.times([work.goals[number].name for number in work.chosen], map(outcome.records.get, work.chosen)))
+    return status if printed("".join(reports).encode("latin-1")) else WRITE_FAULT
+
+
+def machines_of(words: Words) -> list[hosts.Host]:
+    found = hosts.hosts_of(words.hosts) if words.hosts else [hosts.Host(hosts.HERE, None)]
+    return [hosts.Host(host.name, host.jobs or words.jobs) for host in found]
+
+
+def worked(work: Work, words: Words, svtv: Path, machines: list[hosts.Host]) -> int:
+    """Decides and prints the goals. What an interrupted call has decided is kept for the next one, and so is what lacks some verdict."""
+    kept = open_kept(cache(os.environ), work.digest(svtv))
+    try:
+        status = tell(work, words, decide(work, words, svtv, kept, machines))
+        if status in (0, 1):
+            kept.remove()
+        return status
+    except Interrupted:
+        show.say(f"svtv-goals: interrupted; {len(kept.verdicts())} of {len(work.chosen)} goals are decided, and the same words go on there")
+        raise
+    except Whole:
+        kept.remove()
+        raise
+    finally:
+        kept.release()
+
+
+def answer(words: Words, top: Path) -> int:
+    """Decides the goals one by one, or leaves the files to svtv."""
+    try:
+        machines = machines_of(words)
+        work = read_work(words.command, words.only)
+    except (Unknown, hosts.BadHosts) as error:
+        show.say(f"svtv-goals: {error}")
+        return USAGE
+    except Whole:
+        return program.whole(program.find(top, os.environ), words.command)
+    svtv = program.find(top, os.environ)
+    if not program.accepts(svtv, work.command, work.whole, work.goals):
+        return program.whole(svtv, words.command)
+    try:
+        return worked(work, words, svtv, machines)
+    except Whole:
+        return program.whole(svtv, words.command)
+
+
+def main(arguments: list[str], top: Path) -> int:
+    """The status of the command with these words; the repository's folder is where `svtv` is looked for."""
+    words = read_words(arguments)
+    for number in SIGNALS:
+        if number != signal.SIGHUP or signal.getsignal(number) != signal.SIG_IGN:
+            signal.signal(number, interrupt)
+    try:
+        return answer(words, top)
+    except Interrupted as signalled:
+        return 128 + signalled.number
+    except (Missing, OSError) as error:
+        show.say(f"svtv-goals: {error}")
+        return WITHOUT_VERDICT
