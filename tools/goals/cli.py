@@ -6,16 +6,17 @@ import os
 import secrets
 import shutil
 import signal
+import sys
 from collections.abc import Iterator
 from contextlib import contextmanager
 from dataclasses import dataclass
 from pathlib import Path
 
-from goals import hosts, program, run, show
+from goals import hosts, program, run, show, text
 from goals.kept import Kept, Record, cache, open_kept
 from goals.program import Missing
 from goals.words import Words, read_words
-from goals.work import Unknown, Whole, Work, hand_out, packed, read_work
+from goals.work import Unknown, Whole, Work, check_names, hand_out, packed, read_work
 
 USAGE, WRITE_FAULT, WITHOUT_VERDICT = 2, 5, 7
 SIGNALS = (signal.SIGINT, signal.SIGTERM, signal.SIGHUP)
@@ -50,20 +51,23 @@ def handed_out(work: Work, words: Words, svtv: Path, kept: Kept, chosen: list[ho
     """A folder with all that a job needs, on each machine, by its name; it is removed behind the context."""
     name = run.folder_name(secrets.token_hex(8))
     folder = kept.folder / name
+    others: set[str] = set()
     try:
         hand_out(work, svtv, words.timeout, folder)
-        there = not all(host.is_here for host in chosen)
-        yield name, hosts.reach(chosen, folder, packed(folder) if there else b"")
+        others = {host.name for host in chosen if not host.is_here}
+        reached = hosts.reach(chosen, folder, packed(folder) if others else b"")
+        others -= {it.host.name for it in reached if not it.answers}
+        yield name, reached
     finally:
-        hosts.leave(dict.fromkeys(chosen), name)
+        hosts.leave(others, name)
         shutil.rmtree(folder, ignore_errors=True)
 
 
 def decided(parallel: run.Parallel, kept: Kept, work: Work, done: dict[int, Record]) -> dict[int, Record]:
     """The records of all goals that ended, in this call or before. Whole where svtv does not take the files after all."""
     count = show.Count(len(work.chosen))
-    for record in done.values():
-        count.ended(record.status == 0, fresh=False)
+    for it in done.values():
+        count.ended(it.is_proved, fresh=False)
     bar, found = show.Bar(count), dict(done)
     try:
         for record in parallel.records():
@@ -72,7 +76,7 @@ def decided(parallel: run.Parallel, kept: Kept, work: Work, done: dict[int, Reco
                     raise Whole
                 kept.add(record)
                 found[record.goal] = record
-                count.ended(record.status == 0, fresh=True)
+                count.ended(record.is_proved, fresh=True)
             bar.draw()
     finally:
         bar.wipe()
@@ -124,19 +128,21 @@ def printed(report: bytes) -> bool:
 
 def tell(work: Work, words: Words, outcome: Outcome) -> int:
     """Prints what was decided, and on the error stream what was not."""
-    reports, status = [], 0
-    for number in work.chosen:
-        record, name = outcome.records.get(number), work.goals[number].name
-        if record is not None and record.is_verdict:
-            reports.append(record.out)
-            status = max(status, record.status)
-        else:
-            show.say(f"{name}: {show.trouble(record, words.timeout) if record else outcome.lost.get(number, 'the job was not run')}")
-    if len(reports) < len(work.chosen) or not outcome.all_reached:
-        status = WITHOUT_VERDICT
+    records = [outcome.records.get(number) for number in work.chosen]
+    names = [work.goals[number].name for number in work.chosen]
+    decided = [record for record in records if record is not None and record.is_verdict]
+    if not printed("".join(record.out for record in decided).encode("latin-1")):
+        return WRITE_FAULT
+    for number, name, record in zip(work.chosen, names, records):
+        if record is None:
+            show.say(f"{name}: {outcome.lost[number]}")
+        elif not record.is_verdict:
+            show.say(f"{name}: {show.trouble(record, words.timeout)}")
     if words.times:
-        show.say(show.times([work.goals[number].name for number in work.chosen], map(outcome.records.get, work.chosen)))
-    return status if printed("".join(reports).encode("latin-1")) else WRITE_FAULT
+        show.say(show.times(names, records))
+    if len(decided) < len(records) or not outcome.all_reached:
+        return WITHOUT_VERDICT
+    return int(not all(record.is_proved for record in decided))
 
 
 def machines_of(words: Words) -> list[hosts.Host]:
@@ -162,27 +168,37 @@ def worked(work: Work, words: Words, svtv: Path, machines: list[hosts.Host]) -> 
         kept.release()
 
 
+def handed_over(words: Words, svtv: Path) -> int:
+    """What svtv says of the files as they are; where it decides goals all the same, the chosen ones are picked out."""
+    status, out = program.whole(svtv, words.command)
+    if words.only and status in (0, 1):
+        reports = text.reports(out)
+        check_names(words.command, words.only, list(reports))
+        chosen = {name: report for name, report in reports.items() if name in words.only}
+        status, out = int(not all(text.is_proved(*each) for each in chosen.items())), b"".join(chosen.values())
+    return status if printed(out) else WRITE_FAULT
+
+
 def answer(words: Words, top: Path) -> int:
     """Decides the goals one by one, or leaves the files to svtv."""
+    machines = machines_of(words)
     try:
-        machines = machines_of(words)
         work = read_work(words.command, words.only)
-    except (Unknown, hosts.BadHosts) as error:
-        show.say(f"svtv-goals: {error}")
-        return USAGE
     except Whole:
-        return program.whole(program.find(top, os.environ), words.command)
+        return handed_over(words, program.find(top, os.environ))
     svtv = program.find(top, os.environ)
     if not program.accepts(svtv, work.command, work.whole, work.goals):
-        return program.whole(svtv, words.command)
+        return handed_over(words, svtv)
     try:
         return worked(work, words, svtv, machines)
     except Whole:
-        return program.whole(svtv, words.command)
+        return handed_over(words, svtv)
 
 
 def main(arguments: list[str], top: Path) -> int:
     """The status of the command with these words; the repository's folder is where `svtv` is looked for."""
+    if sys.stderr is None:
+        sys.stderr = open(os.devnull, "w")
     words = read_words(arguments)
     for number in SIGNALS:
         if number != signal.SIGHUP or signal.getsignal(number) != signal.SIG_IGN:
@@ -191,6 +207,9 @@ def main(arguments: list[str], top: Path) -> int:
         return answer(words, top)
     except Interrupted as signalled:
         return 128 + signalled.number
+    except (Unknown, hosts.BadHosts) as error:
+        show.say(f"svtv-goals: {error}")
+        return USAGE
     except (Missing, OSError) as error:
         show.say(f"svtv-goals: {error}")
         return WITHOUT_VERDICT

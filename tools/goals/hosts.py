@@ -7,7 +7,7 @@ import re
 import subprocess
 from collections.abc import Iterable
 from concurrent.futures import ThreadPoolExecutor
-from dataclasses import dataclass
+from dataclasses import dataclass, replace
 from pathlib import Path
 
 HERE = ":"
@@ -55,6 +55,7 @@ class Reached:
     host: Host
     processors: int = 0
     why: str = ""
+    answers: bool = True
 
 
 def hosts_of(file: str) -> list[Host]:
@@ -93,9 +94,12 @@ def reach_here(host: Host, folder: Path) -> Reached:
 
 def reach_there(host: Host, name: str, files: bytes) -> Reached:
     """Hands the files to a machine, into a folder of that name below the one where a login begins, and asks for its processors."""
-    ran = subprocess.run([*SSH, host.name, f"exec sh -c '{TAKE.format(name=name)}'"], input=files, capture_output=True)
+    try:
+        ran = subprocess.run([*SSH, host.name, f"exec sh -c '{TAKE.format(name=name)}'"], input=files, capture_output=True)
+    except FileNotFoundError:
+        return Reached(host, why=f"{host.name} is out of reach: no program ssh", answers=False)
     if ran.returncode == 255:
-        return Reached(host, why=f"{host.name} does not answer{last_line(ran.stderr)}")
+        return Reached(host, why=f"{host.name} does not answer{last_line(ran.stderr)}", answers=False)
     last = ran.stdout.split()[-1:]
     if ran.returncode or not last or not last[0].isdigit():
         return Reached(host, why=f"{host.name} {WHY.get(ran.returncode, 'does not take the work')}{last_line(ran.stderr)}")
@@ -114,15 +118,17 @@ def reach(hosts: Iterable[Host], folder: Path, files: bytes) -> list[Reached]:
     for name, task in tasks.items():
         reached = task.result()
         jobs = sum(host.jobs or reached.processors for host in hosts if host.name == name)
-        found.append(Reached(Host(name, jobs), reached.processors, reached.why))
+        found.append(replace(reached, host=Host(name, jobs)))
     return found
 
 
-def leave(hosts: Iterable[Host], name: str) -> None:
-    """Removes the folder from other machines."""
-    for host in hosts:
-        if not host.is_here:
-            try:
-                subprocess.run([*SSH, host.name, f"rm -rf {name} {name}.*"], stdin=subprocess.DEVNULL, capture_output=True, timeout=30)
-            except subprocess.TimeoutExpired:
-                continue
+def leave(names: Iterable[str], folder: str) -> None:
+    """Removes a folder from other machines, as far as they answer."""
+    words = [[*SSH, name, f"rm -rf {folder} {folder}.*"] for name in names]
+    running = [subprocess.Popen(it, stdin=subprocess.DEVNULL, stdout=subprocess.DEVNULL, stderr=subprocess.DEVNULL) for it in words]
+    for it in running:
+        try:
+            it.wait(30)
+        except subprocess.TimeoutExpired:
+            it.kill()
+            it.wait()

@@ -74,7 +74,7 @@ def prove(asked: Asked, goals: bytes, seconds: float | None) -> Ran:
     with tempfile.NamedTemporaryFile(dir=HERE, prefix="goal-") as file:
         file.write(goals)
         file.flush()
-        words = [HERE / "svtv", "prove", *asked.options, HERE / "design", HERE / "table", file.name]
+        words = [str(HERE / "svtv"), "prove", *asked.options, str(HERE / "design"), str(HERE / "table"), file.name]
         try:
             ran = subprocess.run(words, cwd=HERE / asked.folder, stdin=subprocess.DEVNULL, capture_output=True, timeout=seconds)
         except subprocess.TimeoutExpired:
@@ -86,8 +86,8 @@ def said_of(ran: Ran, name: str) -> Ran:
     """The same with the lines of one goal alone, where svtv said something of goals; its status is then that of this goal."""
     if ran.status not in (0, 1):
         return ran
-    report = text.report_of(ran.out, name)
-    return Ran(int(report != b"%s: proved\n" % name.encode("ascii")), report, ran.err)
+    report = text.reports(ran.out).get(name, b"")
+    return Ran(int(not text.is_proved(name, report)), report, ran.err)
 
 
 def alone(asked: Asked) -> Ran:

@@ -39,6 +39,10 @@ class Record:
         return self.status in (0, 1) and bool(self.out) and self.changed is None
 
     @property
+    def is_proved(self) -> bool:
+        return self.is_verdict and self.status == 0
+
+    @property
     def is_refused(self) -> bool:
         """svtv did not take the files: a refusal, a read fault, or a report without the goal."""
         return self.changed is None and (self.status in (3, 4) or (self.status in (0, 1) and not self.out))

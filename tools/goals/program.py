@@ -45,12 +45,12 @@ def find(top: Path, environment: Mapping[str, str]) -> Path:
     return built
 
 
-def whole(program: Path, command: Command) -> int:
-    """Hands the files over to `svtv prove` as they are, pipes too: what it says and its status are the answer."""
-    status = subprocess.run(command.words(program, command.goals), close_fds=False).returncode
-    if status < 0:
-        raise Missing(f"{program}: killed by signal {-status}")
-    return status
+def whole(program: Path, command: Command) -> tuple[int, bytes]:
+    """Hands the files over to `svtv prove` as they are, pipes too: its status, and what it prints; its errors are told as they come."""
+    ran = subprocess.run(command.words(program, command.goals), stdout=subprocess.PIPE, close_fds=False)
+    if ran.returncode < 0:
+        raise Missing(f"{program}: killed by signal {-ran.returncode}")
+    return ran.returncode, ran.stdout
 
 
 def accepts(program: Path, command: Command, text: bytes, goals: list[Goal]) -> bool:

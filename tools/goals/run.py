@@ -57,10 +57,12 @@ class Parallel(AbstractContextManager):
             self._run = subprocess.Popen(
                 words, cwd=kept.folder, env=environment, stdin=given, stdout=subprocess.PIPE, stderr=errors, start_new_session=True
             )
+        assert self._run.stdout is not None
+        self._output = self._run.stdout
 
     def records(self) -> Iterator[Record | None]:
         """The records of goals as they end, and None now and then while none does."""
-        output, rest = self._run.stdout.fileno(), b""
+        output, rest = self._output.fileno(), b""
         with selectors.DefaultSelector() as waiting:
             waiting.register(output, selectors.EVENT_READ)
             while True:
@@ -82,7 +84,7 @@ class Parallel(AbstractContextManager):
             except subprocess.TimeoutExpired:
                 os.killpg(self._run.pid, signal.SIGKILL)
                 self._run.wait()
-        self._run.stdout.close()
+        self._output.close()
 
     def complaint(self) -> str:
         """The last line that parallel, or a login, said on the error stream."""

@@ -116,14 +116,16 @@ def unmet(text: bytes, goals: list[Goal]) -> bytes:
     return b"\n".join([b"goal %s {" % goals[0].name.encode("ascii"), MET_BY_NONE, *claims, b"}"])
 
 
-def report_of(printed: bytes, name: str) -> bytes:
-    """The lines of one goal in a report; nothing where it has none."""
-    lines = printed.splitlines(keepends=True)
-    head = name.encode("ascii") + b": "
-    for number, line in enumerate(lines):
-        if line.startswith(head):
-            behind = number + 1
-            while behind < len(lines) and lines[behind].startswith(b"  "):
-                behind += 1
-            return b"".join(lines[number:behind])
-    return b""
+def reports(printed: bytes) -> dict[str, bytes]:
+    """The lines of each goal in a report, by its name."""
+    found: dict[str, bytes] = {}
+    name = ""
+    for line in printed.splitlines(keepends=True):
+        if not line.startswith(b"  "):
+            name = line.partition(b":")[0].decode("latin-1")
+        found[name] = found.get(name, b"") + line
+    return found
+
+
+def is_proved(name: str, report: bytes) -> bool:
+    return report == b"%s: proved\n" % name.encode("latin-1")

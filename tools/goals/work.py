@@ -62,10 +62,15 @@ def read_work(command: Command, only: tuple[str, ...]) -> Work:
     names = [goal.name for goal in goals]
     if len(set(names)) < len(names):
         raise Whole
-    if unknown := [name for name in only if name not in names]:
-        raise Unknown(f"{command.goals} has no goal {' and no goal '.join(unknown)}")
+    check_names(command, only, names)
     chosen = [number for number, name in enumerate(names) if not only or name in only]
     return Work(command, design, table, whole, goals, chosen, files.all_included(design))
+
+
+def check_names(command: Command, only: tuple[str, ...], names: list[str]) -> None:
+    """Unknown where a chosen name is none of these."""
+    if unknown := [name for name in only if name not in names]:
+        raise Unknown(f"{command.goals} has no goal {' and no goal '.join(unknown)}")
 
 
 def hand_out(work: Work, program: Path, seconds: float | None, to: Path) -> None:
@@ -83,8 +88,13 @@ def hand_out(work: Work, program: Path, seconds: float | None, to: Path) -> None
     (to / "design").write_bytes(work.design)
     (to / "table").write_bytes(work.table)
     (to / "goals").write_bytes(work.whole)
-    plan = {"options": work.command.options, "folder": str(folder.relative_to(to)), "seconds": seconds, "elsewhere": far}
-    plan["goals"] = [[goal.name, goal.start, goal.end, goal.expressions] for goal in work.goals]
+    plan = {
+        "goals": [[goal.name, goal.start, goal.end, goal.expressions] for goal in work.goals],
+        "options": work.command.options,
+        "folder": str(folder.relative_to(to)),
+        "seconds": seconds,
+        "elsewhere": far,
+    }
     (to / "plan.json").write_text(json.dumps(plan), "ascii")
     (to / "job.sh").write_text(JOB)
     for part in ("job.py", "text.py"):

@@ -1,6 +1,5 @@
 """The files of a design, handed along."""
 
-import os
 import subprocess
 import tempfile
 import unittest

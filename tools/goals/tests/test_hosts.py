@@ -80,6 +80,7 @@ class There(Room):
     """Jobs by logins. The server and its keys are made for the tests, and `ssh` on the path is one that finds them."""
 
     svtv = program()
+    logins: Path
 
     @classmethod
     def setUpClass(cls):

@@ -86,6 +86,6 @@ class Parts(unittest.TestCase):
 
     def test_report(self):
         printed = b"a: proved\nab: failed\n  var a = 1'b0\n  sample b: x\nb: vacuous\n"
-        self.assertEqual(text.report_of(printed, "a"), b"a: proved\n")
-        self.assertEqual(text.report_of(printed, "ab"), b"ab: failed\n  var a = 1'b0\n  sample b: x\n")
-        self.assertEqual(text.report_of(printed, "c"), b"")
+        found = text.reports(printed)
+        self.assertEqual(found, {"a": b"a: proved\n", "ab": b"ab: failed\n  var a = 1'b0\n  sample b: x\n", "b": b"b: vacuous\n"})
+        self.assertEqual([name for name, report in found.items() if text.is_proved(name, report)], ["a"])
