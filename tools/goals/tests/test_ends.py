@@ -119,7 +119,8 @@ class RealGoals(Room):
 
     def test_interrupted_half_way(self):
         """Goals of about a second each, by svtv itself."""
-        subprocess.run(["python3", "-c", "import pathlib, goals; goals.write_files(pathlib.Path('.'), 8)"], cwd=self.folder, env=dict(os.environ, PYTHONPATH=str(TOP / "bench")), check=True)
+        written = "import pathlib, goals; goals.write_files(pathlib.Path('.'), 8)"
+        subprocess.run(["python3", "-c", written], cwd=self.folder, env=dict(os.environ, PYTHONPATH=str(TOP / "bench")), check=True)
         running = self.started(*FILES, "--jobs", "2")
         wait_for(lambda: any(b"\n" in file.read_bytes() for file in (self.folder.parent / "cache").glob("*/*/records")))
         running.send_signal(signal.SIGINT)

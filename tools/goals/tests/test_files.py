@@ -6,6 +6,7 @@ import unittest
 from pathlib import Path
 
 from goals import files
+from goals.program import Missing, find
 from goals.tests.support import COMMAND, FILES, PATIENCE, Room, program
 
 GOALS = "goal both { claim s == (a & b); }\ngoal either { claim s == (a | b); }\n"
@@ -44,6 +45,47 @@ class Names(unittest.TestCase):
         for name in ("/no/file", "/dev/zero", "/", "", "a\x00b"):
             with self.subTest(name), self.assertRaises(files.Unreadable):
                 files.read(name)
+
+
+class Programs(unittest.TestCase):
+    """Where the program is looked for."""
+
+    def setUp(self):
+        self.top = Path(self.enterContext(tempfile.TemporaryDirectory())).resolve()
+        self.built = self.top / "crates/svtv_cli/out/svtv_cli"
+
+    def script(self, place: Path, text: str) -> Path:
+        place.parent.mkdir(parents=True, exist_ok=True)
+        place.write_text(f"#!/bin/sh\n{text}\n")
+        place.chmod(0o755)
+        return place
+
+    def test_named(self):
+        named = self.script(self.top / "bin/other", "true")
+        self.assertEqual(find(self.top, {"SVTV": str(named)}), named)
+
+    def test_beside(self):
+        """Without a repository around it, `svtv` is the program."""
+        beside = self.script(self.top / "svtv", "true")
+        self.assertEqual(find(self.top, {}), beside)
+
+    def test_built(self):
+        """The script of the repository is called once, so that it builds, and then the program that it has built."""
+        self.built.parent.mkdir(parents=True)
+        self.script(self.top / "svtv", f"echo >>{self.top}/calls; cp {self.top}/made {self.built}")
+        self.script(self.top / "made", "true")
+        self.assertEqual(find(self.top, {}), self.built)
+        self.assertEqual((self.top / "calls").read_text(), "\n")
+
+    def test_not_built(self):
+        self.built.parent.mkdir(parents=True)
+        self.script(self.top / "svtv", "exit 70")
+        with self.assertRaisesRegex(Missing, "could not be built"):
+            find(self.top, {})
+
+    def test_none(self):
+        with self.assertRaisesRegex(Missing, "no program"):
+            find(self.top, {})
 
 
 class Included(Room):
@@ -99,7 +141,8 @@ endmodule
     def test_absolute_name_that_changes(self):
         """A file that is not handed along has to stay as it was."""
         self.write(d_sv=self.design(f'`include "{self.folder}/far.svh"\n'))
-        (self.folder / "svtv").write_text(f'#!/bin/sh\n[ $# = 0 ] || case "$*" in *.svtv-goals-*) echo "// x" >>{self.folder}/far.svh; esac\nexec {self.svtv} "$@"\n')
+        changing = f'case "$*" in *.svtv-goals-*) echo "// x" >>{self.folder}/far.svh; esac'
+        (self.folder / "svtv").write_text(f'#!/bin/sh\n{changing}\nexec {self.svtv} "$@"\n')
         (self.folder / "svtv").chmod(0o755)
         self.environment["SVTV"] = str(self.folder / "svtv")
         said = self.goals(*FILES)
