@@ -151,12 +151,11 @@ def machines_of(words: Words) -> list[hosts.Host]:
 
 
 def worked(work: Work, words: Words, svtv: Path, machines: list[hosts.Host]) -> int:
-    """Decides and prints the goals. What an interrupted call has decided is kept for the next one, and so is what lacks some verdict."""
+    """Decides and prints the goals. What was decided is kept for the next call of the same words, unless all is told."""
     kept = open_kept(cache(os.environ), work.digest(svtv))
+    status = None
     try:
         status = tell(work, words, decide(work, words, svtv, kept, machines))
-        if status in (0, 1):
-            kept.remove()
         return status
     except Interrupted:
         show.say(f"svtv-goals: interrupted; {len(kept.verdicts())} of {len(work.chosen)} goals are decided, and the same words go on there")
@@ -165,6 +164,8 @@ def worked(work: Work, words: Words, svtv: Path, machines: list[hosts.Host]) -> 
         kept.remove()
         raise
     finally:
+        if status in (0, 1) or not kept.verdicts():
+            kept.remove()
         kept.release()
 
 
@@ -200,10 +201,10 @@ def main(arguments: list[str], top: Path) -> int:
     if sys.stderr is None:
         sys.stderr = open(os.devnull, "w")
     words = read_words(arguments)
-    for number in SIGNALS:
-        if number != signal.SIGHUP or signal.getsignal(number) != signal.SIG_IGN:
-            signal.signal(number, interrupt)
     try:
+        for number in SIGNALS:
+            if number != signal.SIGHUP or signal.getsignal(number) != signal.SIG_IGN:
+                signal.signal(number, interrupt)
         return answer(words, top)
     except Interrupted as signalled:
         return 128 + signalled.number

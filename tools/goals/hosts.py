@@ -18,7 +18,7 @@ TAKE = "; ".join(
     (
         "mkdir -m 700 {name}.$$ && tar xzf - -C {name}.$$ || exit 71",
         "mv {name}.$$ {name} && cd {name} || exit 71",
-        'python3 -c "import resource" || exit 72',
+        'python3 -c "import sys; sys.exit(sys.version_info < (3, 8))" || exit 72',
         "command -v perl >/dev/null || exit 73",
         "./svtv >/dev/null 2>&1; test $? = 2 || exit 74",
         "getconf _NPROCESSORS_ONLN",
@@ -26,7 +26,7 @@ TAKE = "; ".join(
 )
 WHY = {
     71: "takes no files",
-    72: "has no python3",
+    72: "has no python3 of 3.8 or later",
     73: "has no perl, which parallel needs there",
     74: "does not run the program",
 }

@@ -109,7 +109,10 @@ def open_kept(base: Path, digest: str) -> Kept:
         folder = base / (f"{digest}-{count}" if count else digest)
         while True:
             folder.mkdir(mode=0o700, parents=True, exist_ok=True)
-            lock = (folder / "lock").open("w")
+            try:
+                lock = (folder / "lock").open("w")
+            except FileNotFoundError:
+                continue
             try:
                 fcntl.flock(lock, fcntl.LOCK_EX | fcntl.LOCK_NB)
             except BlockingIOError:

@@ -44,7 +44,7 @@ class Room(unittest.TestCase):
         self.folder = Path(room.name).resolve() / "here"
         self.folder.mkdir()
         self.log = self.folder / "log"
-        self.environment = dict(os.environ, SVTV=str(self.svtv), XDG_CACHE_HOME=str(self.folder.parent / "cache"), STAND_IN_LOG=str(self.log))
+        self.environment = dict(os.environ, SVTV=str(self.svtv), XDG_CACHE_HOME=str(self.folder.parent / "a cache"), STAND_IN_LOG=str(self.log))
 
     def write(self, **files: str | bytes) -> None:
         """Files by their names, in which `_` stands for a dot."""
@@ -76,7 +76,7 @@ class Room(unittest.TestCase):
 
     def kept(self) -> list[Path]:
         """The folders that are kept for a later call."""
-        return sorted((self.folder.parent / "cache/svtv-goals").glob("*"))
+        return sorted((self.folder.parent / "a cache/svtv-goals").glob("*"))
 
     def assert_same(self, words=FILES) -> Said:
         """Output, error stream and status are those of one call on the whole file, and nothing is kept."""

@@ -36,7 +36,7 @@ class Interrupted(Room):
         self.assertEqual((running.returncode, out), (128 + number, b""))
         told = err.decode().split()
         self.assertEqual(" ".join(told[:2] + told[3:7]), "svtv-goals: interrupted; of 12 goals are")
-        self.assertEqual([file.name for file in self.kept()[0].glob(".svtv-goals-*")], [])
+        self.assertEqual([file.name for folder in self.kept() for file in folder.glob(".svtv-goals-*")], [])
         return int(told[2])
 
     def test_signals(self):
@@ -122,7 +122,7 @@ class RealGoals(Room):
         written = "import pathlib, goals; goals.write_files(pathlib.Path('.'), 8)"
         subprocess.run(["python3", "-c", written], cwd=self.folder, env=dict(os.environ, PYTHONPATH=str(TOP / "bench")), check=True)
         running = self.started(*FILES, "--jobs", "2")
-        wait_for(lambda: any(b"\n" in file.read_bytes() for file in (self.folder.parent / "cache").glob("*/*/records")))
+        wait_for(lambda: any(b"\n" in file.read_bytes() for file in self.folder.parent.glob("*/*/*/records")))
         running.send_signal(signal.SIGINT)
         out, err = running.communicate(timeout=PATIENCE)
         self.assertEqual((running.returncode, out), (130, b""))
@@ -247,6 +247,7 @@ class Missing(Room):
         self.path_with(None)
         said = self.goals(*FILES)
         self.assertEqual((said.status, said.out, said.err), (7, b"", b"svtv-goals: no program parallel (Debian's package parallel)\n"))
+        self.assertEqual(self.kept(), [])
 
     def test_another_parallel(self):
         self.write_goals("a", "b")
