@@ -119,7 +119,7 @@ class RealGoals(Room):
 
     def test_interrupted_half_way(self):
         """Goals of about a second each, by svtv itself."""
-        written = "import pathlib, goals; goals.write_files(pathlib.Path('.'), 8)"
+        written = "import pathlib, many_goals; many_goals.write_files(pathlib.Path('.'), 8)"
         subprocess.run(["python3", "-c", written], cwd=self.folder, env=dict(os.environ, PYTHONPATH=str(TOP / "bench")), check=True)
         running = self.started(*FILES, "--jobs", "2")
         wait_for(lambda: any(b"\n" in file.read_bytes() for file in self.folder.parent.glob("*/*/*/records")))
