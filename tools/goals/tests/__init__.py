@@ -1,0 +1,1 @@
+"""Tests of `svtv-goals`; `test.py` beside this folder runs them."""
