@@ -5,6 +5,7 @@ an edge of that clock, what stood before the edge of the first clock, and not wh
 """
 from __future__ import annotations
 
+from collections import deque
 from dataclasses import dataclass, field
 from typing import Iterator
 
@@ -42,6 +43,8 @@ class Timing:
     made: set[Bit] = field(default_factory=set)                       # controls that depend on registers
     told: dict[int, dict[str, Origins]] = field(default_factory=dict)  # clocks that are not one input, by instance
     instances: int = 0                                                # how many instances, by different origins, were looked at
+    clock_inputs: set[str] = field(default_factory=set)               # the inputs of the top on which clocks depend
+    control_inputs: set[str] = field(default_factory=set)             # and those on which asynchronous controls depend
 
 
 def is_clocked(cell: Cell) -> bool:
@@ -135,9 +138,9 @@ def look_at_clocks(modules: dict[str, Module], hints: dict[str, Hints], top: Mod
     seen: set[tuple[str, frozenset[tuple[PortBit, Origins]]]] = set()
     start = {(port, index): Origins(frozenset([port if len(top.ports[port].bits) == 1 else f"{port}[{index}]"]), frozenset())
              for port, index in tracer.needs(top)}
-    todo = [(top, "", start)]
+    todo = deque([(top, "", start)])
     while todo:
-        module, path, given = todo.pop()
+        module, path, given = todo.popleft()
         key = (module.name, frozenset(given.items()))
         if key in seen:
             continue
@@ -165,10 +168,13 @@ def note_origins(tracer: Tracer, timing: Timing, module: Module, path: str, give
     timing.instances += 1
     for net in sorted(clock_nets(module)):
         found = origins(tracer, module, path, given, net)
+        timing.clock_inputs |= found.inputs
         if found.told:
             timing.told.setdefault(net, {})[path] = found
     for net in control_nets(module, timing.controls):
-        if origins(tracer, module, path, given, net).stores:
+        found = origins(tracer, module, path, given, net)
+        timing.control_inputs |= found.inputs
+        if found.stores:
             timing.made.add(net)
 
 

@@ -78,7 +78,7 @@ def row_lines(rows: Iterator[Row], phases: int) -> list[str]:
 
 
 def the_top(modules: dict[str, Module]) -> Module:
-    tops = [module for module in modules.values() if "top" in module.attributes]
+    tops = [module for module in modules.values() if "top" in module.attributes or len(modules) == 1]
     if len(tops) != 1:
         raise Refused("no module is the top one: give --top")
     return tops[0]

@@ -63,7 +63,8 @@ def lay_out(writer: Writer, cell: Cell) -> Shape:
             writer.initial(vector, init[(number - first) * width + at:][:vector.length])
     if name:
         low, high = (writer.places[bits[0]].vector.name for bits in (words[0], words[-1]))
-        writer.notes.append(f"{low} to {high} are the words {name}[{first}] to {name}[{first + size - 1}]")
+        writer.notes.append(f"{low} is the word {name}[{first}]" if size == 1 else
+                            f"{low} to {high} are the words {name}[{first}] to {name}[{first + size - 1}]")
     return Shape(cell, name, size, width, first, words)
 
 

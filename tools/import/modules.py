@@ -7,10 +7,11 @@ from typing import Mapping
 from cells import print_cell
 from clocks import Origins, Timing
 from needed import needed_cells
-from netlist import Cell, Module, Net, Refused
+from netlist import Cell, Module, Net, Refused, place_order
 from writer import LIMIT, Vector, Writer, equal_runs, select, span
 
 MANUAL = "docs/IMPORT.md"
+MOST = 4  # the most sentences about one clock
 
 
 @dataclass(frozen=True)
@@ -68,22 +69,24 @@ class ModulePrinter:
                 if self.instances[cell.name] != shown:
                     self.writer.notes.append(f"{self.instances[cell.name]} is the instance {shown}")
 
-    def _rank(self, net: Net) -> int:
-        """Which names nets with several take: an input's, that of the source for a register, an output's, others."""
+    def _rank(self, net: Net) -> tuple[int, int]:
+        """Which names nets with several take: an input's, that of the source for a register, an output's, others; long ones first
+        where the source has none."""
         port = self.module.ports.get(net.name)
         if port:
-            return 0 if port.direction != "output" else 3
+            return (0 if port.direction != "output" else 3), 0
         if net.shown is None:
-            return 5
+            return 5, -len(net.bits)
         if not self.module.stored.intersection(net.bits):
-            return 4
-        return 1 if net.init else 2
+            return 4, 0
+        return (1 if net.init else 2), 0
 
     def _declare_nets(self) -> list[Net]:
         """Gives each net its place, and answers the named wires that may have their bits elsewhere."""
         shown = []
+        used = {bit for cell in self.cells for bits in cell.pins.values() for bit in bits}
         for net in sorted(self.module.nets, key=self._rank):
-            if net.shown is None and all(isinstance(bit, str) or bit in self.writer.places for bit in net.bits):
+            if net.shown is None and all(bit in self.writer.places or bit not in used for bit in net.bits):
                 continue
             fixed = self._fixed(net)
             if any(fixed) and not all(fixed):
@@ -106,6 +109,8 @@ class ModulePrinter:
         for start, end in equal_runs(fixed):
             if fixed[start]:
                 parts = self.writer.declare(f"{net.shown or 'n'}_{end - 1}_{start}", end - start)
+                if net.shown:
+                    self.writer.notes.append(f"{parts[0].name} is {net.shown}[{end - 1}:{start}]")
                 self.writer.wires += parts
                 self.writer.own(net.bits[start:end], parts)
 
@@ -144,11 +149,12 @@ class ModulePrinter:
     # What is told
 
     def _tell(self) -> None:
-        for place in self.cases:
+        for place in sorted(set(self.cases), key=place_order):
             self.writer.notes.append(f"full_case, parallel_case, unique or priority at {place} counts for nothing: where no arm "
                                      "matches the old value stays, or X comes")
         for net, found in self.timing.told.items():
-            self.writer.warn(clock_words(self.writer.expr([net]), found, self.timing.instances))
+            for words in clock_words(self.writer.expr([net]), found, self.timing.instances):
+                self.writer.warn(words)
         for bit in sorted(bit for bit in self.module.outside if bit in self.module.drivers):
             name, index = self.module.outside[bit]
             if self.module.ports[name].direction == "input":
@@ -166,12 +172,18 @@ class ModulePrinter:
         return "\n".join(lines + ["  " + line for line in self.writer.lines] + ["endmodule"]) + "\n"
 
 
-def clock_words(name: str, found: dict[str, Origins], instances: int) -> str:
-    """What is told of a clock that is not one input of the top."""
-    path, first = next(iter(found.items()))
-    where = f" in the instance {path[:-1]}" if path and len(found) < instances else ""
-    if first.stores:
-        stores = sorted(first.stores)
-        more = f" and {len(stores) - 1} more" if len(stores) > 1 else ""
-        return f"the clock {name} is made by the design{where}, of the register {stores[0]}{more}: see {MANUAL}"
-    return f"the clock {name} is made{where} of the inputs {' and '.join(sorted(first.inputs))}: see {MANUAL}"
+def clock_words(name: str, found: dict[str, Origins], instances: int) -> list[str]:
+    """What is told of a clock that is not one input of the top: a sentence for each way in which it is made, registers first."""
+    paths: dict[Origins, list[str]] = {}
+    for path, each in found.items():
+        paths.setdefault(each, []).append(path[:-1])
+    sentences = []
+    for each in sorted(paths, key=lambda each: not each.stores):
+        where = "" if len(paths[each]) == instances or paths[each] == [""] else f" in the instance {paths[each][0]}"
+        if each.stores:
+            stores = sorted(each.stores)
+            more = f" and {len(stores) - 1} more" if len(stores) > 1 else ""
+            sentences.append(f"the clock {name} is made by the design{where}, of the register {stores[0]}{more}: see {MANUAL}")
+        else:
+            sentences.append(f"the clock {name} is made{where} of the inputs {' and '.join(sorted(each.inputs))}: see {MANUAL}")
+    return sentences[:MOST] + ([f"the clock {name} is made in {len(sentences) - MOST} more ways"] if len(sentences) > MOST else [])

@@ -133,10 +133,10 @@ class Module:
         return found
 
 
-def source_order(cell: Cell) -> tuple[Any, ...]:
-    """Orders cells by file, line and column."""
-    word = re.match(r"(.*):(\d+)\.(\d+)", cell.source)
-    return (word[1], int(word[2]), int(word[3])) if word else (cell.source, 0, 0)
+def place_order(place: str) -> tuple[Any, ...]:
+    """Orders places in the source by file, line and column."""
+    word = re.match(r"(.*):(\d+)\.(\d+)", place)
+    return (word[1], int(word[2]), int(word[3])) if word else (place, 0, 0)
 
 
 def read_modules(data: dict[str, Any]) -> dict[str, Module]:
@@ -150,4 +150,4 @@ def read_module(name: str, data: dict[str, Any]) -> Module:
             for net, given in data["netnames"].items()]
     cells = [Cell(cell, given["type"], given["attributes"].get("src", "?").split("|")[0], given["parameters"],
                   given.get("port_directions", {}), given["connections"]) for cell, given in data["cells"].items()]
-    return Module(name, data["attributes"], ports, nets, sorted(cells, key=source_order), list(data.get("memories", {})))
+    return Module(name, data["attributes"], ports, nets, sorted(cells, key=lambda cell: place_order(cell.source)), list(data.get("memories", {})))

@@ -64,6 +64,7 @@ class Writer:
         self.warnings: dict[str, None] = {}  # those of them that tell of a different meaning
         self._next = first_free
         self._count = 0
+        self._named: dict[str, str] = {}
         self._before: dict[Bit, str] = {}
 
     # Vectors and places
@@ -162,13 +163,15 @@ class Writer:
         return select(vector, index, index + end - start - 1)
 
     def named(self, bits: Bits) -> str:
-        """A name that stands for these bits alone."""
+        """A name that stands for these bits alone, the same one whenever it is asked for."""
         text = self.expr(bits)
         if re.fullmatch(r"[A-Za-z_][\w$]*", text):
             return text
-        wire, = self.fresh_wire(len(bits))
-        self.lines.append(f"assign {wire.name} = {text};")
-        return wire.name
+        if text not in self._named:
+            wire, = self.fresh_wire(len(bits))
+            self.lines.append(f"assign {wire.name} = {text};")
+            self._named[text] = wire.name
+        return self._named[text]
 
     def short(self, bits: Bits) -> str:
         """A text for bits that stand in many places: a name or a part of one."""

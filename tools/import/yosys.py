@@ -11,11 +11,12 @@ from pathlib import Path
 from netlist import Module, Refused, read_modules
 from rtlil import Hints, scan
 
-# The nets of the source keep their names. No step is run that simplifies what depends on X (`proc` without `opt_expr`).
+# The nets of the source keep their names. No step is run that simplifies what depends on X: `opt_expr` only for the enables of
+# latches, which `proc` has just made.
 CELLS = ["attrmap -remove full_case -remove parallel_case", "setattr -set keep 1 w:* w:$* %d w:*$func$* %d", "proc -noopt",
-         "opt_clean", "opt_reduce", "opt_clean", "memory_collect", "opt_clean"]
+         "opt_expr -keepdc c:$auto$proc_dlatch*", "opt_clean", "opt_reduce", "opt_clean", "memory_collect", "opt_clean"]
 CONFLICT = "Driver-driver conflict"
-TAKEN_CARE_OF = ("Complex async reset", "limited support for tri-state logic")
+TAKEN_CARE_OF = ("Complex async reset", "Async reset value", "limited support for tri-state logic")
 
 
 @dataclass(frozen=True)
@@ -45,16 +46,18 @@ def read_design(request: Request) -> Read:
 
 
 def read_steps(request: Request) -> list[str]:
-    """The steps that read the files and choose the top."""
-    options = ["read_verilog"] + ([] if request.verilog else ["-sv"])
+    """The steps that read the files and choose the top. A file `.il` is in yosys' own form."""
+    options = ["read_verilog -noblackbox"] + ([] if request.verilog else ["-sv"])
     options += ["-D" + plain(word) for word in request.define] + ["-I" + plain(word) for word in request.include]
+    sources = [quoted(name) for name in request.files if not name.endswith(".il")]
     choose = ["hierarchy -check", f"-top {plain(request.top)}" if request.top else "-auto-top"]
     for word in request.parameters:
         name, equals, value = word.partition("=")
         if not equals:
             raise Refused(f"--param {word}: a name, = and a value are asked for")
         choose.append(f"-chparam {plain(name)} {plain(value)}")
-    return [" ".join(options + [quoted(name) for name in request.files]), " ".join(choose)]
+    steps = [f"read_rtlil {quoted(name)}" for name in request.files if name.endswith(".il")]
+    return steps + ([" ".join(options + sources)] if sources else []) + [" ".join(choose)]
 
 
 def plain(word: str) -> str:
@@ -80,9 +83,9 @@ def run(steps: list[str]) -> None:
     lines = (done.stdout + done.stderr).splitlines()
     for line in lines:
         if line.startswith("Warning") and not any(words in line for words in TAKEN_CARE_OF):
-            print(f"svtv-import: yosys: {line}", file=sys.stderr)
             if CONFLICT in line:
                 raise Refused(f"yosys: {line}")
+            print(f"svtv-import: yosys: {line}", file=sys.stderr)
     if done.returncode != 0:
         wrong = [line for line in lines if "ERROR" in line]
         raise Refused("yosys: " + (wrong[0] if wrong else f"exit code {done.returncode}"))
