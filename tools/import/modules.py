@@ -7,7 +7,7 @@ from typing import Mapping
 from cells import print_cell
 from clocks import Origins, Timing
 from needed import needed_cells
-from netlist import Cell, Module, Net, Refused, place_order
+from netlist import Bits, Cell, Module, Net, Refused, place_order
 from writer import LIMIT, Vector, Writer, equal_runs, select, span
 
 MANUAL = "docs/IMPORT.md"
@@ -74,12 +74,12 @@ class ModulePrinter:
         where the source has none."""
         port = self.module.ports.get(net.name)
         if port:
-            return (0 if port.direction != "output" else 3), 0
+            return {"input": 0, "inout": 1, "output": 4}[port.direction], 0
         if net.shown is None:
-            return 5, -len(net.bits)
+            return 6, -len(net.bits)
         if not self.module.stored.intersection(net.bits):
-            return 4, 0
-        return (1 if net.init else 2), 0
+            return 5, 0
+        return (2 if net.init else 3), 0
 
     def _declare_nets(self) -> list[Net]:
         """Gives each net its place, and answers the named wires that may have their bits elsewhere."""
@@ -130,10 +130,17 @@ class ModulePrinter:
             bits = net.bits[number * LIMIT:(number + 1) * LIMIT]
             moved = [not (isinstance(bit, int) and self.writer.places[bit] == (vector, index)) for index, bit in enumerate(bits)]
             if port and port.direction != "output" and any(moved):
-                raise Refused(f"module {self.module.shown}: the port {net.name} is joined to another one, or to a constant")
+                self._judge_joined(net, [bit for bit, mark in zip(bits, moved) if mark])
             for start, end in equal_runs(moved):
                 if moved[start]:
                     self.writer.lines.append(f"assign {select(vector, start, end - 1)} = {self.writer.expr(bits[start:end])};")
+
+    def _judge_joined(self, net: Net, bits: Bits) -> None:
+        """An inout may be driven by an input or a constant; nothing else joins two ports that are inputs or inouts."""
+        inputs = {bit for port in self.module.ports.values() if port.direction == "input" for bit in port.bits}
+        if self.module.ports[net.name].direction == "input" or any(isinstance(bit, int) and bit not in inputs for bit in bits):
+            raise Refused(f"module {self.module.shown}: the port {net.name} is joined to another one, or to a constant")
+        self.writer.warn(f"what reads the inout {net.name} in this module sees what the module drives it with, not what the outside does")
 
     def _instance(self, cell: Cell) -> None:
         child = self.below[cell.kind]

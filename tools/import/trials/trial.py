@@ -9,12 +9,13 @@ The outputs of the top are looked at, and those of its wires that have plain nam
 from __future__ import annotations
 
 import argparse
+import json
 import re
 import subprocess
 import sys
 import tempfile
 from collections import Counter
-from dataclasses import dataclass, field
+from dataclasses import asdict, dataclass, field
 from pathlib import Path
 
 sys.path.insert(0, str(Path(__file__).resolve().parent.parent))
@@ -44,6 +45,14 @@ class Counts:
             self.bits[kind] += 1
             if kind == "different" and not self.first:
                 self.first = f"{name} in phase {phase}: {source} and {text}"
+
+
+@dataclass(frozen=True)
+class Options:
+    phases: int
+    seed: int
+    fixed: dict[str, int]  # inputs that keep a value
+    svtv: str | None
 
 
 class Failed(Exception):
@@ -80,17 +89,17 @@ def first_line(text: str) -> str:
     return lines[0][:200]
 
 
-def plan_of(design: Design, phases: int, seed: int, fixed: dict[str, int], inside: bool) -> Plan:
+def plan_of(design: Design, options: Options, phases: int, inside: bool) -> Plan:
     printed = design.printed[design.top.name]
     clocks = {name for timing in design.timings.values() for name in timing.clock_inputs}
     controls = {name for timing in design.timings.values() for name in timing.control_inputs}
     ports = [Signal(name, printed.ports[name], port.direction) for name, port in design.top.ports.items()]
-    inputs = [kind_of(port.name, port.width, clocks, controls, fixed) for port in ports if port.direction == "input"]
+    inputs = [kind_of(port.name, port.width, clocks, controls, options.fixed) for port in ports if port.direction == "input"]
     wires = [Signal(net.name, printed.nets[net.name], "") for net in design.top.nets
              if inside and net.shown and net.name not in printed.ports and net.name in printed.nets and re.fullmatch(r"[A-Za-z_]\w*", net.name)]
     shown = [port for port in ports if port.direction != "input"] + wires[:SHOWN]
-    alone = any(cell.kind.endswith(("latch", "latchsr", "$sr")) for module in design.modules.values() for cell in module.cells)
-    driven = values(inputs, phases, seed, bool(controls) or alone, alone)
+    alone = has_latches(design)
+    driven = values(inputs, phases, options.seed, bool(controls) or alone, alone)
     return Plan(ports, shown, inputs, driven, phases, list(design.rows()))
 
 
@@ -103,27 +112,72 @@ def compared(plan: Plan, source: Seen, text: Seen, phases: int) -> Counts:
     return counts
 
 
-def simulate(design: Design, request: Request, phases: int, seed: int, fixed: dict[str, int], svtv: str | None, folder: Path
-             ) -> dict[str, Counts]:
-    """What the simulators say, by the program that ran the text."""
+def simulate(design: Design, request: Request, options: Options, folder: Path) -> dict[str, Counts]:
+    """What the simulators say, by the program that ran the text. Where the text has latches only svtv runs it: a simulator may see
+    the enable of a latch change later than its value."""
     text = folder / "text.sv"
     text.write_text(design.text(None))
-    printed = design.printed[design.top.name]
-    options = [f"-D{word}" for word in request.define] + [f"-I{word}" for word in request.include]
+    flags = [f"-D{word}" for word in request.define] + [f"-I{word}" for word in request.include]
     for inside in (True, False):
-        plan = plan_of(design, phases, seed, fixed, inside)
+        plan = plan_of(design, options, options.phases, inside)
         try:
-            source = run_iverilog(folder, "source", bench(plan, design.top.shown, request.parameters, False), request.files, options)
+            source = run_iverilog(folder, "source", bench(plan, design.top.shown, request.parameters, False), request.files, flags)
             break
         except Failed:
             if not inside:
                 raise
-    found = {"iverilog": compared(plan, source, run_iverilog(folder, "text", bench(plan, printed.name, [], True), [str(text)], []), phases)}
-    if svtv:
-        plan = plan_of(design, min(phases, 64), seed, fixed, inside)
-        source = run_iverilog(folder, "short", bench(plan, design.top.shown, request.parameters, False), request.files, options)
-        found["svtv"] = compared(plan, source, run_svtv(folder, svtv, text, plan), plan.phases)
+    if not plan.shown:
+        raise Failed("nothing is seen of it")
+    found = {}
+    if not has_latches(design):
+        name = design.printed[design.top.name].name
+        found["iverilog"] = compared(plan, source, run_iverilog(folder, "text", bench(plan, name, [], True), [str(text)], []), plan.phases)
+    if options.svtv:
+        plan = plan_of(design, options, min(options.phases, 64), inside)
+        source = run_iverilog(folder, "short", bench(plan, design.top.shown, request.parameters, False), request.files, flags)
+        found["svtv"] = compared(plan, source, run_svtv(folder, options.svtv, text, plan), plan.phases)
     return found
+
+
+def has_latches(design: Design) -> bool:
+    return any(cell.kind.endswith(("latch", "latchsr", "$sr")) for module in design.modules.values() for cell in module.cells)
+
+
+@dataclass
+class Result:
+    """What became of a design."""
+    status: str = "accepted"  # or "not read", "refused", "not accepted"
+    why: str = ""
+    made: bool = False        # whether it makes a clock
+    lines: int = 0            # of the source
+    text: int = 0             # bytes of the text
+    counts: dict[str, dict[str, int]] = field(default_factory=dict)
+    different: str = ""       # the first difference
+    unseen: str = ""          # why it was not simulated
+
+
+def tried(request: Request, options: Options, folder: Path) -> Result:
+    result = Result(lines=sum(len(Path(name).read_text(errors="replace").splitlines()) for name in request.files))
+    try:
+        design = Design(read_design(request))
+    except Refused as why:
+        unread = str(why).startswith("yosys:") or "has no text" in str(why)
+        return Result("not read" if unread else "refused", str(why), lines=result.lines)
+    text = design.text(None)
+    result.text = len(text)
+    result.made = any(timing.told for timing in design.timings.values())
+    if options.svtv:
+        (folder / "text.sv").write_text(text)
+        read = subprocess.run([options.svtv, "dump", folder / "text.sv"], capture_output=True, text=True)
+        if read.returncode:
+            return Result("not accepted", read.stderr.strip(), result.made, result.lines, result.text)
+    try:
+        found = simulate(design, request, options, folder)
+        result.counts = {program: dict(counts.bits) for program, counts in found.items()}
+        result.different = " ".join(f"{program}: {counts.first}" for program, counts in found.items() if counts.first)
+    except (Failed, subprocess.TimeoutExpired) as why:
+        result.unseen = str(why)[:200]
+    return result
 
 
 def main() -> int:
@@ -136,24 +190,26 @@ def main() -> int:
     parser.add_argument("--verilog", action="store_true")
     parser.add_argument("--phases", type=int, default=64)
     parser.add_argument("--seed", type=int, default=1)
-    parser.add_argument("--fix", action="append", default=[])
+    parser.add_argument("--fix", action="append", default=[], metavar="INPUT=VALUE")
     parser.add_argument("--svtv")
-    parser.add_argument("--keep", type=Path)
+    parser.add_argument("--keep", type=Path, metavar="FOLDER", help="leave the files of the run there")
+    parser.add_argument("--json", action="store_true", help="print what became of the design for a program to read")
     words = parser.parse_args()
     request = Request(words.design, words.top, words.define, words.include, words.param, words.verilog)
     fixed = {name: int(value, 0) for name, _, value in (word.partition("=") for word in words.fix)}
-    try:
-        design = Design(read_design(request))
-        with tempfile.TemporaryDirectory() as folder:
-            place = words.keep or Path(folder)
-            place.mkdir(parents=True, exist_ok=True)
-            found = simulate(design, request, words.phases, words.seed, fixed, words.svtv, place)
-    except (Refused, Failed) as why:
-        print(why)
-        return 1
-    for program, counts in found.items():
-        print(program, dict(counts.bits), counts.first)
-    return int(any(counts.bits["different"] for counts in found.values()))
+    options = Options(words.phases, words.seed, fixed, words.svtv)
+    with tempfile.TemporaryDirectory() as folder:
+        place = words.keep or Path(folder)
+        place.mkdir(parents=True, exist_ok=True)
+        result = tried(request, options, place)
+    if words.json:
+        print(json.dumps(asdict(result)))
+        return 0
+    print(result.status, result.why, "a clock is made" if result.made else "", result.unseen)
+    for program, counts in result.counts.items():
+        print(f"{program}: {counts}")
+    print(result.different)
+    return int(bool(result.different))
 
 
 if __name__ == "__main__":
