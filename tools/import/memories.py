@@ -2,11 +2,10 @@
 from __future__ import annotations
 
 from dataclasses import dataclass
-from typing import Callable
 
-from netlist import Bit, Bits, Cell, Refused
+from netlist import Bits, Cell, Refused
 from registers import edge
-from writer import LIMIT, Vector, Writer, equal_runs, split
+from writer import LIMIT, Writer, equal_runs, split
 
 LARGEST = 65536  # the bits of the largest memory
 
@@ -52,19 +51,19 @@ def lay_out(writer: Writer, cell: Cell) -> Shape:
     name = memory_name(cell)
     if cell.number("WR_PORTS") == 0:
         return Shape(cell, name, size, width, first, [init[at:at + width] for at in range(0, size * width, width)])
-    words = []
+    words, names = [], []
     for number in range(first, first + size):
         bits = writer.new_bits(width)
         vectors = writer.declare(f"{name}[{number}]" if name else None, width, quiet=True)
         writer.wires += vectors
         writer.own(bits, vectors)
         words.append(bits)
+        names.append(vectors[0].name)
         for at, vector in zip(range(0, width, LIMIT), vectors):
             writer.initial(vector, init[(number - first) * width + at:][:vector.length])
     if name:
-        low, high = (writer.places[bits[0]].vector.name for bits in (words[0], words[-1]))
-        writer.notes.append(f"{low} is the word {name}[{first}]" if size == 1 else
-                            f"{low} to {high} are the words {name}[{first}] to {name}[{first + size - 1}]")
+        writer.notes.append(f"{names[0]} is the word {name}[{first}]" if size == 1 else
+                            f"{names[0]} to {names[-1]} are the words {name}[{first}] to {name}[{first + size - 1}]")
     return Shape(cell, name, size, width, first, words)
 
 

@@ -71,7 +71,7 @@ class ModulePrinter:
 
     def _rank(self, net: Net) -> tuple[int, int]:
         """Which names nets with several take: an input's, that of the source for a register, an output's, others; long ones first
-        where the source has none."""
+        for registers, and where the source has none."""
         port = self.module.ports.get(net.name)
         if port:
             return {"input": 0, "inout": 1, "output": 4}[port.direction], 0
@@ -79,7 +79,7 @@ class ModulePrinter:
             return 6, -len(net.bits)
         if not self.module.stored.intersection(net.bits):
             return 5, 0
-        return (2 if net.init else 3), 0
+        return (2 if net.init else 3), -len(net.bits)
 
     def _declare_nets(self) -> list[Net]:
         """Gives each net its place, and answers the named wires that may have their bits elsewhere."""
@@ -105,9 +105,10 @@ class ModulePrinter:
         return [value in "01" and bit in self.module.stored and bit not in self.writer.places for bit, value in zip(net.bits, values)]
 
     def _part_initial(self, net: Net, fixed: list[bool]) -> None:
-        """Gives those bits of a wire that have initial values vectors of their own, so that a row can set them."""
-        for start, end in equal_runs(fixed):
-            if fixed[start]:
+        """Gives the registers of a wire of which a part has initial values vectors of their own, so that rows can set them."""
+        stored = [bit in self.module.stored and bit not in self.writer.places for bit in net.bits]
+        for start, end in equal_runs(list(zip(stored, fixed))):
+            if stored[start]:
                 parts = self.writer.declare(f"{net.shown or 'n'}_{end - 1}_{start}", end - start)
                 if net.shown:
                     self.writer.notes.append(f"{parts[0].name} is {net.shown}[{end - 1}:{start}]")
@@ -162,6 +163,8 @@ class ModulePrinter:
         for net, found in self.timing.told.items():
             for words in clock_words(self.writer.expr([net]), found, self.timing.instances):
                 self.writer.warn(words)
+        for name in written_twice(self.module):
+            self.writer.warn(f"the register {name} is written by several blocks: it is X where they differ")
         for bit in sorted(bit for bit in self.module.outside if bit in self.module.drivers):
             name, index = self.module.outside[bit]
             if self.module.ports[name].direction == "input":
@@ -177,6 +180,12 @@ class ModulePrinter:
         lines.append(f"module {self.name} (" + ("\n" + ",\n".join(ports) + "\n" if ports else "") + ");")
         lines += [f"  {sort(vector)} {vector.name};" for vector in self.writer.wires]
         return "\n".join(lines + ["  " + line for line in self.writer.lines] + ["endmodule"]) + "\n"
+
+
+def written_twice(module: Module) -> list[str]:
+    """The names of registers that have another driver besides."""
+    bits = [bit for bit, drivers in module.drivers.items() if len(drivers) > 1 and any(cell.stores for cell, _, _ in drivers)]
+    return sorted({module.bit_names.get(bit, "?").split("[")[0] for bit in bits})
 
 
 def clock_words(name: str, found: dict[str, Origins], instances: int) -> list[str]:

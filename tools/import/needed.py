@@ -14,7 +14,7 @@ def needed_cells(module: Module, instances: Iterable[str], controls: dict[int, l
     if not controls:
         return module.cells
     kinds = set(instances)
-    lasting = [cell for cell in module.cells if cell.stores or cell.kind in kinds or not any(cell.outputs())]
+    lasting = [cell for cell in module.cells if cell.stores or cell.kind in kinds or not cell.drives]
     todo: list[Bit] = [bit for net in module.nets if net.shown is not None for bit in net.bits]
     for cell in lasting:
         todo += read_pins(cell, controls)
@@ -36,5 +36,5 @@ def read_pins(cell: Cell, controls: dict[int, list[Control]]) -> list[Bit]:
     told = any(bit in controls for bit in cell.pin("Q"))
     read = [bit for pin, bits in cell.pins.items() if cell.directions.get(pin) != "output" and not (told and pin in REPLACED)
             for bit in bits]
-    return read + [bit for register in cell.pin("Q") if register in controls for control in controls[register]
+    return read + [bit for register in cell.pin("Q") if isinstance(register, int) for control in controls.get(register, [])
                    for bit in (control.bit, *control.value)]

@@ -4,7 +4,7 @@ from __future__ import annotations
 import re
 from dataclasses import dataclass, field
 from functools import cached_property
-from typing import Any, Iterator, Union
+from typing import Any, Union
 
 Bit = Union[int, str]  # the number of a net, or one of the constants "0", "1", "x" and "z"
 Bits = list[Bit]
@@ -46,12 +46,13 @@ class Cell:
         """Whether it is a register, a latch, or a memory that is written."""
         return bool(STORING.match(self.kind)) or self.kind == "$mem_v2" and self.number("WR_PORTS") > 0
 
-    def outputs(self) -> Iterator[tuple[str, int, Bit]]:
-        """The bits that it drives, each with its pin and its index there."""
-        for pin, bits in self.pins.items():
-            if self.directions.get(pin) in ("output", "inout"):
-                for index, bit in enumerate(bits):
-                    yield pin, index, bit
+    @property
+    def drives(self) -> bool:
+        """Whether it has a pin that drives something."""
+        return any(self.directions.get(pin) in ("output", "inout") for pin in self.pins)
+
+
+Driver = tuple[Cell, str, int]  # a cell, and the pin and the index there
 
 
 @dataclass(frozen=True)
@@ -91,13 +92,15 @@ class Module:
         return word[1] if word else self.name
 
     @cached_property
-    def drivers(self) -> dict[int, list[tuple[Cell, str, int]]]:
-        """Of each net the cells that drive it, with pin and index."""
-        found: dict[int, list[tuple[Cell, str, int]]] = {}
+    def drivers(self) -> dict[int, list[Driver]]:
+        """Of each net the cells that drive it."""
+        found: dict[int, list[Driver]] = {}
         for cell in self.cells:
-            for pin, index, bit in cell.outputs():
-                if isinstance(bit, int):
-                    found.setdefault(bit, []).append((cell, pin, index))
+            for pin, bits in cell.pins.items():
+                if cell.directions.get(pin) in ("output", "inout"):
+                    for index, bit in enumerate(bits):
+                        if isinstance(bit, int):
+                            found.setdefault(bit, []).append((cell, pin, index))
         return found
 
     @cached_property
@@ -119,8 +122,7 @@ class Module:
     @cached_property
     def highest(self) -> int:
         """No net has a number over it."""
-        bits = [bit for net in self.nets for bit in net.bits] + [bit for cell in self.cells for bits in cell.pins.values() for bit in bits]
-        return max((bit for bit in bits if isinstance(bit, int)), default=0)
+        return max((bit for net in self.nets for bit in net.bits if isinstance(bit, int)), default=0)
 
     @cached_property
     def bit_names(self) -> dict[int, str]:
@@ -150,4 +152,5 @@ def read_module(name: str, data: dict[str, Any]) -> Module:
             for net, given in data["netnames"].items()]
     cells = [Cell(cell, given["type"], given["attributes"].get("src", "?").split("|")[0], given["parameters"],
                   given.get("port_directions", {}), given["connections"]) for cell, given in data["cells"].items()]
-    return Module(name, data["attributes"], ports, nets, sorted(cells, key=lambda cell: place_order(cell.source)), list(data.get("memories", {})))
+    cells.sort(key=lambda cell: place_order(cell.source))
+    return Module(name, data["attributes"], ports, nets, cells, list(data.get("memories", {})))

@@ -21,7 +21,7 @@ class Vector(NamedTuple):
 
 class Place(NamedTuple):
     vector: Vector
-    index: int
+    bit: int
 
 
 def literal(bits: Sequence[Bit]) -> str:

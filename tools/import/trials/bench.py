@@ -15,6 +15,7 @@ class Signal:
     name: str
     parts: Sequence[Vector]
     direction: str  # of a port; "" for a wire inside
+    local: str      # the name that a port has in a test bench
 
     @property
     def width(self) -> int:
@@ -43,7 +44,7 @@ def bench(plan: Plan, top: str, parameters: Sequence[str], of_text: bool) -> str
     quiet = {each.name for each in plan.inputs if each.kind in ("clock", "control")}
     for port in plan.ports:
         start = f" = {plan.values[port.name][0]}" if port.name in quiet else ""
-        lines.append(f"  {'reg' if port.direction == 'input' else 'wire'} [{port.width - 1}:0] {local(port)}{start};")
+        lines.append(f"  {'reg' if port.direction == 'input' else 'wire'} [{port.width - 1}:0] {port.local}{start};")
     lines.append(f"  {top} dut ({', '.join(joined(plan.ports, of_text))});")
     lines += [f"  defparam dut.{word.replace('=', ' = ', 1)};" for word in parameters]
     if of_text:
@@ -59,30 +60,26 @@ def bench(plan: Plan, top: str, parameters: Sequence[str], of_text: bool) -> str
     return "\n".join(lines + ["    $finish;", "  end", "endmodule", ""])
 
 
-def local(port: Signal) -> str:
-    return "port_" + re.sub(r"\W", "_", port.name)
-
-
 def change(plan: Plan, each: Input, phase: int) -> str:
     port = next(port for port in plan.ports if port.name == each.name)
-    return f"{local(port)} = {each.width}'h{plan.values[each.name][phase]:x};"
+    return f"{port.local} = {each.width}'h{plan.values[each.name][phase]:x};"
 
 
 def joined(ports: Sequence[Signal], of_text: bool) -> list[str]:
     if not of_text:
-        return [f".{port.escaped}({local(port)})" for port in ports]
+        return [f".{port.escaped}({port.local})" for port in ports]
     found = []
     for port in ports:
         low = 0
         for part in port.parts:
-            found.append(f".{part.name}({local(port)}[{low + part.length - 1}:{low}])")
+            found.append(f".{part.name}({port.local}[{low + part.length - 1}:{low}])")
             low += part.length
     return found
 
 
 def seen(signal: Signal, of_text: bool) -> str:
     if signal.direction:
-        return local(signal)
+        return signal.local
     if of_text:
         return "{" + ", ".join(f"dut.{part.name}" for part in reversed(signal.parts)) + "}"
     return f"dut.{signal.escaped}"

@@ -65,7 +65,7 @@ def run_iverilog(folder: Path, name: str, bench_text: str, files: list[str], opt
     built = subprocess.run(["iverilog", "-g2012", "-o", program, "-s", "bench", *options, source, *files], capture_output=True, text=True)
     if built.returncode:
         raise Failed(f"iverilog: {first_line(built.stderr)}")
-    done = subprocess.run(["vvp", "-n", program], capture_output=True, text=True, errors="replace", timeout=600)
+    done = subprocess.run(["vvp", "-n", program], capture_output=True, text=True, errors="replace", timeout=120)
     found = re.findall(r"^SEEN (\d+) (\d+) (\S+)$", done.stdout, re.M)
     if not found:
         raise Failed(f"vvp: {first_line(done.stderr or done.stdout)}")
@@ -93,9 +93,9 @@ def plan_of(design: Design, options: Options, phases: int, inside: bool) -> Plan
     printed = design.printed[design.top.name]
     clocks = {name for timing in design.timings.values() for name in timing.clock_inputs}
     controls = {name for timing in design.timings.values() for name in timing.control_inputs}
-    ports = [Signal(name, printed.ports[name], port.direction) for name, port in design.top.ports.items()]
+    ports = [Signal(name, printed.ports[name], port.direction, f"p{number}") for number, (name, port) in enumerate(design.top.ports.items())]
     inputs = [kind_of(port.name, port.width, clocks, controls, options.fixed) for port in ports if port.direction == "input"]
-    wires = [Signal(net.name, printed.nets[net.name], "") for net in design.top.nets
+    wires = [Signal(net.name, printed.nets[net.name], "", "") for net in design.top.nets
              if inside and net.shown and net.name not in printed.ports and net.name in printed.nets and re.fullmatch(r"[A-Za-z_]\w*", net.name)]
     shown = [port for port in ports if port.direction != "input"] + wires[:SHOWN]
     alone = has_latches(design)
