@@ -69,17 +69,18 @@ class ModulePrinter:
                 if self.instances[cell.name] != shown:
                     self.writer.notes.append(f"{self.instances[cell.name]} is the instance {shown}")
 
-    def _rank(self, net: Net) -> tuple[int, int]:
-        """Which names nets with several take: an input's, that of the source for a register, an output's, others; long ones first
-        for registers, and where the source has none."""
+    def _rank(self, net: Net) -> tuple[int, ...]:
+        """Which names nets with several take: an input's; for registers the one of fewest cells, the longest of these, and an
+        output's last; else an output's, and the longest where the source has none."""
         port = self.module.ports.get(net.name)
-        if port:
-            return {"input": 0, "inout": 1, "output": 4}[port.direction], 0
+        if port and port.direction != "output":
+            return (0 if port.direction == "input" else 1,)
         if net.shown is None:
             return 6, -len(net.bits)
-        if not self.module.stored.intersection(net.bits):
-            return 5, 0
-        return (2 if net.init else 3), -len(net.bits)
+        cells = {self.module.drivers[bit][0][0].name for bit in net.bits if isinstance(bit, int) and bit in self.module.stored}
+        if not cells:
+            return (4 if port else 5,)
+        return (2 if self.module.stored.issuperset(net.bits) else 3), len(cells), -len(net.bits), int(port is not None)
 
     def _declare_nets(self) -> list[Net]:
         """Gives each net its place, and answers the named wires that may have their bits elsewhere."""
@@ -101,8 +102,7 @@ class ModulePrinter:
 
     def _fixed(self, net: Net) -> list[bool]:
         """Which bits of a wire are registers with an initial value and without a place."""
-        values = net.init[::-1].ljust(len(net.bits), "x")
-        return [value in "01" and bit in self.module.stored and bit not in self.writer.places for bit, value in zip(net.bits, values)]
+        return [bit in self.module.initials and bit not in self.writer.places for bit in net.bits]
 
     def _part_initial(self, net: Net, fixed: list[bool]) -> None:
         """Gives the registers of a wire of which a part has initial values vectors of their own, so that rows can set them."""
@@ -120,7 +120,7 @@ class ModulePrinter:
         for start, end in equal_runs(vectors):
             vector = vectors[start]
             if vector:
-                self.writer.initial(vector, list(net.init[::-1][start:end]))
+                self.writer.initial(vector, [self.module.initials[bit] for bit in net.bits[start:end]])
 
     # The body
 

@@ -115,6 +115,12 @@ class Module:
         return {bit for cell in self.cells if STORING.match(cell.kind) for bit in cell.pin("Q")}
 
     @cached_property
+    def initials(self) -> dict[Bit, str]:
+        """The initial values of registers and latches, 0 or 1, by their nets."""
+        return {bit: value for net in self.nets for bit, value in zip(net.bits, reversed(net.init))
+                if value in "01" and bit in self.stored}
+
+    @cached_property
     def net_bits(self) -> dict[str, Bits]:
         """The bits of each net, by its name."""
         return {net.name: net.bits for net in self.nets}

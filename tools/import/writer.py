@@ -104,9 +104,12 @@ class Writer:
         return bits
 
     def initial(self, vector: Vector, bits: Sequence[Bit]) -> None:
-        """Notes the initial value of a register, where it has one."""
+        """Notes the initial value of a register, where it has one: bits of a word without one leave no row."""
+        value = f"{vector.length}'b" + "".join(map(str, reversed(bits)))
         if "x" not in bits:
-            self.initials.append((vector, f"{vector.length}'b" + "".join(map(str, reversed(bits)))))
+            self.initials.append((vector, value))
+        elif set(bits) != {"x"}:
+            self.notes.append(f"{vector.name} begins with {value}, which is no row of a table")
 
     # Expressions
 
