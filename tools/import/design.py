@@ -31,14 +31,16 @@ class Design:
         """Prints a module behind those that it instantiates."""
         if {"blackbox", "whitebox"} & set(module.attributes):
             raise Refused(f"the module {module.shown} has no text")
+        hints = self.hints.get(module.name, Hints())
+        if hints.unknown:
+            raise Refused(f"{hints.unknown[0]}: module {module.shown} has a case with an x or a z in a label")
         if module.unmapped:
             raise Refused(f"module {module.shown}: the memory {module.unmapped[0]} is no cell")
         for cell in module.cells:
             if cell.kind in self.modules and cell.kind not in self.printed:
                 self._print(self.modules[cell.kind])
         timing = self.timings.get(module.name, Timing())
-        printer = ModulePrinter(module, self._names[module.name], timing, self.printed,
-                                self.hints.get(module.name, Hints()).cases)
+        printer = ModulePrinter(module, self._names[module.name], timing, self.printed, hints.cases)
         self.printed[module.name] = printer.printed()
 
     def warnings(self) -> Iterator[str]:

@@ -9,7 +9,7 @@ from dataclasses import dataclass, field
 from pathlib import Path
 
 from netlist import Module, Refused, read_modules
-from rtlil import Hints, scan
+from rtlil import Hints, Scanner
 
 # The nets of the source keep their names. No step is run that simplifies what depends on X: `opt_expr` only for the enables of
 # latches, which `proc` has just made.
@@ -42,7 +42,7 @@ def read_design(request: Request) -> Read:
         processes, cells = Path(folder, "processes.il"), Path(folder, "cells.json")
         run([*read_steps(request), "proc_arst", f"write_rtlil {processes}", *CELLS, f"write_json {cells}"])
         with processes.open() as lines, cells.open() as text:
-            return Read(read_modules(json.load(text)), scan(lines))
+            return Read(read_modules(json.load(text)), Scanner().scan(lines))
 
 
 def read_steps(request: Request) -> list[str]:

@@ -8,6 +8,7 @@ from __future__ import annotations
 
 import subprocess
 import sys
+import tempfile
 from pathlib import Path
 
 HERE = Path(__file__).resolve().parent
@@ -35,6 +36,15 @@ def check(source: Path, write: bool, svtv: str | None) -> str:
     return ""
 
 
+def check_rows() -> str:
+    """What is wrong with the rows that are written to a file, or nothing."""
+    with tempfile.TemporaryDirectory() as folder:
+        rows = Path(folder, "rows.csv")
+        subprocess.run([IMPORTER, "initial.v", "--phases", "3", "--rows", rows], cwd=HERE, capture_output=True)
+        shown = [line[5:] for line in (HERE / "initial.out").read_text().splitlines() if line.startswith("//   over,")]
+        return "" if rows.exists() and rows.read_text().splitlines() == shown else "rows.csv: not as in initial.out"
+
+
 def main() -> int:
     write = sys.argv[1:] == ["--write"]
     svtv = sys.argv[1] if sys.argv[1:] and not write else None
@@ -43,8 +53,11 @@ def main() -> int:
     for source, text in wrong.items():
         if text:
             print(f"{source.relative_to(HERE)}: {text}")
+    rows = check_rows()
+    if rows:
+        print(rows)
     print(f"{sum(not text for text in wrong.values())} of {len(sources)} designs as they should be")
-    return int(any(wrong.values()))
+    return int(any(wrong.values()) or bool(rows))
 
 
 if __name__ == "__main__":

@@ -3,7 +3,7 @@
 
     run.py SOURCES SVTV [--phases N] [--jobs N] [--group G] [--out FILE]
 
-SOURCES is the folder into which fetch.py unpacked the packages. A line is printed for each group, and one for each design that
+SOURCES is the folder into which ../fetch.py unpacked the packages. A line is printed for each group, and one for each design that
 is refused or that differs; --out has a record of CSV for each design.
 """
 from __future__ import annotations
@@ -58,7 +58,7 @@ def try_one(line: Line, svtv: str, phases: int) -> dict[str, Any]:
     for more in ([], ["--verilog"]):
         command = [sys.executable, HERE / "trial.py", *line.words, *more, "--json", "--svtv", svtv, "--phases", str(phases)]
         try:
-            done = subprocess.run(command, cwd=line.folder, capture_output=True, text=True, timeout=1800)
+            done = subprocess.run(command, cwd=line.folder, capture_output=True, text=True, timeout=600)
         except subprocess.TimeoutExpired:
             return {"status": "not read", "why": "it takes too long"}
         if done.returncode:
@@ -75,7 +75,7 @@ def summary(found: list[dict[str, Any]]) -> str:
     read = [each for each in found if each["status"] != "not read"]
     seen = [each for each in read if each.get("counts")]
     clean = [each for each in seen if not each["made"]]
-    bits = Counter(kind for each in clean for counts in each["counts"].values() for kind, number in counts.items() for _ in range(0))
+    bits: Counter[str] = Counter()
     for each in clean:
         for counts in each["counts"].values():
             bits.update(counts)

@@ -1,7 +1,7 @@
 #!/usr/bin/env python3
 """Compares the text of single cells with yosys' own models of them (simlib.v), over random parameters and values of four states.
 
-    cells.py [--rounds N] [--seed N]
+    single_cells.py [--rounds N] [--seed N]
 
 Both are run by iverilog. A bit is counted as different where one side has 0 and the other 1, and as hidden where the model has X
 and the text 0 or 1.
