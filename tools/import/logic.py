@@ -49,7 +49,7 @@ def comparison(mark: str) -> Callable[[Writer, Cell], None]:
     """`<` and its like, which stand over whole operands."""
     def write(writer: Writer, cell: Cell) -> None:
         left, right = (marked(writer.expr(operand(cell, pin)), signed(cell)) for pin in "AB")
-        writer.assign(cell.pin("Y"), f"{left} {mark} {right}")
+        writer.assign_truth(cell.pin("Y"), f"{left} {mark} {right}")
     return write
 
 
@@ -62,14 +62,14 @@ def equality(mark: str, glue: str) -> Callable[[Writer, Cell], None]:
         seen = {"$eqx": "===", "$nex": "!=="}.get(cell.kind)
         comment = f"{seen} at {cell.source}: X where a bit is unknown" if seen else ""
         texts = [f"{writer.expr(p)} {mark} {writer.expr(q)}" for p, q in pairs]
-        writer.assign(cell.pin("Y"), texts[0] if len(texts) == 1 else glue.join(f"({text})" for text in texts), comment)
+        writer.assign_truth(cell.pin("Y"), texts[0] if len(texts) == 1 else glue.join(f"({text})" for text in texts), comment)
     return write
 
 
 def reduction(mark: str, glue: str, inverted: bool = False) -> Callable[[Writer, Cell], None]:
     def write(writer: Writer, cell: Cell) -> None:
         text = glue.join(mark + writer.expr(piece) for piece in split(operand(cell, "A")))
-        writer.assign(cell.pin("Y"), f"{{~({text})}}" if inverted else text)
+        writer.assign_truth(cell.pin("Y"), f"{{~({text})}}" if inverted else text)
     return write
 
 
@@ -78,7 +78,7 @@ def logical(mark: str) -> Callable[[Writer, Cell], None]:
     def write(writer: Writer, cell: Cell) -> None:
         pins = "A" if mark == "!" else "AB"
         truths = [truth(writer, operand(cell, pin)) for pin in pins]
-        writer.assign(cell.pin("Y"), "!" + truths[0] if mark == "!" else f" {mark} ".join(truths))
+        writer.assign_truth(cell.pin("Y"), "!" + truths[0] if mark == "!" else f" {mark} ".join(truths))
     return write
 
 
@@ -119,8 +119,10 @@ def part_select(writer: Writer, cell: Cell) -> None:
 
 
 def barrel(writer: Writer, a: Bits, amount: Bits, y: Bits, fill: Bits, left: bool, beyond: Bits | None = None) -> None:
-    """A shift of a vector that is too long for the operator, bit of the amount by bit; any bit of `beyond` moves all out."""
+    """A shift of a vector that is too long for the operator, bit of the amount by bit; any bit of `beyond` moves all out. As with
+    the operator all bits are X where a bit of the amount is unknown: there the amount does not equal itself."""
     out = list(beyond or [])
+    known = writer.short(amount + out)
     for place, bit in enumerate(amount):
         if bit == "0":
             continue
@@ -134,8 +136,8 @@ def barrel(writer: Writer, a: Bits, amount: Bits, y: Bits, fill: Bits, left: boo
         writer.by_pieces(shifted, [moved, a], lambda one, other: f"{condition} ? {one} : {other}")
         a = shifted
     rest = (a + fill * len(y))[:len(y)]
-    if out:
-        condition = "|" + writer.named(out)
-        writer.by_pieces(y, [fill * len(y), rest], lambda one, other: f"{condition} ? {one} : {other}")
-    else:
-        writer.by_pieces(y, [rest], str)
+    outside = f"|{writer.short(out)} ? " if out else ""
+    nothing: Bits = ["x"] * len(y)
+    writer.by_pieces(y, [fill * len(y), rest, nothing], lambda one, other, unknown:
+                     f"{known} != {known} ? {unknown} : {outside}{one} : {other}" if outside else
+                     f"{known} != {known} ? {unknown} : {other}")

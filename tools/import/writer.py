@@ -194,6 +194,13 @@ class Writer:
     def assign(self, bits: Bits, text: str, comment: str = "") -> None:
         self.lines.append(f"assign {self.target(bits)} = {text};" + (f"  // {comment}" if comment else ""))
 
+    def assign_truth(self, bits: Bits, text: str, comment: str = "") -> None:
+        """An assignment of a value of one bit, with 0 above it."""
+        self.assign(bits[:LIMIT], text, comment)
+        if len(bits) > LIMIT:
+            nothing: Bits = ["0"] * (len(bits) - LIMIT)
+            self.by_pieces(bits[LIMIT:], [nothing], str)
+
     def by_pieces(self, target: Bits, sources: Sequence[Bits], form: Callable[..., str]) -> None:
         """An assignment for each piece of the target; the sources are as long as it."""
         for low in range(0, len(target), LIMIT):

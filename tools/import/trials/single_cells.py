@@ -28,6 +28,7 @@ UNARY = "not pos neg reduce_and reduce_or reduce_xor reduce_xnor reduce_bool log
 BINARY = "and or xor xnor add sub mul div mod lt le eq ne ge gt logic_and logic_or shl shr sshl sshr shift shiftx".split()
 STORING = "dff dffe dffsr dffsre adff adffe aldff aldffe sdff sdffe sdffce dlatch adlatch dlatchsr sr".split()
 KINDS = UNARY + BINARY + ["mux", "pmux", "bmux", "demux", "concat", "slice", "tribuf"] + STORING
+LONG = UNARY[:2] + UNARY[3:] + "and or xor xnor eq ne logic_and logic_or shl shr sshl sshr shiftx".split()
 VALUES = 60
 CONTROLS = {"CLK": "ff", "EN": "ffe ffce ffsre latch", "ARST": "adff adlatch", "ALOAD": "aldff", "SRST": "sdff", "SET": "sr", "CLR": "sr"}
 
@@ -41,7 +42,7 @@ class Sample:
 
 
 def sample(kind: str, chance: random.Random) -> Sample:
-    a, b, y = (chance.choice((1, 2, 3, 5, 8, 13, 33)) for _ in "aby")
+    a, b, y = (chance.choice((1, 2, 3, 5, 8, 13, 33, *((140, 260) if kind in LONG else ()))) for _ in "aby")
     signed = chance.randint(0, 1)
     if kind in UNARY:
         return Sample(kind, {"A_SIGNED": signed, "A_WIDTH": a, "Y_WIDTH": y}, {"A": a, "Y": y})
@@ -50,6 +51,7 @@ def sample(kind: str, chance: random.Random) -> Sample:
     if kind in STORING:
         return storing_sample(kind, a, chance)
     if kind == "pmux":
+        b = chance.choice((b, 120))
         return Sample(kind, {"WIDTH": a, "S_WIDTH": b}, {"A": a, "B": a * b, "S": b, "Y": a})
     if kind in ("bmux", "demux"):
         s = chance.randint(1, 3)
@@ -63,7 +65,8 @@ def sample(kind: str, chance: random.Random) -> Sample:
     if kind == "tribuf":
         return Sample(kind, {"WIDTH": a}, {"A": a, "EN": 1, "Y": a})
     if "sh" in kind:
-        b = min(b, 5)
+        b = min(b, 9 if max(a, y) > 128 else 5)
+        y = min(y, 33) if kind == "shiftx" else y
     other = signed if kind not in ("shift", "shiftx") else chance.randint(0, 1)
     other = 0 if kind in ("shl", "shr", "sshl", "sshr") else other
     signed = 0 if kind == "shiftx" else signed
