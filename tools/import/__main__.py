@@ -6,6 +6,7 @@ counterpart is refused: the exit code is 1, and the error output has a line with
 from __future__ import annotations
 
 import argparse
+import gc
 import sys
 from pathlib import Path
 
@@ -35,6 +36,7 @@ def phases(word: str) -> int:
 
 
 def main() -> int:
+    gc.disable()  # a design is many small objects without circles, and all of them last until the text is printed
     words = arguments()
     request = Request(words.design, words.top, words.define, words.include, words.param, words.verilog)
     try:

@@ -45,7 +45,7 @@ def lines(sources: Path) -> Iterator[Line]:
             continue
         package, group, *words = text.split()
         each = words[0] == "each"
-        for path in sorted((sources / package).glob(words[each])):
+        for path in sorted(path for path in (sources / package).glob(words[each]) if not re.search("_tb|_bad", path.name)):
             rest = [str(MODELS / word[1:]) if word.startswith("+") else word for word in words[each + 1:]]
             rest = [os.path.relpath(sources / package / word, path.parent) if (sources / package / word).is_file() else word for word in rest]
             tops = re.findall(r"^\s*module\s+(\w+)", path.read_text(errors="replace"), re.M) if each else []
