@@ -1,11 +1,11 @@
 -- The command that reading finds is the one that the words are.
-use Rattle.std.proofs.Common.{◌≡◌, ℕ, ◌≤◌, false, eqb, cond, List, [], ◌∷◌, length, get_or, bytes_eq, Option, Some, None, refl, sym, ap, ◌∙◌, subst, arith}
+use Rattle.std.proofs.Common.{◌≡◌, ℕ, ◌≤◌, Bool, false, eqb, cond, List, [], ◌∷◌, length, get_or, bytes_eq, Option, Some, None, is_some, refl, sym, ap, ◌∙◌, subst, arith}
 use Rattle.std.specs.Prelude.{option_map, option_and_then, IfSome, IfNone}
 use Rattle.std.specs.List.{All}
 use Rattle.std.proofs.lemmas.Bool.{true≢false, eqb-true, eq-eqb}
 use Rattle.std.proofs.lemmas.Slice.Eq.{bytes_eq-Decides}
 use Rattle.svtv_words.specs.declared.command.Command.{Command as Told}
-use Rattle.svtv_words.specs.Commands.{Text, Option', top, budget, Setting, Reads, given, AreOnce, AreNames, number_behind, most_count, Form, IsAllowed, IsCount, IsCounted, Verb', proves, sims, dumps, selftests, certs, checks, form_of, Command, selftest, command_from, IsCommand, command_is, IsBudgetInBounds, IsInBounds}
+use Rattle.svtv_words.specs.Commands.{Text, Option', top, budget, vcd, Setting, Reads, given, AreOnce, AreNames, number_behind, most_count, Form, IsAllowed, IsCount, IsCounted, Verb', proves, sims, dumps, selftests, certs, checks, inducts, waves, form_of, Command, selftest, command_from, IsCommand, command_is, IsBudgetInBounds, IsInBounds}
 use Rattle.svtv_words.specs.Reading.{Texts, nothing_given, text_at, budget_of, count_of, budget_at, Next, anything, text_of, a_positional, Found, found, nothing_found, most_positionals, found_in, every_verb, verb_among, command_with, command_named, command_found, is_waiting, command_in}
 use Rattle.svtv_words.proofs.OneWord.{on_if}
 use Rattle.svtv_words.proofs.Options.{given_by, from_nothing, all_given, given_number, given_in_bounds}
@@ -22,6 +22,8 @@ verb_found dumps = refl
 verb_found selftests = refl
 verb_found certs = refl
 verb_found checks = refl
+verb_found inducts = refl
+verb_found waves = refl
 
 has_room : (v : Verb') → (form_of v).positionals ≤ most_positionals
 has_room proves = omega arith
@@ -30,6 +32,8 @@ has_room dumps = omega arith
 has_room selftests = omega arith
 has_room certs = omega arith
 has_room checks = omega arith
+has_room inducts = omega arith
+has_room waves = omega arith
 
 verb_has_word : (w : Text) (all : List Verb') → IfSome (verb_among all w) (λ v. w ≡ (form_of v).word)
 verb_has_word w [] = tt
@@ -60,7 +64,7 @@ has form words names t a =
 -- ---- what is found is a command
 
 read : (v : Verb') (word : Text) (words names : List Text) (t : Texts) (k : ℕ) → word ≡ (form_of v).word → length names ≡ (form_of v).positionals → IsCounted (form_of v).counted (get_or names 0 []) k
-    → Has (form_of v) words names t → IsCommand (word ∷ words) (command_from v names (text_at top t) (budget_at t))
+    → Has (form_of v) words names t → IsCommand (word ∷ words) (command_from v names (text_at top t) (budget_at t) (is_some (text_at vcd t)))
 read v word words names t k e count counts h =
     let number : budget_at t ≡ option_map (number_behind 0) (given budget h.settings) =
     ap (λ r. option_and_then budget_of r) (sym (h.texts budget)) ∙ given_number (form_of v) h.settings h.allowed in
@@ -72,7 +76,7 @@ read v word words names t k e count counts h =
       settings = h.settings;
       reads = h.reads;
       allows = record { count = count; names = h.are; counted = (k, counts); once = h.once; options = h.allowed };
-      is = λ i. command_from v names (sym (h.texts top) i) (number i);
+      is = λ i. command_from v names (sym (h.texts top) i) (number i) (is_some (sym (h.texts vcd) i));
     }
 
 read_count : (word : Text) (words names : List Text) (t : Texts) → word ≡ (form_of selftests).word → length names ≡ (form_of selftests).positionals → Has (form_of selftests) words names t
@@ -114,7 +118,7 @@ command_at v (text_of o) names t h = absurd (true≢false h)
 command_at v a_positional names t h = refl
 
 counted_found : (v : Verb') (names : List Text) (t : Texts) (k : ℕ) → IsCounted (form_of v).counted (get_or names 0 []) k
-    → command_with v names t ≡ Some (command_from v names (text_at top t) (budget_at t))
+    → command_with v names t ≡ Some (command_from v names (text_at top t) (budget_at t) (is_some (text_at vcd t)))
 counted_found selftests names t k h = ap (option_map (λ n. selftest n)) (count_found (get_or names 0 []) k h) ∙ ap (λ n. Some (selftest n)) h.is
 counted_found v names t k h = refl
 
@@ -125,7 +129,7 @@ texts_of s = given_by (λ o. given o s)
 found_command : (v : Verb') (words names : List Text) (s : List Setting) (k : ℕ) → Reads words names s → length names ≡ (form_of v).positionals → IsCounted (form_of v).counted (get_or names 0 []) k
     → AreNames names → AreOnce s → All (IsAllowed (form_of v)) s
     → option_and_then (command_found v) (found_in (form_of v) words nothing_found)
-    ≡ Some (command_from v names (given top s) (option_map (number_behind 0) (given budget s)))
+    ≡ Some (command_from v names (given top s) (option_map (number_behind 0) (given budget s)) (is_some (given vcd s)))
 found_command v words names s k reads count counts are once allowed =
     let u = texts_of s in
     let room = has_room v in
@@ -133,7 +137,7 @@ found_command v words names s k reads count counts are once allowed =
     ap (λ r. option_and_then (command_found v) r) h.is ∙ command_at v h.last names u h.ready
     ∙ ap (λ b. cond b (command_with v names u) None) (eq-eqb (length names) (form_of v).positionals count)
     ∙ counted_found v names u k counts
-    ∙ ap (λ n. Some (command_from v names (given top s) n)) (given_number (form_of v) s allowed)
+    ∙ ap (λ n. Some (command_from v names (given top s) n (is_some (given vcd s)))) (given_number (form_of v) s allowed)
 
 command_given : (words : List Text) (c : Command) → IsCommand words c → command_in words ≡ Some c
 unfolding command_in
@@ -150,20 +154,22 @@ one_command words c d h k = let same : Some c ≡ Some d = sym (command_given wo
 
 -- ---- what a command is given is in bounds
 
-from_in_bounds : (v : Verb') (names : List Text) (t : Option Text) (n : Option ℕ) → ((k : ℕ) × IsCounted (form_of v).counted (get_or names 0 []) k) → IsBudgetInBounds n
-    → IsInBounds (command_from v names t n)
-from_in_bounds proves names t n k h = h
-from_in_bounds sims names t n k h = tt
-from_in_bounds dumps names t n k h = tt
-from_in_bounds selftests names t n k h = subst (λ (x : ℕ). (1 ≤ x) × (x ≤ most_count)) k.1.is (k.1.low, k.1.high)
-from_in_bounds certs names t n k h = h
-from_in_bounds checks names t n k h = tt
+from_in_bounds : (v : Verb') (names : List Text) (t : Option Text) (n : Option ℕ) (w : Bool) → ((k : ℕ) × IsCounted (form_of v).counted (get_or names 0 []) k) → IsBudgetInBounds n
+    → IsInBounds (command_from v names t n w)
+from_in_bounds proves names t n w k h = h
+from_in_bounds sims names t n w k h = tt
+from_in_bounds dumps names t n w k h = tt
+from_in_bounds selftests names t n w k h = subst (λ (x : ℕ). (1 ≤ x) × (x ≤ most_count)) k.1.is (k.1.low, k.1.high)
+from_in_bounds certs names t n w k h = h
+from_in_bounds checks names t n w k h = tt
+from_in_bounds inducts names t n w k h = h
+from_in_bounds waves names t n w k h = tt
 
 pub command_in_bounds : (words : List Text) (c : Command) → IsCommand words c → IsInBounds c
 command_in_bounds words c h =
     let n = option_map (number_behind 0) (given budget h.settings) in
     subst (λ (x : Command). IsInBounds x) (sym h.is)
-    (from_in_bounds h.verb h.positionals (given top h.settings) n h.allows.counted (given_in_bounds (form_of h.verb) h.settings h.allows.options))
+    (from_in_bounds h.verb h.positionals (given top h.settings) n (is_some (given vcd h.settings)) h.allows.counted (given_in_bounds (form_of h.verb) h.settings h.allows.options))
 
 -- ---- the clauses of `command_of`
 

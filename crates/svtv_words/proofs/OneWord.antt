@@ -4,7 +4,7 @@ use Rattle.std.specs.Prelude.{codes, IfSome, option_map, option_and_then, unwrap
 use Rattle.std.proofs.lemmas.Bool.{false≢true, eqb-true, eq-eqb, both_ways}
 use Rattle.std.proofs.lemmas.List.{take-append-drop}
 use Rattle.std.proofs.lemmas.Slice.Eq.{bytes_eq-Decides}
-use Rattle.svtv_words.specs.Commands.{Text, IsDashed, Option', top, budget, option_text, takes_text}
+use Rattle.svtv_words.specs.Commands.{Text, IsDashed, Option', top, budget, vcd, option_text, takes_text}
 use Rattle.svtv_words.specs.Reading.{Kind, a_name, with_text, before_text, on_its_own, the_rest, unknown, is_dashed, text_behind, bare_kind, joined_text, option_kind, every_option, kind_among, kind_by, kind_of}
 
 pub on_if : {A : Type 0} (P : A → Type 0) (b : Bool) (x y : A) → (b ≡ true → P x) → (b ≡ false → P y) → P (cond b x y)
@@ -103,6 +103,7 @@ kind_bare : (o : Option') → kind_of (option_text o) ≡ bare_kind (takes_text 
 unfolding kind_of option_kind
 kind_bare top = refl
 kind_bare budget = refl
+kind_bare vcd = refl
 
 pub kind_apart : (o : Option') → IsTrue (takes_text o) → kind_of (option_text o) ≡ before_text o
 kind_apart o t = kind_bare o ∙ ap (λ b. bare_kind b o) t
@@ -114,6 +115,7 @@ pub kind_joined : (o : Option') (text : Text) → IsTrue (takes_text o) → kind
 unfolding kind_of option_kind
 kind_joined top text t = refl
 kind_joined budget text t = refl
+kind_joined vcd text t = absurd (false≢true t)
 
 pub kind_name : (w : Text) → ¬ IsDashed w → kind_of w ≡ a_name
 unfolding kind_of

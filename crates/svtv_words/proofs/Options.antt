@@ -4,7 +4,7 @@ use Rattle.std.specs.Prelude.{IfSome, option_map, option_and_then}
 use Rattle.std.specs.List.{All}
 use Rattle.std.proofs.lemmas.Bool.{true≢false, false≢true, and_parts, and_from, ne_eqb}
 use Rattle.std.proofs.lemmas.List.Elements.{All-head, All-tail}
-use Rattle.svtv_words.specs.Commands.{Text, Option', top, budget, is_option, is_among, Setting, IsBudget, IsGood, given, number_behind, Form, IsAllowed, IsBudgetInBounds}
+use Rattle.svtv_words.specs.Commands.{Text, Option', top, budget, vcd, is_option, is_among, Setting, IsBudget, IsGood, given, number_behind, Form, IsAllowed, IsBudgetInBounds}
 use Rattle.svtv_words.specs.Reading.{budget_of, Texts, texts, nothing_given, text_at, put, is_good, may_give}
 use Rattle.svtv_words.proofs.OneWord.{on_if}
 use Rattle.svtv_words.proofs.Numbers.{budget_is, budget_found}
@@ -14,36 +14,50 @@ use Rattle.svtv_words.proofs.Numbers.{budget_is, budget_found}
 is_same : (o : Option') → is_option o o ≡ true
 is_same top = refl
 is_same budget = refl
+is_same vcd = refl
 
 one_option : (o p : Option') → is_option o p ≡ true → o ≡ p
 one_option top top e = refl
 one_option budget budget e = refl
+one_option vcd vcd e = refl
 one_option top budget e = absurd (false≢true e)
+one_option top vcd e = absurd (false≢true e)
 one_option budget top e = absurd (false≢true e)
+one_option budget vcd e = absurd (false≢true e)
+one_option vcd top e = absurd (false≢true e)
+one_option vcd budget e = absurd (false≢true e)
 
 pub none_given : (o : Option') → text_at o nothing_given ≡ None
 none_given top = refl
 none_given budget = refl
+none_given vcd = refl
 
 text_put : (o : Option') (text : Text) (t : Texts) → text_at o (put o text t) ≡ Some text
-text_put top text (texts a b) = refl
-text_put budget text (texts a b) = refl
+text_put top text (texts a b v) = refl
+text_put budget text (texts a b v) = refl
+text_put vcd text (texts a b v) = refl
 
 text_kept : (o p : Option') (text : Text) (t : Texts) → is_option p o ≡ false → text_at p (put o text t) ≡ text_at p t
 text_kept top top text t e = absurd (true≢false e)
 text_kept budget budget text t e = absurd (true≢false e)
-text_kept top budget text (texts a b) e = refl
-text_kept budget top text (texts a b) e = refl
+text_kept vcd vcd text t e = absurd (true≢false e)
+text_kept top budget text (texts a b v) e = refl
+text_kept top vcd text (texts a b v) e = refl
+text_kept budget top text (texts a b v) e = refl
+text_kept budget vcd text (texts a b v) e = refl
+text_kept vcd top text (texts a b v) e = refl
+text_kept vcd budget text (texts a b v) e = refl
 
 pub same_texts : (t u : Texts) → ((o : Option') → text_at o t ≡ text_at o u) → t ≡ u
-same_texts (texts a b) (texts c d) h = λ i. texts (h top i) (h budget i)
+same_texts (texts a b v) (texts c d w) h = λ i. texts (h top i) (h budget i) (h vcd i)
 
 abbrev pub given_by : (Option' → Option Text) → Texts
-given_by f = texts (f top) (f budget)
+given_by f = texts (f top) (f budget) (f vcd)
 
 pub given_by_is : (f : Option' → Option Text) (o : Option') → text_at o (given_by f) ≡ f o
 given_by_is f top = refl
 given_by_is f budget = refl
+given_by_is f vcd = refl
 
 -- ---- good texts
 
@@ -58,10 +72,12 @@ some_number text (Some n) h e = (n, h)
 good_is : (o : Option') (text : Text) → is_good o text ≡ true → IsGood o text
 good_is top text e = some_letter text e
 good_is budget text e = some_number text (budget_of text) (budget_is text) e
+good_is vcd text e = tt
 
 good_from : (o : Option') (text : Text) → IsGood o text → is_good o text ≡ true
 good_from top text h = ap not (ne_eqb (length text) 0 (λ e. omega arith))
 good_from budget text h = ap (λ (r : Option ℕ). is_some r) (budget_found text h.0 h.1)
+good_from vcd text h = refl
 
 pub may_give_is : (form : Form) (before : Option Text) (o : Option') (text : Text) → may_give form before o text ≡ true → (before ≡ None) × IsAllowed form (record { option = o; text = text })
 may_give_is form None o text e = let p = and_parts (is_among o form.options) (is_good o text) e in (refl, record { among = p.0; good = good_is o text p.1 })

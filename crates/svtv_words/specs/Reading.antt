@@ -1,7 +1,7 @@
 -- What reading the words of a command from the left finds, a word at a time.
 use Rattle.std.specs.Prelude.{ℕ, Bool, true, false, not, ◌&&◌, ◌==◌, nat_le, nat_lt, List, [], ◌∷◌, ◌++◌, length, get_or, take, drop, Option, Some, None, is_some, option_map, option_and_then, unwrap_or, bytes_eq, codes, if◌then◌else◌}
 use Rattle.std.specs.List.{list_all}
-use Rattle.svtv_words.specs.Commands.{Text, Option', top, budget, option_text, takes_text, is_among, is_digit, number_behind, most_budget, most_count, Form, Verb', proves, sims, dumps, selftests, certs, checks, form_of, Command, selftest, command_from}
+use Rattle.svtv_words.specs.Commands.{Text, Option', top, budget, vcd, option_text, takes_text, is_among, is_digit, number_behind, most_budget, most_count, Form, Verb', proves, sims, dumps, selftests, certs, checks, inducts, waves, form_of, Command, selftest, command_from}
 
 -- ---- one word
 
@@ -38,7 +38,7 @@ unfoldable pub option_kind : Option' → Text → Option Kind
 option_kind o w = if bytes_eq w (option_text o) then Some (bare_kind (takes_text o) o) else option_map (λ text. with_text o text) (joined_text o w)
 
 abbrev pub every_option : List Option'
-every_option = top ∷ budget ∷ []
+every_option = top ∷ budget ∷ vcd ∷ []
 
 -- the kind of a dashed word, by the first of these options that it has
 abbrev pub kind_among : List Option' → Text → Kind
@@ -73,18 +73,20 @@ count_of text = number_in 2 most_count text
 
 -- the texts of the options, if they were given
 pub data Texts : Type 0 where
-  texts : (top budget : Option Text) → Texts
+  texts : (top budget vcd : Option Text) → Texts
 
 abbrev pub nothing_given : Texts
-nothing_given = texts None None
+nothing_given = texts None None None
 
 abbrev pub text_at : Option' → Texts → Option Text
-text_at top (texts t b) = t
-text_at budget (texts t b) = b
+text_at top (texts t b v) = t
+text_at budget (texts t b v) = b
+text_at vcd (texts t b v) = v
 
 abbrev pub put : Option' → Text → Texts → Texts
-put top text (texts t b) = texts (Some text) b
-put budget text (texts t b) = texts t (Some text)
+put top text (texts t b v) = texts (Some text) b v
+put budget text (texts t b v) = texts t (Some text) v
+put vcd text (texts t b v) = texts t b (Some text)
 
 -- the number of the budget
 abbrev pub budget_at : Texts → Option ℕ
@@ -93,6 +95,7 @@ budget_at t = option_and_then budget_of (text_at budget t)
 abbrev pub is_good : Option' → Text → Bool
 is_good top text = not (length text == 0)
 is_good budget text = is_some (budget_of text)
+is_good vcd text = true
 
 -- an option of the form that was not given before, with a good text
 abbrev pub may_give : Form → Option Text → Option' → Text → Bool
@@ -161,7 +164,7 @@ found_in form (w ∷ more) f = option_and_then (found_in form more) (with_word f
 -- ---- the whole
 
 abbrev pub every_verb : List Verb'
-every_verb = proves ∷ sims ∷ dumps ∷ selftests ∷ certs ∷ checks ∷ []
+every_verb = proves ∷ sims ∷ dumps ∷ selftests ∷ certs ∷ checks ∷ inducts ∷ waves ∷ []
 
 -- the first of these verbs with this word
 abbrev pub verb_among : List Verb' → Text → Option Verb'
@@ -171,7 +174,7 @@ verb_among (v ∷ more) w = if bytes_eq w (form_of v).word then Some v else verb
 -- the command of a verb with as many names as it has, if the name of a self test is a count
 abbrev pub command_with : Verb' → List Text → Texts → Option Command
 command_with selftests names t = option_map (λ k. selftest k) (count_of (get_or names 0 []))
-command_with v names t = Some (command_from v names (text_at top t) (budget_at t))
+command_with v names t = Some (command_from v names (text_at top t) (budget_at t) (is_some (text_at vcd t)))
 
 abbrev pub command_named : Verb' → List Text → Texts → Option Command
 command_named v names t = if length names == (form_of v).positionals then command_with v names t else None

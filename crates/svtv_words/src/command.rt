@@ -25,6 +25,8 @@ pub enum Command<'a> {
         table: &'a [u8],
         values: &'a [u8],
         top: Option<&'a [u8]>,
+        /// Whether `--vcd` is given.
+        vcd: bool,
     },
     Dump {
         design: &'a [u8],
@@ -43,6 +45,18 @@ pub enum Command<'a> {
     },
     Check {
         file: &'a [u8],
+    },
+    Induct {
+        design: &'a [u8],
+        reset: &'a [u8],
+        period: &'a [u8],
+        invariants: &'a [u8],
+        top: Option<&'a [u8]>,
+        budget: Option<u64>,
+    },
+    Wave {
+        file: &'a [u8],
+        path: &'a [u8],
     },
 }
 
@@ -66,6 +80,7 @@ fn command_with<'a>(verb: Verb, names: Names<'a>, texts: Texts<'a>) -> Option<Co
             table: names.at(1),
             values: names.at(2),
             top,
+            vcd: texts.vcd.is_some(),
         }),
         Verb::Dump => Some(Command::Dump { design, top }),
         Verb::Selftest => Some(Command::Selftest {
@@ -80,6 +95,18 @@ fn command_with<'a>(verb: Verb, names: Names<'a>, texts: Texts<'a>) -> Option<Co
             budget,
         }),
         Verb::Check => Some(Command::Check { file: names.at(0) }),
+        Verb::Induct => Some(Command::Induct {
+            design,
+            reset: names.at(1),
+            period: names.at(2),
+            invariants: names.at(3),
+            top,
+            budget,
+        }),
+        Verb::Wave => Some(Command::Wave {
+            file: names.at(0),
+            path: names.at(1),
+        }),
     }
 }
 

@@ -23,6 +23,7 @@ pub(crate) enum Next {
 pub(crate) struct Texts<'a> {
     pub top: Option<&'a [u8]>,
     pub budget: Option<&'a [u8]>,
+    pub vcd: Option<&'a [u8]>,
 }
 
 impl<'a> Texts<'a> {
@@ -32,6 +33,7 @@ impl<'a> Texts<'a> {
         match option {
             OptionName::Top => self.top,
             OptionName::Budget => self.budget,
+            OptionName::Vcd => self.vcd,
         }
     }
 
@@ -45,6 +47,10 @@ impl<'a> Texts<'a> {
             },
             OptionName::Budget => Texts {
                 budget: Some(text),
+                ..self
+            },
+            OptionName::Vcd => Texts {
+                vcd: Some(text),
                 ..self
             },
         }
@@ -151,6 +157,7 @@ pub(crate) fn found_in(verb: Verb, words: &[String]) -> Option<Found<'_>>
         texts: Texts {
             top: None,
             budget: None,
+            vcd: None,
         },
     };
     for word in words {

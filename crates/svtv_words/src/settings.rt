@@ -12,6 +12,7 @@ ghost use Rattle.svtv_words.specs.Seen.{kind_is, option_is};
 pub(crate) enum OptionName {
     Top,
     Budget,
+    Vcd,
 }
 
 /// What a word is where no option waits for its text.
@@ -37,6 +38,7 @@ impl OptionName {
         match self {
             OptionName::Top => b"--top",
             OptionName::Budget => b"--budget",
+            OptionName::Vcd => b"--vcd",
         }
     }
 
@@ -47,6 +49,7 @@ impl OptionName {
         match self {
             OptionName::Top => true,
             OptionName::Budget => true,
+            OptionName::Vcd => false,
         }
     }
 
@@ -57,6 +60,7 @@ impl OptionName {
         match self {
             OptionName::Top => !text.is_empty(),
             OptionName::Budget => budget_of(text).is_some(),
+            OptionName::Vcd => true,
         }
     }
 
@@ -115,6 +119,8 @@ fn dashed_kind(word: &[u8]) -> Kind<'_>
     if let Some(kind) = OptionName::Top.kind(word) {
         kind
     } else if let Some(kind) = OptionName::Budget.kind(word) {
+        kind
+    } else if let Some(kind) = OptionName::Vcd.kind(word) {
         kind
     } else {
         Kind::Unknown
