@@ -7,7 +7,7 @@ ghost use Rattle.sv_tree.specs.declared.design.Way.{Way};
 ghost use Rattle.sv_tree.specs.declared.exprs.Expr.{Expr};
 ghost use Rattle.sv_meaning.specs.Layouts.{Name, Layout, width, of_wires, NamedSignal, Declared};
 ghost use Rattle.sv_hierarchy.specs.Scopes.{Front, State, connecting, live_at, scopes};
-ghost use Rattle.scope_laws.specs.Wires.{HavePaths, IsWire, connected_wires};
+ghost use Rattle.scope_laws.specs.Wires.{HaveParts, HavePaths, IsWire, connected_wires};
 
 /// Each signal that a place in a design sees is a wire of the design, of its width, and so is each connected port, which is numbered
 /// above all that the place of its instance sees (IEEE 1800-2017 23.3.3; the order of wires is this tool's own).
@@ -31,4 +31,10 @@ pub fn connected_ports_have_own_wires()
 /// Each wire of a design has a path of printed bytes: only names of such bytes are declared (IEEE 1800-2017 5.6).
 pub fn wires_have_paths()
     ensures { (source : Source) (top : Option Name) (st : State) → scopes source top ≡ Ok st → HavePaths st.wires }
+{}
+
+/// Each part of a wire's path, between its dots, is a name that begins with neither `$` nor `[`: a name begins with a letter or an
+/// underscore (IEEE 1800-2017 5.6), and the turns of a loop stand behind one (27.4).
+pub fn paths_have_parts()
+    ensures { (source : Source) (top : Option Name) (st : State) → scopes source top ≡ Ok st → HaveParts st.wires }
 {}

@@ -5,14 +5,14 @@ use Rattle.sv_meaning.specs.Designs.{Design}
 use Rattle.sv_outside.specs.Outside.{one_more, AtMostOneMore, IsPartWritten}
 use Rattle.sv_outside.specs.declared.refusal.Place.{Place}
 use Rattle.sv_outside.specs.declared.refusal.Refusal.{Refusal}
-use Rattle.svtv_commands.specs.Done.{Certifies, Checks, Dumps, Proves, Reports, SelfTests, Simulates}
+use Rattle.svtv_commands.specs.Done.{Certifies, Checks, Dumps, Proves, Reports, SelfTests, Shows, Simulates, Traces}
 use Rattle.svtv_files.specs.Files.{Text, Told, bench_of, vars_of}
 use Rattle.svtv_files.specs.Refusals.{Refuses, LeavesUnread}
 use Rattle.svtv_report.specs.Refusals.{memory_text, read_fault_text, refusal_text, usage_text}
 use Rattle.svtv_table.specs.Binding.{bind_faults}
 use Rattle.svtv_table.specs.Stimuli.{IsChoice}
 use Rattle.svtv_verdicts.specs.Benches.{HasOneLeast}
-use Rattle.svtv_words.specs.Commands.{Command, IsCommand, prove, sim, dump, selftest, cert, check}
+use Rattle.svtv_words.specs.Commands.{Command, IsCommand, prove, sim, dump, selftest, cert, check, wave}
 use Rattle.table_cells.specs.declared.table.Table.{Table}
 use Rattle.svtv.specs.declared.status.Status.{Status}
 use Rattle.svtv.specs.declared.status.Status.TheVariants.{AllProved, Done, NotAll, Usage, Refused, ReadFault, WriteFault, Memory}
@@ -30,13 +30,15 @@ HaveRuns = (design : Design) (table : Table) → bind_faults design.wires table 
 abbrev pub Prints : Told → Command → Status → Text → Type 0
 Prints told (prove d t g top budget) AllProved text = Proves told d t g top budget true text
 Prints told (prove d t g top budget) NotAll text = Proves told d t g top budget false text
-Prints told (sim d t v top) Done text = Simulates told d t v top text
+Prints told (sim d t v top false) Done text = Simulates told d t v top text
+Prints told (sim d t v top true) Done text = Traces told d t v top text
 Prints told (dump d top) Done text = Dumps told d top text
 Prints told (selftest n) Done text = SelfTests n text
 Prints told (cert d t g name top budget) Done text = Certifies told d t g name top budget text
 Prints told (cert d t g name top budget) NotAll text = Reports told d t g name top budget text
 Prints told (check f) Done text = Checks told f None text
 Prints told (check f) NotAll text = (step : ℕ) × Checks told f (Some step) text
+Prints told (wave f path) Done text = Shows told f path text
 Prints told command status text = ⊥
 
 abbrev pub PrintsIf : Told → List Text → Status → Text → Type 0

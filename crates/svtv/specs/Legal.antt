@@ -17,7 +17,9 @@ use Rattle.svtv_table.specs.declared.bound.Sample.{Sample}
 use Rattle.svtv_table.specs.declared.bound.VarDecl.{VarDecl}
 use Rattle.table_cells.specs.declared.table.Table.{Table}
 use Rattle.svtv_selftest.specs.Texts as test
-use Rattle.svtv_words.specs.Commands.{Command, prove, sim, dump, selftest, cert, check}
+use Rattle.svtv_words.specs.Commands.{Command, prove, sim, dump, selftest, cert, check, wave}
+use Rattle.vcd_text.specs.Waves.{Change, Wave, told_of_path}
+use Rattle.vcd_text.specs.declared.waves.VcdVar.{VcdVar}
 use Rattle.svtv_files.specs.Files.{Text, Told, IsDesignFile, IsTableFile, AreGoalsFile, IsValuesFile, samples_in, vars_of}
 use Rattle.svtv_files.specs.Refusals.{HasGoal}
 use Rattle.svtv.specs.declared.status.Status.{Status}
@@ -66,28 +68,37 @@ pub record IsLegalCert (told : Told) (name : Text) (formula : Formula) (log : Li
   pub text : IsShort told name bytes
   pub stands : CertText bytes formula log
 
+-- The file of that name stands for these signals and changes, and this is what they tell of the signal with the path.
+pub record IsLegalWave (told : Told) (name path : Text) (vars : List VcdVar) (changes : List Change) (list : List (ℕ × List Bit)) : Type 0 where
+  pub bytes : Text
+  pub text : IsShort told name bytes
+  pub wave : Wave bytes vars changes
+  pub of_path : told_of_path vars changes path ≡ Some list
+
 -- the files of a command are legal, and one of the goals is the one to be certified; those of a self test are its own
 abbrev pub AreLegal : Told → Command → Type 0
 AreLegal told (prove d t g top budget) = IsLegalProof told d t g top
-AreLegal told (sim d t v top) = (design : Design) × (table : Table) × IsLegalSetup told d t top design table
+AreLegal told (sim d t v top vcd) = (design : Design) × (table : Table) × IsLegalSetup told d t top design table
     × (choice : List (List Bit)) × AreLegalValues told v (vars_of design table) choice
 AreLegal told (dump d top) = (design : Design) × IsLegalDesign told d top design
 AreLegal told (selftest n) = IsLegalProof (test.told n) test.design_name test.table_name test.goals_name None
 AreLegal told (cert d t g name top budget) = (design : Design) × (table : Table) × IsLegalSetup told d t top design table
     × (trees : List GoalTree) × AreLegalGoals told g (vars_of design table) (samples_in design table) trees × HasGoal trees name
 AreLegal told (check f) = (formula : Formula) × (log : List Entry) × IsLegalCert told f formula log
+AreLegal told (wave f path) = (vars : List VcdVar) × (changes : List Change) × (list : List (ℕ × List Bit)) × IsLegalWave told f path vars changes list
 
 -- the answers of a command that is done
 abbrev pub IsDone : Command → Status → Type 0
 IsDone (prove d t g top budget) AllProved = ⊤
 IsDone (prove d t g top budget) NotAll = ⊤
-IsDone (sim d t v top) Done = ⊤
+IsDone (sim d t v top vcd) Done = ⊤
 IsDone (dump d top) Done = ⊤
 IsDone (selftest n) Done = ⊤
 IsDone (cert d t g name top budget) Done = ⊤
 IsDone (cert d t g name top budget) NotAll = ⊤
 IsDone (check f) Done = ⊤
 IsDone (check f) NotAll = ⊤
+IsDone (wave f path) Done = ⊤
 IsDone command status = ⊥
 
 -- what is proved or certified may be refused though its files are legal: over 1,024 bits of the design's wires feed each other

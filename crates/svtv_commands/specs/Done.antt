@@ -19,15 +19,20 @@ use Rattle.sv_preproc.specs.Laws.{Possible}
 use Rattle.svtv_files.specs.Files.{Text, Told, AreGoalsFile, IsDesignFile, IsValuesFile, bench_of, samples_in, vars_of}
 use Rattle.svtv_files.specs.Refusals.{IsSetup}
 use Rattle.svtv_report.specs.Shown.{sample_texts, var_texts}
-use Rattle.svtv_report.specs.Texts.{cert_note, checked_text, report, value_lines}
+use Rattle.svtv_report.specs.Texts.{cert_note, change_lines, checked_text, report, value_lines}
 use Rattle.svtv_runs.specs.Runs.{Run}
 use Rattle.svtv_selftest.specs.Line.{line_text}
 use Rattle.svtv_selftest.specs.Texts as test
+use Rattle.svtv_texts.specs.Phases.{phases_in}
 use Rattle.svtv_texts.specs.Rights.{AreRight, goal_names, is_proved}
 use Rattle.svtv_verdicts.specs.Benches.{IsLeastUnder, sampled_in}
 use Rattle.svtv_verdicts.specs.Certs.{HasCert}
 use Rattle.svtv_verdicts.specs.Verdicts.{Verdict, proved, vacuous, failed, undecided, IsRight}
 use Rattle.table_cells.specs.declared.table.Table.{Table}
+use Rattle.vcd_print.specs.Dumps.{IsDumpOf}
+use Rattle.vcd_print.specs.Printed.{dump_text}
+use Rattle.vcd_text.specs.Waves.{Change, Wave, told_of_path}
+use Rattle.vcd_text.specs.declared.waves.VcdVar.{VcdVar}
 
 -- The headline: the text is the report of verdicts, one for each goal in order, that are right on what the three files stand for, where this
 -- budget is given, or none. So where none is, no goal is left undecided.
@@ -66,6 +71,24 @@ pub record Simulates (told : Told) (d t v : Text) (top : Option Text) (text : Te
   pub run : Run
   pub least : IsLeastUnder (bench_of design table) choice run
   pub printed : text ≡ value_lines [] (sample_texts (samples_in design table)) (sampled_in (samples_in design table) run)
+
+-- The text is the value change dump of the least run under the values of a file: it stands for signals with the paths `top.` and those of the
+-- design's wires, in order, and the value of each at the time of a phase is that of its wire in this phase of the run.
+pub record Traces (told : Told) (d t v : Text) (top : Option Text) (text : Text) : Type 0 where
+  pub design : Design
+  pub table : Table
+  pub setup : IsSetup told d t top design table
+  pub choice : List (List Bit)
+  pub is_choice : IsValuesFile told v (vars_of design table) choice
+  pub run : Run
+  pub least : IsLeastUnder (bench_of design table) choice run
+  pub printed : text ≡ dump_text design.wires (phases_in design.wires (bench_of design table).phases run)
+  pub stands : IsDumpOf design.wires (phases_in design.wires (bench_of design table).phases run) text
+
+-- what a simulation prints: samples, or a value change dump where one is asked for
+abbrev pub Simulated : Told → Text → Text → Text → Option Text → (vcd : Bool) → Text → Type 0
+Simulated told d t v top false text = Simulates told d t v top text
+Simulated told d t v top true text = Traces told d t v top text
 
 -- The text stands for a flat design that has the wires, the contributions and so the settlings of the design that the file is, and it is what is
 -- printed of that one: with the nodes that a driver reaches, each once.
@@ -142,3 +165,18 @@ pub record Checks (told : Told) (file : Text) (bad : Option ℕ) (text : Text) :
   pub judged : IsJudged formula log bad
   pub refuted : bad ≡ None → HasNoSolution formula.clauses
   pub printed : text ≡ checked_text bad
+
+-- ---- waveforms
+
+-- The text has a line for each change of the first signal with this path, in order, by the signals and changes for which the file stands, which are
+-- the only ones.
+pub record Shows (told : Told) (file path : Text) (text : Text) : Type 0 where
+  pub bytes : Text
+  pub has : Possible told file bytes
+  pub vars : List VcdVar
+  pub changes : List Change
+  pub wave : Wave bytes vars changes
+  pub only : (vs : List VcdVar) (cs : List Change) → Wave bytes vs cs → (vars ≡ vs) × (changes ≡ cs)
+  pub list : List (ℕ × List Bit)
+  pub of_path : told_of_path vars changes path ≡ Some list
+  pub printed : text ≡ change_lines list

@@ -29,7 +29,9 @@ use Rattle.svtv_table.specs.Valuing.{values_faults}
 use Rattle.svtv_table.specs.declared.bound.Sample.{Sample}
 use Rattle.svtv_table.specs.declared.bound.VarDecl.{VarDecl}
 use Rattle.table_cells.specs.declared.table.Table.{Table}
-use Rattle.svtv_words.specs.Commands.{Command, prove, sim, dump, selftest, cert, check}
+use Rattle.svtv_words.specs.Commands.{Command, prove, sim, dump, selftest, cert, check, wave}
+use Rattle.vcd_text.specs.Waves.{BreaksAt, Change, Wave, told_of_path}
+use Rattle.vcd_text.specs.declared.waves.VcdVar.{VcdVar}
 use Rattle.svtv_files.specs.Files.{Text, Told, AreGoalsFile, IsDesignFile, IsTableText, IsTableFile, vars_of, samples_in}
 
 -- ---- designs
@@ -107,6 +109,24 @@ pub record IsBadCert (told : Told) (name : Text) (r : Refusal) : Type 0 where
   pub read : certs.read text ≡ Err r
   pub cause : IsCause text r
 
+-- E47: the text stands for no signals and changes, and breaks the form of value change dumps at this place.
+pub record IsBadDump (told : Told) (name : Text) (r : Refusal) : Type 0 where
+  pub text : Text
+  pub stands : Possible told name text
+  pub none : (vars : List VcdVar) (changes : List Change) → Wave text vars changes → ⊥
+  pub breaks : BreaksAt text r.place
+  pub is : r ≡ record { number = 47; place = r.place; count = 0 }
+
+-- E48: of the signals for which the text stands none has the path, or the first that has it has a width that is not 1 to 128.
+pub record IsSignalUnknown (told : Told) (name path : Text) (r : Refusal) : Type 0 where
+  pub text : Text
+  pub stands : Possible told name text
+  pub vars : List VcdVar
+  pub changes : List Change
+  pub wave : Wave text vars changes
+  pub none : (vs : List VcdVar) (cs : List Change) → Wave text vs cs → told_of_path vs cs path ≡ None
+  pub is : r ≡ record { number = 48; place = at_first; count = 0 }
+
 -- ---- turns
 
 -- The two files are a legal design, and a legal table over its wires.
@@ -182,21 +202,32 @@ LeavesSimulation told d t v top file place = LeavesSetup told d t top file place
 abbrev pub RefusesCheck : Told → Text → Text → Refusal → Type 0
 RefusesCheck told f file r = (file ≡ f) × (TooLong told f r ⊎ IsBadCert told f r)
 
+-- it is not read
 abbrev pub LeavesCheck : Text → Text → Place → Type 0
 LeavesCheck f file place = (file ≡ f) × (place ≡ at_first)
 
+-- which value change dump is refused, and for what
+abbrev pub RefusesWave : Told → Text → Text → Text → Refusal → Type 0
+RefusesWave told f path file r = (file ≡ f) × (TooLong told f r ⊎ (IsBadDump told f r ⊎ IsSignalUnknown told f path r))
+
+-- it is not read
+abbrev pub LeavesWave : Text → Text → Place → Type 0
+LeavesWave f file place = (file ≡ f) × (place ≡ at_first)
+
 abbrev pub Refuses : Told → Command → Text → Refusal → Type 0
 Refuses told (prove d t g top budget) file r = RefusesProof told d t g top file r
-Refuses told (sim d t v top) file r = RefusesSimulation told d t v top file r
+Refuses told (sim d t v top vcd) file r = RefusesSimulation told d t v top file r
 Refuses told (dump d top) file r = RefusesDesign told d top file r
 Refuses told (selftest n) file r = RefusesTest n file r
 Refuses told (cert d t g name top budget) file r = RefusesCert told d t g name top file r
 Refuses told (check f) file r = RefusesCheck told f file r
+Refuses told (wave f path) file r = RefusesWave told f path file r
 
 abbrev pub LeavesUnread : Told → Command → Text → Place → Type 0
 LeavesUnread told (prove d t g top budget) file place = LeavesProof told d t g top file place
-LeavesUnread told (sim d t v top) file place = LeavesSimulation told d t v top file place
+LeavesUnread told (sim d t v top vcd) file place = LeavesSimulation told d t v top file place
 LeavesUnread told (dump d top) file place = UnreadDesign told d file place
 LeavesUnread told (selftest n) file place = ⊥
 LeavesUnread told (cert d t g name top budget) file place = LeavesProof told d t g top file place
 LeavesUnread told (check f) file place = LeavesCheck f file place
+LeavesUnread told (wave f path) file place = LeavesWave f file place

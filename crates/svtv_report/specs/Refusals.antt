@@ -11,7 +11,7 @@ words =
     ∷ codes "UnknownModule" ∷ codes "UnknownName" ∷ codes "Twice" ∷ codes "Width" ∷ codes "ConstUnknown" ∷ codes "LiteralRange" ∷ codes "PortUnknown" ∷ codes "PortTwice" ∷ codes "BadTarget" ∷ codes "LoopLong"
     ∷ codes "InstanceDeep" ∷ codes "TooManyBits" ∷ codes "BadSelect" ∷ codes "WrongAssign" ∷ codes "OutOfScope" ∷ codes "Shape" ∷ codes "Phases" ∷ codes "CellBad" ∷ codes "SignalUnknown" ∷ codes "SignalTwice"
     ∷ codes "VarWidth" ∷ codes "SampleTwice" ∷ codes "GoalSyntax" ∷ codes "GoalTwice" ∷ codes "VarMissing" ∷ codes "VarUnknown" ∷ codes "VarTwice" ∷ codes "ValueBad" ∷ codes "LoopTooWide" ∷ codes "Unbuilt"
-    ∷ codes "GoalUnknown" ∷ codes "CertSyntax" ∷ codes "CertId" ∷ codes "RatHint" ∷ []
+    ∷ codes "GoalUnknown" ∷ codes "CertSyntax" ∷ codes "CertId" ∷ codes "RatHint" ∷ codes "InvariantHyp" ∷ codes "SampleUnlike" ∷ codes "VcdSyntax" ∷ codes "VcdSignal" ∷ []
 
 abbrev pub word_of : ℕ → Text
 word_of number = slice_index_or ([] ∷ words) number []
@@ -35,7 +35,7 @@ abbrev pub read_fault_text : Text → Place → Text
 read_fault_text name p = place_text name p ++ (codes "read fault" ++ line_feed)
 
 abbrev pub usage_text : Text
-usage_text = codes "usage: svtv prove DESIGN TABLE GOALS [--top M] [--budget N]" ++ (line_feed ++ (codes "       svtv sim DESIGN TABLE VALUES [--top M]" ++ (line_feed ++ (codes "       svtv dump DESIGN [--top M]" ++ (line_feed ++ (codes "       svtv selftest N" ++ (line_feed ++ (codes "       svtv cert DESIGN TABLE GOALS GOAL [--top M] [--budget N]" ++ (line_feed ++ (codes "       svtv check CERT" ++ line_feed))))))))))
+usage_text = codes "usage: svtv prove DESIGN TABLE GOALS [--top M] [--budget N]" ++ (line_feed ++ (codes "       svtv sim DESIGN TABLE VALUES [--top M] [--vcd]" ++ (line_feed ++ (codes "       svtv dump DESIGN [--top M]" ++ (line_feed ++ (codes "       svtv selftest N" ++ (line_feed ++ (codes "       svtv cert DESIGN TABLE GOALS GOAL [--top M] [--budget N]" ++ (line_feed ++ (codes "       svtv check CERT" ++ (line_feed ++ (codes "       svtv wave VCD PATH" ++ line_feed))))))))))))
 
 abbrev pub memory_text : Text
 memory_text = codes "svtv: out of memory" ++ line_feed

@@ -1,5 +1,6 @@
 -- What is printed of values and verdicts (this project's rules).
 use Rattle.std.specs.Prelude.{ℕ, List, [], ◌∷◌, ◌++◌, length, map, reverse, codes, decimal, Option, Some, None}
+use Rattle.std.specs.List.{flat_map}
 use Rattle.fourvec.specs.declared.Bit.{Bit}
 use Rattle.fourvec.specs.declared.Bit.TheVariants.{Zero, One, Unknown, Floating}
 use Rattle.svtv_verdicts.specs.Verdicts.{Verdict, proved, vacuous, failed, undecided}
@@ -62,3 +63,13 @@ cert_note name verdict = name ++ (codes " " ++ verdict_word verdict)
 abbrev pub checked_text : Option ℕ → Text
 checked_text None = codes "verified" ++ line_feed
 checked_text (Some step) = codes "not verified: step " ++ (decimal step ++ line_feed)
+
+-- ---- waveforms
+
+-- a change of a signal: its time, a blank, and its value from there on
+abbrev pub change_line : ℕ × List Bit → Text
+change_line c = decimal c.0 ++ (codes " " ++ (value_text c.1 ++ line_feed))
+
+-- a line for each change
+abbrev pub change_lines : List (ℕ × List Bit) → Text
+change_lines changes = flat_map change_line changes
