@@ -177,10 +177,9 @@ seen st = seen_at st.levels (here st)
 abbrev pub is_printed : ℕ → Bool
 is_printed b = nat_le 33 b && nat_le b 126
 
--- A name has bytes, and each is printed, as those of every identifier are (5.6).
+-- A name is a simple identifier (5.6): a letter or an underscore, and letters, digits, underscores and dollars behind it.
 abbrev pub is_name : Name → Bool
-is_name [] = false
-is_name (c ∷ more) = list_all is_printed (c ∷ more)
+is_name n = is_word n
 
 -- what stands against the declaration of a name in a scope that has taken it or not; only a tree that no text spells declares what is no name
 abbrev pub name_faults : Bool → Place → Name → Faults
