@@ -1,5 +1,5 @@
 -- What is said of a certificate that stands.
-use Rattle.std.proofs.Common.{◌≡◌, ◌⊎◌, ℕ, ◌<◌, ◌≤◌, List, length, Option, Some, None, true, false, refl, sym, ◌∙◌, ap, subst, inl, inr, arith}
+use Rattle.std.proofs.Common.{◌≡◌, ◌⊎◌, ℕ, ◌<◌, ◌≤◌, List, length, Option, Some, None, true, refl, ap, subst, inl, inr, arith}
 use Rattle.cnf.specs.Formula.{Formula}
 use Rattle.refute_check.specs.Accepted.{HasEmpty, IsAccepted, IsBadAt, IsDerivedAt}
 use Rattle.refute_check.specs.Entry.{Entry}
@@ -14,6 +14,7 @@ use Rattle.svtv.specs.Legal.{IsLegalCert}
 use Rattle.svtv.specs.declared.status.Status.{Status}
 use Rattle.svtv.specs.declared.status.Status.TheVariants.{AllProved, Done, NotAll, Usage, Refused, ReadFault, WriteFault, Memory}
 use Rattle.svtv.proofs.Legal.{check_stands, same_cert}
+use Rattle.svtv.proofs.Said.{Says}
 
 abbrev IsStop : Formula → List Entry → ℕ → Type 0
 IsStop formula log k = ((k < length log) × (IsDerivedAt formula log k → ⊥)) ⊎ ((k ≡ length log) × (HasEmpty log → ⊥))
@@ -56,21 +57,22 @@ said_is told file formula log bad said text l judged c =
     let one : IsJudged formula c.log said = subst (λ (x : Formula). IsJudged x c.log said) same.0 c.judged in
     one_judgement formula log said bad (subst (λ (x : List Entry). IsJudged formula x said) same.1 one) judged
 
-abbrev Says : Option ℕ → Status → Text → Type 0
-Says bad status text = ((status ≡ checked_status bad) × (text ≡ checked_text bad)) ⊎ (status ≡ Memory)
+-- what is said of a log with this bad step, or none
+abbrev pub SaysOf : Option ℕ → Status → Text → Type 0
+SaysOf bad status text = Says (checked_status bad) (checked_text bad) status text
 
-says : (bad said : Option ℕ) (text : Text) → said ≡ bad → text ≡ checked_text said → Says bad (checked_status said) text
+says : (bad said : Option ℕ) (text : Text) → said ≡ bad → text ≡ checked_text said → SaysOf bad (checked_status said) text
 says bad said text e is = inl (ap checked_status e, subst (λ (x : Option ℕ). text ≡ checked_text x) e is)
 
 -- how the check of a certificate that stands ends
 pub checked_ends : (told : Told) (words : List Text) (status : Status) (text message file : Text) (formula : Formula) (log : List Entry) (bad : Option ℕ) → IsCommand words (check file)
-    → IsLegalCert told file formula log → IsJudged formula log bad → Answers told words status text message → (status ≡ ReadFault → ⊥) → Says bad status text
+    → IsLegalCert told file formula log → IsJudged formula log bad → Answers told words status text message → (status ≡ ReadFault → ⊥) → SaysOf bad status text
 checked_ends told words status text message file formula log bad is l judged = by status
   where
     its : (s : Status) → PrintsIf told words s text → Prints told (check file) s text
     its s h = subst (λ (x : Command). Prints told x s text) (one_command words h.0 (check file) h.1 is) h.2
 
-    by : (s : Status) → Answers told words s text message → (s ≡ ReadFault → ⊥) → Says bad s text
+    by : (s : Status) → Answers told words s text message → (s ≡ ReadFault → ⊥) → SaysOf bad s text
     by AllProved h n = absurd (its AllProved h.1)
     by NotAll h n =
         let c = its NotAll h.1 in
@@ -86,17 +88,6 @@ checked_ends told words status text message file formula log bad is l judged = b
     by WriteFault h n = absurd h
     by Memory h n = inr refl
 
--- a text was written
-pub whole : {W : Type 0} (written : W → Text → W) (before now : W) (own status : Status) (bad : Option ℕ) (text out : Text) → own ≡ status → now ≡ written before out → out ≡ text → Says bad status text
-    → ((own ≡ checked_status bad) × (now ≡ written before (checked_text bad))) ⊎ (own ≡ Memory)
-whole written before now own status bad text out e is same (inl s) = inl (e ∙ s.0, is ∙ ap (written before) (same ∙ s.1))
-whole written before now own status bad text out e is same (inr m) = inr (e ∙ m)
-
-prints : (bad : Option ℕ) → prints_text (checked_status bad) ≡ true
+pub prints : (bad : Option ℕ) → prints_text (checked_status bad) ≡ true
 prints None = refl
 prints (Some step) = refl
-
--- a message was written, so nothing was said of the certificate
-pub unsaid : {P : Type 0} (own status : Status) (bad : Option ℕ) (text : Text) → own ≡ status → prints_text status ≡ false → Says bad status text → P ⊎ (own ≡ Memory)
-unsaid own status bad text e none (inl s) = let bad : true ≡ false = sym (prints bad) ∙ ap prints_text (sym s.0) ∙ none in cc
-unsaid own status bad text e none (inr m) = inr (e ∙ m)

@@ -1,7 +1,7 @@
 -- A command with legal files is done, but for faults and want of memory, and but for proofs of designs with wide loops.
 use Rattle.std.proofs.Common.{◌≡◌, ◌⊎◌, List, None, refl, subst, inl, inr}
 use Rattle.sv_outside.specs.declared.refusal.Refusal.{Refusal}
-use Rattle.svtv_words.specs.Commands.{Command, IsCommand, prove, sim, dump, selftest, cert, check}
+use Rattle.svtv_words.specs.Commands.{Command, IsCommand, prove, sim, dump, selftest, cert, check, wave}
 use Rattle.svtv_selftest.specs.Texts as test
 use Rattle.svtv_words.proofs.Commands.{one_command}
 use Rattle.svtv.specs.Answers.{Answers, PrintsIf, Prints}
@@ -13,23 +13,24 @@ use Rattle.svtv.specs.declared.status.Status.{Status}
 use Rattle.svtv.specs.declared.status.Status.TheVariants.{AllProved, Done, NotAll, Usage, Refused, ReadFault, WriteFault, Memory}
 use Rattle.svtv.specs.declared.work.Outcome.{Outcome}
 use Rattle.svtv.specs.declared.work.Outcome.TheVariants as outcome
-use Rattle.svtv.proofs.Legal.{cert_loops, check_stands, design_stands, proof_loops, simulation_stands}
+use Rattle.svtv.proofs.Legal.{cert_loops, check_stands, design_stands, proof_loops, simulation_stands, wave_stands}
 
 -- legal files are refused for loops alone
 legal_loops : (told : Told) (c : Command) (file : Text) (r : Refusal) → AreLegal told c → Refuses told c file r → IsLooped told c Refused
 legal_loops told (prove d t g top budget) file r l h = (l.0, l.2.is_design.file, r.count, proof_loops told d t g top l.0 l.1 l.3 l.2 l.4 file r h)
-legal_loops told (sim d t v top) file r l h = absurd (simulation_stands told d t v top l.0 l.1 l.3 l.2 l.4 file r h)
+legal_loops told (sim d t v top vcd) file r l h = absurd (simulation_stands told d t v top l.0 l.1 l.3 l.2 l.4 file r h)
 legal_loops told (dump d top) file r l h = absurd (design_stands told d top l.0 l.1 file r h)
 legal_loops told (selftest n) file r l h =
     (l.0, l.2.is_design.file, r.count, proof_loops (test.told n) test.design_name test.table_name test.goals_name None l.0 l.1 l.3 l.2 l.4 file r h)
 legal_loops told (cert d t g name top budget) file r l h = (l.0, l.2.is_design.file, r.count, cert_loops told d t g name top l.0 l.1 l.3 l.2 l.4 l.5 file r h)
 legal_loops told (check f) file r l h = absurd (check_stands told f l.0 l.1 l.2 file r h)
+legal_loops told (wave f path) file r l h = absurd (wave_stands told f path l.0 l.1 l.2 l.3 file r h)
 
 -- what a command prints, it is done with
 printed : (told : Told) (c : Command) (status : Status) (text : Text) → Prints told c status text → IsDone c status
 printed told (prove d t g top budget) AllProved text h = tt
 printed told (prove d t g top budget) NotAll text h = tt
-printed told (sim d t v top) Done text h = tt
+printed told (sim d t v top vcd) Done text h = tt
 printed told (dump d top) Done text h = tt
 printed told (selftest n) Done text h = tt
 printed told (prove d t g top budget) Done text h = absurd h
@@ -38,13 +39,13 @@ printed told (prove d t g top budget) Refused text h = absurd h
 printed told (prove d t g top budget) ReadFault text h = absurd h
 printed told (prove d t g top budget) WriteFault text h = absurd h
 printed told (prove d t g top budget) Memory text h = absurd h
-printed told (sim d t v top) AllProved text h = absurd h
-printed told (sim d t v top) NotAll text h = absurd h
-printed told (sim d t v top) Usage text h = absurd h
-printed told (sim d t v top) Refused text h = absurd h
-printed told (sim d t v top) ReadFault text h = absurd h
-printed told (sim d t v top) WriteFault text h = absurd h
-printed told (sim d t v top) Memory text h = absurd h
+printed told (sim d t v top vcd) AllProved text h = absurd h
+printed told (sim d t v top vcd) NotAll text h = absurd h
+printed told (sim d t v top vcd) Usage text h = absurd h
+printed told (sim d t v top vcd) Refused text h = absurd h
+printed told (sim d t v top vcd) ReadFault text h = absurd h
+printed told (sim d t v top vcd) WriteFault text h = absurd h
+printed told (sim d t v top vcd) Memory text h = absurd h
 printed told (dump d top) AllProved text h = absurd h
 printed told (dump d top) NotAll text h = absurd h
 printed told (dump d top) Usage text h = absurd h
@@ -75,6 +76,14 @@ printed told (check f) Refused text h = absurd h
 printed told (check f) ReadFault text h = absurd h
 printed told (check f) WriteFault text h = absurd h
 printed told (check f) Memory text h = absurd h
+printed told (wave f path) Done text h = tt
+printed told (wave f path) AllProved text h = absurd h
+printed told (wave f path) NotAll text h = absurd h
+printed told (wave f path) Usage text h = absurd h
+printed told (wave f path) Refused text h = absurd h
+printed told (wave f path) ReadFault text h = absurd h
+printed told (wave f path) WriteFault text h = absurd h
+printed told (wave f path) Memory text h = absurd h
 
 done : (told : Told) (words : List Text) (status : Status) (text : Text) (c : Command) → IsCommand words c → PrintsIf told words status text → IsDone c status
 done told words status text c is h = subst (λ (x : Command). IsDone x status) (one_command words h.0 c h.1 is) (printed told h.0 status text h.2)

@@ -47,8 +47,10 @@ use Rattle.svtv_table.specs.declared.bound.Sample.{Sample}
 use Rattle.svtv_table.specs.declared.bound.VarDecl.{VarDecl}
 use Rattle.table_cells.specs.declared.table.Table.{Table}
 use Rattle.svtv_files.specs.Files.{Text, Told, AreGoalsFile, IsDesignFile, IsTableText, samples_in, vars_of}
-use Rattle.svtv.specs.Legal.{IsShallow, IsShort, IsLegalDesign, IsLegalTable, IsLegalSetup, IsLegalCert, AreLegalGoals, AreLegalValues}
-use Rattle.svtv_files.specs.Refusals.{BehindSetup, HasNoMachine, IsFirstFault, HasGoal, IsBadCert, IsGoalTooWide, IsGoalUnknown, RefusesCert, RefusesCheck, RefusesDesign, RefusesGoals, RefusesProof, RefusesSetup, RefusesSimulation, RefusesTable, RefusesValues, TooLong}
+use Rattle.svtv.specs.Legal.{IsShallow, IsShort, IsLegalDesign, IsLegalTable, IsLegalSetup, IsLegalCert, IsLegalWave, AreLegalGoals, AreLegalValues}
+use Rattle.svtv_files.specs.Refusals.{BehindSetup, HasNoMachine, IsFirstFault, HasGoal, IsBadCert, IsBadDump, IsGoalTooWide, IsGoalUnknown, IsSignalUnknown, RefusesCert, RefusesCheck, RefusesDesign, RefusesGoals, RefusesProof, RefusesSetup, RefusesSimulation, RefusesTable, RefusesValues, RefusesWave, TooLong}
+use Rattle.vcd_text.specs.Waves.{Change, Wave, told_of_path}
+use Rattle.vcd_text.specs.declared.waves.VcdVar.{VcdVar}
 use Rattle.svtv.proofs.Records.{one_records}
 
 -- ---- texts
@@ -189,6 +191,22 @@ check_stands told f formula log l file r h = after h.1
     after (inr k) =
         let e = cert_bytes told f k.text formula log l k.stands in
         refused l.bytes r formula log (subst (λ (x : Text). certs.read x ≡ Err r) e k.read) l.stands
+
+-- ---- value change dumps
+
+-- any text that is told of the file stands for the same signals and changes
+pub same_wave : (told : Told) (name path own : Text) (vars : List VcdVar) (changes : List Change) (list : List (ℕ × List Bit)) → IsLegalWave told name path vars changes list → laws.Possible told name own → Wave own vars changes
+same_wave told name path own vars changes list l h = subst (λ (x : Text). Wave x vars changes) (sym (one_text told name own l.bytes l.text h)) l.wave
+
+pub wave_stands : (told : Told) (f path : Text) (vars : List VcdVar) (changes : List Change) (list : List (ℕ × List Bit)) → IsLegalWave told f path vars changes list → (file : Text) (r : Refusal) → RefusesWave told f path file r → ⊥
+wave_stands told f path vars changes list l file r h = after h.1
+  where
+    after : TooLong told f r ⊎ (IsBadDump told f r ⊎ IsSignalUnknown told f path r) → ⊥
+    after (inl k) = short told f l.bytes r l.text k
+    after (inr (inl k)) = k.none vars changes (same_wave told f path k.text vars changes list l k.stands)
+    after (inr (inr k)) =
+        let none : told_of_path vars changes path ≡ None = k.none vars changes (same_wave told f path k.text vars changes list l k.stands) in
+        let bad : Some list ≡ None = sym l.of_path ∙ none in cc
 
 -- ---- turns
 

@@ -6,3 +6,5 @@ pub mod Runs
 pub mod Counted
 pub mod Answered
 pub mod Checks
+pub mod Said
+pub mod Showing

@@ -5,7 +5,7 @@ use Rattle.sv_meaning.specs.Designs.{Design}
 use Rattle.sv_outside.specs.Outside.{one_more, AtMostOneMore, IsPartWritten}
 use Rattle.sv_outside.specs.declared.refusal.Place.{Place}
 use Rattle.sv_outside.specs.declared.refusal.Refusal.{Refusal}
-use Rattle.svtv_commands.specs.Done.{Certifies, Checks, Dumps, Proves, Reports, SelfTests, Shows, Simulates, Traces}
+use Rattle.svtv_commands.specs.Done.{Certifies, Checks, Dumps, Proves, Reports, SelfTests, Shows, Simulated}
 use Rattle.svtv_files.specs.Files.{Text, Told, bench_of, vars_of}
 use Rattle.svtv_files.specs.Refusals.{Refuses, LeavesUnread}
 use Rattle.svtv_report.specs.Refusals.{memory_text, read_fault_text, refusal_text, usage_text}
@@ -30,8 +30,7 @@ HaveRuns = (design : Design) (table : Table) → bind_faults design.wires table 
 abbrev pub Prints : Told → Command → Status → Text → Type 0
 Prints told (prove d t g top budget) AllProved text = Proves told d t g top budget true text
 Prints told (prove d t g top budget) NotAll text = Proves told d t g top budget false text
-Prints told (sim d t v top false) Done text = Simulates told d t v top text
-Prints told (sim d t v top true) Done text = Traces told d t v top text
+Prints told (sim d t v top vcd) Done text = Simulated told d t v top vcd text
 Prints told (dump d top) Done text = Dumps told d top text
 Prints told (selftest n) Done text = SelfTests n text
 Prints told (cert d t g name top budget) Done text = Certifies told d t g name top budget text

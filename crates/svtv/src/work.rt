@@ -15,7 +15,7 @@ ghost use Rattle.svtv.specs.declared.status.Status.TheVariants as status;
 use crate::status::Status;
 use std::alloc::{AllocError, Global};
 use sv_outside::{Files, Name};
-use svtv_commands::{certify, check, dump, prove, selftest, simulate};
+use svtv_commands::{certify, check, dump, prove, selftest, simulate, wave};
 use svtv_files::Stop;
 use svtv_report::{memory_text, read_fault_text, refusal_text, usage_text};
 use svtv_words::{Command, command_of};
@@ -157,8 +157,14 @@ fn proved<F: Files>(
 }
 
 #[tactic(auto, using(crate::proofs::Counted::stopped_counts, crate::proofs::Answered::stopped_work))]
-fn simulated<F: Files>(alloc: Global, files: &mut F, names: &Names, top: Option<&Name>) -> Outcome
-    ensures is { IsWork (F.contents files.old) (m.sim names.now.design names.now.table names.now.last (option_copied top.entry)) result }
+fn simulated<F: Files>(
+    alloc: Global,
+    files: &mut F,
+    names: &Names,
+    top: Option<&Name>,
+    vcd: bool,
+) -> Outcome
+    ensures is { IsWork (F.contents files.old) (m.sim names.now.design names.now.table names.now.last (option_copied top.entry) vcd) result }
     ensures rose { IfLeft (Rose (F.faults files.old) (F.faults files.new)) result }
     ensures counts { CountsReads (status_of result) (F.faults files.old) (F.faults files.new) }
     ensures unchanged { (other : List ℕ) → F.contents files.new other ≡ F.contents files.old other }
@@ -169,7 +175,7 @@ fn simulated<F: Files>(alloc: Global, files: &mut F, names: &Names, top: Option<
         table,
         last,
     } = names;
-    match simulate(alloc, files, design, table, last, top) {
+    match simulate(alloc, files, design, table, last, top, vcd) {
         Ok(text) => Outcome::Done(text),
         Err(stop) => stopped(alloc, stop),
     }
@@ -243,6 +249,20 @@ fn checked<F: Files>(alloc: Global, files: &mut F, file: &Name) -> Outcome
     }
 }
 
+#[tactic(auto, using(crate::proofs::Counted::stopped_counts, crate::proofs::Answered::stopped_work))]
+fn shown<F: Files>(alloc: Global, files: &mut F, file: &Name, path: &Name) -> Outcome
+    ensures is { IsWork (F.contents files.old) (m.wave file.now path.now) result }
+    ensures rose { IfLeft (Rose (F.faults files.old) (F.faults files.new)) result }
+    ensures counts { CountsReads (status_of result) (F.faults files.old) (F.faults files.new) }
+    ensures unchanged { (other : List ℕ) → F.contents files.new other ≡ F.contents files.old other }
+    ensures counts_up { F.faults files.old ≤ F.faults files.new }
+{
+    match wave(alloc, files, file, path) {
+        Ok(text) => Outcome::Done(text),
+        Err(stop) => stopped(alloc, stop),
+    }
+}
+
 // Does the work of a command.
 #[tactic(auto, using(crate::proofs::Budgets::positive))]
 fn worked<F: Files>(
@@ -275,10 +295,11 @@ fn worked<F: Files>(
             table,
             values,
             top,
+            vcd,
         } => {
             let names = file_names(alloc, design, table, values)?;
             let top = top_name(alloc, top)?;
-            Ok(simulated(alloc, files, &names, top.as_ref()))
+            Ok(simulated(alloc, files, &names, top.as_ref(), vcd))
         }
         Command::Dump { design, top } => {
             let design = Name::new(alloc, design)?;
@@ -302,6 +323,11 @@ fn worked<F: Files>(
         Command::Check { file } => {
             let file = Name::new(alloc, file)?;
             Ok(checked(alloc, files, &file))
+        }
+        Command::Wave { file, path } => {
+            let file = Name::new(alloc, file)?;
+            let path = Name::new(alloc, path)?;
+            Ok(shown(alloc, files, &file, &path))
         }
     }
 }
