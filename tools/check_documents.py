@@ -8,7 +8,7 @@
 - README.md has at most 80 lines, docs/PROVING.md at most 200, and a paragraph of docs/DECISIONS.md at most five.
 - The tables of bench/README.md and tools/README.md name each script, and nothing that is not there. Links lead to files.
 
-A line is printed for each fault, and the status is 1 where there is one. `.ci/run` runs it before the gate.
+A line is printed for each fault, and the status is 1 where there is one. Run it before a commit that changes documents or crates.
 """
 import re
 import sys
