@@ -22,6 +22,7 @@ DOCUMENTS = ["README.md", "bench/README.md", "tools/README.md", *sorted(f"docs/{
 
 # A sentence ends at a mark with a blank and a capital, or what stands for text in backticks, behind it.
 SENTENCE_END = re.compile(r"(?<!\.\.)[.!?][)\"]? (?=[A-Z`\"(])")
+LIST_MARK = re.compile(r"^\s*(?:[-*]|\d+\.) ")
 # What counts as the name of something in the sources, in text in backticks.
 NAME = re.compile(r"\b[A-Za-z_][A-Za-z0-9_]+\b")
 
@@ -57,7 +58,7 @@ def faults_of_lines(name):
         if len(line) > WIDTH and " " in line.strip():
             yield f"{name}:{number}: {len(line)} columns"
     for number, line in prose(name):
-        if not line.startswith(("|", "#")) and SENTENCE_END.search(re.sub(r"`[^`]*`", "`", line)):
+        if not line.startswith(("|", "#")) and SENTENCE_END.search(re.sub(r"`[^`]*`", "`", re.sub(LIST_MARK, "", line))):
             yield f"{name}:{number}: more than one sentence"
 
 
@@ -113,7 +114,8 @@ def faults_of_tables(crates):
         if rows.count(crate) != 1:
             yield f"{name}: {crate} stands in {rows.count(crate)} rows"
     for folder in ("bench", "tools"):
-        told = set(re.findall(r"[\w/]+\.(?:py|sh|c|rt\.txt)\b", re.sub(r"^(?!\|).*$", "", (TOP / folder / "README.md").read_text(), flags=re.MULTILINE).replace("\\_", "_")))
+        columns = re.findall(r"^\| ([^|]+) \|", (TOP / folder / "README.md").read_text(), re.MULTILINE)
+        told = {script for column in columns for script in re.findall(r"\w+\.(?:py|sh|c|rt\.txt)\b", column.replace("\\_", "_"))}
         files = [path for path in (TOP / folder).rglob("*") if path.suffix in (".py", ".sh", ".c", ".txt")]
         there = {path.name for path in files if not {"tests", "trials", "__pycache__"} & set(path.parts) and path.name != "__init__.py"}
         yield from (f"{folder}/README.md: no row has {script}" for script in sorted(there - told))
