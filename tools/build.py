@@ -35,7 +35,7 @@ MEASURED = TOP / "tools/proof_seconds.txt"
 LINES_A_SECOND = 20
 # A verdict that rests on nothing but the built logic and the statements of libraries. A word that is not listed refuses it.
 VERDICT = re.compile(
-    r"logic=proved( (functions|axioms|target|sum)=\S+)+ native=nat,char,string"
+    r"logic=proved( (functions|axioms|target|cpu|sum)=\S+)+ native=nat,char,string"
     r" logic-built=trusted libraries-built=trusted statements=trusted"
 )
 

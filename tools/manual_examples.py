@@ -34,19 +34,20 @@ def differences(document, room):
         count += 1
         ran = subprocess.run(["sh", "-c", command], cwd=room, stdin=subprocess.DEVNULL, capture_output=True, text=True)
         if ran.stdout != shown:
-            found.append(f"{document}:{line}: {command}\nprints\n{ran.stdout}{ran.stderr}and not\n{shown}")
+            found.append(f"{document.name}:{line}: {command}\nprints\n{ran.stdout}{ran.stderr}and not\n{shown}")
     return found, count
 
 
 def main(names):
     bad = 0
+    program = os.environ["SVTV"] = os.path.abspath(os.environ.get("SVTV") or TOP / "svtv")
     for name in names or ["docs/MANUAL.md", "README.md"]:
         with tempfile.TemporaryDirectory() as room:
             for it in ("examples", "docs", "svtv-goals"):
                 os.symlink(TOP / it, f"{room}/{it}")
-            program = Path(room, "svtv")
-            program.write_text(f'#!/bin/sh\nexec "{os.path.abspath(os.environ.get("SVTV") or TOP / "svtv")}" "$@"\n')
-            program.chmod(0o755)
+            script = Path(room, "svtv")
+            script.write_text(f'#!/bin/sh\nexec "{program}" "$@"\n')
+            script.chmod(0o755)
             found, count = differences(Path(TOP, name), room)
         print(*found, f"{name}: {count} commands, {len(found)} differ", sep="\n")
         bad += len(found)
