@@ -6,6 +6,7 @@ pub mod Growing
 pub mod Judgements
 pub mod Named
 pub mod Posings
+pub mod Shown
 pub mod Tables
 pub mod Turns
 mod Counting

@@ -1,6 +1,6 @@
 //! The commands over files: the design, the table and the goals or values are read in their turn, and then the proof is done,
 //! or the simulation; of a dump, the design alone, which is printed. A self test proves goals over texts of its own. One goal can be
-//! certified, and the text of a certificate is checked.
+//! certified, and the text of a certificate is checked. Of a value change dump the changes of one signal are shown.
 #![tactic(auto)]
 
 mod certifying;
@@ -16,6 +16,7 @@ mod simulation;
 mod table;
 mod testing;
 mod values;
+mod waving;
 
 pub use certifying::certify;
 pub use checking::check;
@@ -23,3 +24,4 @@ pub use dumping::dump;
 pub use proving::prove;
 pub use simulation::simulate;
 pub use testing::selftest;
+pub use waving::wave;

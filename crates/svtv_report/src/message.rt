@@ -73,7 +73,7 @@ pub fn read_fault_text(alloc: Global, name: &Name, place: Place) -> Result<Vec<u
 pub fn usage_text() -> &'static [u8]
     ensures { result.now ≡ usage_text }
 {
-    b"usage: svtv prove DESIGN TABLE GOALS [--top M] [--budget N]\n       svtv sim DESIGN TABLE VALUES [--top M]\n       svtv dump DESIGN [--top M]\n       svtv selftest N\n       svtv cert DESIGN TABLE GOALS GOAL [--top M] [--budget N]\n       svtv check CERT\n"
+    b"usage: svtv prove DESIGN TABLE GOALS [--top M] [--budget N]\n       svtv sim DESIGN TABLE VALUES [--top M] [--vcd]\n       svtv dump DESIGN [--top M]\n       svtv selftest N\n       svtv cert DESIGN TABLE GOALS GOAL [--top M] [--budget N]\n       svtv check CERT\n       svtv wave VCD PATH\n"
 }
 
 /// Want of memory.

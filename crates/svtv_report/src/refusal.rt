@@ -51,6 +51,10 @@ pub(crate) fn word_of(number: u8) -> &'static [u8]
         42 => b"CertSyntax",
         43 => b"CertId",
         44 => b"RatHint",
+        45 => b"InvariantHyp",
+        46 => b"SampleUnlike",
+        47 => b"VcdSyntax",
+        48 => b"VcdSignal",
         _ => b"",
     }
 }

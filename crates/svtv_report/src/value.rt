@@ -19,8 +19,8 @@ fn digit(bit: Bit) -> u8
     }
 }
 
-// A value: its width and its bits.
-fn push_value(text: &mut Vec<u8>, value: &Four) -> Result<(), AllocError>
+/// A value: its width and its bits.
+pub(crate) fn push_value(text: &mut Vec<u8>, value: &Four) -> Result<(), AllocError>
     ensures { OnOk result (text.new.items ≡ text.old.items ++ value_text value.now) }
 {
     let mut buffer = Buffer::new();
