@@ -21,15 +21,4 @@ commands=$(sed -n 's/^svtv_commands: //p' crates.txt)
 prove=$(sed -n 's/^goal_prove: //p' crates.txt)
 echo "svtv_clauses: $(printf '%s\n' svtv_commands $commands $prove | sort -u | xargs)" >>crates.txt
 
-# Clauses on which it runs for some seconds, so that the program can be copied while it runs.
-python3 - "$crate" <<'END'
-import pathlib, sys
-sys.path.insert(0, "bench")
-import prove_designs
-run = prove_designs.arbiter(64)
-folder = pathlib.Path(sys.argv[1])
-(folder / "d.sv").write_text(run.design)
-(folder / "t.csv").write_text(run.table())
-(folder / "g.txt").write_text("".join(goal.text() for goal in run.goals))
-END
-bash tools/unproved_binary.sh svtv_clauses "$out" "$copy/$crate/d.sv" "$copy/$crate/t.csv" "$copy/$crate/g.txt"
+bash tools/unproved_binary.sh svtv_clauses "$out"

@@ -1,5 +1,5 @@
 -- Words of the inner functions: what runs one phase after another.
-use Rattle.std.specs.Prelude.{◌≡◌, ◌≢◌, ◌<◌, ◌≤◌, ℕ, ◌==◌, nat_lt, List, [], All, length, map, slice_get, slice_index_or, Option, Some, None, if◌then◌else◌}
+use Rattle.std.specs.Prelude.{◌≡◌, ◌≢◌, ◌<◌, ◌≤◌, ℕ, zero, suc, ◌==◌, nat_lt, List, [], All, length, map, slice_get, slice_index_or, Option, Some, None, if◌then◌else◌}
 use Rattle.fourvec.specs.declared.Bit.{Bit}
 use Rattle.fourvec.specs.declared.Bit.TheVariants.{Unknown}
 use Rattle.fourvec.specs.Bits.{all_x}
@@ -7,12 +7,16 @@ use Rattle.settling.specs.Settling.{Store}
 use Rattle.driver_resolve.specs.Drivers.{has_wire, widths_of}
 use Rattle.flat_net.specs.declared.flat.Flat.{Flat}
 use Rattle.event_sim.specs.Sims.{IsValuation, Fits, store_of}
+use Rattle.sv_meaning.specs.Designs.{Design}
+use Rattle.sv_elab.specs.Elaborated.{IsElaborated}
 use Rattle.svtv_table.specs.declared.bound.Bound.{Bound}
 use Rattle.svtv_table.specs.declared.bound.Drive.{Drive}
 use Rattle.svtv_table.specs.declared.bound.Drive.TheVariants as drive
 use Rattle.svtv_table.specs.declared.bound.Sample.{Sample}
 use Rattle.svtv_table.specs.declared.bound.VarDecl.{VarDecl}
 use Rattle.svtv_table.specs.Overs.{is_overridden_at}
+use Rattle.svtv_runs.specs.Runs.{Run, IsLeastRunFrom, asks_of}
+use Rattle.svtv_runs.specs.Truths.{valuation}
 use Rattle.svtv_least.specs.declared.runner.Runner.{Runner}
 use Rattle.svtv_least.specs.declared.settlers.Plan.{Plan}
 use Rattle.svtv_least.specs.declared.settlers.Settler.{Settler}
@@ -112,3 +116,16 @@ pub record Serves (flat : Flat) (bound : Bound) (r : Runner) : Type 0 where
   pub values : map (λ v. length v) r.values ≡ sample_widths bound.samples
   pub blank_values : map (λ v. length v) r.blank_values ≡ sample_widths bound.samples
   pub unknown_values : (n k : ℕ) → store_of r.blank_values n k ≡ Unknown
+
+-- ---- where a run stands
+
+-- what the wires have behind so many phases of a run
+abbrev pub behind : Run → ℕ → Store
+behind r zero = r.first
+behind r (suc phase) = valuation r phase
+
+-- The wires of the runner have what they have behind so many phases of the least run from a valuation, under a choice, in each design that the flat
+-- one stems from.
+abbrev pub StandsBehind : Flat → Bound → (choice : List (List Bit)) → (first : Store) → (phases : ℕ) → Runner → Type 0
+StandsBehind flat bound choice first phases runner =
+    (d : Design) → IsElaborated d flat → (r : Run) → IsLeastRunFrom d (asks_of choice bound) bound.phases first r → store_of runner.prev.values ≡ behind r phases
