@@ -6,15 +6,15 @@
 import re
 
 USAGE = b"usage: svtv prove DESIGN TABLE GOALS [--top M] [--budget N]\n" + b"".join(
-    b"       svtv " + line for line in (b"sim DESIGN TABLE VALUES [--top M]\n", b"dump DESIGN [--top M]\n", b"selftest N\n",
-    b"cert DESIGN TABLE GOALS GOAL [--top M] [--budget N]\n", b"check CERT\n"))
+    b"       svtv " + line for line in (b"sim DESIGN TABLE VALUES [--top M] [--vcd]\n", b"dump DESIGN [--top M]\n", b"selftest N\n",
+    b"cert DESIGN TABLE GOALS GOAL [--top M] [--budget N]\n", b"check CERT\n", b"wave VCD PATH\n"))
 
-# The refusals by number, each with its word; those of tables and values, of goals, of the design as a whole, and of certificates.
+# The refusals by number, each with its word; those of tables and values, of goals, of the design as a whole, of certificates, and of invariants and dumps.
 WORDS = dict(enumerate(
     "BadByte BadToken IncludeDeep TooLong Unbalanced MacroUnknown MacroDeep Syntax TooDeep TopUnclear UnknownModule UnknownName Twice "
     "Width ConstUnknown LiteralRange PortUnknown PortTwice BadTarget LoopLong InstanceDeep TooManyBits BadSelect WrongAssign OutOfScope "
     "Shape Phases CellBad SignalUnknown SignalTwice VarWidth SampleTwice GoalSyntax GoalTwice VarMissing VarUnknown VarTwice ValueBad "
-    "LoopTooWide Unbuilt GoalUnknown CertSyntax CertId RatHint".split(), 1))
+    "LoopTooWide Unbuilt GoalUnknown CertSyntax CertId RatHint InvariantHyp SampleUnlike VcdSyntax VcdSignal".split(), 1))
 COUNTED = (10, 39)
 
 REFUSAL = re.compile(rb"(.*):([1-9][0-9]*):([1-9][0-9]*): E([1-9][0-9]*) ([A-Za-z]+)( [0-9]+)?\n", re.DOTALL)
@@ -24,6 +24,10 @@ VERDICTS = re.compile(rb"(?:%s: (?:proved|vacuous|undecided after [1-9][0-9]*|fa
 SAMPLES = re.compile(rb"(?:%s = [1-9][0-9]*'b[01xz]+\n)*" % NAME)
 CERTIFIED = re.compile(rb"c %s (?:proved|vacuous)\np cnf [0-9]+ [0-9]+\n(?:-?[0-9]+ )*0\n(?:(?:-?[0-9]+ )*0\n)*" % NAME)
 CHECKED = re.compile(rb"verified\n|not verified: step [0-9]+\n")
+CHANGES = re.compile(rb"(?:[0-9]+ [1-9][0-9]*'b[01xz]+\n)*")
+WAVES = re.compile(
+    rb"\$timescale 1 ns \$end\n\$scope module top \$end\n(?:\$(?:scope|upscope|var) [ -~]*\$end\n)*\$enddefinitions \$end\n"
+    rb"(?:#[0-9]+\n(?:[01xz][!-~]+\n|b[01xz]+ [!-~]+\n)*)*")
 FLAT = re.compile(rb"flat 1\n(?:(?:wire|join|node|drive) [ -~]+\n)*end\n")
 
 
@@ -53,7 +57,7 @@ def printed_fault(words, status, out):
         return None if CHECKED.fullmatch(out) and out.startswith(b"verified") == (status == 0) else "not what is said of a certificate"
     if status != 0:
         return "status 1 of another command than prove, cert and check"
-    form = {"sim": SAMPLES, "dump": FLAT}.get(verb)
+    form = {"sim": WAVES if "--vcd" in words else SAMPLES, "dump": FLAT, "wave": CHANGES}.get(verb)
     return None if form is None or form.fullmatch(out) else "no text of this command"
 
 
