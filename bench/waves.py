@@ -28,7 +28,7 @@ WORD = re.compile(r"\S+")
 
 
 def run(words, folder):
-    return subprocess.run(list(map(str, words)), cwd=folder, stdout=subprocess.PIPE, stderr=subprocess.STDOUT, timeout=300)
+    return subprocess.run(["timeout", "600", *map(str, words)], cwd=folder, stdout=subprocess.PIPE, stderr=subprocess.STDOUT)
 
 
 def last_at(changes, time):
@@ -98,7 +98,7 @@ class Comparison:
 
     def verilator(self, design):
         with tempfile.TemporaryDirectory() as folder:
-            made = run(["verilator", "--binary", "--trace", "--trace-params", "-Wno-fatal", "-Wno-WIDTH", "--top-module", "tb", "-o", "tb", design], folder)
+            made = run(["verilator", "--binary", "--trace", "--trace-params", "-CFLAGS", "-O0", "-Wno-fatal", "-Wno-WIDTH", "--top-module", "tb", "-o", "tb", design], folder)
             done = run(["obj_dir/tb"], folder) if made.returncode == 0 else made
             if done.returncode or not (pathlib.Path(folder) / "dump.vcd").exists():
                 return print("left out: verilator", design.name, done.stdout.decode(errors="replace")[:200].replace("\n", " "))
@@ -151,8 +151,8 @@ def main(program):
         for design in designs if shutil.which(tool) else ():
             each(design)
     if shutil.which("yosys"):
-        for module, design in (("pair", "hierarchy.v"), ("digit", "hierarchy.v"), ("shifter", "parameters.v")):
-            compare.yosys(module, BENCH / "waves" / design)
+        for module in ("digits", "states", "shifted"):
+            compare.yosys(module, BENCH / "waves" / "circuits.sv")
     for name, table, values in SIMULATED:
         compare.example(name, table, values)
     print("not there:", ", ".join(tool for tool in ("iverilog", "verilator", "yosys", "vcd2fst") if not shutil.which(tool)) or "none")
