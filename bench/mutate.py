@@ -2,7 +2,7 @@
 
 Each run has a number, which says what it changes, so a run that stands out can be made again. A fault is what `answers.fault` says of an
 answer: an end by a signal, a status that the manual does not have, an output beside a refusal, a message or a text that is not of its
-form; and of `check`, that it says something else than lrat.py. The first runs take the fronts of the files of the examples, the others make one to four changes: a byte, a token or some tokens
+form; of `check`, that it says something else than lrat.py; and of `wave`, than vcd.py. The first runs take the fronts of the files of the examples, the others make one to four changes: a byte, a token or some tokens
 are deleted, doubled, put elsewhere, or replaced by others, and seldom a word of the command.
 
 Use: mutate.py FIRST LAST     runs with these numbers, the last one not
@@ -27,6 +27,7 @@ import tempfile
 
 import answers
 import lrat
+import vcd
 
 TOP = os.path.dirname(os.path.dirname(os.path.abspath(__file__)))
 sys.path.insert(0, os.path.join(TOP, "tools"))
@@ -46,7 +47,10 @@ EXAMPLES = [
     ("latch", ["prove", "d.sv", "t.csv", "g.txt"]), ("loop", ["prove", "d.sv", "t.csv", "g.txt"]),
     ("pipeline", ["prove", "d.sv", "t.csv", "g.txt"]), ("product", ["prove", "d.sv", "t.csv", "g.txt", "--budget", "1"]),
     ("reset", ["prove", "d.sv", "t.csv", "g.txt"]), ("bus", ["cert", "d.sv", "t.csv", "g.txt", "agree"]),
+    ("bus", ["sim", "d.sv", "t.csv", "v.csv", "--vcd"]),
 ]
+# Simulations of which the program's dumps are changed, each with a signal.
+TRACED = [("bus", "top.y"), ("alu", "top.v"), ("divider", "top.half")]
 # Goals of which the program's certificates are changed.
 CERTIFIED = [("and_gate", "eq"), ("bus", "first"), ("pipeline", "sum"), ("pipeline", "never"), ("latch", "either"), ("loop", "ripple"), ("reset", "kept")]
 
@@ -70,6 +74,14 @@ def certificates():
             yield ["check", "g.lrat"], {"g.lrat": printed}
 
 
+def dumps():
+    """Changes of a signal in value change dumps, as the program prints them."""
+    for name, path in TRACED:
+        words = [PROGRAM, "sim", "d.sv", "t.csv", "v.csv", "--vcd"]
+        printed = subprocess.run(words, cwd=os.path.join(TOP, "examples", name), capture_output=True, check=True).stdout
+        yield ["wave", "w.vcd", path], {"w.vcd": printed[:6000]}
+
+
 def short_cases():
     """The cases of svtv_cases that ask for no fault and are short."""
     for path in sorted(glob.glob(os.path.join(TOP, "crates/svtv_cases/data/*.cases"))):
@@ -84,7 +96,7 @@ def chosen(bases):
     return [base for base in bases if COMMAND in (None, base[0][0])]
 
 
-BASES = chosen([example(*each) for each in EXAMPLES] + list(certificates()))
+BASES = chosen([example(*each) for each in EXAMPLES] + list(certificates()) + list(dumps()))
 MAIN = len(BASES)
 FRONTS = [(base, name, length) for base, (_, files) in enumerate(BASES) for name, text in files.items() for length in range(len(text))]
 BASES += chosen(short_cases())
@@ -150,6 +162,10 @@ def fault(words, files, ended):
     """What is wrong with an answer."""
     if words[:1] == ["check"] and words[1:] == list(files) and ended.returncode in (0, 1, 3) and said_of(files[words[1]]) != ended.stdout:
         return "another answer than that of lrat.py"
+    if words[:1] == ["wave"] and len(words) == 3 and words[1] in files and not any(word.startswith("-") for word in words) and ended.returncode in (0, 3):
+        name, path = (os.fsencode(word) for word in words[1:])
+        if vcd.wave(files[words[1]], name, path) != (ended.stdout, ended.stderr):
+            return "another answer than that of vcd.py"
     return answers.fault(words, ended.returncode, ended.stdout, ended.stderr)
 
 
