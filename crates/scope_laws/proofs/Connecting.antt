@@ -16,7 +16,6 @@ use Rattle.sv_tree.specs.declared.forms.TypeTree.{TypeTree}
 use Rattle.sv_tree.specs.declared.forms.Typedef.{Typedef as TypedefTree}
 use Rattle.sv_tree.specs.declared.design.ParamWord.{ParamWord}
 use Rattle.sv_tree.specs.declared.design.ParamWord.TheVariants as param_word
-use Rattle.sv_tree.specs.declared.design.ParamType.{ParamType}
 use Rattle.sv_tree.specs.declared.design.ParPort.{ParPort}
 use Rattle.sv_tree.specs.declared.design.Param.{Param as ParamTree}
 use Rattle.sv_tree.specs.declared.design.Way.{Way}

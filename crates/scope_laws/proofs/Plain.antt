@@ -1,5 +1,5 @@
 -- The constants and types that declarations bring are no signals; and what is judged, where nothing stands against it.
-use Rattle.std.proofs.Common.{◌≡◌, ℕ, Bool, true, false, List, [], ◌∷◌, ◌++◌, Option, Some, None, Ok, Err, refl, subst}
+use Rattle.std.proofs.Common.{◌≡◌, ℕ, Bool, true, false, List, [], ◌∷◌, ◌++◌, Ok, Err, refl, subst}
 use mathlib.Core.Former.{Count}
 use Rattle.std.specs.Prelude.{ℤ, ◌+ℤ◌, pos, ◌+◌}
 use Rattle.fourvec.specs.Bits.{signed_vector}
@@ -8,8 +8,6 @@ use Rattle.sv_outside.specs.declared.text.Signal.{Signal}
 use Rattle.sv_tree.specs.declared.forms.EnumLabel.{EnumLabel}
 use Rattle.sv_tree.specs.declared.forms.TypeTree.{TypeTree, Vector, Integer, Struct', Enum, Named, Row_of-Member, end_of-Member, more_of-Member}
 use Rattle.sv_tree.specs.declared.forms.Member.{Of', end_of-TypeTree, more_of-TypeTree}
-use Rattle.sv_tree.specs.declared.design.ParamType.{ParamType}
-use Rattle.sv_tree.specs.declared.design.ParamType.TheVariants as param_type
 use Rattle.sv_meaning.specs.Faults.{Faults, fault_if, or_then, Judged, provided, ◌>>=◌}
 use Rattle.sv_meaning.specs.Layouts.{Name, Layout, Members, width, Scope, with_names, What, number_is, find}
 use Rattle.sv_meaning.specs.Meanings.{Meaning}

@@ -1,9 +1,9 @@
--- Each wire of a design has a path of printed bytes. A path is made of names that were declared, of dots between them and, for the turn
--- of a loop, of a number in brackets; and only a name of printed bytes is declared. So each step of a walk keeps it that the paths of all
--- scopes so far, of all instances that are still to be opened and of all wires are printed: a scope or an instance hands its path on to
--- what is declared in it. The steps are those of the definition, one lemma each.
+-- Each wire of a design has a path whose parts are names that were declared, or such a name with a number in brackets behind it, as the
+-- turn of a loop has; and only a simple identifier is declared. So each step of a walk keeps it that the paths of all scopes so far, of all
+-- instances that are still to be opened and of all wires have such parts: a scope or an instance hands its path on to what is declared in
+-- it. The steps are those of the definition, one lemma each.
 use Rattle.std.proofs.Common.{◌≡◌, ℕ, zero, suc, Bool, true, false, ◌&&◌, List, [], ◌∷◌, ◌++◌, length, Option, Some, None, Ok, All, subst}
-use Rattle.std.proofs.lemmas.List.Elements.{All-nil, All-cons, All-head, All-tail, All-push}
+use Rattle.std.proofs.lemmas.List.Elements.{All-nil, All-cons, All-head, All-tail, All-push, All-weaker}
 use mathlib.Core.Former.{Count}
 use Rattle.fourvec.specs.declared.Bit.{Bit}
 use Rattle.sv_outside.specs.declared.refusal.Place.{Place}
@@ -13,7 +13,6 @@ use Rattle.sv_tree.specs.declared.forms.TypeTree.{TypeTree}
 use Rattle.sv_tree.specs.declared.forms.Typedef.{Typedef as TypedefTree}
 use Rattle.sv_tree.specs.declared.design.ParamWord.{ParamWord}
 use Rattle.sv_tree.specs.declared.design.ParamWord.TheVariants as param_word
-use Rattle.sv_tree.specs.declared.design.ParamType.{ParamType}
 use Rattle.sv_tree.specs.declared.design.ParPort.{ParPort}
 use Rattle.sv_tree.specs.declared.design.Param.{Param as ParamTree}
 use Rattle.sv_tree.specs.declared.design.Way.{Way}
@@ -37,9 +36,9 @@ use Rattle.sv_meaning.specs.Values.{mean}
 use Rattle.sv_meaning.specs.Deeds.{index_entry, turns, fixed_truth}
 use Rattle.sv_meaning.specs.Params.{Connection, connections, ParamKind, kept, param_kind, value_as}
 use Rattle.sv_hierarchy.specs.Scopes.{Level, Front, State, Walk, stay, then_walk, here, mine, level_at, with_level, no_level, fronts_at, Task, assigning, running, Standing, Child, seen_at, genvar_faults, open_params, port_texts, is_there, module_named, Given, walk_all, name_faults, declare_at, declare, with_const, with_net, see_const, add_constant, add_constants, with_wire, add_wire, path_of, formed, with_form, with_form_or_bit, add_typedef, meant, given_to, seen, add_param, add_param_item, add_params, add_genvar, add_work, add_assignment, add_child, child_of, inner, enclosed, block_name, block_place, block_walk, turn_name, count_turn, turn_walk, Body, turns_walk, loop_walk, Act, Branch, act_of, chosen_branch, conditional, numbered, body_of, act, acts, under, under_else, word_or, kind_or, header_params, OpenPort, is_input, or_way, add_port, port_form, header_ports, ports_of, Known, Library, begun, port_works, instance_walk, given_by, module_of, count_instance, below, child, file_state, library, top_module, deepest, scopes}
-use Rattle.scope_laws.specs.Wires.{IsPath, HavePaths}
+use Rattle.scope_laws.specs.Wires.{HaveParts, HavePaths, IsPath}
 use Rattle.scope_laws.proofs.Plain.{same_ok, bind_ok, provided_ok, no_faults}
-use Rattle.scope_laws.proofs.Names.{IsByte, IsText, clear_name, turn_named, joined}
+use Rattle.scope_laws.proofs.Names.{HasParts, IsStep, IsText, clear_name, is_path, is_text, joined, no_text, turn_named}
 
 -- ---- paths
 
@@ -50,7 +49,7 @@ abbrev OpensText : Child → Type 0
 OpensText c = IsText c.path
 
 abbrev HasPath : Signal → Type 0
-HasPath w = IsPath w.path
+HasPath w = HasParts w.path
 
 abbrev Inv : State → Type 0
 Inv st = All HasText st.levels × All OpensText st.children × All HasPath st.wires
@@ -60,7 +59,7 @@ Keeps f = (st last : State) → Inv st → f st ≡ Ok last → Inv last
 
 level_text : (all : List Level) (n : ℕ) → All HasText all → IsText (level_at all n).path
 unfolding level_at
-level_text [] n h = All-nil IsByte
+level_text [] n h = no_text
 level_text (x ∷ more) zero h = All-head HasText x more h
 level_text (x ∷ more) (suc n) h = level_text more n (All-tail HasText x more h)
 
@@ -70,7 +69,7 @@ levels_with n f [] g h = All-nil HasText
 levels_with zero f (x ∷ more) g h = All-cons HasText (f x) more (g x (All-head HasText x more h)) (All-tail HasText x more h)
 levels_with (suc n) f (x ∷ more) g h = All-cons HasText x (with_level n f more) (All-head HasText x more h) (levels_with n f more g (All-tail HasText x more h))
 
-path_here : (st : State) (n : Name) → Inv st → IsPath n → IsPath (path_of st n)
+path_here : (st : State) (n : Name) → Inv st → IsStep n → HasParts (path_of st n)
 path_here st n i g = joined (mine st).path n (level_text st.levels st.me i.0) g
 
 -- ---- steps together
@@ -83,7 +82,7 @@ all_keep f (x ∷ more) k st last i h = let b = bind_ok (f x st) (walk_all f mor
 -- ---- declarations
 
 -- what is declared is a name
-declared : (p : Place) (n : Name) (st last : State) → Inv st → declare_at p n st ≡ Ok last → Inv last × IsPath n
+declared : (p : Place) (n : Name) (st last : State) → Inv st → declare_at p n st ≡ Ok last → Inv last × IsStep n
 declared p n st last i h = (subst Inv (provided_ok _ _ last h) i, clear_name (st.taken n) p n (no_faults (name_faults (st.taken n) p n) _ last h))
 
 constant_keeps : (d : Declared) → Keeps (add_constant d)
@@ -96,7 +95,7 @@ constant_keeps d st last i h =
 constants_keep : (all : List Declared) → Keeps (add_constants all)
 constants_keep all = all_keep add_constant all constant_keeps
 
-wire_seen : (input : Bool) (x : Layout) (n : Name) (s : State) → Inv s → IsPath n → Inv (with_wire input x n s)
+wire_seen : (input : Bool) (x : Layout) (n : Name) (s : State) → Inv s → IsStep n → Inv (with_wire input x n s)
 wire_seen input x n s i g =
     let w : Signal = record { path = path_of s n; width = width x; input = input } in
     (levels_with s.me (with_net (n, signal_is of_wires (length s.wires) x)) s.levels (λ y t. t) i.0, i.1, All-push HasPath s.wires w i.2 (path_here s n i g))
@@ -147,8 +146,8 @@ work_keeps t st last i h =
     let w : Standing = record { at = here st; task = t } in
     subst Inv (same_ok (record st { works = st.works ++ w ∷ [] }) last h) i
 
-child_added : (c : InstTree) (o : One) (s : State) → Inv s → IsPath o.name.text → Inv (record s { children = s.children ++ child_of c o s ∷ [] })
-child_added c o s i g = (i.0, All-push OpensText s.children (child_of c o s) i.1 (path_here s o.name.text i g).printed, i.2)
+child_added : (c : InstTree) (o : One) (s : State) → Inv s → IsStep o.name.text → Inv (record s { children = s.children ++ child_of c o s ∷ [] })
+child_added c o s i g = (i.0, All-push OpensText s.children (child_of c o s) i.1 (is_text (path_of s o.name.text) (path_here s o.name.text i g)), i.2)
 
 child_keeps : (c : InstTree) (o : One) → Keeps (add_child c o)
 child_keeps c o st last i h =
@@ -159,12 +158,12 @@ child_keeps c o st last i h =
 
 -- ---- generate blocks
 
-inside : (part : Name) (more : List Entry) (st : State) → IsPath part → Inv st → Inv (inner part more st)
+inside : (part : Name) (more : List Entry) (st : State) → IsStep part → Inv st → Inv (inner part more st)
 inside part more st g i =
     let x : Level = record { path = path_of st part; module_number = (mine st).module_number; parent = st.me; around = fronts_at st.levels (here st); nets = more; consts = [] } in
-    (All-push HasText st.levels x i.0 (path_here st part i g).printed, i.1, i.2)
+    (All-push HasText st.levels x i.0 (is_text x.path (path_here st part i g)), i.1, i.2)
 
-enclosed_keeps : (part : Name) (more : List Entry) (body : Walk) → IsPath part → Keeps body → Keeps (enclosed part more body)
+enclosed_keeps : (part : Name) (more : List Entry) (body : Walk) → IsStep part → Keeps body → Keeps (enclosed part more body)
 enclosed_keeps part more body g k st last i h =
     let b = bind_ok (body (inner part more st)) _ last h in
     subst Inv (same_ok _ last b.2) (k (inner part more st) b.0 (inside part more st g i) b.1)
@@ -175,7 +174,7 @@ block_keeps label p n body k st last i h =
     let d = declared (block_place label p) (block_name label n) st b.0 i b.1 in
     enclosed_keeps (block_name label n) [] body d.1 k b.0 last d.0 b.2
 
-turn_keeps : (p : Place) (g v : Name) (body : Walk) (bits : List Bit) → IsPath g → Keeps body → Keeps (turn_walk p g v body bits)
+turn_keeps : (p : Place) (g v : Name) (body : Walk) (bits : List Bit) → IsStep g → Keeps body → Keeps (turn_walk p g v body bits)
 turn_keeps p g v body bits s k st last i h =
     let b = bind_ok (count_turn p st) _ last h in
     enclosed_keeps (turn_name g bits) (index_entry v bits ∷ []) body (turn_named g bits s) k b.0 last (subst Inv (provided_ok _ _ b.0 b.1) i) b.2
@@ -306,8 +305,8 @@ ports_keep top before x (p ∷ more) st y i h =
 
 -- ---- instances
 
-begun_printed : (m : Known) (path : Name) (parent : ℕ) (params : List Given) (st : State) → IsText path → Inv st → Inv (begun m path parent params st)
-begun_printed m path parent params st g i =
+begun_named : (m : Known) (path : Name) (parent : ℕ) (params : List Given) (st : State) → IsText path → Inv st → Inv (begun m path parent params st)
+begun_named m path parent params st g i =
     let x : Level = record { path = path; module_number = m.number; parent = parent; around = record { level = 0; nets = 0; consts = m.above } ∷ []; nets = []; consts = [] } in
     (All-push HasText st.levels x i.0 g, All-nil OpensText, i.2)
 
@@ -339,7 +338,7 @@ child_walk_keeps (suc deep) all c t st last i h =
     let counted : Inv e.0 = subst Inv (provided_ok _ _ e.0 e.1) i in
     let now : State = begun a.0 c.path c.at.level (given_by c.at b.0) e.0 in
     let f = bind_ok (instance_walk false a.0.tree c.at d.0 now) _ last e.2 in
-    let own : Inv f.0 = instance_keeps false a.0.tree c.at d.0 now f.0 (begun_printed a.0 c.path c.at.level (given_by c.at b.0) e.0 t counted) f.1 in
+    let own : Inv f.0 = instance_keeps false a.0.tree c.at d.0 now f.0 (begun_named a.0 c.path c.at.level (given_by c.at b.0) e.0 t counted) f.1 in
     let g = bind_ok (below (child deep all) f.0) _ last f.2 in
     subst Inv (same_ok _ last g.2) (below_keeps (child deep all) (child_walk_keeps deep all) f.0 g.0 own g.1)
 
@@ -354,15 +353,21 @@ library_keeps (source_part.Module m ∷ more) all st y i h =
 library_keeps (source_part.Typedef d ∷ more) all st y i h = let b = bind_ok (add_typedef d st) _ y h in library_keeps more all b.0 y (typedef_keeps d st b.0 i b.1) b.2
 library_keeps (source_part.Param p ∷ more) all st y i h = let b = bind_ok (add_params p st) _ y h in library_keeps more all b.0 y (params_keep p st b.0 i b.1) b.2
 
-file_printed : Inv file_state
-file_printed = (All-cons HasText no_level [] (All-nil IsByte) (All-nil HasText), All-nil OpensText, All-nil HasPath)
+file_named : Inv file_state
+file_named = (All-cons HasText no_level [] no_text (All-nil HasText), All-nil OpensText, All-nil HasPath)
 
-pub wires_are_printed : (source : Source) (top : Option Name) (st : State) → scopes source top ≡ Ok st → HavePaths st.wires
-wires_are_printed source top st h =
+walked : (source : Source) (top : Option Name) (st : State) → scopes source top ≡ Ok st → Inv st
+walked source top st h =
     let a = bind_ok (library source.parts [] file_state) _ st h in
     let b = bind_ok (top_module a.0.0 top) _ st a.2 in
-    let file : Inv a.0.1 = library_keeps source.parts [] file_state a.0 file_printed a.1 in
+    let file : Inv a.0.1 = library_keeps source.parts [] file_state a.0 file_named a.1 in
     let now : State = begun b.0 [] 0 [] a.0.1 in
     let c = bind_ok (instance_walk true b.0.tree (here a.0.1) [] now) _ st b.2 in
-    let own : Inv c.0 = instance_keeps true b.0.tree (here a.0.1) [] now c.0 (begun_printed b.0 [] 0 [] a.0.1 (All-nil IsByte) file) c.1 in
-    (below_keeps (child deepest a.0.0) (child_walk_keeps deepest a.0.0) c.0 st own c.2).2
+    let own : Inv c.0 = instance_keeps true b.0.tree (here a.0.1) [] now c.0 (begun_named b.0 [] 0 [] a.0.1 no_text file) c.1 in
+    below_keeps (child deepest a.0.0) (child_walk_keeps deepest a.0.0) c.0 st own c.2
+
+pub wires_have_parts : (source : Source) (top : Option Name) (st : State) → scopes source top ≡ Ok st → HaveParts st.wires
+wires_have_parts source top st h = (walked source top st h).2
+
+pub wires_are_printed : (source : Source) (top : Option Name) (st : State) → scopes source top ≡ Ok st → HavePaths st.wires
+wires_are_printed source top st h = All-weaker HasPath (λ (w : Signal). IsPath w.path) (λ w g. is_path w.path g) st.wires (wires_have_parts source top st h)

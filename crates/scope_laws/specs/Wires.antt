@@ -1,7 +1,8 @@
 -- Signals that are wires of a design, the wires of connected ports, and paths.
-use Rattle.std.specs.Prelude.{◌≡◌, ◌≢◌, ℕ, ◌==◌, ◌<◌, ◌≤◌, List, [], ◌∷◌, ◌++◌, length, map, get_or, slice_index_or, All, IsTrue}
-use Rattle.std.specs.List.{slice_split}
+use Rattle.std.specs.Prelude.{◌≡◌, ℕ, ◌==◌, ◌<◌, ◌≤◌, Bool, true, false, List, [], ◌∷◌, ◌++◌, length, map, slice_index_or, All, IsTrue}
+use Rattle.std.specs.List.{list_all, slice_split}
 use Rattle.sv_outside.specs.declared.text.Signal.{Signal}
+use Rattle.sv_outside.specs.Words.{begins_with}
 use Rattle.sv_meaning.specs.Layouts.{Name, of_wires, NamedSignal}
 use Rattle.sv_hierarchy.specs.Scopes.{is_printed, Task, assigning, running, connecting, Standing}
 
@@ -34,13 +35,20 @@ pub record IsPath (path : Name) : Type 0 where
 abbrev pub HavePaths : List Signal → Type 0
 HavePaths wires = All (λ w. IsPath w.path) wires
 
--- a name that is a part of a path: printed bytes, of which the first is neither `$` nor `[`
-pub record IsPart (part : Name) : Type 0 where
-  pub some : 1 ≤ length part
-  pub printed : All (λ b. IsTrue (is_printed b)) part
-  pub no_dollar : get_or part 0 0 ≢ 36
-  pub no_bracket : get_or part 0 0 ≢ 91
+abbrev pub is_dot : ℕ → Bool
+is_dot b = b == 46
 
--- the parts of each wire's path, between its dots, are such names
+-- what stands between the dots of a path
+abbrev pub parts_of : Name → List Name
+parts_of path = slice_split is_dot path
+
+-- a part of a path: printed bytes, of which the first is neither `$` nor `[`
+pub record IsPart (part : Name) : Type 0 where
+  pub some : 0 < length part
+  pub printed : list_all is_printed part ≡ true
+  pub no_dollar : begins_with 36 part ≡ false
+  pub no_bracket : begins_with 91 part ≡ false
+
+-- the path of each wire has such parts
 abbrev pub HaveParts : List Signal → Type 0
-HaveParts wires = All (λ w. All IsPart (slice_split (λ b. b == 46) w.path)) wires
+HaveParts wires = All (λ w. All IsPart (parts_of w.path)) wires

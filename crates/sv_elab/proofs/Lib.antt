@@ -10,3 +10,4 @@ pub mod Wholes
 pub mod Reaching
 pub mod Owning
 pub mod Ending
+pub mod Paths

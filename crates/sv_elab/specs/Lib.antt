@@ -1,2 +1,3 @@
 pub mod Elaborated
 pub mod Working
+pub mod Passed

@@ -145,7 +145,7 @@ twice_named_fault : source_faults twice_named None ≡ fault twice (at 6)
 unfolding designs_on_trees
 twice_named_fault = refl
 
--- trees that no text spells: a name of no bytes, and one with a blank, are E2
+-- trees that no text spells: a name of no bytes, one with a blank, and one that begins with a dollar, are E2
 unnamed_wire : Source
 unnamed_wire = alone [] (Variable bit (word 3 [] ∷ []) ∷ [])
 
@@ -159,6 +159,13 @@ blank_name = alone [] (Variable bit (word 3 (codes "a") ∷ word 5 (codes "a b")
 blank_name_fault : source_faults blank_name None ≡ fault bad_token (at 5)
 unfolding designs_on_trees blank_name
 blank_name_fault = refl
+
+dollar_name : Source
+dollar_name = alone [] (Variable bit (word 3 (codes "a$1") ∷ word 5 (codes "$a") ∷ []) ∷ [])
+
+dollar_name_fault : source_faults dollar_name None ≡ fault bad_token (at 5)
+unfolding designs_on_trees dollar_name
+dollar_name_fault = refl
 
 -- an empty file has no top
 no_top : source_faults (record { parts = [] }) None ≡ record { number = top_unclear; place = at 1; count = 0 } ∷ []

@@ -1,7 +1,6 @@
 -- The scopes of a design: its instances and generate blocks, their names, its wires, and all that contributes.
 use Rattle.std.specs.Prelude.{ℕ, zero, suc, ◌+◌, Bool, true, false, ◌&&◌, ◌||◌, not, nat_lt, nat_le, List, [], ◌∷◌, ◌++◌, length, map, take, bytes_eq, Option, Some, None, Ok, Err, decimal, codes, if◌then◌else◌}
 use Rattle.std.specs.Fmt.{signed_decimal}
-use Rattle.std.specs.List.{list_all}
 use mathlib.Core.Former.{Count}
 use Rattle.fourvec.specs.declared.Bit.{Bit}
 use Rattle.fourvec.specs.Bits.{signed}
@@ -32,6 +31,7 @@ use Rattle.sv_tree.specs.declared.design.Item.{Item, Net, Variable, Typedef, Par
 use Rattle.sv_tree.specs.declared.design.Gen.{Gen, Block', Single'}
 use Rattle.sv_outside.specs.declared.refusal.Place.{Place}
 use Rattle.sv_outside.specs.declared.text.Signal.{Signal}
+use Rattle.sv_outside.specs.Words.{is_word}
 use Rattle.sv_meaning.specs.Faults.{Faults, fault, fault_if, or_then, Judged, provided, faults_of, ◌>>=◌, bad_token, unknown_module, unknown_name, twice, instance_deep, too_many_bits, top_unclear}
 use Rattle.sv_meaning.specs.Layouts.{Name, Entry, Layout, scalar, width, Scope, scope_of, What, type_is, signal_is, genvar_is, of_wires, find}
 use Rattle.sv_meaning.specs.Names.{has_name}
@@ -173,7 +173,7 @@ seen st = seen_at st.levels (here st)
 
 -- ---- declarations, sections 6.5, 6.18 and 6.20
 
--- a byte of a name: it is printed, and no blank
+-- a byte of a path: it is printed, and no blank
 abbrev pub is_printed : ℕ → Bool
 is_printed b = nat_le 33 b && nat_le b 126
 

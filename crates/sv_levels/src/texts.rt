@@ -4,7 +4,8 @@ ghost use Rattle.std.specs.Fmt.{signed_decimal};
 ghost use Rattle.std.specs.List.{list_all};
 ghost use Rattle.std.specs.Option.{option_copied};
 ghost use Rattle.fourvec.specs.Bits.{is_negative, signed};
-ghost use Rattle.sv_hierarchy.specs.Scopes.{block_name, block_place, is_name, is_printed, turn_name};
+ghost use Rattle.sv_outside.specs.Words.{goes_on, starts_word};
+ghost use Rattle.sv_hierarchy.specs.Scopes.{block_name, block_place, is_name, turn_name};
 
 use fourvec::{Bit, Four};
 use itoa::Buffer;
@@ -12,18 +13,32 @@ use std::alloc::{AllocError, Global};
 use sv_outside::{Name, Place};
 use sv_tree::Word;
 
-// Whether each byte is printed and no blank.
-fn are_printed(bytes: &[u8]) -> bool
-    ensures { result ≡ list_all is_printed bytes.now }
+fn starts_a_name(b: u8) -> bool
+    ensures { result ≡ starts_word b }
 {
-    bytes.iter().all(|b| *b >= 33 && *b <= 126)
+    b.is_ascii_alphabetic() || b == b'_'
 }
 
-/// Whether bytes are a name: there are some, and each is printed and no blank (5.6).
+fn goes_on_in_name(b: u8) -> bool
+    ensures { result ≡ goes_on b }
+{
+    starts_a_name(b) || b.is_ascii_digit() || b == b'$'
+}
+
+fn all_go_on(rest: &[u8]) -> bool
+    ensures { result ≡ list_all goes_on rest.now }
+{
+    rest.iter().all(|b| goes_on_in_name(*b))
+}
+
+/// Whether bytes are a name: a letter or an underscore, and letters, digits, underscores and dollars behind it (5.6).
 pub fn is_name(bytes: &[u8]) -> bool
     ensures { result ≡ is_name bytes.now }
 {
-    !bytes.is_empty() && are_printed(bytes)
+    match bytes {
+        [] => false,
+        [first, rest @ ..] => starts_a_name(*first) && all_go_on(rest),
+    }
 }
 
 /// The name of a block: its label, or that of the construct with a number (27.6).

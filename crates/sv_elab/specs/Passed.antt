@@ -1,0 +1,3 @@
+-- What the crates above are given of those below.
+
+pub use Rattle.scope_laws.specs.Wires.{HaveParts, IsPart}
