@@ -5,6 +5,7 @@ pub mod Designs
 pub mod Growing
 pub mod Judgements
 pub mod Named
+pub mod Paths
 pub mod Posings
 pub mod Shown
 pub mod Tables

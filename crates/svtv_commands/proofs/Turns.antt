@@ -1,11 +1,12 @@
 -- Files in their turn: those before them are legal.
-use Rattle.std.proofs.Common.{◌≡◌, List, [], map, Option, sym, ◌∙◌, ap, subst, inr}
+use Rattle.std.proofs.Common.{◌≡◌, Bool, true, false, List, [], map, Option, refl, sym, ◌∙◌, ap, subst, inr}
 use Rattle.std.specs.List.{All, IsDistinct}
 use Rattle.std.specs.Str.{bytes_eq}
 use Rattle.flat_net.specs.declared.flat.Flat.{Flat}
 use Rattle.fourvec.specs.declared.Bit.{Bit}
 use Rattle.goal_text.specs.declared.goal.Goal.{Goal}
 use Rattle.sv_elab.specs.Elaborated.{IsElaborated}
+use Rattle.sv_elab.proofs.Paths.{sound_parts}
 use Rattle.sv_meaning.specs.Designs.{Design}
 use Rattle.sv_outside.specs.declared.text.Signal.{Signal}
 use Rattle.svex_shape.specs.declared.shape.Shape.{Shape}
@@ -25,9 +26,13 @@ use Rattle.svtv_table.proofs.Bounds as bounds
 use Rattle.svtv_table.proofs.Formed.{is_formed}
 use Rattle.svtv_table.proofs.Shape.{is_bound}
 use Rattle.svtv_table.specs.Reading.{IsWellFormed}
-use Rattle.svtv_verdicts.specs.Benches.{sampled_in}
-use Rattle.svtv_commands.specs.Done.{Simulates}
-use Rattle.svtv_files.specs.Files.{Text, Told, IsDesignFile, IsValuesFile, samples_in, vars_of}
+use Rattle.svtv_texts.specs.Phases.{phases_in}
+use Rattle.svtv_verdicts.specs.Benches.{IsLeastUnder, sampled_in}
+use Rattle.table_cells.specs.declared.table.Table.{Table}
+use Rattle.vcd_print.specs.Dumps.{IsDumpOf}
+use Rattle.vcd_print.specs.Printed.{HasParts, dump_text}
+use Rattle.svtv_commands.specs.Done.{Simulated, Simulates, Traces}
+use Rattle.svtv_files.specs.Files.{Text, Told, IsDesignFile, IsValuesFile, bench_of, samples_in, vars_of}
 use Rattle.svtv_commands.specs.Inputs.{AreGoalsIn, RefusesPosed, Stands}
 use Rattle.svtv_files.specs.Refusals.{LeavesProof, LeavesSetup, LeavesSimulation, RefusesGoals, RefusesSetup, RefusesSimulation, RefusesTable, RefusesValues}
 use Rattle.svtv_files.specs.Stopping.{Stops}
@@ -35,6 +40,7 @@ use Rattle.svtv_commands.specs.declared.setup.Setup.{Setup}
 use Rattle.svtv_files.specs.declared.stop.Stop.{Stop}
 use Rattle.svtv_files.specs.declared.stop.Stop.TheVariants.{Refused, Unread, Memory}
 use Rattle.svtv_commands.proofs.Benches.{poses, samples_wide}
+use Rattle.svtv_commands.proofs.Paths.{can_be_dumped}
 use Rattle.svtv_commands.proofs.Tables.{StopsAs}
 
 pub same_told : (new told : Told) → ((other : Text) → new other ≡ told other) → new ≡ told
@@ -53,6 +59,14 @@ pub table_turn : (told new : Told) (d t : Text) (top : Option Text) (design : De
 table_turn told new d t top design flat wires stop n w is el h =
     table_stop told d t top design stop is
     (subst (λ (ws : List Signal). StopsAs t (RefusesTable told t ws) stop) (w ∙ el.wires) (subst (λ (x : Told). StopsAs t (RefusesTable x t wires) stop) n h))
+
+-- The choice of a file of values, and the least run under it: of the design, and by what was loaded for it.
+record HasRun (told : Told) (v : Text) (design : Design) (table : Table) (bound : Bound) (own : List (List Bit)) : Type 0 where
+  choice : List (List Bit)
+  is_choice : IsValuesFile told v (vars_of design table) choice
+  run : Run
+  least : IsLeastUnder (bench_of design table) choice run
+  loaded : IsLeastRun design (asks_of own bound) bound.phases run
 
 -- ---- behind a design and a table
 
@@ -126,29 +140,76 @@ module _ (told : Told) (d t : Text) (top : Option Text) (x : Setup) (s : Stands 
       (values_choice (vars_of s.design x.table) file.records (bounds.vars_distinct s.design.wires x.table.rows) file.clear) in
       subst (λ vs. AreAsWide vs own) (sym vars_are) (subst (λ c. AreAsWide (vars_of s.design x.table) c) (sym o) chosen.widths)
 
-  -- what the text has the samples of
-  abbrev Samples : Bound → List (List Bit) → Text → Type 0
-  Samples b choice text = (design : Design) → IsElaborated design x.flat → (r : Run) → IsLeastRun design (asks_of choice b) b.phases r
-      → text ≡ value_lines [] (sample_texts b.samples) (sampled_in b.samples r)
-
-  pub is_simulation : (new : Told) (v : Text) (vars : List VarDecl) (choice own : List (List Bit)) (text : Text) → new ≡ told → vars ≡ x.bound.vars → own ≡ choice → IsValuesFile new v vars choice
-      → Samples x.bound own text → Simulates told d t v top text
+  phases_are : x.bound.phases ≡ (bench_of s.design x.table).phases
   unfolding bound_of
-  is_simulation new v vars choice own text n q o is h =
+  phases_are = ap (λ (b : Bound). b.phases) s.bound
+
+  -- there is the least run under the values of a file
+  has_run : (new : Told) (v : Text) (vars : List VarDecl) (choice own : List (List Bit)) → new ≡ told → vars ≡ x.bound.vars → own ≡ choice → IsValuesFile new v vars choice → HasRun told v s.design x.table x.bound own
+  unfolding bound_of
+  has_run new v vars choice own n q o is =
       let file : IsValuesFile told v (vars_of s.design x.table) choice = subst (λ vs. IsValuesFile told v vs choice) (q ∙ vars_are) (subst (λ (y : Told). IsValuesFile y v vars choice) n is) in
       let chosen : IsChoice (vars_of s.design x.table) choice = subst (λ c. IsChoice (vars_of s.design x.table) c) (sym file.is)
       (values_choice (vars_of s.design x.table) file.records (bounds.vars_distinct s.design.wires x.table.rows) file.clear) in
       let p = poses s.design x.flat x.table s.elaborated s.setup.is_table.clear in
       let b = bound_of s.design.wires x.table in
-      let samples : Samples b choice text = subst (λ c. Samples b c text) o (subst (λ (y : Bound). Samples y own text) s.bound h) in
       let least = least_run_stands s.design (asks_of choice b) b.phases (p.apart choice) in
       record {
-        design = s.design;
-        table = x.table;
-        setup = s.setup;
         choice = choice;
         is_choice = file;
         run = least.0;
         least = subst (λ asks. IsLeastRun s.design asks b.phases least.0) (p.asked choice chosen) least.1;
-        printed = samples s.design s.elaborated least.0 least.1;
+        loaded = subst (λ c. IsLeastRun s.design (asks_of c x.bound) x.bound.phases least.0) (sym o)
+            (subst (λ (y : Bound). IsLeastRun s.design (asks_of choice y) y.phases least.0) (sym s.bound) least.1);
       }
+
+  -- what is said of the text and the least run
+  abbrev pub OfRun : List (List Bit) → (Run → Type 0) → Type 0
+  OfRun own Says = (design : Design) → IsElaborated design x.flat → (r : Run) → IsLeastRun design (asks_of own x.bound) x.bound.phases r → Says r
+
+  is_simulation : (v : Text) (own : List (List Bit)) (text : Text) → HasRun told v s.design x.table x.bound own → OfRun own (λ r. text ≡ value_lines [] (sample_texts x.bound.samples) (sampled_in x.bound.samples r))
+      → Simulates told d t v top text
+  is_simulation v own text run h = record {
+    design = s.design;
+    table = x.table;
+    setup = s.setup;
+    choice = run.choice;
+    is_choice = run.is_choice;
+    run = run.run;
+    least = run.least;
+    printed = subst (λ (samples : List Sample). text ≡ value_lines [] (sample_texts samples) (sampled_in samples run.run)) samples_are (h s.design s.elaborated run.run run.loaded);
+  }
+
+  phases_same : (r : Run) → phases_in x.flat.wires x.bound.phases r ≡ phases_in s.design.wires (bench_of s.design x.table).phases r
+  phases_same r = ap (λ (ws : List Signal). phases_in ws x.bound.phases r) s.elaborated.wires ∙ ap (λ n. phases_in s.design.wires n r) phases_are
+
+  is_trace : (v : Text) (own : List (List Bit)) (text : Text) → HasRun told v s.design x.table x.bound own → OfRun own (λ r. text ≡ dump_text x.flat.wires (phases_in x.flat.wires x.bound.phases r))
+      → OfRun own (λ r. IsDumpOf x.flat.wires (phases_in x.flat.wires x.bound.phases r) text) → Traces told d t v top text
+  is_trace v own text run h k =
+      let same = phases_same run.run in
+      record {
+        design = s.design;
+        table = x.table;
+        setup = s.setup;
+        choice = run.choice;
+        is_choice = run.is_choice;
+        run = run.run;
+        least = run.least;
+        printed = h s.design s.elaborated run.run run.loaded ∙ (λ i. dump_text (s.elaborated.wires i) (same i));
+        stands = subst (λ phases. IsDumpOf s.design.wires phases text) same
+            (subst (λ (ws : List Signal). IsDumpOf ws (phases_in x.flat.wires x.bound.phases run.run) text) s.elaborated.wires (k s.design s.elaborated run.run run.loaded));
+      }
+
+  -- what a simulation prints
+  pub is_simulated : (new : Told) (v : Text) (vars : List VarDecl) (choice own : List (List Bit)) (vcd : Bool) (text : Text) → new ≡ told → vars ≡ x.bound.vars → own ≡ choice → IsValuesFile new v vars choice
+      → (vcd ≡ false → OfRun own (λ r. text ≡ value_lines [] (sample_texts x.bound.samples) (sampled_in x.bound.samples r)))
+      → (vcd ≡ true → OfRun own (λ r. text ≡ dump_text x.flat.wires (phases_in x.flat.wires x.bound.phases r)))
+      → (vcd ≡ true → OfRun own (λ r. IsDumpOf x.flat.wires (phases_in x.flat.wires x.bound.phases r) text)) → Simulated told d t v top vcd text
+  is_simulated new v vars choice own false text n q o is samples dump stands = is_simulation v own text (has_run new v vars choice own n q o is) (samples refl)
+  is_simulated new v vars choice own true text n q o is samples dump stands = is_trace v own text (has_run new v vars choice own n q o is) (dump refl) (stands refl)
+
+  -- the paths of the wires have parts
+  pub wires_have_parts : All HasParts x.flat.wires
+  wires_have_parts =
+      let is = s.setup.is_design in
+      subst (λ (ws : List Signal). All HasParts ws) (sym s.elaborated.wires) (can_be_dumped s.design.wires (sound_parts is.tree top s.design is.means))
