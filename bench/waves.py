@@ -103,10 +103,10 @@ class Comparison:
             if done.returncode or not (pathlib.Path(folder) / "dump.vcd").exists():
                 return print("left out: verilator", design.name, done.stdout.decode(errors="replace")[:200].replace("\n", " "))
             self.signals("verilator " + design.name, folder)
-            # The scope of the whole model stands around those of the design.
+            # The scope of the whole model stands around those of the design, and words of a memory have no backslash.
             text = (pathlib.Path(folder) / "dump.vcd").read_bytes()
             under = b"TOP." if text.find(b"$scope module TOP $end") >= 0 else b""
-            self.printed("verilator " + design.name, folder, PRINTED.sub(lambda line: line[1] + b" " + under + line[2] + b" " + line[3], done.stdout))
+            self.printed("verilator " + design.name, folder, PRINTED.sub(lambda line: line[1] + b" " + under + line[2].replace(b"\\", b"") + b" " + line[3], done.stdout))
 
     def yosys(self, module, design):
         with tempfile.TemporaryDirectory() as folder:
