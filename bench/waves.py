@@ -103,6 +103,8 @@ class Comparison:
             if done.returncode or not (pathlib.Path(folder) / "dump.vcd").exists():
                 return print("left out: verilator", design.name, done.stdout.decode(errors="replace")[:200].replace("\n", " "))
             self.signals("verilator " + design.name, folder)
+            if design.name == "pauses.v":
+                return  # what is printed there is X while the dump is off, and verilator has no X
             # The scope of the whole model stands around those of the design, and words of a memory have no backslash.
             text = (pathlib.Path(folder) / "dump.vcd").read_bytes()
             under = b"TOP." if text.find(b"$scope module TOP $end") >= 0 else b""
