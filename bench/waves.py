@@ -138,6 +138,8 @@ class Comparison:
             if shutil.which("vcd2fst"):
                 run(["vcd2fst", "dump.vcd", "dump.fst"], folder)
                 again = run(["fst2vcd", "dump.fst"], folder).stdout
+                if not again.split(b"$dumpvars")[-1].count(b"$end"):
+                    again += b"$end\n"  # fst2vcd leaves it open where no other time follows
                 for path in (signal[0] for signal in signals):
                     self.counts["signals through vcd2fst"] += 1
                     own, other = vcd.changes_of(dump, path), vcd.changes_of(again, path)
