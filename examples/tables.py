@@ -1,8 +1,8 @@
 #!/usr/bin/env python3
 """Writes the tables of examples/fifo and examples/uart: tables.py
 
-A table is told by the cycles of a clock, from cycle 0 on. A cycle is two phases: in the first the clock is 0 and the inputs of the cycle
-are there, in the second the clock is 1 and the registers have taken what was there in the first.
+A table is told by the cycles of a clock, from cycle 0 on. A cycle is two phases: in the first the clock is 0 and the
+inputs of the cycle are there, in the second the clock is 1 and the registers have taken what was there in the first.
 """
 import csv
 from pathlib import Path

@@ -82,15 +82,23 @@ class Crate:
             told.update(f"{file.relative_to(self.folder)} {len(text)}\n".encode())
             told.update(text)
         for it in self.below:
-            # (holds the sum of the library's other files)
-            told.update(f"{it.name} {hashlib.sha256((it.rlib / 'format').read_bytes()).hexdigest()}\n".encode())
+            told.update(f"{it.name} {it.made()}\n".encode())
         return told.hexdigest()
 
+    def made(self):
+        """A sum of the library that stands, or nothing where there is none. (Its `format` holds the sums of its other files.)"""
+        with contextlib.suppress(OSError):
+            return hashlib.sha256((self.rlib / "format").read_bytes()).hexdigest()
+
     def is_kept(self, kit):
-        """Whether a library stands that was proved of what the crate is now."""
-        if not (self.rlib / "format").is_file() or not (self.out / "proved").is_file():
-            return False
-        return (self.out / "proved").read_text() == self.sum(kit)
+        """Whether the library that stands is what was proved, of what the crate is now."""
+        with contextlib.suppress(OSError):
+            return (self.out / "proved").read_text() == f"{self.sum(kit)} {self.made()}\n"
+        return False
+
+    def keep(self, key):
+        """Notes that the library that stands was proved of what has this sum."""
+        (self.out / "proved").write_text(f"{key} {self.made()}\n")
 
 
 class Kit:
@@ -164,8 +172,9 @@ def expected(crates):
     measured = {}
     with contextlib.suppress(OSError):
         for line in MEASURED.read_text().splitlines():
-            name, seconds = line.split()
-            measured[name] = float(seconds)
+            if not line.startswith("#"):
+                name, seconds = line.split()
+                measured[name] = float(seconds)
     lines = lambda it: sum(file.read_bytes().count(b"\n") for file in it.files())
     return {it.name: measured.get(it.name) or 15 + lines(it) / LINES_A_SECOND for it in crates}
 
@@ -252,8 +261,9 @@ class Work:
         if self.plan.is_done(crate):
             self.plan.done.add(crate.name)
             return
-        shutil.rmtree(crate.out, ignore_errors=True)
-        crate.out.mkdir(parents=True)
+        crate.out.mkdir(parents=True, exist_ok=True)
+        # (with which `rt` would take the library for one of its own)
+        (crate.out / "stamp").unlink(missing_ok=True)
         said = open(f"{self.room}/{crate.name}", "w+b")
         key = crate.sum(self.plan.kit)
         how = {"cwd": crate.folder, "stdin": subprocess.DEVNULL, "stdout": said, "stderr": subprocess.STDOUT}
@@ -273,7 +283,7 @@ class Work:
             raise Refused(f"{said}svtv: {crate.name} could not be proved")
         if crate.sum(self.plan.kit) != key:
             raise Refused(f"svtv: files of {crate.name} changed while it was proved")
-        (crate.out / "proved").write_text(key)
+        crate.keep(key)
         self.plan.taken += (time.monotonic() - begun) * quicker(jobs)
         self.plan.foreseen += self.plan.seconds[crate.name]
         self.plan.done.add(crate.name)
@@ -282,7 +292,7 @@ class Work:
         now = time.monotonic()
         left = self.plan.left({it.name: (jobs, now - begun) for it, (_, _, _, jobs, begun) in self.running.items()}, self.lanes)
         proved = f"{len(self.plan.done)} of {len(self.plan.crates)} crates proved"
-        return f"{proved}, about {max(1, round(left / 60))} minutes to go"
+        return f"{proved}, about {round(left / 60)} minutes to go" if left >= 90 else f"{proved}, about a minute to go"
 
     def go(self):
         shown = 0.0
@@ -327,25 +337,17 @@ def lanes():
     return max(1, min(len(os.sched_getaffinity(0)), int(0.85 * free // MEMORY)))
 
 
-def kept_program(program, kit):
-    """The file of the program, and what stands beside it where it was built of what is now proved."""
-    file, note = program.folder / f"out/{PROGRAM}", program.folder / f"out/{PROGRAM}.proved"
-    if not all((it.rlib / "format").is_file() for it in program.below):
-        return file, note, False
-    is_kept = file.is_file() and note.is_file() and note.read_text() == told_of(program, kit, file)
-    return file, note, is_kept
-
-
-def told_of(program, kit, file):
-    return f"{program.sum(kit)} {hashlib.sha256(file.read_bytes()).hexdigest()}\n"
+def note_of(program, kit, file):
+    """What is noted of the program: of what it was proved, and its own sum."""
+    with contextlib.suppress(OSError):
+        return f"{program.sum(kit)} {hashlib.sha256(file.read_bytes()).hexdigest()}\n"
 
 
 def build(crates, kit, screen, room):
     """Proves what is not proved yet, and builds the program of it."""
-    program, begun = crates[-1], time.monotonic()
-    plan = Plan(crates, kit)
-    file, note, is_kept = kept_program(program, kit)
-    if is_kept and len(plan.done) == len(crates) - 1:
+    begun, program, plan = time.monotonic(), crates[-1], Plan(crates, kit)
+    file, note = program.folder / f"out/{PROGRAM}", program.folder / f"out/{PROGRAM}.proved"
+    if len(plan.done) == len(program.below) and note.is_file() and note.read_text() == note_of(program, kit, file):
         return
     work = Work(plan, lanes(), room, screen)
     screen.say(f"the program is proved before it is built: {work.told()}, {work.lanes} at a time")
@@ -356,11 +358,12 @@ def build(crates, kit, screen, room):
     screen.say("all crates are proved: compiling the program")
     made = Path(room) / PROGRAM
     kit.compile(program, made)
+    shutil.rmtree(program.out)
     words = (program.folder / "args").read_text().split()
     if run([str(made), *words], program.folder / "data") != (program.folder / "stdout").read_bytes():
         raise Refused("svtv: the program that was built does not print what it should")
     os.replace(made, file)
-    note.write_text(told_of(program, kit, file))
+    note.write_text(note_of(program, kit, file))
     screen.say(f"proved and built in {(time.monotonic() - begun) / 60:.1f} minutes")
 
 
