@@ -115,7 +115,7 @@ def faults_of_tables(crates):
             yield f"{name}: {crate} stands in {rows.count(crate)} rows"
     for folder in ("bench", "tools"):
         columns = re.findall(r"^\| ([^|]+) \|", (TOP / folder / "README.md").read_text(), re.MULTILINE)
-        told = {script for column in columns for script in re.findall(r"\w+\.(?:py|sh|c|rt\.txt)\b", column.replace("\\_", "_"))}
+        told = {script for column in columns for script in re.findall(r"\w+\.(?:py|sh|c|txt|rt\.txt)\b", column.replace("\\_", "_"))}
         files = [path for path in (TOP / folder).rglob("*") if path.suffix in (".py", ".sh", ".c", ".txt")]
         there = {path.name for path in files if not {"tests", "trials", "__pycache__"} & set(path.parts) and path.name != "__init__.py"}
         yield from (f"{folder}/README.md: no row has {script}" for script in sorted(there - told))
