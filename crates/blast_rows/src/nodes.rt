@@ -62,6 +62,7 @@ fn is_leaf_node(arena: &Arena, node: Node) -> bool
     requires { node < length arena.now }
     ensures { IsTrue result → IsTrue (each_variable is_chosen arena.now node) }
 {
+    // For the proof: recalls what the type promises of it.
     let _ = arena.len();
     is_leaf(&arena.shape(node))
 }
@@ -83,6 +84,7 @@ fn is_sample(arena: &Arena, node: Node) -> bool
     ensures there { IsTrue result → node < length arena.now }
     ensures own { IsTrue result → IsTrue (each_variable is_chosen arena.now node) }
 {
+    // For the proof: recalls what the type promises of it.
     let _ = arena.len();
     if !is_there(arena, node) {
         return false;

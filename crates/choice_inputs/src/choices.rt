@@ -110,6 +110,7 @@ pub fn choice_of_values(
     ensures is { IfOk result (λ choice. IsChoice vars.now choice) }
     ensures told { (root : Lit) → IsIn aig.now root → Solves (λ k. slice_index_or values.now k false) (clauses_for aig.now root) → IfOk result (λ choice. IsTold aig.now root choice) }
 {
+    // For the proof: recalls what the type promises of it.
     let _ = aig.len();
     let inputs = inputs_to(alloc, aig, values)?;
     choice_by(alloc, vars, &inputs)

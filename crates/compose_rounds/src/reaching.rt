@@ -39,6 +39,7 @@ fn named(
     ensures extends { Extends arena.old arena.new }
     ensures arena { IsArena arena.new }
 {
+    // For the proof: recalls what the type promises of it.
     let _ = arena.len();
     match name {
         VarName::Now(wire) => wire_node(arena, alloc, joins, scene, *wire, width),
@@ -61,6 +62,7 @@ fn variable(
     ensures extends { Extends arena.old arena.new }
     ensures arena { IsArena arena.new }
 {
+    // For the proof: recalls what the type promises of it.
     let _ = arena.len();
     let shape = arena.shape(node);
     match &shape {
@@ -89,6 +91,7 @@ fn reach(
     ensures extends { Extends arena.old arena.new }
     ensures arena { IsArena arena.new }
 {
+    // For the proof: recalls what the type promises of it.
     let _ = arena.len();
     replacer.begin(arena, root)?;
     let mut next = replacer.next_variable(arena, alloc)?;
@@ -119,6 +122,7 @@ pub fn reach_all(
     ensures extends { Extends arena.old arena.new }
     ensures arena { IsArena arena.new }
 {
+    // For the proof: recalls what the type promises of it.
     let _ = arena.len();
     'members: for at in 0..members.len() {
         reach(

@@ -71,6 +71,7 @@ fn round(
     ensures extends { Extends arena.old arena.new }
     ensures arena { IsArena arena.new }
 {
+    // For the proof: recalls what the type promises of it.
     let _ = arena.len();
     reach_all(arena, alloc, joins, scene, replacer, members)?;
     let same = put_all(replacer, &scene.values, members, &mut scene.nodes);
@@ -99,6 +100,7 @@ pub fn settle(
     ensures extends { Extends arena.old arena.new }
     ensures arena { IsArena arena.new }
 {
+    // For the proof: recalls what the type promises of it.
     let _ = arena.len();
     'rounds: for _round in 0..bits {
         if round(arena, alloc, joins, scene, replacer, members)? {

@@ -59,6 +59,7 @@ fn add_wire(
 {
     starts.push(told.len())?;
     'bits: for bit in 0..width {
+        // For the proof: recalls what the type promises of it.
         let _ = bit;
         told.push(None)?;
     }

@@ -37,6 +37,7 @@ fn own_gifts(
     requires fits { length (all_bits (widths_of flat.now.wires)) < 2 ^ 64 }
     ensures { IfOk result (λ gifts. gifts.items ≡ own_gifts flat.now) }
 {
+    // For the proof: recalls what the type promises of it.
     let _ = flat.arena.len();
     let mut gifts = Vec::new(alloc);
     give_drivers(alloc, joins, starts, flat.drivers.as_slice(), &mut gifts)?;

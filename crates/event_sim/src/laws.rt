@@ -16,5 +16,6 @@ pub fn steps_reach_the_least_settling(flat: &Flat)
     ensures few { (over : List ℕ) → FewChange flat.now over }
     ensures rest { (over : List ℕ) → RestIsLeast flat.now over }
 {
+    // For the proof: recalls what the type promises of it.
     let _ = flat.arena.len();
 }

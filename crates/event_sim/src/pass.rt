@@ -50,6 +50,7 @@ impl Work {
         ensures told { self.new.told ≡ self.old.told }
         ensures arena { IsArena arena.now }
     {
+        // For the proof: recalls what the type promises of it.
         let _ = arena.len();
         evaluate_all(gifts, arena, env, &mut self.memo);
     }

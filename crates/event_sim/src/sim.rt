@@ -108,6 +108,7 @@ impl Sim {
         ensures steps { self.new.steps ≡ 0 }
         ensures rests { IsFlat flat.now → (over : List ℕ) → Fits flat.now over self.old → AllElseRests flat.now over self.new }
     {
+        // For the proof: recalls what the type promises of it.
         let _ = flat;
         hold(&mut self.env, &prev.values, &stim.values);
         self.work.memo.clear();
@@ -182,6 +183,7 @@ impl Sim {
         ensures ended { result ≡ false → self.new.waiting.items ≡ [] }
         ensures changed { result ≡ true → now_values self.new ≢ now_values self.old }
     {
+        // For the proof: recalls what the type promises of it.
         let _ = flat.arena.len();
         'turns: while let Some(low) = take_first(&mut self.waiting) {
             if self.turn(flat, low) {

@@ -14,5 +14,6 @@ pub fn least_settling(flat: &Flat)
     ensures rises { (over : List ℕ) (stim prev more before now later : Store) → Under stim more → Under prev before
         → IsLeastSettling flat.now over stim prev now → IsLeastSettling flat.now over more before later → Under now later }
 {
+    // For the proof: recalls what the type promises of it.
     let _ = flat.arena.len();
 }

@@ -116,6 +116,7 @@ pub fn print_flat(alloc: Global, flat: &Flat) -> Result<Vec<u8>, AllocError>
     ensures printed { IfOk result (λ text. text.items ≡ printed flat.now) }
     ensures stands { IfOk result (λ text. FlatText text.items flat.now) }
 {
+    // For the proof: recalls what the type promises of it.
     let _ = flat.arena.len();
     let order = order_of(alloc, &flat.arena, flat.drivers.as_slice())?;
     let mut text = Vec::new(alloc);

@@ -12,6 +12,7 @@ ghost use Rattle.flat_read.specs.Laws.{SameDesign};
 pub fn legal_texts_break_nowhere(text: &[u8])
     ensures { (flat : Design) (n : ℕ) → FlatText text.now flat → BreaksAt text.now n → ⊥ }
 {
+    // For the proof: recalls what the type promises of it.
     let _ = text.len();
 }
 
@@ -19,6 +20,7 @@ pub fn legal_texts_break_nowhere(text: &[u8])
 pub fn one_line_breaks(text: &[u8])
     ensures { (m n : ℕ) → BreaksAt text.now m → BreaksAt text.now n → m ≡ n }
 {
+    // For the proof: recalls what the type promises of it.
     let _ = text.len();
 }
 
@@ -28,5 +30,6 @@ pub fn texts_stand_for_one_design(text: &[u8])
     ensures settles { (f g : Design) → IsArena f.arena → IsArena g.arena → IsFlat f → IsFlat g → FlatText text.now f → FlatText text.now g
         → (over : List ℕ) (stim prev now : Store) → Settles f over stim prev now → Settles g over stim prev now }
 {
+    // For the proof: recalls what the type promises of it.
     let _ = text.len();
 }

@@ -92,6 +92,7 @@ fn put_in(
     ensures extends { Extends arena.old arena.new }
     ensures arena { IfOk result (λ o. IsArena arena.new) }
 {
+    // For the proof: recalls what the type promises of it.
     let _ = arena.len();
     let renamed = rename(shape, numbers);
     if !arena.fits(&renamed) {
@@ -116,6 +117,7 @@ impl Reader {
         ensures holds { Holds (record { arena = []; wires = []; drivers = []; joins = [] }) result }
     {
         let arena = Arena::new(alloc);
+        // For the proof: recalls what the type promises of it.
         let _ = arena.len();
         Reader {
             alloc,

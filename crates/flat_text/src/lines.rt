@@ -88,6 +88,7 @@ fn numbers_fit(each: u8, add: i64)
     ensures each { each < 256 }
     ensures add { IsTrue (is_long add) }
 {
+    // For the proof: recalls what the type promises of it.
     let _ = each;
     let _ = add;
 }

@@ -32,6 +32,7 @@ pub fn gates_of(
     ensures told { IfOk result (λ p. AreTold vars.now arena.now (take count roots.now) (drop count roots.now) aig.new p.0 p.1) }
     ensures few { OnOk result (AreFew vars.now arena.now roots.now aig.new) }
 {
+    // For the proof: recalls what the type promises of it.
     let _ = arena.len();
     let rails = blast(alloc, arena, aig, roots, vars)?;
     let literals = literals(aig, &rails[..count], behind(&rails, count))?;

@@ -99,6 +99,7 @@ pub fn pose(
     ensures room { IfOk result (λ p. FitsRoom (goal_of arena.old vars.now samples.now hyps.now claims.now) p.aig) }
     ensures extends { Extends arena.old arena.new }
 {
+    // For the proof: recalls what the type promises of it.
     let _ = arena.len();
     let roots = joined(alloc, hyps, claims, samples)?;
     let by = by_samples(alloc, samples)?;

@@ -27,6 +27,7 @@ fn all_true(aig: &mut Aig, rails: &[Rails]) -> Result<Lit, AllocError>
     ensures grew { OnOk result (GrowsBy (2 * length rails.now) aig.old aig.new) }
     ensures none { IfOk result (λ l. rails.now ≡ [] → l ≡ constant_lit true) }
 {
+    // For the proof: recalls what the type promises of it.
     let _ = aig.len();
     let mut all = Lit::constant(true);
     'nodes: for part in rails {

@@ -1,5 +1,6 @@
 -- What comes of questions, and of the two questions of a goal.
-use Rattle.std.proofs.Common.{◌≡◌, ℕ, Bool, false, List, [], length, take, Option, Some, None, refl, sym, ◌∙◌, subst, arith, ⊎_elim, IsSomeAnd, IfNone, slice_index_or, ext_get_or, get_or-take, length-take-le}
+use Rattle.std.proofs.Common.{◌≡◌, ℕ, ◌≤◌, Bool, false, List, [], length, take, Option, Some, None, Result, Ok, Err, refl, sym, ◌∙◌, subst, arith, ⊎_elim, IsSomeAnd, IfOk, IfNone, slice_index_or, ext_get_or, get_or-take, length-take-le}
+use Rattle.std.specs.declared.alloc.AllocError.{AllocError}
 use Rattle.aig.specs.declared.gate.Gate.{Gate}
 use Rattle.aig.specs.declared.gate.Lit.{Lit}
 use Rattle.aig.specs.Graph.{IsGraph, IsIn, count_inputs}
@@ -11,6 +12,7 @@ use Rattle.cnf.specs.Clauses.{Solves}
 use Rattle.cnf.specs.Formula.{Formula}
 use Rattle.fourvec.specs.declared.Bit.{Bit}
 use Rattle.goal_gates.specs.Goals.{Goal, IsAnswer, IsBreaking, IsMeeting, Question}
+use Rattle.goal_gates.specs.Rooms.{FitsRoom, room}
 use Rattle.goal_gates.specs.declared.posing.Posed.{Posed}
 use Rattle.refute_check.specs.Accepted.{IsAccepted}
 use Rattle.refute_check.proofs.Refutes.{accepted_refutes}
@@ -24,9 +26,15 @@ use Rattle.svex_shape.specs.declared.shape.Shape.TheVariants.{Const}
 use Rattle.svtv_choices.specs.Choices.{bits_of}
 use Rattle.svtv_table.specs.Stimuli.{IsChoice}
 use Rattle.svtv_table.specs.declared.bound.VarDecl.{VarDecl}
-use Rattle.goal_prove.specs.Asked.{IsNever, IsSpent}
-use Rattle.goal_prove.specs.Verdicts.{IsPosed, IsProved, IsVacuous, IsUndecided}
+use Rattle.goal_prove.specs.Asked.{IsAnswered, IsNever, IsSpent}
+use Rattle.goal_prove.specs.Verdicts.{IsBrokenBy, IsPosed, IsProved, IsVacuous, IsUndecided}
+use Rattle.goal_prove.specs.declared.answers.Answer.{Answer}
+use Rattle.goal_prove.specs.declared.answers.Answer.TheVariants.{Found, Never, Spent}
 use Rattle.goal_prove.specs.declared.certs.Cert.{Cert}
+
+if_ok : {A E : Type 0} (r : Result A E) (P Q : A → Type 0) → IfOk r P → ((x : A) → P x → Q x) → IfOk r Q
+if_ok (Ok x) P Q h f = f x h
+if_ok (Err e) P Q h f = h
 
 -- ---- one question
 
@@ -92,6 +100,26 @@ undecided_by g posed q root budget cert p tells spent =
       clauses = spent.clauses;
       fresh = s.2;
     }
+
+-- ---- the first question alone
+
+pub broken_by : (g : Goal) (gates : List Gate) (root : Lit) (budget : Option ℕ) (r : Result Answer AllocError) → Tells g.vars (IsBreaking g) gates root → FitsRoom g gates → IfOk r (IsAnswered g.vars gates root budget) → IfOk r (IsBrokenBy g budget)
+broken_by g gates root budget r tells fits h = if_ok r (IsAnswered g.vars gates root budget) (IsBrokenBy g budget) h one
+  where
+    one : (a : Answer) → IsAnswered g.vars gates root budget a → IsBrokenBy g budget a
+    one (Found choice) x = (tells.told choice x.0).0 x.1
+    one (Never cert) x = ((λ choice m. x.none choice m.meets.is ((tells.told choice m.meets.is).1 m)), x.accepted)
+    one (Spent cert) x =
+        let s = some_given budget (λ n. IsFresh cert.cnf cert.log n) x.steps in
+        let own : Asks g.vars (IsTold gates root) cert.cnf = subst (Asks g.vars (IsTold gates root)) (sym x.clauses) (gates_ask g.vars gates root tells.graph tells.within tells.inputs) in
+        record {
+          n = s.0;
+          given = s.1;
+          many = x.many;
+          asks = asks_told g.vars (IsBreaking g) gates root cert.cnf tells own;
+          room = λ marks reached. subst (λ (f : Formula). f.vars ≤ room g marks) (sym x.clauses) (fits marks reached);
+          fresh = s.2;
+        }
 
 -- ---- the arena
 

@@ -1,5 +1,5 @@
 -- Which verdicts of a goal are right.
-use Rattle.std.specs.Prelude.{◌≡◌, ℕ, ◌<◌, ◌⊎◌, List, Option, Some}
+use Rattle.std.specs.Prelude.{◌≡◌, ℕ, ◌<◌, ◌≤◌, ◌⊎◌, Bool, List, Option, Some}
 use Rattle.std.specs.List.{All}
 use Rattle.choice_inputs.specs.Questions.{Asks, Tells, asking}
 use Rattle.fourvec.specs.declared.Bit.{Bit}
@@ -8,8 +8,11 @@ use Rattle.refute_check.specs.Certs.{Certificate}
 use Rattle.refute_check.specs.Fresh.{IsFresh}
 use Rattle.svtv_choices.specs.Choices.{bits_of}
 use Rattle.goal_gates.specs.Goals.{Goal, IsAnswer, IsBreaking, IsMeeting, IsOne, Question, some_breaks, some_meets}
-use Rattle.goal_gates.specs.Rooms.{FitsRoom}
+use Rattle.goal_gates.specs.Rooms.{AreReached, FitsRoom, room}
 use Rattle.goal_gates.specs.declared.posing.Posed.{Posed}
+use Rattle.goal_prove.specs.declared.answers.Answer.{Answer}
+use Rattle.goal_prove.specs.declared.answers.Answer.TheVariants as answer
+use Rattle.goal_prove.specs.declared.certs.Cert.{Cert}
 use Rattle.goal_prove.specs.declared.certs.Left.{Left}
 use Rattle.goal_prove.specs.declared.certs.Verdict.{Verdict}
 use Rattle.goal_prove.specs.declared.certs.Verdict.TheVariants.{Proved, Vacuous, Failed, Undecided}
@@ -46,6 +49,24 @@ IsRight g budget (Proved cert) = IsProved g cert
 IsRight g budget (Vacuous cert) = IsVacuous g cert
 IsRight g budget (Failed choice) = IsBreaking g choice
 IsRight g budget (Undecided left) = IsUndecided g budget left
+
+-- ---- the first question alone
+
+-- The budget is n and the variables have over 12 bits. The clauses ask whether some choice meets the hypotheses and breaks the claims, over no
+-- more variables than the goal has room for, and n new ones follow from them, one after the other.
+pub record IsLeft (g : Goal) (budget : Option ℕ) (cert : Cert) : Type 0 where
+  pub n : ℕ
+  pub given : budget ≡ Some n
+  pub many : 12 < bits_of g.vars
+  pub asks : Asks g.vars (IsBreaking g) cert.cnf
+  pub room : (marks : List Bool) → AreReached g marks → cert.cnf.vars ≤ room g marks
+  pub fresh : IsFresh cert.cnf cert.log n
+
+-- this choice meets the hypotheses and breaks the claims; none does; or the budget was used up
+abbrev pub IsBrokenBy : Goal → Option ℕ → Answer → Type 0
+IsBrokenBy g budget (answer.Found choice) = IsBreaking g choice
+IsBrokenBy g budget (answer.Never cert) = ((choice : List (List Bit)) → IsBreaking g choice → ⊥) × IsAccepted cert.cnf cert.log
+IsBrokenBy g budget (answer.Spent cert) = IsLeft g budget cert
 
 -- ---- words of the inner functions
 

@@ -1,4 +1,6 @@
 // Verdicts, and what shows that they are right.
+ghost use Rattle.std.specs.Prelude.{◌≡◌};
+
 use aig::{Aig, Lit};
 use cnf::Cnf;
 use fourvec::Four;
@@ -14,6 +16,17 @@ pub struct Cert {
 impl Drop for Cert {
     fn drop(self) {
         let Cert { cnf: _, log: _ } = self;
+    }
+}
+
+impl Cert {
+    /// The clauses and the log.
+    pub fn into_parts(self) -> (Cnf, Log)
+        ensures cnf { result.0 ≡ self.cnf }
+        ensures log { result.1 ≡ self.log }
+    {
+        let Cert { cnf, log } = self;
+        (cnf, log)
     }
 }
 

@@ -5,7 +5,7 @@
 ghost use Rattle.std.specs.Prelude.{◌≡◌, ◌<◌, ◌≤◌, ℕ, List, All, IfOk, IfSome, IsTrue, length};
 ghost use Rattle.aig.specs.Graph.{IsIn, count_inputs};
 ghost use Rattle.goal_gates.specs.Goals.{goal_of, is_chosen};
-ghost use Rattle.goal_prove.specs.Verdicts.{IsPosed, IsRight};
+ghost use Rattle.goal_prove.specs.Verdicts.{IsBrokenBy, IsPosed, IsRight};
 ghost use Rattle.goal_prove.specs.Asked.{IsNever};
 ghost use Rattle.choice_inputs.specs.Questions.{IsTold};
 ghost use Rattle.svex_shape.specs.declared.shape.Shape.{Shape};
@@ -76,6 +76,39 @@ fn decide(
         Answer::Never(cert) => second(alloc, posed, vars, budget, cert),
         Answer::Spent(cert) => Ok(undecided(posed, root, cert)),
     }
+}
+
+/// Whether some choice meets the hypotheses of a goal and breaks its claims: the first of its two questions alone. What is left has clauses that
+/// ask it, over no more variables than the goal has room for.
+pub fn ask_broken(
+    alloc: Global,
+    arena: &mut Arena,
+    vars: &[VarDecl],
+    samples: &[Node],
+    hyps: &[Node],
+    claims: &[Node],
+    budget: Option<u64>,
+) -> Result<Answer, AllocError>
+    requires widths { All (λ var. HasWidth var.width) vars.now }
+    requires samples { All (λ node. node < length arena.old) samples.now }
+    requires chosen { All (λ node. IsTrue (each_variable is_chosen arena.old node)) samples.now }
+    requires hyps { All (λ node. node < length arena.old) hyps.now }
+    requires claims { All (λ node. node < length arena.old) claims.now }
+    requires one_bit { All (λ node. width_at arena.old node ≡ 1) hyps.now }
+    requires one_bit_claims { All (λ node. width_at arena.old node ≡ 1) claims.now }
+    requires budget { IfSome budget (λ n. 0 < n) }
+
+    // Some choice does, or none, or the budget was used up.
+    ensures answer { IfOk result (IsBrokenBy (goal_of arena.old vars.now samples.now hyps.now claims.now) budget) }
+
+    // The arena is as it was, whatever is answered.
+    ensures same { arena.new ≡ arena.old }
+{
+    let len = arena.len();
+    let posed = pose(alloc, arena, vars, samples, hyps, claims);
+    arena.cut(len);
+    let posed = posed?;
+    ask(alloc, &posed.aig, posed.breaks, vars, budget)
 }
 
 /// Decides a goal whose hypotheses and claims are nodes of one bit, over the variables of a table and its samples: a failure shows a

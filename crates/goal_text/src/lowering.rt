@@ -25,7 +25,7 @@ use std::alloc::{AllocError, Global};
 use sv_lower::{Look, lower};
 use sv_modules::NameSet;
 use sv_names::Names;
-use sv_outside::TextErr;
+use sv_outside::{TextErr, refusals};
 use sv_tree::{Expr, Word};
 use sv_typed::Typed;
 use sv_typing::{Position, refusal, typed};
@@ -96,7 +96,7 @@ fn note(names: &mut NameSet, word: &Word) -> Result<(), TextErr>
     ensures cause { IfErr result (λ e. IsCause (fault_if (holds names.old word.now.text) twice_goal word.now.place) e) }
 {
     if names.has(word.text.bytes()) {
-        return Err(TextErr::No(refusal(34, word.place)));
+        return Err(TextErr::No(refusal(refusals::GOAL_TWICE, word.place)));
     }
     names.add(word.text.bytes())?;
     Ok(())

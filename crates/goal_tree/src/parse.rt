@@ -10,7 +10,7 @@ use crate::tree::GoalTree;
 use items::Items;
 use std::alloc::Global;
 use sv_cursor::{ParseErr, place_at, refusal, syntax_number};
-use sv_outside::{Place, TextErr, Token};
+use sv_outside::{Place, TextErr, Token, refusals};
 
 // The goals of all tokens, or where reading stops.
 #[tactic(auto, using(crate::proofs::Parsed::read_as))]
@@ -26,10 +26,10 @@ fn read(alloc: Global, tokens: &[Token]) -> Result<Items<GoalTree>, ParseErr>
 fn number_at(tokens: &[Token], at: usize) -> u8
     ensures { result ≡ spec.number_of (slice_get tokens.now at) }
 {
-    if syntax_number(tokens, at) == 25 {
-        25
+    if syntax_number(tokens, at) == refusals::OUT_OF_SCOPE {
+        refusals::OUT_OF_SCOPE
     } else {
-        33
+        refusals::GOAL_SYNTAX
     }
 }
 
@@ -60,7 +60,7 @@ fn nested(tokens: &[Token], end: Place, deep: usize, left: usize) -> TextErr
     requires { AreRead tokens.now (Err (ParseErr.TooDeep deep left)) }
     ensures { AreGoals tokens.now end (Err result) }
 {
-    refusal(9, place_before(tokens, end, deep))
+    refusal(refusals::TOO_DEEP, place_before(tokens, end, deep))
 }
 
 // What a refusal says of all the tokens.

@@ -123,6 +123,7 @@ impl IdxList {
         ensures distinct { AllPairs ◌≢◌ self.now.items }
         ensures below { All (λ x. x < self.now.room) self.now.items }
     {
+        // For the proof: recalls what the type promises of it.
         let _ = &self.links;
     }
 }

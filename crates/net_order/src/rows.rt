@@ -144,6 +144,7 @@ fn node_row(
     ensures { IfOk result (λ row. IsNodeRow joins.now tellers.now.segs.items (length used.now.nodes.items) (slice_index used.now.places.items)
         (shape_at arena.now node) row) }
 {
+    // For the proof: recalls what the type promises of it.
     let _ = arena.len();
     let shape = arena.shape(Node::new(node));
     match &shape {
@@ -218,6 +219,7 @@ pub fn graph_of(
     requires { IsResolved joins.now arena.now set.now }
     ensures { IfOk result (λ graph. AreRows joins.now arena.now set.now.eqs graph.nodes graph.rows.items) }
 {
+    // For the proof: recalls what the type promises of it.
     let _ = arena.len();
     let eqs = set.eqs.as_slice();
     let tellers = Tellers::new(alloc, eqs)?;

@@ -66,6 +66,7 @@ fn laid(
     ensures kept { IsGrown flat.old flat.new }
     ensures laid { IfOk result (λ set. (over : List ℕ) → AreTables flat.old over tables.now → IsLaid flat.old over flat.new.arena set) }
 {
+    // For the proof: recalls what the type promises of it.
     let _ = flat.arena.len();
     let bits = row_of(alloc, widths)?;
     let free = free_segs(alloc, &bits, widths, &tables.homes, &tables.lows)?;
@@ -116,6 +117,7 @@ pub fn resolve(alloc: Global, flat: &mut Flat, over: &[usize]) -> Result<Resolve
     // Values mention in the present exactly what the drivers of a bit joined to one of theirs do.
     ensures mentions { IfOk result (λ set. All (λ e. (wire : ℕ) → Mentions flat.new.arena e.value wire ↔ IsReadFor flat.old over.now e.seg wire) set.eqs) }
 {
+    // For the proof: recalls what the type promises of it.
     let _ = flat.arena.len();
     let widths = wire_widths(alloc, flat.wires.as_slice())?;
     let tables = tables(alloc, flat, over, &widths)?;

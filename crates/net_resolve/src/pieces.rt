@@ -104,6 +104,7 @@ fn source_node(
     ensures arena { IsArena arena.new }
     ensures made { IfOk result (λ n. IsSource (widths_of wires.now) arena.old gift.now arena.new n) }
 {
+    // For the proof: recalls what the type promises of it.
     let _ = arena.len();
     match gift.from {
         Source::Value(node) => Ok(node),
@@ -129,6 +130,7 @@ fn part_node(
     ensures arena { IsArena arena.new }
     ensures made { IfOk result (λ n. IsMade (widths_of wires.now) arena.old (IsOne gift.now) width (part_value (widths_of wires.now) arena.old gift.now width) arena.new n) }
 {
+    // For the proof: recalls what the type promises of it.
     let _ = arena.len();
     let of = source_node(alloc, arena, wires, gift)?;
     if arena.width(of) == width {
@@ -152,6 +154,7 @@ fn resolution(alloc: Global, arena: &mut Arena, a: Node, b: Node) -> Result<Node
     ensures arena { IsArena arena.new }
     ensures pair { IfOk result (λ n. IsPair Res arena.old arena.new a b n) }
 {
+    // For the proof: recalls what the type promises of it.
     let _ = arena.len();
     let node = arena.intern(alloc, Shape::Binary(Bin::Res, a, b))?;
     Ok(node)
@@ -166,6 +169,7 @@ fn above(alloc: Global, arena: &mut Arena, high: Node, low: Node) -> Result<Node
     ensures arena { IsArena arena.new }
     ensures pair { IfOk result (λ n. IsPair Concat arena.old arena.new high low n) }
 {
+    // For the proof: recalls what the type promises of it.
     let _ = arena.len();
     let node = arena.intern(alloc, Shape::Binary(Bin::Concat, high, low))?;
     Ok(node)
@@ -187,6 +191,7 @@ fn row_node(
     ensures arena { IsArena arena.new }
     ensures made { IfOk result (λ n. IsMade (widths_of wires.now) arena.old (Contains row.now) width (row_value (widths_of wires.now) arena.old row.now width) arena.new n) }
 {
+    // For the proof: recalls what the type promises of it.
     let _ = arena.len();
     let mut node = part_node(alloc, arena, wires, &row[0], width)?;
     'gifts: for at in 1..row.len() {
@@ -230,6 +235,7 @@ fn run_node(
     ensures arena { IsArena arena.new }
     ensures made { IfOk result (λ n. IsMade (widths_of wires.now) arena.old (HasInRun (gift_rows rows.now) low width) width (run_value (widths_of wires.now) arena.old (gift_rows rows.now) low width) arena.new n) }
 {
+    // For the proof: recalls what the type promises of it.
     let _ = arena.len();
     let mut at = piece_width(rows, low, width);
     let mut node = piece_node(alloc, arena, wires, rows, low, at)?;
@@ -262,6 +268,7 @@ pub fn equations(
     ensures made { IfOk result (λ eqs. AreMade (widths_of wires.now) arena.old (gift_rows rows.now) nets.now segs.now arena.new (map (λ e. e.value) eqs.items)) }
 {
     let mut eqs = Vec::new(alloc);
+    // For the proof: recalls what the type promises of it.
     let _ = arena.len();
     'nets: for net in 0..segs.len() {
         let seg = segs[net];

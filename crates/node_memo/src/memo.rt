@@ -130,6 +130,7 @@ impl Memo {
         ensures kept { KeepsUp self.old self.new }
         ensures less { stale_marks self.new.fresh.items < stale_marks self.old.fresh.items }
     {
+        // For the proof: recalls what the type promises of it.
         let _ = arena.len();
         let _ = self.path.pop();
         let shape = arena.shape(Node::new(node));
@@ -188,6 +189,7 @@ impl Memo {
         ensures forgotten { IsForgotten self.old node self.new }
         ensures inside { All (λ k. k < length arena.now) self.new.stale.items }
     {
+        // For the proof: recalls what the type promises of it.
         let _ = arena.len();
         self.stale.clear();
         drop_one(node, &mut self.fresh, &mut self.stale);

@@ -57,6 +57,7 @@ impl Replacer {
         ensures extends { Extends arena.old arena.new }
         ensures arena { IsArena arena.new }
     {
+        // For the proof: recalls what the type promises of it.
         let _ = arena.len();
         self.begin(arena, root)?;
         let mut next = self.next_variable(arena, alloc)?;

@@ -221,6 +221,7 @@ impl Replacer {
         ensures walk { OnOk result (IsWalk arena.now self.new) }
         ensures begins { OnOk result (Begins arena.now self.old root self.new) }
     {
+        // For the proof: recalls what the type promises of it.
         let _ = arena;
         if self.marks[root.index()] {
             return Ok(());
@@ -243,6 +244,7 @@ impl Replacer {
         ensures extends { Extends arena.old arena.new }
         ensures arena { IsArena arena.new }
     {
+        // For the proof: recalls what the type promises of it.
         let _ = arena.len();
         'path: while 0 < self.path.len() {
             let node = self.path[self.path.len() - 1];
@@ -268,6 +270,7 @@ impl Replacer {
         ensures given { OnOk result (IsGiven arena.now self.old variable answer loose self.new) }
         ensures less { OnOk result (work_left self.new < work_left self.old) }
     {
+        // For the proof: recalls what the type promises of it.
         let _ = arena;
         self.leave(variable.index(), answer, loose)
     }

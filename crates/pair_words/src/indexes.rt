@@ -85,6 +85,7 @@ fn plain_index(
     ensures back { IfOk result (λ x. Obeyed aig.new (λ v. holds v x.back ≡ back_of spot.now (truths v at.now))) }
     ensures far { IfOk result (λ x. Obeyed aig.new (λ v. number v x.far.items ≡ far_of spot.now (truths v at.now))) }
 {
+    // For the proof: recalls what the type promises of it.
     let _ = aig.len();
     let far = Vec::from_slice(alloc, at)?;
     Ok(Aim {

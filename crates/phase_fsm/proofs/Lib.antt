@@ -7,3 +7,4 @@ pub mod Depending
 pub mod Excluding
 pub mod Backs
 pub mod Steps
+pub mod Standing

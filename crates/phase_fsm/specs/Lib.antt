@@ -1,2 +1,3 @@
 pub mod Machines
 pub mod Sets
+pub mod Firsts

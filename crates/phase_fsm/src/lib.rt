@@ -2,8 +2,10 @@
 //! before and what comes from outside.
 #![tactic(auto)]
 
+mod firsts;
 mod laws;
 mod machine;
 
+pub use firsts::firsts_of;
 pub use laws::groups_exclude;
 pub use machine::{Fsm, make_fsm};

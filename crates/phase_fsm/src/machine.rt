@@ -43,7 +43,8 @@ impl Drop for Fsm {
     }
 }
 
-fn joins_of(alloc: Global, flat: &Flat, widths: &[u8]) -> Result<Joins, AllocError>
+/// The joins of a design, made.
+pub(crate) fn joins_of(alloc: Global, flat: &Flat, widths: &[u8]) -> Result<Joins, AllocError>
     requires flat { IsFlat flat.now }
     requires widths { widths.now ≡ widths_of flat.now.wires }
     ensures widths { IfOk result (λ joins. joined_widths joins ≡ widths_of flat.now.wires) }
@@ -94,6 +95,7 @@ fn all_nodes(
     ensures narrow { IfOk result (λ nodes. AreNarrow flat.old sets.now (length sets.now)) }
     ensures wide { (bits : ℕ) → result ≡ Err (LoopTooWide bits) → IsFirstWide flat.old sets.now bits }
 {
+    // For the proof: recalls what the type promises of it.
     let _ = flat.arena.len();
     let mut nodes = Items::new(alloc);
     'sets: for at in 0..sets.len() {

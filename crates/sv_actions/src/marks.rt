@@ -8,7 +8,7 @@ ghost use Rattle.sv_typing.specs.Judging.{IsCause};
 ghost use Rattle.sv_actions.specs.Listing.{JudgesFaults, else_marks, faults_in, arm_marks, else_mark, first_in, arm_mark};
 
 use items::Boxed;
-use sv_outside::{Place, TextErr};
+use sv_outside::{Place, TextErr, refusals};
 use sv_tree::{Arm, AssignMark, Stmt};
 use sv_typing::refusal;
 
@@ -31,7 +31,7 @@ fn mark_at(mark: AssignMark, given: AssignMark, place: Place) -> Result<(), Text
     if is_mark(mark, given) {
         Ok(())
     } else {
-        Err(TextErr::No(refusal(24, place)))
+        Err(TextErr::No(refusal(refusals::WRONG_ASSIGN, place)))
     }
 }
 

@@ -6,7 +6,7 @@ ghost use Rattle.sv_actions.specs.Listing.{JudgesFaults, made_behind, arms_behin
 use crate::arms::ActedArms;
 use crate::statements::Acted;
 use sv_loops::MOST_TURNS_TOGETHER;
-use sv_outside::{Place, TextErr};
+use sv_outside::{Place, TextErr, refusals};
 use sv_typing::refusal;
 
 /// Whether the loop at a place may make a turn more, or E20.
@@ -14,7 +14,7 @@ pub(crate) fn one_more(place: Place, made: u64) -> Result<(), TextErr>
     ensures { JudgesFaults (turn_faults place made) result }
 {
     if MOST_TURNS_TOGETHER <= made {
-        Err(TextErr::No(refusal(20, place)))
+        Err(TextErr::No(refusal(refusals::LOOP_LONG, place)))
     } else {
         Ok(())
     }

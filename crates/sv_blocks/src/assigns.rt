@@ -76,6 +76,7 @@ fn write_target(
     ensures wrote { OnOk result (Wrote scene.now arena.old arena.new state.old.nodes state.new.nodes target.now part) }
     ensures kept { OnOk result (over kept.new state.new.nodes ≡ over kept.old state.old.nodes) }
 {
+    // For the proof: recalls what the type promises of it.
     let _ = arena.len();
     let at = place_of(scene, target.wire);
     let old = state.nodes.as_slice()[at];
@@ -89,6 +90,7 @@ fn write_target(
         part,
     )?;
     put_node(alloc, arena, scene, state, at, node, kept)?;
+    // For the proof: recalls what the type promises of it.
     let _ = arena.len();
     Ok(())
 }
@@ -127,6 +129,7 @@ fn write_targets(
     ensures wrote { OnOk result (WroteAll scene.now arena.old arena.new state.old.nodes state.new.nodes targets.now whole) }
     ensures kept { OnOk result (over kept.new state.new.nodes ≡ over kept.old state.old.nodes) }
 {
+    // For the proof: recalls what the type promises of it.
     let _ = arena.len();
     let mut left = arena.width(whole);
     'targets: for target in targets {

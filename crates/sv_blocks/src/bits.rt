@@ -81,6 +81,7 @@ fn arm_bits(
     requires { All (ArmFits case.now) arms.now }
     ensures { OnOk result (bits.new.items ≡ bits.old.items ++ arms_bits arms.now) }
 {
+    // For the proof: recalls what the type promises of it.
     let _ = case.masked;
     'arms: for arm in arms {
         all_bits(alloc, arm.body.as_slice(), bits)?;
@@ -103,6 +104,7 @@ fn mark_place(scene: &Scene, bit: &WireBit) -> usize
     ensures is { IsMarkOf scene.now bit.now result }
     ensures within { result < length scene.now.marks }
 {
+    // For the proof: recalls what the type promises of it.
     let _ = scene.marks.len();
     let at = place_of(scene, bit.wire);
     at * 128 + bit.at as usize

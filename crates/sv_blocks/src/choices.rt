@@ -34,6 +34,7 @@ fn chosen(
     ensures stays { Extends arena.old arena.new }
     ensures ok { IfOk result (λ n. FromThree arena.old arena.new (λ c x y. pick_of c x y) truth a b (width_at arena.old a) n) }
 {
+    // For the proof: recalls what the type promises of it.
     let _ = arena.len();
     if a == b {
         return Ok(a);
@@ -60,6 +61,7 @@ pub fn merged(
     ensures stays { Extends arena.old arena.new }
     ensures ok { IfOk result (λ nodes. Merges scene.now arena.old arena.new truth a.now b.now nodes) }
 {
+    // For the proof: recalls what the type promises of it.
     let _ = scene.wires.len();
     let _ = arena.len();
     let mut nodes = Items::new(alloc);
@@ -91,6 +93,7 @@ fn choose_at(
     ensures chosen { OnOk result (at < length nodes.now → ChosenAt arena.old arena.new truth (over a.now nodes.now) (over b.now nodes.now) (over both.new nodes.now) at) }
     ensures others { OnOk result ((i : ℕ) → i ≢ at → entry_at both.new i ≡ entry_at both.old i) }
 {
+    // For the proof: recalls what the type promises of it.
     let _ = scene.wires.len();
     if at >= nodes.len() {
         return Ok(());
@@ -124,6 +127,7 @@ fn choose_places(
     ensures stays { Extends arena.old arena.new }
     ensures ok { IfOk result (λ both. Merges scene.now arena.old arena.new truth (over a.now nodes.now) (over b.now nodes.now) (over both nodes.now)) }
 {
+    // For the proof: recalls what the type promises of it.
     let _ = scene.wires.len();
     let _ = arena.len();
     let mut both = Overlay::new(alloc);

@@ -61,6 +61,7 @@ fn driver_of(
     ensures stays { Extends arena.old arena.new }
     ensures ok { IfOk result (λ d. Drives scene.now arena.old arena.new nodes.now (seg_bits (run_seg first count)) d) }
 {
+    // For the proof: recalls what the type promises of it.
     let _ = arena.len();
     let place = place_of(scene, first.wire);
     let value = sliced(alloc, arena, nodes[place], first.at, count)?;

@@ -168,6 +168,7 @@ fn below_rest(
     ensures stays { Extends arena.old arena.new }
     ensures ok { IfOk result (λ n. FromTwo arena.old arena.new (λ v l. l ++ drop from v) of low (width_at arena.old of) n) }
 {
+    // For the proof: recalls what the type promises of it.
     let _ = arena.len();
     let size = arena.width(of);
     if from == size {
@@ -191,6 +192,7 @@ fn laid(
     ensures stays { Extends arena.old arena.new }
     ensures ok { IfOk result (λ n. FromTwo arena.old arena.new (λ v put. overlaid v (reached place.below place.far) put) of part (width_at arena.old of) n) }
 {
+    // For the proof: recalls what the type promises of it.
     let _ = arena.len();
     let lay = lay_of(arena.width(of), place, arena.width(part));
     if lay.inside == 0 {
@@ -218,6 +220,7 @@ fn moved(
     ensures stays { Extends arena.old arena.new }
     ensures ok { IfOk result (λ n. FromThree arena.old arena.new (λ i v p. dyn_put_of v i spot.now p) at of put (width_at arena.old of) n) }
 {
+    // For the proof: recalls what the type promises of it.
     let _ = arena.len();
     let shape = Shape::DynPut {
         of,

@@ -111,6 +111,7 @@ fn mixed(
     let mut from = run_end(marks, at, 0, width);
     let mut whole = side(alloc, arena, marks, at, stored, now, 0, from)?;
     'runs: while from < width {
+        // For the proof: recalls what the type promises of it.
         let _ = arena.len();
         let end = run_end(marks, at, from, width);
         let part = side(alloc, arena, marks, at, stored, now, from, end - from)?;

@@ -12,7 +12,7 @@ ghost use Rattle.sv_const.specs.Sizes.{JudgesConstant, JudgesSize};
 
 use std::alloc::Global;
 use sv_names::{Cursor, Each, Known, Layout, Names, Size};
-use sv_outside::{Place, TextErr};
+use sv_outside::{Place, TextErr, refusals};
 use sv_tree::{Expr, Select};
 use sv_typed::Typed;
 use sv_typing::{Chain, Fixed, IndexRule, Position, chain_behind, fixed, refusal, start, typed};
@@ -43,7 +43,7 @@ fn constant_of(start: Place, width: u8, x: Result<Typed, TextErr>) -> Result<Kno
     if known.value.is_bool() {
         Ok(known)
     } else {
-        Err(TextErr::No(refusal(15, start)))
+        Err(TextErr::No(refusal(refusals::CONST_UNKNOWN, start)))
     }
 }
 

@@ -4,7 +4,7 @@ ghost use Rattle.sv_cursor.specs.Refusals as spec;
 
 use crate::sort::Sort;
 use crate::sorts::{same, sort_of};
-use sv_outside::{Kind, Place, Refusal, TextErr, Token};
+use sv_outside::{Kind, Place, Refusal, TextErr, Token, refusals};
 
 #[tactic(auto, unfolding(crate::specs::Refusals::is_listed_mark))]
 fn is_listed_mark(text: &[u8]) -> bool
@@ -55,8 +55,14 @@ pub fn syntax_number(tokens: &[Token], at: usize) -> u8
     ensures { result ≡ spec.syntax_number_of (slice_get tokens.now at) }
 {
     match tokens.get(at) {
-        Some(token) => { if is_listed(token) { 25 } else { 8 } }
-        None => 8,
+        Some(token) => {
+            if is_listed(token) {
+                refusals::OUT_OF_SCOPE
+            } else {
+                refusals::SYNTAX
+            }
+        }
+        None => refusals::SYNTAX,
     }
 }
 

@@ -41,6 +41,7 @@ fn valued(
     ensures is { (f : Faults) (ts : List t.Target) → IsLowered f ts target.now
         → JudgesSupply widths.now (wires_named (mean (names_are names.now) value.now).names) arena.new (assigned_to ts (mean (names_are names.now) value.now)) ((mean (names_are names.now) value.now).faults false) result }
 {
+    // For the proof: recalls what the type promises of it.
     let _ = arena.len();
     let node = lower_expr(alloc, arena, value, names, target.width as u8)?;
     let all = part_drivers(alloc, arena, target.parts.as_slice(), node)?;
@@ -62,6 +63,7 @@ pub(crate) fn assigned(
         (assigned_to (t.assigned_targets (names_are names.now) target.now) (mean (names_are names.now) value.now))
         (t.assigned_faults (names_are names.now) target.now ++ (mean (names_are names.now) value.now).faults false) result }
 {
+    // For the proof: recalls what the type promises of it.
     let _ = arena.len();
     let target = target_of(alloc, target, names)?;
     valued(alloc, arena, widths, &target, value, names)

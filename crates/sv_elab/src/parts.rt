@@ -39,6 +39,7 @@ fn part_driver(
     ensures stays { Extends arena.old arena.new }
     ensures ok { (widths : List ℕ) → LieIn widths part.now.to → IfOk result (λ d. Puts widths arena.old arena.new value part.now d) }
 {
+    // For the proof: recalls what the type promises of it.
     let _ = arena.width(value);
     let count = bits_of(&part.to);
     let lo = part.lo as u8;
@@ -61,6 +62,7 @@ pub(crate) fn part_drivers(
     ensures ok { (widths : List ℕ) (slots : Slots) → All (λ p. LieIn widths p.to) parts.now → AreParts slots parts.now
         → IfOk result (λ all. Fills widths arena.old arena.new value slots all) }
 {
+    // For the proof: recalls what the type promises of it.
     let _ = arena.len();
     let mut all = Items::new(alloc);
     'parts: for part in parts {

@@ -31,7 +31,7 @@ use items::Items;
 use std::alloc::{AllocError, Global};
 use sv_lower::{Look, lower_assigned};
 use sv_names::Names;
-use sv_outside::TextErr;
+use sv_outside::{TextErr, refusals};
 use sv_stmt::lower_expr;
 use sv_targets::{Target, target_of_actual};
 use sv_tree::{Expr, Way};
@@ -65,6 +65,7 @@ fn input(
     ensures is { (x : Meant) → m.width x ≡ port.width
         → JudgesSupply widths.now (wires_named (mean (names_are names.now) actual.now).names) arena.new (port_gives ways.Input (names_are names.now) port.wire x actual.now) ((mean (names_are names.now) actual.now).faults false) result }
 {
+    // For the proof: recalls what the type promises of it.
     let _ = arena.len();
     let target = whole_wire(alloc, port.wire, port.width)?;
     let value = lower_expr(alloc, arena, actual, names, port.width)?;
@@ -92,6 +93,7 @@ fn output(
     ensures is { (f : Faults) (ts : List t.Target) (x : Meant) → IsLowered f ts target.now → m.width x ≡ port.width → m.is_signed x ≡ port.signed
         → IfOk result (λ all. Supplies widths.now (port.wire ∷ []) arena.new (assigned_to ts (named no_word (Some (signal_is of_wires port.wire x)) [])) all) }
 {
+    // For the proof: recalls what the type promises of it.
     let _ = arena.len();
     let root = Root::Signal {
         origin: Origin::Wires,
@@ -112,7 +114,7 @@ fn not_joined(alloc: Global, actual: &Expr, names: &Names<'_>) -> TextErr
     if let Err(why) = typed(alloc, actual, names, Position::Free) {
         return why;
     }
-    TextErr::No(refusal(19, start(actual)))
+    TextErr::No(refusal(refusals::BAD_TARGET, start(actual)))
 }
 
 // A port whose actual is a target, which it is joined to or else assigned.
@@ -173,6 +175,7 @@ pub(crate) fn connected(
     ensures is { (wires : List Signal) (x : Meant) → widths_of wires ≡ widths.now → m.width x ≡ port.width → m.is_signed x ≡ port.signed
         → JudgesWork wires (d.port (names_are names.now) port.way port.wire x actual.now) made arena.new result }
 {
+    // For the proof: recalls what the type promises of it.
     let _ = arena.len();
     match target_of_actual(alloc, actual, names, port.way) {
         Ok(target) => to_target(alloc, arena, widths, port, &target, actual, names, made),

@@ -79,6 +79,7 @@ fn port_parts(
     ensures is { (wires : List Signal) → widths_of wires ≡ widths.now
         → JudgesWork wires (d.port (names_are names.now) way wire (layout_is layout.now) (actual_is actual.entry)) made arena.new result }
 {
+    // For the proof: recalls what the type promises of it.
     let _ = arena.len();
     let width = widths[wire];
     let port = Port {

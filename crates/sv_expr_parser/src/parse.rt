@@ -10,7 +10,7 @@ use crate::ends::last_end;
 use std::alloc::Global;
 use sv_cursor::{Cursor, ParseErr, place_at, refusal, syntax_number};
 use sv_expr_reader::expr;
-use sv_outside::{Place, TextErr, Token};
+use sv_outside::{Place, TextErr, Token, refusals};
 use sv_tree::Expr;
 
 /// How many expressions may hold a token (this project's rule).
@@ -141,7 +141,7 @@ pub fn parse_expr(
         }
         Err(ParseErr::TooDeep(deep, _)) => {
             let stop = tokens.len() - deep;
-            Err(refusal(9, place_at(tokens, end, stop)))
+            Err(refusal(refusals::TOO_DEEP, place_at(tokens, end, stop)))
         }
         Err(ParseErr::Memory) => Err(TextErr::Memory),
     }

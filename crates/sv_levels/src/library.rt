@@ -15,7 +15,7 @@ use crate::tasks::Child;
 use items::Items;
 use std::alloc::Global;
 use sv_modules::{Connection, Modules, connections, open_params};
-use sv_outside::TextErr;
+use sv_outside::{TextErr, refusals};
 use sv_tree::{Module, Pins};
 use sv_typing::refusal;
 
@@ -124,7 +124,7 @@ impl<'a> Library<'a> {
     {
         match self.named(child.of_module.text.bytes()) {
             Some(known) => Ok(known),
-            None => Err(TextErr::No(refusal(11, child.of_module.place))),
+            None => Err(TextErr::No(refusal(refusals::UNKNOWN_MODULE, child.of_module.place))),
         }
     }
 }

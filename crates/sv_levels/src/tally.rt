@@ -6,7 +6,7 @@ ghost use Rattle.sv_hierarchy.specs.Scopes.{size_faults};
 ghost use Rattle.sv_loops.specs.Answers.{Answers};
 
 use sv_loops::MOST_TURNS_TOGETHER;
-use sv_outside::{Place, TextErr};
+use sv_outside::{Place, TextErr, refusals};
 use sv_typing::refusal;
 
 /// The bits of all wires with the instances below the top, at most.
@@ -35,7 +35,7 @@ impl Tally {
     {
         let bits = self.bits.saturating_add(more);
         if bits > MOST_BITS {
-            return Err(TextErr::No(refusal(22, place)));
+            return Err(TextErr::No(refusal(refusals::TOO_MANY_BITS, place)));
         }
         Ok(Tally {
             bits,
@@ -48,7 +48,7 @@ impl Tally {
         ensures { Answers (λ n t. (t.turns ≡ n) × (t.bits ≡ self.bits)) (provided (turn_faults place self.turns) (suc self.turns)) result }
     {
         if self.turns >= MOST_TURNS_TOGETHER {
-            return Err(TextErr::No(refusal(20, place)));
+            return Err(TextErr::No(refusal(refusals::LOOP_LONG, place)));
         }
         Ok(Tally {
             bits: self.bits,

@@ -12,7 +12,7 @@ ghost use Rattle.sv_loops.specs.Answers.{Gives};
 use fourvec::{Bit, Four};
 use std::alloc::Global;
 use sv_names::Names;
-use sv_outside::{Place, TextErr};
+use sv_outside::{Place, TextErr, refusals};
 use sv_tree::Expr;
 use sv_typed::Typed;
 use sv_typing::{Position, refusal, start, typed};
@@ -29,7 +29,7 @@ pub(crate) fn low_bits(start: Place, x: Result<Typed, TextErr>) -> Result<Four, 
     if bits.is_bool() {
         Ok(bits)
     } else {
-        Err(TextErr::No(refusal(15, start)))
+        Err(TextErr::No(refusal(refusals::CONST_UNKNOWN, start)))
     }
 }
 
@@ -54,7 +54,7 @@ fn truth_of(start: Place, x: Result<Typed, TextErr>) -> Result<bool, TextErr>
     if value.is_bool() {
         Ok(is_taken(&value))
     } else {
-        Err(TextErr::No(refusal(15, start)))
+        Err(TextErr::No(refusal(refusals::CONST_UNKNOWN, start)))
     }
 }
 

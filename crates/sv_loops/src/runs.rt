@@ -15,7 +15,7 @@ use fourvec::Four;
 use items::Items;
 use std::alloc::Global;
 use sv_names::{Known, Names};
-use sv_outside::{Place, TextErr};
+use sv_outside::{Place, TextErr, refusals};
 use sv_tree::{Expr, Step, Word};
 use sv_typing::refusal;
 
@@ -110,7 +110,7 @@ fn turns_from(
     let mut taken = holds_at(alloc, names, variable, bits, test)?;
     'turns: while taken {
         if values.len() == MOST_TURNS {
-            return Err(TextErr::No(refusal(20, place)));
+            return Err(TextErr::No(refusal(refusals::LOOP_LONG, place)));
         }
         values.push(bits)?;
         let value = following(alloc, names, variable, bits, next)?;

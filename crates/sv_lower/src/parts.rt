@@ -38,6 +38,7 @@ pub fn sliced(
     ensures stays { Extends arena.old arena.new }
     ensures ok { IfOk result (λ n. FromOne arena.old arena.new (λ v. slice_of v lo width) a width n) }
 {
+    // For the proof: recalls what the type promises of it.
     let _ = arena.len();
     if arena.width(a) == width {
         Ok(a)
@@ -138,6 +139,7 @@ pub fn windowed(
     ensures stays { Extends arena.old arena.new }
     ensures ok { IfOk result (λ n. FromOne arena.old arena.new (λ v. window v (reached place.below place.far) width) a width n) }
 {
+    // For the proof: recalls what the type promises of it.
     let _ = arena.len();
     let span = span_of(arena.width(a), place, width);
     if span.inside == 0 {

@@ -48,6 +48,7 @@ pub fn part_at_constant(
     ensures stays { Extends arena.old arena.new }
     ensures ok { IfOk result (λ n. FromOne arena.old arena.new (λ v. dyn_slice_of v index.now spot.now) of spot.now.width n) }
 {
+    // For the proof: recalls what the type promises of it.
     let _ = arena.len();
     if !index.is_bool() {
         let node = unknown(alloc, arena, spot.width)?;

@@ -24,6 +24,7 @@ pub fn extended(
     ensures stays { Extends arena.old arena.new }
     ensures ok { IfOk result (λ n. FromOne arena.old arena.new (extend signed width) a width n) }
 {
+    // For the proof: recalls what the type promises of it.
     let _ = arena.len();
     if arena.width(a) == width {
         Ok(a)
@@ -49,6 +50,7 @@ pub fn fitted(
     ensures stays { Extends arena.old arena.new }
     ensures ok { IfOk result (λ n. FromOne arena.old arena.new (fitted signed width) a width n) }
 {
+    // For the proof: recalls what the type promises of it.
     let _ = arena.len();
     if width < arena.width(a) {
         let part = Shape::Slice {

@@ -14,7 +14,7 @@ ghost use Rattle.sv_modules.specs.Putting.{PutsPin};
 
 use crate::name_set::NameSet;
 use std::alloc::{AllocError, Global};
-use sv_outside::TextErr;
+use sv_outside::{TextErr, refusals};
 use sv_tree::{Expr, NamedPin, Pin, Pins, Word};
 use sv_typing::{refusal, start};
 
@@ -68,10 +68,10 @@ fn put_pin<'a>(
     ensures { PutsPin known.now used.old list.old.items pin.now used.new list.new.items result }
 {
     if !known.has(pin.name.text.bytes()) {
-        return Err(TextErr::No(refusal(17, pin.name.place)));
+        return Err(TextErr::No(refusal(refusals::PORT_UNKNOWN, pin.name.place)));
     }
     if used.has(pin.name.text.bytes()) {
-        return Err(TextErr::No(refusal(18, pin.name.place)));
+        return Err(TextErr::No(refusal(refusals::PORT_TWICE, pin.name.place)));
     }
     used.add(pin.name.text.bytes())?;
     list.push(Connection {
@@ -109,7 +109,7 @@ fn in_order<'a>(
     let mut list = Vec::new(alloc);
     'exprs: for (at, expr) in exprs.iter().enumerate() {
         if at >= names.len() {
-            return Err(TextErr::No(refusal(17, start(expr))));
+            return Err(TextErr::No(refusal(refusals::PORT_UNKNOWN, start(expr))));
         }
         list.push(Connection {
             name: names[at],

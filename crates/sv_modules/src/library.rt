@@ -11,7 +11,7 @@ ghost use Rattle.sv_modules.specs.Named.{Lists, PutsModule};
 use crate::numbered::Modules;
 use name_index::NameIndex;
 use std::alloc::Global;
-use sv_outside::TextErr;
+use sv_outside::{TextErr, refusals};
 use sv_tree::{Module, Source, SourcePart};
 use sv_typing::refusal;
 
@@ -25,7 +25,7 @@ fn put<'a>(
 {
     let name = tree.name.text.bytes();
     if numbers.number(name).is_some() {
-        return Err(TextErr::No(refusal(13, tree.name.place)));
+        return Err(TextErr::No(refusal(refusals::TWICE, tree.name.place)));
     }
     numbers.note(name, trees.len())?;
     trees.push(tree)?;

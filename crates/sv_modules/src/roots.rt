@@ -15,7 +15,7 @@ use crate::name_set::NameSet;
 use crate::numbered::Modules;
 use crate::used::used_by;
 use std::alloc::{AllocError, Global};
-use sv_outside::{Name, Place, Refusal, TextErr};
+use sv_outside::{FILE_START, Name, Refusal, TextErr, refusals};
 use sv_tree::Module;
 
 // A refusal at the start of the design's file.
@@ -24,11 +24,7 @@ fn refused(number: u8, count: u64) -> TextErr
 {
     TextErr::No(Refusal {
         number,
-        place: Place {
-            file: 0,
-            line: 1,
-            column: 1,
-        },
+        place: FILE_START,
         count,
     })
 }
@@ -52,7 +48,7 @@ fn only_one(numbers: &[usize]) -> Result<usize, TextErr>
 {
     match numbers {
         [number] => Ok(*number),
-        _ => Err(refused(10, numbers.len() as u64)),
+        _ => Err(refused(refusals::TOP_UNCLEAR, numbers.len() as u64)),
     }
 }
 
@@ -74,7 +70,7 @@ pub fn top_of(alloc: Global, modules: &Modules<'_>, top: Option<&Name>) -> Resul
     match top {
         Some(name) => match modules.find(name.bytes()) {
             Some(number) => Ok(number),
-            None => Err(refused(11, 0)),
+            None => Err(refused(refusals::UNKNOWN_MODULE, 0)),
         },
         None => unused_one(alloc, modules.list()),
     }

@@ -6,13 +6,14 @@ mod name;
 mod outside;
 mod real;
 mod refusal;
+pub mod refusals;
 mod text;
 mod words;
 
 pub use memory::{MemFiles, MemSink};
 pub use name::Name;
-pub use outside::{FileErr, Files, Sink, SinkErr, put_all};
+pub use outside::{FileErr, Files, MOST_BYTES, Sink, SinkErr, put_all};
 pub use real::{RealFiles, RealSink};
-pub use refusal::{Place, Refusal, TextErr};
+pub use refusal::{FILE_START, Place, Refusal, TextErr};
 pub use text::{Kind, Signal, Token, Tokens};
 pub use words::is_id;

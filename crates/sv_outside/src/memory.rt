@@ -7,12 +7,9 @@ ghost use Rattle.std.specs.List.{list_any};
 ghost use Rattle.sv_outside.specs.Memory.{MemoryFiles, MemorySink, contents_under, contents_of, within_limit, read_of, IsErrorOf, after_read, share_of, takes, after_write};
 ghost use Rattle.sv_outside.specs.Outside.{counted, is_failed, one_more, with_text};
 
-use crate::{FileErr, Files, Name, Sink, SinkErr};
+use crate::{FileErr, Files, MOST_BYTES, Name, Sink, SinkErr};
 use std::alloc::{AllocError, Global};
 use std::marker::Model;
-
-// The most bytes of a file that are answered, and the room of a sink.
-const MOST_BYTES: usize = 1 << 24;
 
 /// Files in memory. The calls with the numbers of a list fail, and a name that is not there is a fault.
 /// Calls count from 1.

@@ -6,6 +6,9 @@ use crate::Name;
 use std::alloc::Global;
 use thiserror::Error;
 
+/// The most bytes of a file that are answered.
+pub const MOST_BYTES: usize = 1 << 24;
+
 /// Why a file is not answered.
 #[derive(Clone, Copy, Debug, Error)]
 pub enum FileErr {

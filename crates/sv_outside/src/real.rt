@@ -2,13 +2,13 @@
 // hold, so only runs show that they read and write the bytes that the system has (`crates/text_rows`).
 ghost use Rattle.std.specs.Prelude.{◌≡◌, ◌≤◌, ◌<◌, ◌^◌, ℕ, length, IfOk};
 
-use crate::{FileErr, Files, Name, Sink, SinkErr};
+use crate::{FileErr, Files, MOST_BYTES, Name, Sink, SinkErr};
 use std::alloc::Global;
 use std::io::{ErrorKind, Read, Write};
 use std::{fs, str};
 
 // One byte more than the longest file that is answered.
-const MOST_READ: u64 = (1 << 24) + 1;
+const MOST_READ: u64 = MOST_BYTES as u64 + 1;
 
 /// The files of the system, by their paths from the working directory. Nothing is told of their contents.
 /// A name that is not UTF-8 counts as a failure. At most 16,777,217 bytes of a file are read.
@@ -42,7 +42,7 @@ fn read_file<R: std::rt::Files>(rt: &R, alloc: Global, name: &Name) -> Result<Ve
         Err(e) if e.kind() == ErrorKind::OutOfMemory => return Err(FileErr::Memory),
         Err(_) => return Err(FileErr::Failed),
     }
-    if bytes.len() > 1 << 24 {
+    if bytes.len() > MOST_BYTES {
         return Err(FileErr::Long);
     }
     Ok(bytes)

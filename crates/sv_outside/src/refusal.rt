@@ -14,7 +14,14 @@ pub struct Place {
     pub column: usize,
 }
 
-/// The number of the reason, the place, and a count, which is 0 but for E10 and E39.
+/// Where a text that is no included file begins, and what is said of a whole file.
+pub const FILE_START: Place = Place {
+    file: 0,
+    line: 1,
+    column: 1,
+};
+
+/// The number of the reason (`refusals`), the place, and a count, which is 0 but for E10 and E39.
 #[derive(Clone, Copy, Debug)]
 pub struct Refusal {
     pub number: u8,

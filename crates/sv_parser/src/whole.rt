@@ -13,7 +13,7 @@ use crate::source::source;
 use crate::two_state::is_two_state_type;
 use std::alloc::{AllocError, Global};
 use sv_cursor::{Cursor, ParseErr, place_at, refusal, syntax_number};
-use sv_outside::{Place, TextErr, Token, Tokens};
+use sv_outside::{Place, TextErr, Token, Tokens, refusals};
 use sv_tree::Source;
 
 // The number of the refusal where reading stops at that token.
@@ -68,7 +68,7 @@ fn nested(tokens: &[Token], end: Place, deep: usize, left: usize) -> TextErr
     requires { IsRead tokens.now (Err (ParseErr.TooDeep deep left)) }
     ensures { IsParsed tokens.now end (Err result) }
 {
-    refusal(9, place_before(tokens, end, deep))
+    refusal(refusals::TOO_DEEP, place_before(tokens, end, deep))
 }
 
 // What a refusal says of all the tokens.

@@ -15,6 +15,7 @@ use crate::known::Frame;
 use crate::macros::Macros;
 use crate::role::{Role, role_of};
 use std::alloc::AllocError;
+use sv_outside::refusals;
 use sv_token::Lined;
 
 fn both(first: bool, second: bool) -> bool
@@ -68,7 +69,7 @@ fn close(frames: &mut Vec<Frame>, first: &Lined, after: &[Lined]) -> Result<bool
     ensures refused { IfErr result (IfRefused (reached.IsMisplaced (reverse frames.old.items) first.now after.now)) }
 {
     let Some(frame) = frames.pop() else {
-        return Err(ItemErr::Refused(5));
+        return Err(ItemErr::Refused(refusals::UNBALANCED));
     };
     Ok(frame.live)
 }
@@ -80,10 +81,10 @@ fn begin_last(frames: &mut Vec<Frame>, first: &Lined, after: &[Lined]) -> Result
     ensures refused { IfErr result (IfRefused (reached.IsMisplaced (reverse frames.old.items) first.now after.now)) }
 {
     let Some(frame) = frames.pop() else {
-        return Err(ItemErr::Refused(5));
+        return Err(ItemErr::Refused(refusals::UNBALANCED));
     };
     if frame.last {
-        return Err(ItemErr::Refused(5));
+        return Err(ItemErr::Refused(refusals::UNBALANCED));
     }
     let inside = both(frame.live, !frame.taken);
     frames.push(Frame {
@@ -106,16 +107,16 @@ fn begin_next<'a>(
     ensures refused { IfErr result (IfRefused (reached.IsMisplaced (reverse frames.old.items) first.now after.now)) }
 {
     let Some(frame) = frames.pop() else {
-        return Err(ItemErr::Refused(5));
+        return Err(ItemErr::Refused(refusals::UNBALANCED));
     };
     if frame.last {
-        return Err(ItemErr::Refused(5));
+        return Err(ItemErr::Refused(refusals::UNBALANCED));
     }
     let Some((name, behind)) = after.split_first() else {
-        return Err(ItemErr::Refused(2));
+        return Err(ItemErr::Refused(refusals::BAD_TOKEN));
     };
     if !is_word(&name.token) {
-        return Err(ItemErr::Refused(2));
+        return Err(ItemErr::Refused(refusals::BAD_TOKEN));
     }
     let holds = macros.has(name.token.text.bytes());
     let untaken = both(frame.live, !frame.taken);

@@ -14,7 +14,7 @@ use crate::line::put_at;
 use crate::role::{Role, role_of};
 use std::alloc::{AllocError, Global};
 use std::collections::BTreeMap;
-use sv_outside::{Place, Token};
+use sv_outside::{Place, Token, refusals};
 
 /// The most tokens that are counted.
 pub const MOST_COUNTED: usize = 4_000_000;
@@ -108,7 +108,7 @@ fn expand(
     let mut rest = text;
     'pieces: while let Some((first, after)) = rest.split_first() {
         if total == MOST_COUNTED {
-            return Err(ItemErr::Refused(4));
+            return Err(ItemErr::Refused(refusals::TOO_LONG));
         }
         match role_of(first) {
             Role::Kept => {
@@ -118,15 +118,15 @@ fn expand(
             }
             Role::Used => {
                 let Some(inner) = macros.text(name_of(first)) else {
-                    return Err(ItemErr::Refused(6));
+                    return Err(ItemErr::Refused(refusals::MACRO_UNKNOWN));
                 };
                 if depth == 0 {
-                    return Err(ItemErr::Refused(7));
+                    return Err(ItemErr::Refused(refusals::MACRO_DEEP));
                 }
                 total = expand(macros, depth - 1, inner, place, out, total + 1)?;
                 rest = after;
             }
-            _ => return Err(ItemErr::Refused(6)),
+            _ => return Err(ItemErr::Refused(refusals::MACRO_UNKNOWN)),
         }
     }
     Ok(total)
@@ -145,7 +145,7 @@ pub fn expand_use(
     ensures refused { IfErr result (IfRefused (CanNotUse (texts macros.now) token.now counted)) }
 {
     let Some(text) = macros.text(name_of(token)) else {
-        return Err(ItemErr::Refused(6));
+        return Err(ItemErr::Refused(refusals::MACRO_UNKNOWN));
     };
     expand(macros, DEEPEST_USE, text, token.place, out, counted)
 }

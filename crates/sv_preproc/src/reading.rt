@@ -17,7 +17,7 @@ use crate::known::{Frame, Known};
 use crate::macros::MOST_COUNTED;
 use crate::stepping::{Step, read_item, refusal};
 use std::alloc::Global;
-use sv_outside::{FileErr, Files, Name, Place, TextErr, Token};
+use sv_outside::{FileErr, Files, Name, Place, TextErr, Token, refusals};
 use sv_token::{Lined, end_of, lex_lines};
 
 /// Where a file begins.
@@ -37,7 +37,7 @@ fn not_read(why: FileErr, at: Place, asked: Name, start: Place, name: &Name) -> 
 {
     match why {
         FileErr::Failed => PreErr::Read(at, asked),
-        FileErr::Long => refusal(ItemErr::Refused(4), start, name),
+        FileErr::Long => refusal(ItemErr::Refused(refusals::TOO_LONG), start, name),
         FileErr::Memory => PreErr::Memory,
     }
 }
@@ -84,7 +84,11 @@ fn cut_file(alloc: Global, known: &Known, name: &Name, text: &[u8]) -> Result<Ve
     };
     let left = MOST_COUNTED - known.counted;
     if lines.len() > left {
-        return Err(refusal(ItemErr::Refused(4), lines[left].token.place, name));
+        return Err(refusal(
+            ItemErr::Refused(refusals::TOO_LONG),
+            lines[left].token.place,
+            name,
+        ));
     }
     Ok(lines)
 }
@@ -188,7 +192,11 @@ fn include<F: Files>(
     ensures counts_up { F.faults files.old ≤ F.faults files.new }
 {
     if room == 0 {
-        return Err(refusal(ItemErr::Refused(3), directive.place, asked));
+        return Err(refusal(
+            ItemErr::Refused(refusals::INCLUDE_DEEP),
+            directive.place,
+            asked,
+        ));
     }
     let name = Name::new(alloc, between_quotes(path.text.bytes()))?;
     let file = enter(alloc, files, known, &name, directive.place, asked)?;
@@ -201,7 +209,7 @@ fn closed(frames: &[Frame], end: Place, file: &Name) -> Result<(), PreErr>
     ensures refused { IfErr result (λ e. (0 < length frames.now) × Names (Refused 5) end file.now e) }
 {
     if !frames.is_empty() {
-        return Err(refusal(ItemErr::Refused(5), end, file));
+        return Err(refusal(ItemErr::Refused(refusals::UNBALANCED), end, file));
     }
     Ok(())
 }

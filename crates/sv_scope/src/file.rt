@@ -8,7 +8,7 @@ ghost use Rattle.sv_walk.specs.Walks.{Finds, state_of};
 use items::Items;
 use std::alloc::Global;
 use sv_modules::NameSet;
-use sv_outside::TextErr;
+use sv_outside::{TextErr, refusals};
 use sv_tree::{Module, SourcePart};
 use sv_typing::refusal;
 use sv_walk::{Open, Walker};
@@ -36,7 +36,7 @@ impl Listed {
         ensures { (all : m.Library) → Lists self.old all → Answers (λ k u. Lists self.new (all ++ k ∷ [])) (one_module module.now seen all) result }
     {
         if self.names.has(module.name.text.bytes()) {
-            return Err(TextErr::No(refusal(13, module.name.place)));
+            return Err(TextErr::No(refusal(refusals::TWICE, module.name.place)));
         }
         self.names.add(module.name.text.bytes())?;
         self.above.push(seen)?;

@@ -18,20 +18,13 @@ use std::alloc::{AllocError, Global};
 use sv_levels::{Front, Instance, Known, Levels, Library, Wires, Work};
 use sv_modules::{Modules, top_of};
 use sv_names::Names;
-use sv_outside::{Name, Place, Signal, TextErr};
+use sv_outside::{FILE_START, Name, Signal, TextErr, refusals};
 use sv_tree::{Module, Source};
 use sv_typing::refusal;
 use sv_walk::{Open, Walker};
 
 /// How many levels instances nest below the top.
 const DEEPEST: usize = 32;
-
-/// The start of the design's file.
-const START: Place = Place {
-    file: 0,
-    line: 1,
-    column: 1,
-};
 
 /// The instances and generate blocks of a design, its wires by number, and what contributes to them or joins them.
 #[derive(Drop)]
@@ -112,7 +105,7 @@ fn topped<'a>(
     let number = top_of(walker.alloc, &library.modules, top)?;
     match library.known(number) {
         Some(known) => from_top(walker, file, library, known),
-        None => Err(TextErr::No(refusal(11, START))),
+        None => Err(TextErr::No(refusal(refusals::UNKNOWN_MODULE, FILE_START))),
     }
 }
 

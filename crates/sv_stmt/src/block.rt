@@ -29,7 +29,7 @@ use sv_actions::{Acted, Action, first_mark, judge_marks, typed_body};
 use sv_blocks::{Marked, all_bits, mark_all, scene_drivers, scene_of, stmt_wires};
 use sv_meaning::WireEdge;
 use sv_names::{Names, What};
-use sv_outside::TextErr;
+use sv_outside::{TextErr, refusals};
 use sv_stores::{Manner, Scene};
 use sv_tree::{AssignMark, Block, BlockKind, Event, Events, Stmt};
 use sv_typing::refusal;
@@ -47,14 +47,14 @@ fn edge_in(event: &Event, what: &What) -> Result<WireEdge, TextErr>
                     wire: *number,
                 })
             } else {
-                Err(TextErr::No(refusal(14, event.name.place)))
+                Err(TextErr::No(refusal(refusals::WIDTH, event.name.place)))
             }
         }
-        What::Number(_) => Err(TextErr::No(refusal(12, event.name.place))),
-        What::Kind(_) => Err(TextErr::No(refusal(12, event.name.place))),
-        What::Chosen { .. } => Err(TextErr::No(refusal(12, event.name.place))),
-        What::Sampled { .. } => Err(TextErr::No(refusal(12, event.name.place))),
-        What::Genvar => Err(TextErr::No(refusal(12, event.name.place))),
+        What::Number(_) => Err(TextErr::No(refusal(refusals::UNKNOWN_NAME, event.name.place))),
+        What::Kind(_) => Err(TextErr::No(refusal(refusals::UNKNOWN_NAME, event.name.place))),
+        What::Chosen { .. } => Err(TextErr::No(refusal(refusals::UNKNOWN_NAME, event.name.place))),
+        What::Sampled { .. } => Err(TextErr::No(refusal(refusals::UNKNOWN_NAME, event.name.place))),
+        What::Genvar => Err(TextErr::No(refusal(refusals::UNKNOWN_NAME, event.name.place))),
     }
 }
 
@@ -64,7 +64,7 @@ fn event_edge(event: &Event, names: &Names<'_>) -> Result<WireEdge, TextErr>
 {
     match names.find(event.name.text.bytes()) {
         Some(what) => edge_in(event, what),
-        None => Err(TextErr::No(refusal(12, event.name.place))),
+        None => Err(TextErr::No(refusal(refusals::UNKNOWN_NAME, event.name.place))),
     }
 }
 

@@ -31,6 +31,7 @@ fn placed(
     ensures stays { Extends arena.old arena.new }
     ensures ok { IfOk result (λ n. Yields scene.now arena.old arena.new state.now.nodes (λ read. worth typed.now read width signed) (names_of typed.now) width n) }
 {
+    // For the proof: recalls what the type promises of it.
     let _ = arena.len();
     let look = Look::Placed(&scene.places, state.seen.as_slice());
     let node = lower(alloc, arena, typed, &look, width, signed)?;

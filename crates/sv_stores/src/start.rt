@@ -88,6 +88,7 @@ fn with_edge(
     ensures ok { (edges : List WireEdge) → Triggers arena.old edges more → IfOk result (λ n. Triggers arena.new (edge ∷ edges) n) }
 {
     let node = edge_node(alloc, arena, edge)?;
+    // For the proof: recalls what the type promises of it.
     let _ = arena.len();
     binary(alloc, arena, Bin::Or, node, more)
 }

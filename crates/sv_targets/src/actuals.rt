@@ -15,7 +15,7 @@ use crate::targets::{TypedTarget, appended, braced, named_target, one_target};
 use items::Items;
 use std::alloc::Global;
 use sv_names::Names;
-use sv_outside::{Place, TextErr};
+use sv_outside::{Place, TextErr, refusals};
 use sv_tree::{Expr, Select, Way, Word};
 use sv_typing::{IndexRule, refusal, start};
 
@@ -23,7 +23,7 @@ use sv_typing::{IndexRule, refusal, start};
 fn not_assignable(begin: Place) -> TextErr
     ensures { result ≡ no_target begin }
 {
-    TextErr::No(refusal(19, begin))
+    TextErr::No(refusal(refusals::BAD_TARGET, begin))
 }
 
 // A name with its selects in the actual of a port of this direction: an index of an input's is read among all names of its place, and

@@ -18,7 +18,7 @@ use items::Items;
 use std::alloc::Global;
 use sv_const::select_chain;
 use sv_names::{Layout, Names, What};
-use sv_outside::{Place, TextErr};
+use sv_outside::{Place, TextErr, refusals};
 use sv_tree::{Lvalue, Select, Word};
 use sv_typed::Pick;
 use sv_typing::{Chain, IndexRule, refusal};
@@ -85,11 +85,11 @@ fn what_target(
             layout,
             select_chain(alloc, layout, selects, names, rule),
         ),
-        What::Number(_) => Err(TextErr::No(refusal(19, begin))),
-        What::Kind(_) => Err(TextErr::No(refusal(19, begin))),
-        What::Chosen { .. } => Err(TextErr::No(refusal(19, begin))),
-        What::Sampled { .. } => Err(TextErr::No(refusal(19, begin))),
-        What::Genvar => Err(TextErr::No(refusal(19, begin))),
+        What::Number(_) => Err(TextErr::No(refusal(refusals::BAD_TARGET, begin))),
+        What::Kind(_) => Err(TextErr::No(refusal(refusals::BAD_TARGET, begin))),
+        What::Chosen { .. } => Err(TextErr::No(refusal(refusals::BAD_TARGET, begin))),
+        What::Sampled { .. } => Err(TextErr::No(refusal(refusals::BAD_TARGET, begin))),
+        What::Genvar => Err(TextErr::No(refusal(refusals::BAD_TARGET, begin))),
     }
 }
 
@@ -106,7 +106,7 @@ pub(crate) fn named_target(
 {
     match names.find(word.text.bytes()) {
         Some(what) => what_target(alloc, begin, word, what, selects, names, rule),
-        None => Err(TextErr::No(refusal(12, word.place))),
+        None => Err(TextErr::No(refusal(refusals::UNKNOWN_NAME, word.place))),
     }
 }
 
@@ -154,7 +154,7 @@ pub(crate) fn braced(
             if width >= 1 && width <= 128 {
                 Ok(all)
             } else {
-                Err(TextErr::No(refusal(14, place)))
+                Err(TextErr::No(refusal(refusals::WIDTH, place)))
             }
         }
         Err(why) => Err(why),

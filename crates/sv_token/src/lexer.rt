@@ -13,9 +13,7 @@ use crate::Front;
 use crate::bytes::may_stand;
 use crate::front::front_of;
 use std::alloc::{AllocError, Global};
-use sv_outside::{Kind, Name, Place, Refusal, TextErr, Token};
-
-const MOST_BYTES: usize = 1 << 24;
+use sv_outside::{Kind, MOST_BYTES, Name, Place, Refusal, TextErr, Token, refusals};
 
 const MOST_TOKENS: usize = 4_000_000;
 
@@ -66,7 +64,11 @@ fn no(number: u8, place: Place) -> TextErr
 fn reason(byte: u8) -> u8
     ensures { result ≡ cut.reason byte }
 {
-    if may_stand(byte) { 2 } else { 1 }
+    if may_stand(byte) {
+        refusals::BAD_TOKEN
+    } else {
+        refusals::BAD_BYTE
+    }
 }
 
 /// The place behind the last byte of a file of at most 16,777,216 bytes.
@@ -138,7 +140,7 @@ pub fn lex_lines(alloc: Global, file: usize, text: &[u8]) -> Result<Vec<Lined>, 
         column: 1,
     };
     if text.len() > MOST_BYTES {
-        return Err(no(4, place));
+        return Err(no(refusals::TOO_LONG, place));
     }
     let mut line = 1;
     let mut tokens = Vec::new(alloc);
@@ -154,7 +156,7 @@ pub fn lex_lines(alloc: Global, file: usize, text: &[u8]) -> Result<Vec<Lined>, 
             }
             Front::Piece(kind, len) => {
                 if tokens.len() == MOST_TOKENS {
-                    return Err(no(4, place));
+                    return Err(no(refusals::TOO_LONG, place));
                 }
                 put_piece(alloc, kind, &rest[..len], place, line, &mut tokens)?;
                 let (place_behind, after) = beyond(place, rest, len);

@@ -15,7 +15,7 @@ use items::Items;
 use std::alloc::{AllocError, Global};
 use sv_const::eval_const;
 use sv_names::{Known, Names};
-use sv_outside::{Name, Place, TextErr};
+use sv_outside::{Name, Place, TextErr, refusals};
 use sv_tree::{EnumLabel, Expr, Word};
 use sv_typing::refusal;
 
@@ -71,7 +71,7 @@ fn label_entry(width: u8, signed: bool, word: &Word, number: Whole) -> Result<En
             value,
         })
     } else {
-        Err(TextErr::No(refusal(14, word.place)))
+        Err(TextErr::No(refusal(refusals::WIDTH, word.place)))
     }
 }
 

@@ -22,7 +22,7 @@ use crate::ranges::{base_layout, dim, over_ranges, vector_layout};
 use items::Items;
 use std::alloc::{AllocError, Global};
 use sv_names::{Field, Form, Layout, Names, Shared, scalar};
-use sv_outside::{Place, TextErr};
+use sv_outside::{Place, TextErr, refusals};
 use sv_tree::{EnumLabel, Member, Range, Sign, TypeTree, Word};
 use sv_typing::{layout_under, refusal};
 
@@ -75,7 +75,7 @@ fn named_layout(
             let each = copy(alloc, layout)?;
             over_ranges(alloc, false, ranges, names, each)
         }
-        None => Err(TextErr::No(refusal(12, word.place))),
+        None => Err(TextErr::No(refusal(refusals::UNKNOWN_NAME, word.place))),
     }
 }
 
@@ -150,7 +150,7 @@ fn struct_layout(
     ensures { JudgesLayout (struct_of (constants_are names.now) signed ranges.now (members_of fields)) result }
 {
     if bits == 0 {
-        return Err(TextErr::No(refusal(14, NOWHERE)));
+        return Err(TextErr::No(refusal(refusals::WIDTH, NOWHERE)));
     }
     if ranges.is_empty() {
         Ok(structure(alloc, signed, fields, bits)?)

@@ -11,7 +11,7 @@ use crate::depth::MOST_LEVELS;
 use items::Items;
 use std::alloc::Global;
 use sv_names::{Field, Layout};
-use sv_outside::TextErr;
+use sv_outside::{TextErr, refusals};
 use sv_tree::Word;
 use sv_typing::refusal;
 
@@ -59,11 +59,11 @@ fn add_field(
     ensures { JudgesField layout.now word.now fields.old fields.new result }
 {
     if has_field(fields.as_slice(), word.text.bytes()) {
-        return Err(TextErr::No(refusal(13, word.place)));
+        return Err(TextErr::No(refusal(refusals::TWICE, word.place)));
     }
     let width = layout.width;
     if is_too_large(bits, width, deep) {
-        return Err(TextErr::No(refusal(14, word.place)));
+        return Err(TextErr::No(refusal(refusals::WIDTH, word.place)));
     }
     let layout = copy(alloc, layout)?;
     let name = word.text.copy()?;

@@ -23,7 +23,7 @@ use crate::ranges::bounds;
 use std::alloc::Global;
 use sv_const::eval_fixed;
 use sv_names::{Known, Names};
-use sv_outside::{Place, TextErr};
+use sv_outside::{Place, TextErr, refusals};
 use sv_tree::{Expr, ParamBits, ParamType, Range, Sign};
 use sv_typed::Typed;
 use sv_typing::{Fixed, Position, is_signed, refusal, start, typed};
@@ -73,7 +73,7 @@ fn converted(
     if value.is_bool() {
         Ok(Known { value, signed })
     } else {
-        Err(TextErr::No(refusal(15, start)))
+        Err(TextErr::No(refusal(refusals::CONST_UNKNOWN, start)))
     }
 }
 
@@ -102,7 +102,7 @@ fn range_width(place: Place, bounds: Result<Bounds, TextErr>) -> Result<u8, Text
     if bounds.right == 0 && bounds.left >= 0 && bounds.left < 128 {
         Ok(bounds.left as u8 + 1)
     } else {
-        Err(TextErr::No(refusal(14, place)))
+        Err(TextErr::No(refusal(refusals::WIDTH, place)))
     }
 }
 

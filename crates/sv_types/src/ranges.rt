@@ -16,7 +16,7 @@ use crate::depth::MOST_LEVELS;
 use std::alloc::{AllocError, Global};
 use sv_const::eval_fixed;
 use sv_names::{Form, Layout, Names, Shared, scalar};
-use sv_outside::{Place, TextErr};
+use sv_outside::{Place, TextErr, refusals};
 use sv_tree::{Expr, Range};
 use sv_typing::{Fixed, refusal, small};
 
@@ -27,7 +27,7 @@ fn bound_of(place: Place, fixed: Result<Fixed, TextErr>) -> Result<i64, TextErr>
     let fixed = fixed?;
     match small(&fixed.known.value, fixed.known.signed) {
         Some(number) => Ok(number),
-        None => Err(TextErr::No(refusal(14, place))),
+        None => Err(TextErr::No(refusal(refusals::WIDTH, place))),
     }
 }
 
@@ -107,7 +107,7 @@ pub(crate) fn ranged(
     if make_range(bounds.count(), each.width, each.depth) {
         Ok(dim(alloc, signed, bounds, each)?)
     } else {
-        Err(TextErr::No(refusal(14, place)))
+        Err(TextErr::No(refusal(refusals::WIDTH, place)))
     }
 }
 

@@ -7,7 +7,7 @@ ghost use Rattle.sv_typing.specs.Judging.{Judges, Types, Fixes};
 use crate::position::Fixed;
 use crate::refusals::refusal;
 use sv_names::Known;
-use sv_outside::{Place, TextErr};
+use sv_outside::{Place, TextErr, refusals};
 use sv_typed::Typed;
 
 // Whether both hold.
@@ -34,7 +34,7 @@ pub(crate) fn fixed_of(start: Place, x: Result<Typed, TextErr>) -> Result<Fixed,
     if value.is_bool() {
         Ok(Fixed::new(known, constant))
     } else {
-        Err(TextErr::No(refusal(15, start)))
+        Err(TextErr::No(refusal(refusals::CONST_UNKNOWN, start)))
     }
 }
 
@@ -49,6 +49,6 @@ pub(crate) fn fixed_index(start: Place, x: Result<Typed, TextErr>) -> Result<Typ
         Ok(x)
     } else {
         drop(x);
-        Err(TextErr::No(refusal(15, start)))
+        Err(TextErr::No(refusal(refusals::CONST_UNKNOWN, start)))
     }
 }

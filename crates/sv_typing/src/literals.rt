@@ -4,15 +4,15 @@ ghost use Rattle.sv_typing.specs.Literals.{refused};
 
 use crate::refusals::refusal;
 use sv_literal::LitErr;
-use sv_outside::{Place, Refusal};
+use sv_outside::{Place, Refusal, refusals};
 
 /// The refusal for each cause.
 pub(crate) fn refused(why: LitErr, place: Place) -> Refusal
     ensures { result ≡ refused why place }
 {
     match why {
-        LitErr::Shape => refusal(2, place),
-        LitErr::Wide => refusal(14, place),
-        LitErr::Range => refusal(16, place),
+        LitErr::Shape => refusal(refusals::BAD_TOKEN, place),
+        LitErr::Wide => refusal(refusals::WIDTH, place),
+        LitErr::Range => refusal(refusals::LITERAL_RANGE, place),
     }
 }

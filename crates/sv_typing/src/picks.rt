@@ -24,7 +24,7 @@ use fourvec::Spot;
 use items::{Boxed, both};
 use std::alloc::{AllocError, Global};
 use sv_names::{Cursor, Each, Row};
-use sv_outside::{Place, Refusal, TextErr};
+use sv_outside::{Place, Refusal, TextErr, refusals};
 use sv_tree::RangeMark;
 use sv_typed::{Pick, PickPlace, Typed};
 
@@ -47,7 +47,7 @@ pub(crate) fn member_pick<'a>(
                 place: PickPlace::Fixed(part.place as i64),
             },
         )),
-        None => Err(TextErr::No(refusal(23, place))),
+        None => Err(TextErr::No(refusal(refusals::BAD_SELECT, place))),
     }
 }
 
@@ -116,7 +116,7 @@ pub(crate) fn index_pick<'a>(
     let index = index?;
     let Some(row) = at.row() else {
         drop(index);
-        return Err(TextErr::No(refusal(23, place)));
+        return Err(TextErr::No(refusal(refusals::BAD_SELECT, place)));
     };
     let width = row.each.width();
     let constant = index.constant;
@@ -154,7 +154,7 @@ pub(crate) fn between_pick<'a>(
     let left = left?;
     let right = right?;
     let Some(row) = at.row() else {
-        return Err(TextErr::No(refusal(23, place)));
+        return Err(TextErr::No(refusal(refusals::BAD_SELECT, place)));
     };
     between_in(row, place, &left, &right)
 }
@@ -170,10 +170,10 @@ fn between_in<'a>(
     ensures { (j : Meaning → Faults) (m n : Meaning) (x : Layout) (s : Bool) → x ≡ row_is s row.entry → IsFixed m left.now → IsFixed n right.now → Leads j x (to_range place m mark.To n) result }
 {
     let Some(a) = small(&left.known.value, left.known.signed) else {
-        return Err(TextErr::No(refusal(14, place)));
+        return Err(TextErr::No(refusal(refusals::WIDTH, place)));
     };
     let Some(b) = small(&right.known.value, right.known.signed) else {
-        return Err(TextErr::No(refusal(14, place)));
+        return Err(TextErr::No(refusal(refusals::WIDTH, place)));
     };
     let count = between_count(place, &row, a, b)?;
     let pick = Pick {
@@ -209,7 +209,7 @@ pub(crate) fn many_pick<'a>(
     let (left, right) = both(left, right)?;
     let Some(row) = at.row() else {
         drop(left);
-        return Err(TextErr::No(refusal(23, place)));
+        return Err(TextErr::No(refusal(refusals::BAD_SELECT, place)));
     };
     many_in(alloc, row, place, mark, left, &right)
 }

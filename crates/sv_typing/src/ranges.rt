@@ -11,7 +11,7 @@ ghost use Rattle.sv_typing.specs.Ranges.{is_turned, lowest_of, JudgesBetween, Ju
 use crate::numbers::{is_negative, small};
 use crate::refusals::refusal;
 use sv_names::{Known, Row};
-use sv_outside::{Place, TextErr};
+use sv_outside::{Place, TextErr, refusals};
 use sv_tree::RangeMark;
 
 // Whether so many elements have no more than 128 bits.
@@ -46,12 +46,12 @@ pub(crate) fn between_count(place: Place, row: &Row<'_>, a: i64, b: i64) -> Resu
 {
     let count = a.abs_diff(b) + 1;
     if !goes_along(row.left, row.right, a, b) {
-        return Err(TextErr::No(refusal(23, place)));
+        return Err(TextErr::No(refusal(refusals::BAD_SELECT, place)));
     }
     if fits(count, row.each.width()) {
         Ok(count as u8)
     } else {
-        Err(TextErr::No(refusal(14, place)))
+        Err(TextErr::No(refusal(refusals::WIDTH, place)))
     }
 }
 
@@ -84,12 +84,12 @@ fn small_count(place: Place, row: &Row<'_>, count: i64) -> Result<u8, TextErr>
     ensures { JudgesMany place row.now count result }
 {
     if count <= 0 {
-        return Err(TextErr::No(refusal(23, place)));
+        return Err(TextErr::No(refusal(refusals::BAD_SELECT, place)));
     }
     if fits(count as u64, row.each.width()) {
         Ok(count as u8)
     } else {
-        Err(TextErr::No(refusal(14, place)))
+        Err(TextErr::No(refusal(refusals::WIDTH, place)))
     }
 }
 
@@ -98,9 +98,9 @@ fn large_refusal(known: &Known) -> u8
     ensures { result ≡ (if known.now.signed && is_negative known.now.value then 23 else 14) }
 {
     if known.signed && is_negative(&known.value) {
-        23
+        refusals::BAD_SELECT
     } else {
-        14
+        refusals::WIDTH
     }
 }
 

@@ -21,7 +21,7 @@ ghost use Rattle.sv_typing.specs.Roots.{JudgesRoot, JudgesChain, RootIs};
 use crate::chain::Chain;
 use crate::refusals::refusal;
 use sv_names::{Cursor, Each, Layout, What};
-use sv_outside::{Place, TextErr};
+use sv_outside::{Place, TextErr, refusals};
 use sv_tree::Word;
 use sv_typed::{Origin, Root, Typed};
 
@@ -38,7 +38,7 @@ fn signal_root<'a>(
     ensures { (w : Word) → w.place ≡ place → JudgesRoot w (Some (signal_is (origin_is origin) number (layout_is layout.now))) constant result }
 {
     if constant {
-        Err(TextErr::No(refusal(15, place)))
+        Err(TextErr::No(refusal(refusals::CONST_UNKNOWN, place)))
     } else {
         Ok((
             Cursor::Whole(Each::Of(layout)),
@@ -55,7 +55,14 @@ fn signal_root<'a>(
 pub(crate) fn no_root(place: Place, constant: bool) -> TextErr
     ensures { result ≡ No (record { number = if constant then 15 else 12; place = place; count = 0 }) }
 {
-    TextErr::No(refusal(if constant { 15 } else { 12 }, place))
+    TextErr::No(refusal(
+        if constant {
+            refusals::CONST_UNKNOWN
+        } else {
+            refusals::UNKNOWN_NAME
+        },
+        place,
+    ))
 }
 
 // Where a name leads under which this is declared.

@@ -21,7 +21,7 @@ use fourvec::Four;
 use items::both;
 use std::alloc::Global;
 use sv_literal::literal;
-use sv_outside::{Place, TextErr};
+use sv_outside::{Place, TextErr, refusals};
 use sv_tree::{Expr, Word};
 use sv_typed::{One, Pair, Two, Typed};
 
@@ -108,11 +108,11 @@ fn exponent_bits(place: Place, start: Place, x: &Typed, y: &Typed) -> Result<Fou
     let bits = y.own();
     let constant = both_hold(x.constant, y.constant);
     if !constant {
-        return Err(TextErr::No(refusal(25, place)));
+        return Err(TextErr::No(refusal(refusals::OUT_OF_SCOPE, place)));
     }
     let below = is_below_zero(&bits, y.signed);
     if below {
-        return Err(TextErr::No(refusal(15, start)));
+        return Err(TextErr::No(refusal(refusals::CONST_UNKNOWN, start)));
     }
     Ok(bits)
 }

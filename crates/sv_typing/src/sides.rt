@@ -23,7 +23,7 @@ use crate::roots::no_root;
 use items::Items;
 use std::alloc::Global;
 use sv_names::{Known, Layout, What};
-use sv_outside::{Place, TextErr};
+use sv_outside::{Place, TextErr, refusals};
 use sv_tree::{Expr, Word};
 use sv_typed::{Typed, TypedForm, width_together};
 
@@ -83,12 +83,12 @@ fn concat_typed(place: Place, loose: Option<Place>, parts: Items<Typed>) -> Resu
 {
     let width = width_together(parts.as_slice());
     match loose {
-        Some(loose) => Err(TextErr::No(refusal(14, loose))),
+        Some(loose) => Err(TextErr::No(refusal(refusals::WIDTH, loose))),
         None => {
             if width == 0 {
-                Err(TextErr::No(refusal(14, place)))
+                Err(TextErr::No(refusal(refusals::WIDTH, place)))
             } else if width > 128 {
-                Err(TextErr::No(refusal(14, place)))
+                Err(TextErr::No(refusal(refusals::WIDTH, place)))
             } else {
                 Ok(Typed::concat(parts))
             }
@@ -107,10 +107,10 @@ fn repeat_typed(
 {
     let width = width_together(parts.as_slice());
     match loose {
-        Some(loose) => Err(TextErr::No(refusal(14, loose))),
+        Some(loose) => Err(TextErr::No(refusal(refusals::WIDTH, loose))),
         None => match copies(count, width) {
             Some(count) => Ok(Typed::repeat(count, parts)),
-            None => Err(TextErr::No(refusal(14, place))),
+            None => Err(TextErr::No(refusal(refusals::WIDTH, place))),
         },
     }
 }
@@ -159,7 +159,7 @@ pub(crate) fn cast_typed(
         Some(width) => Ok(Typed::fitted(alloc, width, signed, x)?),
         None => {
             drop(x);
-            Err(TextErr::No(refusal(14, start)))
+            Err(TextErr::No(refusal(refusals::WIDTH, start)))
         }
     }
 }
@@ -223,14 +223,14 @@ fn count_of(word: &Word, what: &What, constant: bool) -> Result<Fixed, TextErr>
             if is_wholly(known) {
                 Ok(Fixed::new(*known, true))
             } else {
-                Err(TextErr::No(refusal(15, word.place)))
+                Err(TextErr::No(refusal(refusals::CONST_UNKNOWN, word.place)))
             }
         }
-        What::Kind(_) => Err(TextErr::No(refusal(15, word.place))),
-        What::Wire { .. } => Err(TextErr::No(refusal(15, word.place))),
-        What::Chosen { .. } => Err(TextErr::No(refusal(15, word.place))),
-        What::Sampled { .. } => Err(TextErr::No(refusal(15, word.place))),
-        What::Genvar => Err(TextErr::No(refusal(15, word.place))),
+        What::Kind(_) => Err(TextErr::No(refusal(refusals::CONST_UNKNOWN, word.place))),
+        What::Wire { .. } => Err(TextErr::No(refusal(refusals::CONST_UNKNOWN, word.place))),
+        What::Chosen { .. } => Err(TextErr::No(refusal(refusals::CONST_UNKNOWN, word.place))),
+        What::Sampled { .. } => Err(TextErr::No(refusal(refusals::CONST_UNKNOWN, word.place))),
+        What::Genvar => Err(TextErr::No(refusal(refusals::CONST_UNKNOWN, word.place))),
     }
 }
 

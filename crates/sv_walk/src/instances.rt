@@ -21,7 +21,7 @@ use sv_levels::{
 };
 use sv_modules::Connection;
 use sv_names::Scope;
-use sv_outside::{Name, TextErr};
+use sv_outside::{Name, TextErr, refusals};
 use sv_tree::Module;
 use sv_typing::refusal;
 
@@ -105,7 +105,7 @@ impl<'a> Walker<'a> {
         ensures { (all : m.Library) → IsLibrary library.now all → Walks (m.child deep all (child_is child.now)) self.old current.now self.new current.now result }
     {
         if deep == 0 {
-            return Err(TextErr::No(refusal(21, child.name.place)));
+            return Err(TextErr::No(refusal(refusals::INSTANCE_DEEP, child.name.place)));
         }
         let known = library.module_of(child)?;
         let own = self.open_child(known, child)?;

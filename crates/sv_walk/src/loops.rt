@@ -12,7 +12,7 @@ use fourvec::Four;
 use items::Items;
 use sv_levels::is_loop_variable;
 use sv_loops::{condition, turns};
-use sv_outside::{Place, TextErr};
+use sv_outside::{Place, TextErr, refusals};
 use sv_tree::{Expr, Step, Word};
 use sv_typing::refusal;
 
@@ -39,7 +39,7 @@ impl<'a> Walker<'a> {
             values
         } else {
             let_go(names);
-            Err(TextErr::No(refusal(12, variable.place)))
+            Err(TextErr::No(refusal(refusals::UNKNOWN_NAME, variable.place)))
         }
     }
 

@@ -17,7 +17,7 @@ use sv_levels::{
 };
 use sv_modules::NameSet;
 use sv_names::Scope;
-use sv_outside::{Name, Place, TextErr};
+use sv_outside::{Name, Place, TextErr, refusals};
 use sv_typing::refusal;
 
 /// All that was found so far.
@@ -81,10 +81,10 @@ impl<'a> Open<'a> {
         ensures { (w : Walking) → Walks (declare_at place name.now) w self.old w self.new result }
     {
         if !is_name(name) {
-            return Err(TextErr::No(refusal(2, place)));
+            return Err(TextErr::No(refusal(refusals::BAD_TOKEN, place)));
         }
         if self.taken.has(name) {
-            return Err(TextErr::No(refusal(13, place)));
+            return Err(TextErr::No(refusal(refusals::TWICE, place)));
         }
         self.taken.add(name)?;
         Ok(())

@@ -96,6 +96,7 @@ fn width_over(shapes: &[Shape], widths: &[u8], shape: &Shape) -> u8
     ensures some { 0 < result }
     ensures most { result ≤ 128 }
 {
+    // For the proof: recalls what the type promises of it.
     let _ = shapes;
     shape_width(shape, widths)
 }

@@ -20,6 +20,7 @@ pub fn nodes_follow_shapes(arena: &Arena)
     ensures variables { (p : VarName → ℕ → Bool) (k : ℕ) → k < length arena.now
         → each_variable p arena.now k ≡ each_variable_of p (each_variable p arena.now) (shape_at arena.now k) }
 {
+    // For the proof: recalls what the type promises of it.
     let _ = arena.len();
 }
 
@@ -41,6 +42,7 @@ pub fn values_have_widths(arena: &Arena)
         → HasWidthsWhere p r → k < length arena.now → IsTrue (each_variable p arena.now k)
         → length (value_at r arena.now k) ≡ width_at arena.now k }
 {
+    // For the proof: recalls what the type promises of it.
     let _ = arena.len();
 }
 
@@ -53,6 +55,7 @@ pub fn values_rise(arena: &Arena)
     ensures rows { (e f : Rows) (k : ℕ) → RowsBelow e f → k < length arena.now
         → Below (value_at (read e) arena.now k) (value_at (read f) arena.now k) }
 {
+    // For the proof: recalls what the type promises of it.
     let _ = arena.len();
 }
 
@@ -63,5 +66,6 @@ pub fn values_depend_on_mentioned(arena: &Arena)
         → AgreesWhere p r s → k < length arena.now → IsTrue (each_variable p arena.now k)
         → value_at r arena.now k ≡ value_at s arena.now k }
 {
+    // For the proof: recalls what the type promises of it.
     let _ = arena.len();
 }

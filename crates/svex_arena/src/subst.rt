@@ -240,6 +240,7 @@ impl Arena {
         let _ = self.len();
         let marks = self.reached(alloc, roots)?;
         let answers = substitute_marked(self, alloc, roots, &marks, by);
+        // For the proof: recalls what the type promises of it.
         let _ = self.len();
         answers
     }

@@ -16,6 +16,7 @@ fn input_vector(alloc: Global, aig: &mut Aig, width: u8) -> Result<Vec<Pair>, Al
 {
     let mut word = Vec::new(alloc);
     for i in 0..width {
+        // For the proof: recalls what the type promises of it.
         let _ = i;
         let bit = aig.input()?;
         word.push(Pair { up: bit, low: bit })?;

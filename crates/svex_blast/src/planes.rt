@@ -102,9 +102,11 @@ pub fn blast(
     ensures none { OnOk result (bits_of (widths_of vars.now) ≡ 0 → length aig.old ≤ 1 → length aig.new ≤ 1) }
 {
     let words = variables(alloc, aig, vars)?;
+    // For the proof: recalls what the type promises of it.
     let _ = aig.len();
     let marks = arena.reached(alloc, roots)?;
     let done = all_vectors(alloc, arena, aig, &marks, &words)?;
+    // For the proof: recalls what the type promises of it.
     let _ = aig.len();
     let rails = all_rails(alloc, roots, &done)?;
     Ok(rails)

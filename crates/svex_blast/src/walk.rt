@@ -27,6 +27,7 @@ fn shape_of(arena: &Arena, node: usize) -> Shape
     ensures is { result ≡ shape_at arena.now node }
     ensures arena { IsArena arena.now }
 {
+    // For the proof: recalls what the type promises of it.
     let _ = arena.len();
     arena.shape(Node::new(node))
 }
@@ -54,6 +55,7 @@ fn marked_vector(
     ensures value { IfOk result (λ r. Obeyed aig.new (λ v. bits v r.items ≡ value_at (reading_at v vars.now) arena.now (length done.now))) }
     ensures shared { IfOk result (λ r. is_known_node (map (λ w. length w) vars.now) arena.now (length done.now) ≡ true → are_twins r.items ≡ true) }
 {
+    // For the proof: recalls what the type promises of it.
     let _ = marks;
     let shape = shape_of(arena, done.len());
     let word = known_vector(alloc, aig, &shape, vars, done)?;

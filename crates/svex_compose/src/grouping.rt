@@ -52,6 +52,7 @@ fn settle_next(
     ensures extends { Extends arena.old arena.new }
     ensures arena { IsArena arena.new }
 {
+    // For the proof: recalls what the type promises of it.
     let _ = arena.len();
     let bits = weigh(alloc, eqs, members)?;
     if bits > 1024 {
@@ -82,6 +83,7 @@ fn settle_all(
     ensures extends { Extends arena.old arena.new }
     ensures arena { IsArena arena.new }
 {
+    // For the proof: recalls what the type promises of it.
     let _ = arena.len();
     'groups: for at in 0..groups.len() {
         let members = groups[at].members.as_slice();

@@ -28,6 +28,7 @@ fn start_node(
     ensures extends { Extends arena.old arena.new }
     ensures arena { IsArena arena.new }
 {
+    // For the proof: recalls what the type promises of it.
     let _ = arena.len();
     let node = arena.intern(alloc, Shape::Const(unknown(width)))?;
     nodes.push(node)?;
@@ -87,6 +88,7 @@ pub fn start(arena: &mut Arena, alloc: Global, set: &Resolved) -> Result<Scene, 
     ensures extends { Extends arena.old arena.new }
     ensures arena { IsArena arena.new }
 {
+    // For the proof: recalls what the type promises of it.
     let _ = arena.len();
     let segments = segments_of(alloc, set)?;
     let values = values_of(alloc, set.eqs.as_slice())?;

@@ -65,6 +65,7 @@ pub fn wire_nodes(
     ensures extends { Extends arena.old arena.new }
     ensures arena { IsArena arena.new }
 {
+    // For the proof: recalls what the type promises of it.
     let _ = arena.len();
     let segments = segments_of(alloc, set)?;
     let mut nodes = Vec::new(alloc);

@@ -59,6 +59,7 @@ pub fn all_at(arena: &Arena, node: Node, bit: Bit) -> bool
     requires { node < length arena.now }
     ensures { IsTrue result ↔ IsAllAt arena.now node bit }
 {
+    // For the proof: recalls what the type promises of it.
     let _ = arena.len();
     match constant(arena, node) {
         Some(value) => same_vector(&value, &filled(value.width(), bit)),

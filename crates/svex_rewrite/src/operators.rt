@@ -27,6 +27,7 @@ fn reduce(arena: &Arena, op: &Un, a: Node) -> Shape
     requires { a < length arena.now }
     ensures { Becomes arena.now (Shape.Unary op.now a) result }
 {
+    // For the proof: recalls what the type promises of it.
     let _ = arena.len();
     if arena.width(a) == 1 && leaves_one_bit(op) {
         unfloated(arena, a)
@@ -41,6 +42,7 @@ pub fn rewrite_unary(arena: &Arena, op: &Un, a: Node) -> Shape
     requires { IsOver arena.now (Shape.Unary op.now a) }
     ensures { Becomes arena.now (Shape.Unary op.now a) result }
 {
+    // For the proof: recalls what the type promises of it.
     let _ = arena.len();
     if let Some(value) = constant(arena, a) {
         return Shape::Const(unary(op, &value));
@@ -60,6 +62,7 @@ fn fold_pair(arena: &Arena, op: &Bin, a: Node, b: Node, value: &Four, other: &Fo
     requires right { HasShape arena.now b (Shape.Const other.now) }
     ensures { Becomes arena.now (Shape.Binary op.now a b) result }
 {
+    // For the proof: recalls what the type promises of it.
     let _ = arena;
     Shape::Const(binary(op, value, other))
 }

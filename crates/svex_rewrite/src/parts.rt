@@ -63,6 +63,7 @@ fn as_part(arena: &Arena, node: Node) -> Option<Part>
     ensures is { IfSome result (λ p. HasShape arena.now node (Shape.Slice p.of p.lo p.width)) }
     ensures within { IfSome result (λ p. p.lo + p.width ≤ 128) }
 {
+    // For the proof: recalls what the type promises of it.
     let _ = arena.len();
     match shape_of(arena, node) {
         Shape::Slice { of, lo, width } => Some(Part { of, lo, width }),

@@ -44,6 +44,7 @@ pub fn narrowed(arena: &Arena, of: Node, lo: u8, width: u8) -> Option<Place>
     ensures lower { IfSome result (λ p. p.of < of) }
     ensures is { IfSome result (λ p. Becomes arena.now (Shape.Slice of lo width) (Shape.Slice p.of p.lo width)) }
 {
+    // For the proof: recalls what the type promises of it.
     let _ = arena.len();
     let shape = shape_of(arena, of);
     match &shape {

@@ -101,6 +101,7 @@ pub fn simplify(arena: &mut Arena, alloc: Global, node: Node) -> Result<Node, Al
     let roots = [node];
     let marks = arena.reached(alloc, &roots)?;
     let simple = simplify_marked(arena, alloc, node, &marks);
+    // For the proof: recalls what the type promises of it.
     let _ = arena.len();
     simple
 }

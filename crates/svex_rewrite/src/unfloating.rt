@@ -54,6 +54,7 @@ fn has_no_z(arena: &Arena, node: Node) -> bool
     requires { node < length arena.now }
     ensures { IsTrue result → HasNoZ arena.now node }
 {
+    // For the proof: recalls what the type promises of it.
     let _ = arena.len();
     let shape = shape_of(arena, node);
     match &shape {
@@ -69,6 +70,7 @@ pub fn unfloated(arena: &Arena, a: Node) -> Shape
     requires { a < length arena.now }
     ensures { Becomes arena.now (Shape.Unary Un.Unfloat a) result }
 {
+    // For the proof: recalls what the type promises of it.
     let _ = arena.len();
     if has_no_z(arena, a) {
         shape_of(arena, a)
@@ -83,6 +85,7 @@ pub fn negated(arena: &Arena, a: Node) -> Shape
     requires { a < length arena.now }
     ensures { Becomes arena.now (Shape.Unary Un.Not a) result }
 {
+    // For the proof: recalls what the type promises of it.
     let _ = arena.len();
     let shape = shape_of(arena, a);
     match &shape {

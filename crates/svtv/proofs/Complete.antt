@@ -1,7 +1,7 @@
 -- A command with legal files is done, but for faults and want of memory, and but for proofs of designs with wide loops.
 use Rattle.std.proofs.Common.{◌≡◌, ◌⊎◌, List, None, refl, subst, inl, inr}
 use Rattle.sv_outside.specs.declared.refusal.Refusal.{Refusal}
-use Rattle.svtv_words.specs.Commands.{Command, IsCommand, prove, sim, dump, selftest, cert, check, wave}
+use Rattle.svtv_words.specs.Commands.{Command, IsCommand, prove, sim, dump, selftest, cert, check, induct, wave}
 use Rattle.svtv_selftest.specs.Texts as test
 use Rattle.svtv_words.proofs.Commands.{one_command}
 use Rattle.svtv.specs.Answers.{Answers, PrintsIf, Prints}
@@ -13,7 +13,7 @@ use Rattle.svtv.specs.declared.status.Status.{Status}
 use Rattle.svtv.specs.declared.status.Status.TheVariants.{AllProved, Done, NotAll, Usage, Refused, ReadFault, WriteFault, Memory}
 use Rattle.svtv.specs.declared.work.Outcome.{Outcome}
 use Rattle.svtv.specs.declared.work.Outcome.TheVariants as outcome
-use Rattle.svtv.proofs.Legal.{cert_loops, check_stands, design_stands, proof_loops, simulation_stands, wave_stands}
+use Rattle.svtv.proofs.Legal.{cert_loops, check_stands, design_stands, induct_loops, proof_loops, simulation_stands, wave_stands}
 
 -- legal files are refused for loops alone
 legal_loops : (told : Told) (c : Command) (file : Text) (r : Refusal) → AreLegal told c → Refuses told c file r → IsLooped told c Refused
@@ -24,6 +24,7 @@ legal_loops told (selftest n) file r l h =
     (l.0, l.2.is_design.file, r.count, proof_loops (test.told n) test.design_name test.table_name test.goals_name None l.0 l.1 l.3 l.2 l.4 file r h)
 legal_loops told (cert d t g name top budget) file r l h = (l.0, l.2.is_design.file, r.count, cert_loops told d t g name top l.0 l.1 l.3 l.2 l.4 l.5 file r h)
 legal_loops told (check f) file r l h = absurd (check_stands told f l.0 l.1 l.2 file r h)
+legal_loops told (induct d a b g top budget) file r l h = (l.0, l.4.is_design.file, r.count, induct_loops told d a b g top l.0 l.1 l.2 l.3 l.4 file r h)
 legal_loops told (wave f path) file r l h = absurd (wave_stands told f path l.0 l.1 l.2 l.3 file r h)
 
 -- what a command prints, it is done with
@@ -76,6 +77,14 @@ printed told (check f) Refused text h = absurd h
 printed told (check f) ReadFault text h = absurd h
 printed told (check f) WriteFault text h = absurd h
 printed told (check f) Memory text h = absurd h
+printed told (induct d a b g top budget) AllProved text h = tt
+printed told (induct d a b g top budget) NotAll text h = tt
+printed told (induct d a b g top budget) Done text h = absurd h
+printed told (induct d a b g top budget) Usage text h = absurd h
+printed told (induct d a b g top budget) Refused text h = absurd h
+printed told (induct d a b g top budget) ReadFault text h = absurd h
+printed told (induct d a b g top budget) WriteFault text h = absurd h
+printed told (induct d a b g top budget) Memory text h = absurd h
 printed told (wave f path) Done text h = tt
 printed told (wave f path) AllProved text h = absurd h
 printed told (wave f path) NotAll text h = absurd h

@@ -1,6 +1,6 @@
 -- Legal files are not refused, but for wide loops of the design where it is to be proved something.
 use Rattle.std.proofs.Common.{◌≡◌, ◌⊎◌, ℕ, ◌-◌, ◌<◌, ◌^◌, List, [], length, Option, Some, None, Ok, Err, refl, sym, ◌∙◌, ap, subst, inl, inr, arith}
-use Rattle.std.specs.Prelude.{IfSome, Contains}
+use Rattle.std.specs.Prelude.{All, IfSome, Contains}
 use Rattle.cnf.specs.Formula.{Formula}
 use Rattle.design_loops.specs.Loops.{HasWideLoop}
 use Rattle.fourvec.specs.declared.Bit.{Bit}
@@ -46,9 +46,9 @@ use Rattle.svtv_table.specs.Valuing.{values_faults}
 use Rattle.svtv_table.specs.declared.bound.Sample.{Sample}
 use Rattle.svtv_table.specs.declared.bound.VarDecl.{VarDecl}
 use Rattle.table_cells.specs.declared.table.Table.{Table}
-use Rattle.svtv_files.specs.Files.{Text, Told, AreGoalsFile, IsDesignFile, IsTableText, samples_in, vars_of}
-use Rattle.svtv.specs.Legal.{IsShallow, IsShort, IsLegalDesign, IsLegalTable, IsLegalSetup, IsLegalCert, IsLegalWave, AreLegalGoals, AreLegalValues}
-use Rattle.svtv_files.specs.Refusals.{BehindSetup, HasNoMachine, IsFirstFault, HasGoal, IsBadCert, IsBadDump, IsGoalTooWide, IsGoalUnknown, IsSignalUnknown, RefusesCert, RefusesCheck, RefusesDesign, RefusesGoals, RefusesProof, RefusesSetup, RefusesSimulation, RefusesTable, RefusesValues, RefusesWave, TooLong}
+use Rattle.svtv_files.specs.Files.{Text, Told, AreGoalsFile, IsDesignFile, IsTableText, course_of, samples_in, vars_of}
+use Rattle.svtv.specs.Legal.{IsShallow, IsShort, IsLegalDesign, IsLegalTable, IsLegalSetup, IsLegalCert, IsLegalInduction, IsLegalWave, AreLegalGoals, AreLegalValues}
+use Rattle.svtv_files.specs.Refusals.{BehindSetup, HasNoMachine, IsCourseFiles, IsCourseTooWide, IsFirstFault, HasGoal, IsBadCert, IsBadDump, IsGoalTooWide, IsGoalUnknown, IsInvariantHyp, IsSampledUnlike, IsSignalUnknown, RefusesCert, RefusesCheck, RefusesCourse, RefusesDesign, RefusesGoals, RefusesInduction, RefusesProof, RefusesSetup, RefusesSimulation, RefusesTable, RefusesValues, RefusesWave, TooLong}
 use Rattle.vcd_text.specs.Waves.{Change, Wave, told_of_path}
 use Rattle.vcd_text.specs.declared.waves.VcdVar.{VcdVar}
 use Rattle.svtv.proofs.Records.{one_records}
@@ -255,3 +255,41 @@ cert_loops told d t g name top design table trees l goals has file r (inr b) = a
         let e = one_goals told g (vars_of design table) (samples_in design table) trees h.1.trees goals h.1.file in
         absurd (h.1.none (subst (λ (x : List GoalTree). HasGoal x name) (sym e) has))
     after (inr (inr h)) = h.1.wide.wide
+
+-- ---- inductions
+
+module _ (told : Told) (d a b g : Text) (top : Option Text) (design : Design) (reset period : Table) (trees : List GoalTree) (l : IsLegalInduction told d a b g top design reset period trees) where
+  setup_of : IsLegalSetup told d a top design reset
+  setup_of = record { is_design = l.is_design; is_table = l.is_reset }
+
+  -- what is said of three files is said of these
+  over_files : (other : Design) (first later : Table) (P : Design → Table → Table → Type 0) → IsCourseFiles told d a b top other first later → P other first later → P design reset period
+  over_files other first later P files h =
+      let e = one_design told d top design other l.is_design files.is_design in
+      let f = one_table told a design.wires reset first l.is_reset files.is_reset.read in
+      let k = one_table told b design.wires period later l.is_period files.is_period.read in
+      subst (λ (t : Table). P design reset t) k (subst (λ (t : Table). P design t later) f (subst (λ (x : Design). P x first later) e h))
+
+  alike_stands : (file : Text) (r : Refusal) → IsSampledUnlike (course_of design reset period) a b file r → ⊥
+  alike_stands file r u = elim u.cause [ inl h ↦ h.1 l.alike.0 | inr h ↦ h.1.1 l.alike.1 ]
+
+  course_stands : (file : Text) (r : Refusal) → RefusesCourse told d a b top file r → ⊥
+  course_stands file r (inl h) = setup_stands told d a top design reset setup_of file r h
+  course_stands file r (inr (inl h)) =
+      table_stands told b design.wires period l.is_period r (behind told d a top design reset (λ (x : Design) (t : Table). (file ≡ b) × RefusesTable told b x.wires r) setup_of h).1
+  course_stands file r (inr (inr h)) = alike_stands file r (over_files h.0 h.1 h.2 (λ (x : Design) (s t : Table). IsSampledUnlike (course_of x s t) a b file r) h.3 h.4)
+
+  -- where invariants are refused, bits of the design feed each other
+  pub induct_loops : (file : Text) (r : Refusal) → RefusesInduction told d a b g top file r → HasWideLoop design r.count
+  induct_loops file r (inl h) = absurd (course_stands file r h)
+  induct_loops file r (inr h) = after (over_files h.0 h.1 h.2 Then h.3 h.4.1)
+    where
+      Then : Design → Table → Table → Type 0
+      Then x s t = ((file ≡ g) × RefusesGoals told g [] (samples_in x t) r) ⊎ (((file ≡ g) × IsInvariantHyp told g x t r) ⊎ ((file ≡ d) × IsCourseTooWide told g x t r))
+
+      after : Then design reset period → HasWideLoop design r.count
+      after (inl k) = absurd (goals_stand told g [] (samples_in design period) trees l.goals r k.1)
+      after (inr (inl k)) =
+          let e = one_goals told g [] (samples_in design period) trees k.1.trees l.goals k.1.file in
+          absurd (k.1.some (subst (λ (ts : List GoalTree). All (λ (t : GoalTree). t.hyps ≡ []) ts) (sym e) l.no_hyps))
+      after (inr (inr k)) = k.1.wide.wide

@@ -5,14 +5,14 @@ use Rattle.sv_meaning.specs.Designs.{Design}
 use Rattle.sv_outside.specs.Outside.{one_more, AtMostOneMore, IsPartWritten}
 use Rattle.sv_outside.specs.declared.refusal.Place.{Place}
 use Rattle.sv_outside.specs.declared.refusal.Refusal.{Refusal}
-use Rattle.svtv_commands.specs.Done.{Certifies, Checks, Dumps, Proves, Reports, SelfTests, Shows, Simulated}
+use Rattle.svtv_commands.specs.Done.{Certifies, Checks, Dumps, Inducts, Proves, Reports, SelfTests, Shows, Simulated}
 use Rattle.svtv_files.specs.Files.{Text, Told, bench_of, vars_of}
 use Rattle.svtv_files.specs.Refusals.{Refuses, LeavesUnread}
 use Rattle.svtv_report.specs.Refusals.{memory_text, read_fault_text, refusal_text, usage_text}
 use Rattle.svtv_table.specs.Binding.{bind_faults}
 use Rattle.svtv_table.specs.Stimuli.{IsChoice}
 use Rattle.svtv_verdicts.specs.Benches.{HasOneLeast}
-use Rattle.svtv_words.specs.Commands.{Command, IsCommand, prove, sim, dump, selftest, cert, check, wave}
+use Rattle.svtv_words.specs.Commands.{Command, IsCommand, prove, sim, dump, selftest, cert, check, induct, wave}
 use Rattle.table_cells.specs.declared.table.Table.{Table}
 use Rattle.svtv.specs.declared.status.Status.{Status}
 use Rattle.svtv.specs.declared.status.Status.TheVariants.{AllProved, Done, NotAll, Usage, Refused, ReadFault, WriteFault, Memory}
@@ -37,6 +37,8 @@ Prints told (cert d t g name top budget) Done text = Certifies told d t g name t
 Prints told (cert d t g name top budget) NotAll text = Reports told d t g name top budget text
 Prints told (check f) Done text = Checks told f None text
 Prints told (check f) NotAll text = (step : ℕ) × Checks told f (Some step) text
+Prints told (induct d a b g top budget) AllProved text = Inducts told d a b g top budget true text
+Prints told (induct d a b g top budget) NotAll text = Inducts told d a b g top budget false text
 Prints told (wave f path) Done text = Shows told f path text
 Prints told command status text = ⊥
 

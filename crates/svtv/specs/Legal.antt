@@ -1,5 +1,5 @@
 -- Files that are legal by what is told of their contents, and the answer that a command then has.
-use Rattle.std.specs.Prelude.{◌≡◌, ◌≤◌, ◌^◌, ⊤, ℕ, List, length, Option, Some, None}
+use Rattle.std.specs.Prelude.{◌≡◌, ◌≤◌, ◌^◌, ⊤, ℕ, List, [], All, length, Option, Some, None}
 use Rattle.cnf.specs.Formula.{Formula}
 use Rattle.design_loops.specs.Loops.{HasWideLoop}
 use Rattle.fourvec.specs.declared.Bit.{Bit}
@@ -17,11 +17,11 @@ use Rattle.svtv_table.specs.declared.bound.Sample.{Sample}
 use Rattle.svtv_table.specs.declared.bound.VarDecl.{VarDecl}
 use Rattle.table_cells.specs.declared.table.Table.{Table}
 use Rattle.svtv_selftest.specs.Texts as test
-use Rattle.svtv_words.specs.Commands.{Command, prove, sim, dump, selftest, cert, check, wave}
+use Rattle.svtv_words.specs.Commands.{Command, prove, sim, dump, selftest, cert, check, induct, wave}
 use Rattle.vcd_text.specs.Waves.{Change, Wave, told_of_path}
 use Rattle.vcd_text.specs.declared.waves.VcdVar.{VcdVar}
-use Rattle.svtv_files.specs.Files.{Text, Told, IsDesignFile, IsTableFile, AreGoalsFile, IsValuesFile, samples_in, vars_of}
-use Rattle.svtv_files.specs.Refusals.{HasGoal}
+use Rattle.svtv_files.specs.Files.{Text, Told, IsDesignFile, IsTableFile, AreGoalsFile, IsValuesFile, course_of, samples_in, vars_of}
+use Rattle.svtv_files.specs.Refusals.{HasGoal, SampleAlike}
 use Rattle.svtv.specs.declared.status.Status.{Status}
 use Rattle.svtv.specs.declared.status.Status.TheVariants.{AllProved, Done, NotAll, Refused}
 
@@ -75,6 +75,15 @@ pub record IsLegalWave (told : Told) (name path : Text) (vars : List VcdVar) (ch
   pub wave : Wave bytes vars changes
   pub of_path : told_of_path vars changes path ≡ Some list
 
+-- The four files are a legal design, two legal tables that sample alike in their last phases, and legal goals without hypotheses over the samples.
+pub record IsLegalInduction (told : Told) (d a b g : Text) (top : Option Text) (design : Design) (reset period : Table) (trees : List GoalTree) : Type 0 where
+  pub is_design : IsLegalDesign told d top design
+  pub is_reset : IsLegalTable told a design.wires reset
+  pub is_period : IsLegalTable told b design.wires period
+  pub alike : SampleAlike (course_of design reset period)
+  pub goals : AreLegalGoals told g [] (samples_in design period) trees
+  pub no_hyps : All (λ tree. tree.hyps ≡ []) trees
+
 -- the files of a command are legal, and one of the goals is the one to be certified; those of a self test are its own
 abbrev pub AreLegal : Told → Command → Type 0
 AreLegal told (prove d t g top budget) = IsLegalProof told d t g top
@@ -85,6 +94,7 @@ AreLegal told (selftest n) = IsLegalProof (test.told n) test.design_name test.ta
 AreLegal told (cert d t g name top budget) = (design : Design) × (table : Table) × IsLegalSetup told d t top design table
     × (trees : List GoalTree) × AreLegalGoals told g (vars_of design table) (samples_in design table) trees × HasGoal trees name
 AreLegal told (check f) = (formula : Formula) × (log : List Entry) × IsLegalCert told f formula log
+AreLegal told (induct d a b g top budget) = (design : Design) × (reset : Table) × (period : Table) × (trees : List GoalTree) × IsLegalInduction told d a b g top design reset period trees
 AreLegal told (wave f path) = (vars : List VcdVar) × (changes : List Change) × (list : List (ℕ × List Bit)) × IsLegalWave told f path vars changes list
 
 -- the answers of a command that is done
@@ -98,6 +108,8 @@ IsDone (cert d t g name top budget) Done = ⊤
 IsDone (cert d t g name top budget) NotAll = ⊤
 IsDone (check f) Done = ⊤
 IsDone (check f) NotAll = ⊤
+IsDone (induct d a b g top budget) AllProved = ⊤
+IsDone (induct d a b g top budget) NotAll = ⊤
 IsDone (wave f path) Done = ⊤
 IsDone command status = ⊥
 
@@ -108,5 +120,6 @@ HasLoops told d top = (design : Design) × IsDesignFile told d top design × (co
 abbrev pub IsLooped : Told → Command → Status → Type 0
 IsLooped told (prove d t g top budget) Refused = HasLoops told d top
 IsLooped told (cert d t g name top budget) Refused = HasLoops told d top
+IsLooped told (induct d a b g top budget) Refused = HasLoops told d top
 IsLooped told (selftest n) Refused = HasLoops (test.told n) test.design_name None
 IsLooped told command status = ⊥

@@ -15,7 +15,7 @@ ghost use Rattle.svtv.specs.declared.status.Status.TheVariants as status;
 use crate::status::Status;
 use std::alloc::{AllocError, Global};
 use sv_outside::{Files, Name};
-use svtv_commands::{certify, check, dump, prove, selftest, simulate, wave};
+use svtv_commands::{certify, check, dump, induct, prove, selftest, simulate, wave};
 use svtv_files::Stop;
 use svtv_report::{memory_text, read_fault_text, refusal_text, usage_text};
 use svtv_words::{Command, command_of};
@@ -95,7 +95,7 @@ fn stopped(alloc: Global, stop: Stop) -> Outcome
     }
 }
 
-// The names of the files of a command, the last of which holds goals or values.
+// The names of the files of a command, the last of which holds goals, invariants or values. The table is that of the reset where there are two.
 #[derive(Drop)]
 struct Names {
     design: Name,
@@ -250,6 +250,34 @@ fn checked<F: Files>(alloc: Global, files: &mut F, file: &Name) -> Outcome
 }
 
 #[tactic(auto, using(crate::proofs::Counted::stopped_counts, crate::proofs::Answered::stopped_work))]
+fn inducted<F: Files>(
+    alloc: Global,
+    files: &mut F,
+    names: &Names,
+    period: &Name,
+    top: Option<&Name>,
+    budget: Option<u64>,
+) -> Outcome
+    requires budget { IfSome budget (λ n. 0 < n) }
+    ensures is { IsWork (F.contents files.old) (m.induct names.now.design names.now.table period.now names.now.last (option_copied top.entry) budget) result }
+    ensures rose { IfLeft (Rose (F.faults files.old) (F.faults files.new)) result }
+    ensures counts { CountsReads (status_of result) (F.faults files.old) (F.faults files.new) }
+    ensures unchanged { (other : List ℕ) → F.contents files.new other ≡ F.contents files.old other }
+    ensures counts_up { F.faults files.old ≤ F.faults files.new }
+{
+    let Names {
+        design,
+        table,
+        last,
+    } = names;
+    match induct(alloc, files, design, table, period, last, top, budget) {
+        Ok((true, text)) => Outcome::AllProved(text),
+        Ok((false, text)) => Outcome::NotAll(text),
+        Err(stop) => stopped(alloc, stop),
+    }
+}
+
+#[tactic(auto, using(crate::proofs::Counted::stopped_counts, crate::proofs::Answered::stopped_work))]
 fn shown<F: Files>(alloc: Global, files: &mut F, file: &Name, path: &Name) -> Outcome
     ensures is { IsWork (F.contents files.old) (m.wave file.now path.now) result }
     ensures rose { IfLeft (Rose (F.faults files.old) (F.faults files.new)) result }
@@ -323,6 +351,19 @@ fn worked<F: Files>(
         Command::Check { file } => {
             let file = Name::new(alloc, file)?;
             Ok(checked(alloc, files, &file))
+        }
+        Command::Induct {
+            design,
+            reset,
+            period,
+            invariants,
+            top,
+            budget,
+        } => {
+            let names = file_names(alloc, design, reset, invariants)?;
+            let period = Name::new(alloc, period)?;
+            let top = top_name(alloc, top)?;
+            Ok(inducted(alloc, files, &names, &period, top.as_ref(), budget))
         }
         Command::Wave { file, path } => {
             let file = Name::new(alloc, file)?;

@@ -1,8 +1,10 @@
 pub mod Benches
 pub mod Certified
 pub mod Checked
+pub mod Courses
 pub mod Designs
 pub mod Growing
+pub mod Inductions
 pub mod Judgements
 pub mod Named
 pub mod Paths

@@ -1,6 +1,6 @@
 -- What a command that is done prints.
-use Rattle.std.specs.Prelude.{◌≡◌, ℕ, Bool, true, false, List, [], ◌∷◌, Option, Some, None}
-use Rattle.std.specs.List.{Contains, list_all}
+use Rattle.std.specs.Prelude.{◌≡◌, ℕ, Bool, true, false, IsTrue, List, [], ◌∷◌, All, map, Option, Some, None}
+use Rattle.std.specs.List.{AllZip, Contains, list_all}
 use Rattle.cnf.specs.Clauses.{HasNoSolution}
 use Rattle.cnf.specs.Formula.{Formula}
 use Rattle.flat_net.specs.declared.flat.Flat.{Flat}
@@ -16,8 +16,13 @@ use Rattle.refute_check.specs.Entry.{Entry}
 use Rattle.sv_elab.specs.Elaborated.{IsElaborated}
 use Rattle.sv_meaning.specs.Designs.{Design}
 use Rattle.sv_preproc.specs.Laws.{Possible}
-use Rattle.svtv_files.specs.Files.{Text, Told, AreGoalsFile, IsDesignFile, IsValuesFile, bench_of, samples_in, vars_of}
-use Rattle.svtv_files.specs.Refusals.{IsSetup}
+use Rattle.svtv_files.specs.Files.{Text, Told, AreGoalsFile, IsDesignFile, IsValuesFile, bench_of, course_of, samples_in, vars_of}
+use Rattle.svtv_files.specs.Refusals.{IsCourseFiles, IsSetup}
+use Rattle.svtv_periods.specs.Claims.{HoldsAt}
+use Rattle.svtv_periods.specs.Periods.{Choices, Course, IsCourse, IsLong, end_of}
+use Rattle.svtv_invariants.specs.Deciding.{IsDecided}
+use Rattle.svtv_invariants.specs.declared.deciding.Decided.{Decided}
+use Rattle.svtv_report.specs.Invariants.{Names, invariants_text, is_invariant}
 use Rattle.svtv_report.specs.Shown.{sample_texts, var_texts}
 use Rattle.svtv_report.specs.Texts.{cert_note, change_lines, checked_text, report, value_lines}
 use Rattle.svtv_runs.specs.Runs.{Run}
@@ -180,3 +185,30 @@ pub record Shows (told : Told) (file path : Text) (text : Text) : Type 0 where
   pub list : List (ℕ × List Bit)
   pub of_path : told_of_path vars changes path ≡ Some list
   pub printed : text ≡ change_lines list
+
+-- ---- invariants
+
+-- The claims hold in the last valuation of every run through the reset and any number of periods, whatever is chosen in each turn.
+abbrev pub IsInvariantOf : Course → GoalTree → Type 0
+IsInvariantOf c goal = (k : ℕ) (choices : Choices) (vs : Run) → IsLong c k choices vs → HoldsAt c.period.samples goal (end_of vs)
+
+-- the names of what is printed
+abbrev pub names_in : Design → Table → Table → Names
+names_in design reset period = record { resets = var_texts (vars_of design reset); periods = var_texts (vars_of design period); samples = sample_texts (samples_in design period) }
+
+-- The text has what is found of each invariant, in order, and it is right on what the four files stand for, where this budget is given, or none. An
+-- invariant that is reported as one holds at the end of the reset and of each period, in every run through any number of periods.
+pub record Inducts (told : Told) (d a b g : Text) (top : Option Text) (budget : Option ℕ) (all : Bool) (text : Text) : Type 0 where
+  pub design : Design
+  pub reset : Table
+  pub period : Table
+  pub files : IsCourseFiles told d a b top design reset period
+  pub course : IsCourse (course_of design reset period)
+  pub goals : List GoalTree
+  pub are_goals : AreGoalsFile told g [] (samples_in design period) goals
+  pub no_hyps : All (λ goal. goal.hyps ≡ []) goals
+  pub found : List Decided
+  pub decided : AllZip (λ goal x. IsDecided (course_of design reset period) goal budget x) goals found
+  pub hold : AllZip (λ goal x. IsTrue (is_invariant x.verdict) → IsInvariantOf (course_of design reset period) goal) goals found
+  pub printed : text ≡ invariants_text (names_in design reset period) (goal_names goals) (map (λ x. x.verdict) found) (map (λ x. x.before) found) (map (λ x. x.shown) found)
+  pub whole : all ≡ list_all (λ x. is_invariant x.verdict) found

@@ -1,3 +1,4 @@
+pub mod Courses
 pub mod Done
 pub mod Inputs
 pub mod Judged

@@ -30,8 +30,8 @@ use flat_print::copy_flat;
 use goal_text::Goal;
 use lrat_text::print_checked;
 use std::alloc::{AllocError, Global};
-use sv_outside::{Files, Name, Place, Refusal, TextErr};
-use svtv_files::{Stop, refused};
+use sv_outside::{Files, Name, TextErr, refusals};
+use svtv_files::{Stop, refused_whole};
 use svtv_report::{cert_note, goal_report};
 use svtv_table::Bound;
 use svtv_texts::{Certified, Problem, certify as decide_goal, sample_nodes};
@@ -48,18 +48,7 @@ fn goal_named<'a>(goals: &'a [Goal], name: &Name) -> Option<&'a Goal>
 fn goal_unknown(goals: &Name) -> Stop
     ensures { IsOf goals.now (No (record { number = 41; place = at_first; count = 0 })) result }
 {
-    refused(
-        goals,
-        TextErr::No(Refusal {
-            number: 41,
-            place: Place {
-                file: 0,
-                line: 1,
-                column: 1,
-            },
-            count: 0,
-        }),
-    )
+    refused_whole(goals, refusals::GOAL_UNKNOWN, 0)
 }
 
 // Decides a goal whose nodes stand in the graph of the flat design.

@@ -26,8 +26,8 @@ use flat_print::copy_flat;
 use goal_text::Goal;
 use net_equations::ComposeErr;
 use std::alloc::Global;
-use sv_outside::{Files, Name, Place, Refusal, TextErr};
-use svtv_files::{Stop, refused};
+use sv_outside::{Files, Name, refusals};
+use svtv_files::{Stop, refused_whole};
 use svtv_table::Bound;
 use svtv_texts::{Decisions, Problem, decide_all, sample_nodes};
 
@@ -38,18 +38,7 @@ pub(crate) fn too_wide(design: &Name, error: ComposeErr) -> Stop
     let ComposeErr::LoopTooWide(bits) = error else {
         return Stop::Memory;
     };
-    refused(
-        design,
-        TextErr::No(Refusal {
-            number: 39,
-            place: Place {
-                file: 0,
-                line: 1,
-                column: 1,
-            },
-            count: bits,
-        }),
-    )
+    refused_whole(design, refusals::LOOP_TOO_WIDE, bits)
 }
 
 // Decides goals whose nodes stand in the graph of the flat design.

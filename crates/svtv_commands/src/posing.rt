@@ -58,6 +58,7 @@ pub(crate) fn load_posed<F: Files>(
         Ok(goals) => goals,
         Err(stop) => return Err(stop),
     };
+    // For the proof: recalls what the type promises of it.
     let _ = flat.arena.len();
     Ok(Posed {
         flat,

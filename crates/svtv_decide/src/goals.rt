@@ -152,6 +152,7 @@ pub fn certify(
     // The graph is as it was, whatever is answered.
     ensures same { arena.new ≡ arena.old }
 {
+    // For the proof: recalls what the type promises of it.
     let _ = arena.len();
     let found = prove_goal(
         alloc,

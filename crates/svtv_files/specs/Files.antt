@@ -20,6 +20,7 @@ use Rattle.svtv_table.specs.Valuing.{values_faults, values_of}
 use Rattle.svtv_table.specs.declared.bound.Sample.{Sample}
 use Rattle.svtv_table.specs.declared.bound.VarDecl.{VarDecl}
 use Rattle.table_cells.specs.declared.table.Table.{Table}
+use Rattle.svtv_periods.specs.Periods.{Course, Stretch}
 use Rattle.svtv_verdicts.specs.Benches.{Bench}
 
 abbrev pub Text : Type 0
@@ -93,3 +94,13 @@ pub record IsValuesFile (told : Told) (name : Text) (vars : List VarDecl) (choic
   pub cut : IsRecords text records
   pub clear : values_faults vars records ≡ []
   pub is : choice ≡ values_of vars records
+
+-- ---- two tables
+
+-- what a table asks of a design, without the design
+abbrev pub stretch_in : Design → Table → Stretch
+stretch_in design table = record { asked = (bench_of design table).asked; phases = (bench_of design table).phases; vars = vars_of design table; samples = samples_in design table }
+
+-- a design that is reset under one table, and goes through the other any number of times
+abbrev pub course_of : Design → Table → Table → Course
+course_of design reset period = record { design = design; reset = stretch_in design reset; period = stretch_in design period }

@@ -1,5 +1,5 @@
 -- Why a file is refused, or is not read, when its turn comes: the files before it are legal.
-use Rattle.std.specs.Prelude.{◌≡◌, ◌⊎◌, ◌<◌, ◌^◌, ℕ, List, length, slice_get, Option, Some, None, Err, IfSome}
+use Rattle.std.specs.Prelude.{◌≡◌, ◌⊎◌, ◌<◌, ◌^◌, ℕ, List, [], All, length, slice_get, Option, Some, None, Err, IfSome}
 use Rattle.std.specs.List.{Contains}
 use Rattle.design_loops.specs.Loops.{HasWideLoop}
 use Rattle.goal_text.specs.Goals.{HasCause}
@@ -29,10 +29,11 @@ use Rattle.svtv_table.specs.Valuing.{values_faults}
 use Rattle.svtv_table.specs.declared.bound.Sample.{Sample}
 use Rattle.svtv_table.specs.declared.bound.VarDecl.{VarDecl}
 use Rattle.table_cells.specs.declared.table.Table.{Table}
-use Rattle.svtv_words.specs.Commands.{Command, prove, sim, dump, selftest, cert, check, wave}
+use Rattle.svtv_words.specs.Commands.{Command, prove, sim, dump, selftest, cert, check, induct, wave}
 use Rattle.vcd_text.specs.Waves.{BreaksAt, Change, Wave, told_of_path}
 use Rattle.vcd_text.specs.declared.waves.VcdVar.{VcdVar}
-use Rattle.svtv_files.specs.Files.{Text, Told, AreGoalsFile, IsDesignFile, IsTableText, IsTableFile, vars_of, samples_in}
+use Rattle.svtv_files.specs.Files.{Text, Told, AreGoalsFile, IsDesignFile, IsTableText, IsTableFile, course_of, vars_of, samples_in}
+use Rattle.svtv_periods.specs.Periods.{Course, AreAlike, AreLast}
 
 -- ---- designs
 
@@ -214,6 +215,63 @@ RefusesWave told f path file r = (file ≡ f) × (TooLong told f r ⊎ (IsBadDum
 abbrev pub LeavesWave : Text → Text → Place → Type 0
 LeavesWave f file place = (file ≡ f) × (place ≡ at_first)
 
+-- ---- invariants
+
+-- The three files are a legal design, and two legal tables over its wires.
+pub record IsCourseFiles (told : Told) (d a b : Text) (top : Option Text) (design : Design) (reset period : Table) : Type 0 where
+  pub is_design : IsDesignFile told d top design
+  pub is_reset : IsTableFile told a design.wires reset
+  pub is_period : IsTableFile told b design.wires period
+
+-- Each sample is of the last phase of its table, and both tables sample the same signals under the same names in one order.
+abbrev pub SampleAlike : Course → Type 0
+SampleAlike c = AreLast c.reset × (AreLast c.period × AreAlike c.reset.samples c.period.samples)
+
+-- E46: a table samples in a phase that is not its last, told of the first such table; or else the two sample unlike, told of the second.
+pub record IsSampledUnlike (c : Course) (a b file : Text) (r : Refusal) : Type 0 where
+  pub is : r ≡ record { number = 46; place = at_first; count = 0 }
+  pub cause : ((file ≡ a) × (AreLast c.reset → ⊥)) ⊎ ((file ≡ b) × (AreLast c.reset × ((AreLast c.period × AreAlike c.reset.samples c.period.samples) → ⊥)))
+
+-- one of the three is refused, or the tables sample unlike
+abbrev pub RefusesCourse : Told → Text → Text → Text → Option Text → Text → Refusal → Type 0
+RefusesCourse told d a b top file r = RefusesSetup told d a top file r
+    ⊎ (BehindSetup told d a top (λ design reset. (file ≡ b) × RefusesTable told b design.wires r)
+    ⊎ ((design : Design) × (reset : Table) × (period : Table) × IsCourseFiles told d a b top design reset period × IsSampledUnlike (course_of design reset period) a b file r))
+
+-- all are legal, and the tables sample alike
+abbrev pub BehindCourse : Told → Text → Text → Text → Option Text → (Design → Table → Table → Type 0) → Type 0
+BehindCourse told d a b top Then =
+    (design : Design) × (reset : Table) × (period : Table) × IsCourseFiles told d a b top design reset period × (SampleAlike (course_of design reset period) × Then design reset period)
+
+-- one of the three is not read
+abbrev pub LeavesCourse : Told → Text → Text → Text → Option Text → Text → Place → Type 0
+LeavesCourse told d a b top file place = LeavesSetup told d a top file place ⊎ BehindSetup told d a top (λ design reset. (file ≡ b) × (place ≡ at_first))
+
+-- E45: the invariants are legal as goals, and some has a hypothesis.
+pub record IsInvariantHyp (told : Told) (g : Text) (design : Design) (period : Table) (r : Refusal) : Type 0 where
+  pub trees : List GoalTree
+  pub file : AreGoalsFile told g [] (samples_in design period) trees
+  pub some : All (λ tree. tree.hyps ≡ []) trees → ⊥
+  pub is : r ≡ record { number = 45; place = at_first; count = 0 }
+
+-- E39: the invariants are legal and have no hypotheses, and still the design has no machine.
+pub record IsCourseTooWide (told : Told) (g : Text) (design : Design) (period : Table) (r : Refusal) : Type 0 where
+  pub trees : List GoalTree
+  pub file : AreGoalsFile told g [] (samples_in design period) trees
+  pub none : All (λ tree. tree.hyps ≡ []) trees
+  pub wide : IsTooWide design r
+
+-- which file is refused where invariants are asked, and for what; their names read the samples alone
+abbrev pub RefusesInduction : Told → Text → Text → Text → Text → Option Text → Text → Refusal → Type 0
+RefusesInduction told d a b g top file r = RefusesCourse told d a b top file r ⊎ BehindCourse told d a b top (λ design reset period.
+    ((file ≡ g) × RefusesGoals told g [] (samples_in design period) r) ⊎ (((file ≡ g) × IsInvariantHyp told g design period r) ⊎ ((file ≡ d) × IsCourseTooWide told g design period r)))
+
+-- which is not read
+abbrev pub LeavesInduction : Told → Text → Text → Text → Text → Option Text → Text → Place → Type 0
+LeavesInduction told d a b g top file place = LeavesCourse told d a b top file place ⊎ BehindCourse told d a b top (λ design reset period. (file ≡ g) × (place ≡ at_first))
+
+-- ---- commands
+
 abbrev pub Refuses : Told → Command → Text → Refusal → Type 0
 Refuses told (prove d t g top budget) file r = RefusesProof told d t g top file r
 Refuses told (sim d t v top vcd) file r = RefusesSimulation told d t v top file r
@@ -221,6 +279,7 @@ Refuses told (dump d top) file r = RefusesDesign told d top file r
 Refuses told (selftest n) file r = RefusesTest n file r
 Refuses told (cert d t g name top budget) file r = RefusesCert told d t g name top file r
 Refuses told (check f) file r = RefusesCheck told f file r
+Refuses told (induct d a b g top budget) file r = RefusesInduction told d a b g top file r
 Refuses told (wave f path) file r = RefusesWave told f path file r
 
 abbrev pub LeavesUnread : Told → Command → Text → Place → Type 0
@@ -230,4 +289,5 @@ LeavesUnread told (dump d top) file place = UnreadDesign told d file place
 LeavesUnread told (selftest n) file place = ⊥
 LeavesUnread told (cert d t g name top budget) file place = LeavesProof told d t g top file place
 LeavesUnread told (check f) file place = LeavesCheck f file place
+LeavesUnread told (induct d a b g top budget) file place = LeavesInduction told d a b g top file place
 LeavesUnread told (wave f path) file place = LeavesWave f file place

@@ -5,4 +5,4 @@ mod law;
 mod stop;
 
 pub use law::refusals_lie_in_files;
-pub use stop::{Stop, read, refused};
+pub use stop::{Stop, read, refused, refused_whole};

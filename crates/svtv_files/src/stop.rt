@@ -8,7 +8,7 @@ ghost use Rattle.svtv_files.specs.Stopping.{Counts, IfUnread, IsOf, Stops, Stops
 ghost use Rattle.svtv_files.specs.declared.stop.Stop.TheVariants.{Memory};
 
 use std::alloc::{AllocError, Global};
-use sv_outside::{FileErr, Files, Name, Place, Refusal, TextErr};
+use sv_outside::{FILE_START, FileErr, Files, Name, Place, Refusal, TextErr, refusals};
 
 /// Why the work stops: a file of that name is refused, or was not read, or there was no memory.
 #[derive(Drop)]
@@ -26,24 +26,11 @@ impl From<AllocError> for Stop {
     }
 }
 
-const FIRST: Place = Place {
-    file: 0,
-    line: 1,
-    column: 1,
-};
-
 // E4 of the file of that name.
 fn too_long(name: &Name) -> Stop
     ensures { IsOf name.now (No (record { number = 4; place = at_first; count = 0 })) result }
 {
-    refused(
-        name,
-        TextErr::No(Refusal {
-            number: 4,
-            place: FIRST,
-            count: 0,
-        }),
-    )
+    refused_whole(name, refusals::TOO_LONG, 0)
 }
 
 // The file of that name was not read.
@@ -51,7 +38,7 @@ fn unread(name: &Name) -> Stop
     ensures { Stops (λ _ _. ⊥) (λ file place. (file ≡ name.now) × (place ≡ at_first)) result }
 {
     match name.copy() {
-        Ok(file) => Stop::Unread(file, FIRST),
+        Ok(file) => Stop::Unread(file, FILE_START),
         Err(_) => Stop::Memory,
     }
 }
@@ -67,6 +54,21 @@ pub fn refused(name: &Name, error: TextErr) -> Stop
         Ok(file) => Stop::Refused(file, refusal),
         Err(_) => Stop::Memory,
     }
+}
+
+/// The file of that name is refused at its start, by a number and with a count.
+pub fn refused_whole(name: &Name, number: u8, count: u64) -> Stop
+    ensures { IsOf name.now (No (record { number = number; place = at_first; count = count })) result }
+{
+    let place = FILE_START;
+    refused(
+        name,
+        TextErr::No(Refusal {
+            number,
+            place,
+            count,
+        }),
+    )
 }
 
 /// The whole file of that name, by one read.

@@ -1,3 +1,4 @@
 mod Adding
 pub mod Growing
+mod Making
 mod Narrow

@@ -1,5 +1,5 @@
-//! From a flat design and a table to nodes for its samples: the machine of one phase, for each set of wires that some phase overrides, and
-//! the table unrolled over it.
+//! From a flat design and a table to the machine of one phase, for each set of wires that some phase overrides, and to nodes for the table's
+//! samples, unrolled over it.
 #![tactic(auto)]
 
 mod laws;
@@ -7,4 +7,5 @@ mod machine;
 mod sets;
 
 pub use laws::{designs_grow, narrow_tables_are_not_wide};
-pub use machine::sample_nodes;
+pub use machine::{machine_of, sample_nodes};
+pub use phase_fsm::firsts_of;

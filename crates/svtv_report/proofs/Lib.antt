@@ -1,3 +1,4 @@
 pub mod Bits
+pub mod Sayings
 pub mod Lines
 pub mod Words

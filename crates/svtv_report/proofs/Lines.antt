@@ -5,10 +5,10 @@ use Rattle.fourvec.specs.declared.Bit.{Bit}
 use Rattle.svtv_report.specs.Texts.{Text, value_line, value_lines, verdict_text, report}
 use Rattle.svtv_verdicts.specs.Verdicts.{Verdict}
 
-drop_at : {A : Type 0} (all : List A) (i : ℕ) (x : A) → i < length all → x ≡ get_or all i x → drop i all ≡ x ∷ drop (i + 1) all
+pub drop_at : {A : Type 0} (all : List A) (i : ℕ) (x : A) → i < length all → x ≡ get_or all i x → drop i all ≡ x ∷ drop (i + 1) all
 drop_at {A} all i x inside is = at_drop_more (λ (l : List A). l) all i x inside ∙ ap (λ (y : A). y ∷ drop (i + 1) all) (sym is)
 
-behind : (text line rest whole pushed : Text) → whole ≡ text ++ (line ++ rest) → pushed ≡ text ++ line → whole ≡ pushed ++ rest
+pub behind : (text line rest whole pushed : Text) → whole ≡ text ++ (line ++ rest) → pushed ≡ text ++ line → whole ≡ pushed ++ rest
 behind text line rest whole pushed before after = before ∙ sym (append_assoc text line rest) ∙ ap (λ (t : Text). t ++ rest) (sym after)
 
 -- ---- names with values

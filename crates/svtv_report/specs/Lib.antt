@@ -2,3 +2,4 @@ pub mod Texts
 pub mod Refusals
 pub mod Shown
 pub mod Seen
+pub mod Invariants

@@ -35,7 +35,7 @@ abbrev pub read_fault_text : Text → Place → Text
 read_fault_text name p = place_text name p ++ (codes "read fault" ++ line_feed)
 
 abbrev pub usage_text : Text
-usage_text = codes "usage: svtv prove DESIGN TABLE GOALS [--top M] [--budget N]" ++ (line_feed ++ (codes "       svtv sim DESIGN TABLE VALUES [--top M] [--vcd]" ++ (line_feed ++ (codes "       svtv dump DESIGN [--top M]" ++ (line_feed ++ (codes "       svtv selftest N" ++ (line_feed ++ (codes "       svtv cert DESIGN TABLE GOALS GOAL [--top M] [--budget N]" ++ (line_feed ++ (codes "       svtv check CERT" ++ (line_feed ++ (codes "       svtv wave VCD PATH" ++ line_feed))))))))))))
+usage_text = codes "usage: svtv prove DESIGN TABLE GOALS [--top M] [--budget N]" ++ (line_feed ++ (codes "       svtv sim DESIGN TABLE VALUES [--top M] [--vcd]" ++ (line_feed ++ (codes "       svtv dump DESIGN [--top M]" ++ (line_feed ++ (codes "       svtv selftest N" ++ (line_feed ++ (codes "       svtv cert DESIGN TABLE GOALS GOAL [--top M] [--budget N]" ++ (line_feed ++ (codes "       svtv check CERT" ++ (line_feed ++ (codes "       svtv induct DESIGN RESET PERIOD INVS [--top M] [--budget N]" ++ (line_feed ++ (codes "       svtv wave VCD PATH" ++ line_feed))))))))))))))
 
 abbrev pub memory_text : Text
 memory_text = codes "svtv: out of memory" ++ line_feed

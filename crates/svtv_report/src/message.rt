@@ -7,7 +7,7 @@ ghost use Rattle.svtv_report.specs.Texts.{line_feed};
 use crate::refusal::word_of;
 use itoa::Buffer;
 use std::alloc::{AllocError, Global};
-use sv_outside::{Name, Place, Refusal};
+use sv_outside::{Name, Place, Refusal, refusals};
 
 // `NAME:LINE:COLUMN: `, behind so much.
 fn push_place(text: &mut Vec<u8>, name: &Name, place: Place) -> Result<(), AllocError>
@@ -28,7 +28,7 @@ fn push_count(text: &mut Vec<u8>, refusal: &Refusal) -> Result<(), AllocError>
     ensures { OnOk result (text.new.items ≡ text.old.items ++ count_text refusal.now) }
 {
     let mut buffer = Buffer::new();
-    if refusal.number == 10 || refusal.number == 39 {
+    if refusal.number == refusals::TOP_UNCLEAR || refusal.number == refusals::LOOP_TOO_WIDE {
         text.push(b' ')?;
         text.extend_from_slice(buffer.format(refusal.count).as_bytes())?;
     }
@@ -73,7 +73,7 @@ pub fn read_fault_text(alloc: Global, name: &Name, place: Place) -> Result<Vec<u
 pub fn usage_text() -> &'static [u8]
     ensures { result.now ≡ usage_text }
 {
-    b"usage: svtv prove DESIGN TABLE GOALS [--top M] [--budget N]\n       svtv sim DESIGN TABLE VALUES [--top M] [--vcd]\n       svtv dump DESIGN [--top M]\n       svtv selftest N\n       svtv cert DESIGN TABLE GOALS GOAL [--top M] [--budget N]\n       svtv check CERT\n       svtv wave VCD PATH\n"
+    b"usage: svtv prove DESIGN TABLE GOALS [--top M] [--budget N]\n       svtv sim DESIGN TABLE VALUES [--top M] [--vcd]\n       svtv dump DESIGN [--top M]\n       svtv selftest N\n       svtv cert DESIGN TABLE GOALS GOAL [--top M] [--budget N]\n       svtv check CERT\n       svtv induct DESIGN RESET PERIOD INVS [--top M] [--budget N]\n       svtv wave VCD PATH\n"
 }
 
 /// Want of memory.

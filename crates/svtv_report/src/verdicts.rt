@@ -35,8 +35,12 @@ impl Drop for Verdict {
     }
 }
 
-// A line for each variable that has a value.
-fn push_vars(text: &mut Vec<u8>, vars: &[VarDecl], values: &[Four]) -> Result<(), AllocError>
+/// A line for each variable that has a value.
+pub(crate) fn push_vars(
+    text: &mut Vec<u8>,
+    vars: &[VarDecl],
+    values: &[Four],
+) -> Result<(), AllocError>
     ensures { OnOk result (text.new.items ≡ text.old.items ++ value_lines (codes "  var ") (var_texts vars.now) values.now) }
 {
     'vars: for (var, value) in vars.iter().zip(values) {
@@ -45,8 +49,8 @@ fn push_vars(text: &mut Vec<u8>, vars: &[VarDecl], values: &[Four]) -> Result<()
     Ok(())
 }
 
-// A line for each sample that has a value, after so much.
-fn push_samples(
+/// A line for each sample that has a value, after so much.
+pub(crate) fn push_samples(
     text: &mut Vec<u8>,
     before: &[u8],
     samples: &[Sample],
@@ -60,8 +64,8 @@ fn push_samples(
     Ok(())
 }
 
-// The end of a line of a goal that was left behind so many steps.
-fn push_undecided(text: &mut Vec<u8>, steps: u64) -> Result<(), AllocError>
+/// The end of a line of a goal that was left behind so many steps.
+pub(crate) fn push_undecided(text: &mut Vec<u8>, steps: u64) -> Result<(), AllocError>
     ensures { OnOk result (text.new.items ≡ text.old.items ++ (codes ": undecided after " ++ (decimal steps ++ line_feed))) }
 {
     let mut buffer = Buffer::new();

@@ -25,7 +25,7 @@ use crate::variables::Variables;
 use items::Items;
 use name_index::NameIndex;
 use std::alloc::{AllocError, Global};
-use sv_outside::{Signal, TextErr};
+use sv_outside::{Signal, TextErr, refusals};
 use table_cells::{Row, RowKind, Table};
 
 /// Rows of one kind, each with the number of its wire, and a mark for each wire that has one.
@@ -104,10 +104,10 @@ fn number_of_wire(wires: &Wires, row: &Row, line: usize) -> Result<usize, TextEr
     ensures err { IfErr result (Stops (spec.wire_faults wires.now.list.now line row.now)) }
 {
     let Some(number) = wire_of(wires, &row.path) else {
-        return Err(refused(29, line, 2));
+        return Err(refused(refusals::SIGNAL_UNKNOWN, line, 2));
     };
     match row.kind {
-        RowKind::In if !wires.list[number].input => Err(refused(29, line, 2)),
+        RowKind::In if !wires.list[number].input => Err(refused(refusals::SIGNAL_UNKNOWN, line, 2)),
         _ => Ok(number),
     }
 }
@@ -144,7 +144,7 @@ fn bind_in(
     ensures err { IfErr result (Stops (spec.in_faults (slice_index_or drives.old.marks.items target.now.wire false) target.now.width (listed variables.now) target.now.line row.now.cells)) }
 {
     if drives.marks[target.wire] {
-        return Err(refused(30, target.line, 2));
+        return Err(refused(refusals::SIGNAL_TWICE, target.line, 2));
     }
     let driven = drives_of(alloc, variables, target, row.cells.as_slice())?;
     drives.put(target.wire, driven)?;
@@ -166,7 +166,7 @@ fn bind_over(
     ensures err { IfErr result (Stops (spec.set_faults (slice_index_or overs.old.marks.items target.now.wire false) target.now.width (listed variables.now) target.now.line row.now.cells)) }
 {
     if overs.marks[target.wire] {
-        return Err(refused(30, target.line, 2));
+        return Err(refused(refusals::SIGNAL_TWICE, target.line, 2));
     }
     let set = overs_of(alloc, variables, target, row.cells.as_slice())?;
     overs.put(target.wire, set)?;

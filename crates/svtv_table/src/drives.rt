@@ -16,7 +16,7 @@ use fourvec::Four;
 use items::Items;
 use std::alloc::Global;
 use sv_literal::Literal;
-use sv_outside::{Name, TextErr};
+use sv_outside::{Name, TextErr, refusals};
 use table_cells::{Cell, constant, fits};
 
 /// A vector of Z.
@@ -139,10 +139,10 @@ fn phase_drive(
     ensures err { IfErr result (Stops (drive_faults (spec.drive_of target.now.width (listed variables.now) held.now before.now) target.now.width (listed variables.now) target.now.line phase cell.now)) }
 {
     let Some(drive) = drive_of(variables, target.width, held, before) else {
-        return Err(refused(28, target.line, phase + 3));
+        return Err(refused(refusals::CELL_BAD, target.line, phase + 3));
     };
     if differs(variables, target.width, cell) {
-        return Err(refused(31, target.line, phase + 3));
+        return Err(refused(refusals::VAR_WIDTH, target.line, phase + 3));
     }
     Ok(drive)
 }

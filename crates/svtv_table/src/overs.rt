@@ -15,7 +15,7 @@ use crate::names::Target;
 use crate::variables::Variables;
 use items::Items;
 use std::alloc::{AllocError, Global};
-use sv_outside::TextErr;
+use sv_outside::{TextErr, refusals};
 use table_cells::{Cell, fits};
 
 fn is_over_cell(width: u8, cell: &Cell) -> bool
@@ -57,10 +57,10 @@ fn checked_over(
     ensures err { IfErr result (Stops (over_faults target.now.width (listed variables.now) target.now.line phase cell.now)) }
 {
     if !is_over_cell(target.width, cell) {
-        return Err(refused(28, target.line, phase + 3));
+        return Err(refused(refusals::CELL_BAD, target.line, phase + 3));
     }
     if differs(variables, target.width, cell) {
-        return Err(refused(31, target.line, phase + 3));
+        return Err(refused(refusals::VAR_WIDTH, target.line, phase + 3));
     }
     Ok(over_drive(variables, target.width, cell))
 }

@@ -12,7 +12,7 @@ use crate::fields::{all_records, count_of, field_at};
 use csv::ByteRecord;
 use items::Items;
 use std::alloc::Global;
-use sv_outside::{Name, TextErr};
+use sv_outside::{Name, TextErr, refusals};
 use table_cells::{Cell, Row, RowKind, Table, cell_of};
 
 #[tactic(auto, unfolding(crate::specs::Reading::kind_of))]
@@ -45,7 +45,7 @@ fn cells_of(
     let mut cells = Items::new(alloc);
     for at in 2..count_of(csv_record) {
         let Some(cell) = cell_of(alloc, kind, field_at(csv_record, at))? else {
-            return Err(refused(28, line, at + 1));
+            return Err(refused(refusals::CELL_BAD, line, at + 1));
         };
         cells.push(cell)?;
     }
@@ -61,10 +61,10 @@ fn row_of(alloc: Global, count: usize, at: usize, csv_record: &ByteRecord) -> Re
     ensures err { IfErr result (Stops (spec.record_faults count at (fields_in csv_record.now))) }
 {
     if count_of(csv_record) != count {
-        return Err(refused(26, at + 1, 1));
+        return Err(refused(refusals::SHAPE, at + 1, 1));
     }
     let Some(kind) = kind_of(field_at(csv_record, 0)) else {
-        return Err(refused(26, at + 1, 1));
+        return Err(refused(refusals::SHAPE, at + 1, 1));
     };
     let cells = cells_of(alloc, kind, at + 1, csv_record)?;
     let path = Name::new(alloc, field_at(csv_record, 1))?;
@@ -93,13 +93,13 @@ fn first_count(records: &[ByteRecord]) -> Result<usize, TextErr>
     ensures err { IfErr result (Stops (spec.front_faults (map fields_in records.now))) }
 {
     let Some(first) = records.first() else {
-        return Err(refused(26, 1, 1));
+        return Err(refused(refusals::SHAPE, 1, 1));
     };
     let count = count_of(first);
     if count < 3 {
-        Err(refused(26, 1, 1))
+        Err(refused(refusals::SHAPE, 1, 1))
     } else if count > 66 {
-        Err(refused(27, 1, 1))
+        Err(refused(refusals::PHASES, 1, 1))
     } else {
         Ok(count)
     }

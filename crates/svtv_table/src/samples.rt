@@ -12,7 +12,7 @@ use crate::names::{Target, number_of};
 use crate::variables::Variables;
 use items::Items;
 use name_index::NameIndex;
-use sv_outside::{Name, TextErr};
+use sv_outside::{Name, TextErr, refusals};
 use table_cells::Cell;
 
 /// Samples, with an index of their names.
@@ -45,7 +45,7 @@ fn put_sample(
     ensures err { IfErr result (Stops (taken_faults (listed variables.now) (map sample_name samples.old.list) target.now.line phase name.now)) }
 {
     if is_taken(samples, name) || number_of(variables, name).is_some() {
-        return Err(refused(32, target.line, phase + 3));
+        return Err(refused(refusals::SAMPLE_TWICE, target.line, phase + 3));
     }
     samples.taken.note(name.bytes(), samples.list.len())?;
     let name = name.copy()?;

@@ -23,7 +23,7 @@ use csv::ByteRecord;
 use fourvec::Four;
 use name_index::NameIndex;
 use std::alloc::{AllocError, Global};
-use sv_outside::TextErr;
+use sv_outside::{TextErr, refusals};
 use table_cells::{constant, fits, known_literal};
 
 #[tactic(auto, using(table_cells::proofs::Literals::meaning_of_known), unfolding(crate::specs::Valuing::is_value, crate::specs::Faults::Stops))]
@@ -34,10 +34,10 @@ fn value_of(text: &[u8], width: u8, line: usize) -> Result<Four, TextErr>
     ensures err { IfErr result (Stops (fault_if (not (spec.is_value text.now width)) (fault 38 line 2))) }
 {
     let Some(literal) = known_literal(text) else {
-        return Err(refused(38, line, 2));
+        return Err(refused(refusals::VALUE_BAD, line, 2));
     };
     if !fits(&literal, width) {
-        return Err(refused(38, line, 2));
+        return Err(refused(refusals::VALUE_BAD, line, 2));
     }
     Ok(constant(&literal, width))
 }
@@ -51,7 +51,7 @@ fn new_value(so_far: &Option<Four>, text: &[u8], width: u8, line: usize) -> Resu
     ensures err { IfErr result (Stops (spec.var_faults (is_some so_far.now) width line text.now)) }
 {
     if so_far.is_some() {
-        return Err(refused(37, line, 1));
+        return Err(refused(refusals::VAR_TWICE, line, 1));
     }
     value_of(text, width, line)
 }
@@ -74,10 +74,10 @@ fn put_value(
     ensures err { IfErr result (Stops (spec.value_faults vars.now (is_valued values.old.items (number_of vars.now (spec.name_at (fields_in csv_record.now)))) line (fields_in csv_record.now))) }
 {
     if count_of(csv_record) != 2 {
-        return Err(refused(26, line, 1));
+        return Err(refused(refusals::SHAPE, line, 1));
     }
     let Some(number) = number_in(vars, index, field_at(csv_record, 0)) else {
-        return Err(refused(36, line, 1));
+        return Err(refused(refusals::VAR_UNKNOWN, line, 1));
     };
     let width = vars[number].width;
     let value = new_value(&values[number], field_at(csv_record, 1), width, line)?;
@@ -105,7 +105,7 @@ fn all_given(alloc: Global, values: &[Option<Four>]) -> Result<Vec<Four>, TextEr
     for value in values {
         match value {
             Some(value) => given.push(*value)?,
-            None => return Err(refused(35, 1, 1)),
+            None => return Err(refused(refusals::VAR_MISSING, 1, 1)),
         }
     }
     Ok(given)

@@ -10,7 +10,7 @@ use Rattle.svex_shape.specs.declared.shape.VarName.TheVariants.{Chosen}
 use Rattle.svex_shape.specs.Shapes.{width_at}
 use Rattle.svex_shape.specs.Values.{Vector, Reading, value_at, each_variable}
 use Rattle.svex_arena.specs.Arenas.{Extends}
-use Rattle.driver_resolve.specs.Drivers.{bitwise, has_wire}
+use Rattle.driver_resolve.specs.Drivers.{bitwise, has_wire, widths_of}
 use Rattle.flat_net.specs.declared.flat.Flat.{Flat}
 use Rattle.flat_net.specs.Flats.{IsFlat, IsLeastSettling}
 use Rattle.phase_fsm.specs.Machines.{IsMachine, row_of}
@@ -65,6 +65,29 @@ pub record Behaves (fsm : Fsm) (bound : Bound) (choice : List (List Bit)) (state
   pub known : IsChoice bound.vars choice
   pub least : AreLeast flat (asks_of choice bound) bound.phases states
 
+-- ---- from a given valuation
+
+-- a row of nodes for wires, in a graph
+pub record Start : Type 0 where
+  pub shapes : List Shape
+  pub row : List (Option ℕ)
+
+-- Under a choice the nodes of the row have what the wires have in a valuation, bit by bit of each wire.
+abbrev pub Begins : List (List Bit) → List ℕ → Start → Store → Type 0
+Begins choice widths start state = (n m : ℕ) → n < length widths → slice_index_or start.row n None ≡ Some m
+    → value_at (under_choice choice) start.shapes m ≡ vector_of (state n) (slice_index widths n)
+
+-- Valuations of a flat design, under a choice, whose machine this is: before phase 0 one that the nodes of a row have, and behind each phase the
+-- least settling over the one before, with the least that a table allows from outside.
+pub record BehavesFrom (fsm : Fsm) (bound : Bound) (start : Start) (choice : List (List Bit)) (states : ℕ → Store) : Type 0 where
+  pub flat : Flat
+  pub wires : flat.wires ≡ fsm.flat.wires
+  pub machine : IsMachine flat fsm.sets fsm.flat.arena fsm.nodes
+  pub known : IsChoice bound.vars choice
+  pub begins : Begins choice (widths_of fsm.flat.wires) start (states 0)
+  pub later : (phase : ℕ) → phase < bound.phases
+      → IsLeastSettling flat (least_overriding (asks_of choice bound) phase).wires (least_outside (asks_of choice bound) phase) (states phase) (states (suc phase))
+
 -- ---- what a machine has to be
 
 -- it is the machine of a flat design
@@ -79,6 +102,7 @@ pub record IsGrown (old new : Fsm) : Type 0 where
   pub wires : new.flat.wires ≡ old.flat.wires
   pub sets : new.sets ≡ old.sets
   pub nodes : new.nodes ≡ old.nodes
+  pub flat : new.flat ≡ record old.flat { arena = new.flat.arena }
   pub extends : Extends old.flat.arena new.flat.arena
 
 -- these are the wires that are overridden in a phase

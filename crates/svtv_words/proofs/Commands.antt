@@ -5,7 +5,7 @@ use Rattle.std.specs.List.{All}
 use Rattle.std.proofs.lemmas.Bool.{true≢false, eqb-true, eq-eqb}
 use Rattle.std.proofs.lemmas.Slice.Eq.{bytes_eq-Decides}
 use Rattle.svtv_words.specs.declared.command.Command.{Command as Told}
-use Rattle.svtv_words.specs.Commands.{Text, Option', top, budget, vcd, Setting, Reads, given, AreOnce, AreNames, number_behind, most_count, Form, IsAllowed, IsCount, IsCounted, Verb', proves, sims, dumps, selftests, certs, checks, waves, form_of, Command, selftest, command_from, IsCommand, command_is, IsBudgetInBounds, IsInBounds}
+use Rattle.svtv_words.specs.Commands.{Text, Option', top, budget, vcd, Setting, Reads, given, AreOnce, AreNames, number_behind, most_count, Form, IsAllowed, IsCount, IsCounted, Verb', proves, sims, dumps, selftests, certs, checks, inducts, waves, form_of, Command, selftest, command_from, IsCommand, command_is, IsBudgetInBounds, IsInBounds}
 use Rattle.svtv_words.specs.Reading.{Texts, nothing_given, text_at, budget_of, count_of, budget_at, Next, anything, text_of, a_positional, Found, found, nothing_found, most_positionals, found_in, every_verb, verb_among, command_with, command_named, command_found, is_waiting, command_in}
 use Rattle.svtv_words.proofs.OneWord.{on_if}
 use Rattle.svtv_words.proofs.Options.{given_by, from_nothing, all_given, given_number, given_in_bounds}
@@ -22,6 +22,7 @@ verb_found dumps = refl
 verb_found selftests = refl
 verb_found certs = refl
 verb_found checks = refl
+verb_found inducts = refl
 verb_found waves = refl
 
 has_room : (v : Verb') → (form_of v).positionals ≤ most_positionals
@@ -31,6 +32,7 @@ has_room dumps = omega arith
 has_room selftests = omega arith
 has_room certs = omega arith
 has_room checks = omega arith
+has_room inducts = omega arith
 has_room waves = omega arith
 
 verb_has_word : (w : Text) (all : List Verb') → IfSome (verb_among all w) (λ v. w ≡ (form_of v).word)
@@ -160,6 +162,7 @@ from_in_bounds dumps names t n w k h = tt
 from_in_bounds selftests names t n w k h = subst (λ (x : ℕ). (1 ≤ x) × (x ≤ most_count)) k.1.is (k.1.low, k.1.high)
 from_in_bounds certs names t n w k h = h
 from_in_bounds checks names t n w k h = tt
+from_in_bounds inducts names t n w k h = h
 from_in_bounds waves names t n w k h = tt
 
 pub command_in_bounds : (words : List Text) (c : Command) → IsCommand words c → IsInBounds c

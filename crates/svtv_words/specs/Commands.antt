@@ -2,7 +2,7 @@
 use Rattle.std.specs.Prelude.{◌≡◌, ℕ, ◌+◌, ◌-◌, ◌*◌, ◌≤◌, Bool, true, false, ◌&&◌, ◌||◌, nat_le, List, [], ◌∷◌, ◌++◌, length, get_or, Option, Some, None, is_some, IsTrue, IsFalse, IfSome, codes, option_copied, option_map, if◌then◌else◌}
 use Rattle.std.specs.List.{All}
 use Rattle.svtv_words.specs.declared.command.Command.{Command as Told}
-use Rattle.svtv_words.specs.declared.command.Command.TheVariants.{Prove, Sim, Dump, Selftest, Cert, Check, Wave}
+use Rattle.svtv_words.specs.declared.command.Command.TheVariants.{Prove, Sim, Dump, Selftest, Cert, Check, Induct, Wave}
 
 abbrev pub Text : Type 0
 Text = List ℕ
@@ -133,7 +133,7 @@ pub record Form : Type 0 where
   pub counted : Bool
   pub options : List Option'
 
--- a verb, of which the words of a command know seven
+-- a verb, of which the words of a command know eight
 pub data Verb' : Type 0 where
   proves : Verb'
   sims : Verb'
@@ -141,10 +141,11 @@ pub data Verb' : Type 0 where
   selftests : Verb'
   certs : Verb'
   checks : Verb'
+  inducts : Verb'
   waves : Verb'
 
 -- `prove DESIGN TABLE GOALS [--top M] [--budget N]`, `sim DESIGN TABLE VALUES [--top M] [--vcd]`, `dump DESIGN [--top M]`, `selftest N`,
--- `cert DESIGN TABLE GOALS GOAL [--top M] [--budget N]`, `check CERT` and `wave VCD PATH`
+-- `cert DESIGN TABLE GOALS GOAL [--top M] [--budget N]`, `check CERT`, `induct DESIGN RESET PERIOD INVS [--top M] [--budget N]` and `wave VCD PATH`
 abbrev pub form_of : Verb' → Form
 form_of proves = record { word = codes "prove"; positionals = 3; counted = false; options = top ∷ budget ∷ [] }
 form_of sims = record { word = codes "sim"; positionals = 3; counted = false; options = top ∷ vcd ∷ [] }
@@ -152,6 +153,7 @@ form_of dumps = record { word = codes "dump"; positionals = 1; counted = false; 
 form_of selftests = record { word = codes "selftest"; positionals = 1; counted = true; options = [] }
 form_of certs = record { word = codes "cert"; positionals = 4; counted = false; options = top ∷ budget ∷ [] }
 form_of checks = record { word = codes "check"; positionals = 1; counted = false; options = [] }
+form_of inducts = record { word = codes "induct"; positionals = 4; counted = false; options = top ∷ budget ∷ [] }
 form_of waves = record { word = codes "wave"; positionals = 2; counted = false; options = [] }
 
 -- The form has the option, and the text is good for it.
@@ -169,8 +171,8 @@ pub record Allows (form : Form) (positionals : List Text) (settings : List Setti
 
 -- ---- commands
 
--- `prove DESIGN TABLE GOALS`, `sim DESIGN TABLE VALUES`, `dump DESIGN`, `selftest N`, `cert DESIGN TABLE GOALS GOAL`, `check CERT` and
--- `wave VCD PATH`, with their options
+-- `prove DESIGN TABLE GOALS`, `sim DESIGN TABLE VALUES`, `dump DESIGN`, `selftest N`, `cert DESIGN TABLE GOALS GOAL`, `check CERT`,
+-- `induct DESIGN RESET PERIOD INVS` and `wave VCD PATH`, with their options
 pub data Command : Type 0 where
   prove : (design table goals : Text) → (top : Option Text) → (budget : Option ℕ) → Command
   -- whether `--vcd` is given
@@ -179,6 +181,7 @@ pub data Command : Type 0 where
   selftest : (n : ℕ) → Command
   cert : (design table goals goal : Text) → (top : Option Text) → (budget : Option ℕ) → Command
   check : (file : Text) → Command
+  induct : (design reset period invs : Text) → (top : Option Text) → (budget : Option ℕ) → Command
   wave : (file path : Text) → Command
 
 -- the command of a verb, its positionals in order, what its options are given, and whether `--vcd` is
@@ -189,6 +192,7 @@ command_from dumps names t n w = dump (get_or names 0 []) t
 command_from selftests names t n w = selftest (number_behind 0 (get_or names 0 []))
 command_from certs names t n w = cert (get_or names 0 []) (get_or names 1 []) (get_or names 2 []) (get_or names 3 []) t n
 command_from checks names t n w = check (get_or names 0 [])
+command_from inducts names t n w = induct (get_or names 0 []) (get_or names 1 []) (get_or names 2 []) (get_or names 3 []) t n
 command_from waves names t n w = wave (get_or names 0 []) (get_or names 1 [])
 
 -- The words are this command: the word of a verb, and behind it what the verb's form allows.
@@ -210,6 +214,7 @@ command_is (Dump d m) = dump d.now (option_copied m)
 command_is (Selftest k) = selftest k
 command_is (Cert d t g l m n) = cert d.now t.now g.now l.now (option_copied m) n
 command_is (Check f) = check f.now
+command_is (Induct d r p v m n) = induct d.now r.now p.now v.now (option_copied m) n
 command_is (Wave f p) = wave f.now p.now
 
 -- a budget that is given is from 1 to 10,000,000
@@ -224,4 +229,5 @@ IsInBounds (dump d m) = Unit {0}
 IsInBounds (selftest k) = (1 ≤ k) × (k ≤ most_count)
 IsInBounds (cert d t g l m n) = IsBudgetInBounds n
 IsInBounds (check f) = Unit {0}
+IsInBounds (induct d r p v m n) = IsBudgetInBounds n
 IsInBounds (wave f p) = Unit {0}

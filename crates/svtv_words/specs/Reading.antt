@@ -1,7 +1,7 @@
 -- What reading the words of a command from the left finds, a word at a time.
 use Rattle.std.specs.Prelude.{ℕ, Bool, true, false, not, ◌&&◌, ◌==◌, nat_le, nat_lt, List, [], ◌∷◌, ◌++◌, length, get_or, take, drop, Option, Some, None, is_some, option_map, option_and_then, unwrap_or, bytes_eq, codes, if◌then◌else◌}
 use Rattle.std.specs.List.{list_all}
-use Rattle.svtv_words.specs.Commands.{Text, Option', top, budget, vcd, option_text, takes_text, is_among, is_digit, number_behind, most_budget, most_count, Form, Verb', proves, sims, dumps, selftests, certs, checks, waves, form_of, Command, selftest, command_from}
+use Rattle.svtv_words.specs.Commands.{Text, Option', top, budget, vcd, option_text, takes_text, is_among, is_digit, number_behind, most_budget, most_count, Form, Verb', proves, sims, dumps, selftests, certs, checks, inducts, waves, form_of, Command, selftest, command_from}
 
 -- ---- one word
 
@@ -164,7 +164,7 @@ found_in form (w ∷ more) f = option_and_then (found_in form more) (with_word f
 -- ---- the whole
 
 abbrev pub every_verb : List Verb'
-every_verb = proves ∷ sims ∷ dumps ∷ selftests ∷ certs ∷ checks ∷ waves ∷ []
+every_verb = proves ∷ sims ∷ dumps ∷ selftests ∷ certs ∷ checks ∷ inducts ∷ waves ∷ []
 
 -- the first of these verbs with this word
 abbrev pub verb_among : List Verb' → Text → Option Verb'

@@ -10,8 +10,8 @@ use Rattle.svtv_words.specs.declared.scan.Next.TheVariants as waiting
 use Rattle.svtv_words.specs.declared.scan.Texts.{Texts as Given}
 use Rattle.svtv_words.specs.declared.scan.Found.{Found as Held}
 use Rattle.svtv_words.specs.declared.verbs.Verb.{Verb}
-use Rattle.svtv_words.specs.declared.verbs.Verb.TheVariants.{Prove, Sim, Dump, Selftest, Cert, Check, Wave}
-use Rattle.svtv_words.specs.Commands.{Text, Option', top, budget, vcd, Verb', proves, sims, dumps, selftests, certs, checks, waves}
+use Rattle.svtv_words.specs.declared.verbs.Verb.TheVariants.{Prove, Sim, Dump, Selftest, Cert, Check, Induct, Wave}
+use Rattle.svtv_words.specs.Commands.{Text, Option', top, budget, vcd, Verb', proves, sims, dumps, selftests, certs, checks, inducts, waves}
 use Rattle.svtv_words.specs.Reading.{Kind, a_name, with_text, before_text, on_its_own, the_rest, unknown, Texts, texts, Next, anything, text_of, a_positional, Found, found}
 
 abbrev pub option_is : OptionName → Option'
@@ -26,6 +26,7 @@ verb_is Dump = dumps
 verb_is Selftest = selftests
 verb_is Cert = certs
 verb_is Check = checks
+verb_is Induct = inducts
 verb_is Wave = waves
 
 abbrev pub kind_is : Known → Kind

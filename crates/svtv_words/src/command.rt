@@ -46,6 +46,14 @@ pub enum Command<'a> {
     Check {
         file: &'a [u8],
     },
+    Induct {
+        design: &'a [u8],
+        reset: &'a [u8],
+        period: &'a [u8],
+        invariants: &'a [u8],
+        top: Option<&'a [u8]>,
+        budget: Option<u64>,
+    },
     Wave {
         file: &'a [u8],
         path: &'a [u8],
@@ -87,6 +95,14 @@ fn command_with<'a>(verb: Verb, names: Names<'a>, texts: Texts<'a>) -> Option<Co
             budget,
         }),
         Verb::Check => Some(Command::Check { file: names.at(0) }),
+        Verb::Induct => Some(Command::Induct {
+            design,
+            reset: names.at(1),
+            period: names.at(2),
+            invariants: names.at(3),
+            top,
+            budget,
+        }),
         Verb::Wave => Some(Command::Wave {
             file: names.at(0),
             path: names.at(1),

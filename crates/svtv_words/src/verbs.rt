@@ -15,6 +15,7 @@ pub(crate) enum Verb {
     Selftest,
     Cert,
     Check,
+    Induct,
     Wave,
 }
 
@@ -30,6 +31,7 @@ impl Verb {
             Verb::Selftest => 1,
             Verb::Cert => 4,
             Verb::Check => 1,
+            Verb::Induct => 4,
             Verb::Wave => 2,
         }
     }
@@ -39,8 +41,11 @@ impl Verb {
         ensures { result ≡ is_among (option_is option) (form_of (verb_is self)).options }
     {
         match option {
-            OptionName::Top => matches!(self, Verb::Prove | Verb::Sim | Verb::Dump | Verb::Cert),
-            OptionName::Budget => matches!(self, Verb::Prove | Verb::Cert),
+            OptionName::Top => matches!(
+                self,
+                Verb::Prove | Verb::Sim | Verb::Dump | Verb::Cert | Verb::Induct
+            ),
+            OptionName::Budget => matches!(self, Verb::Prove | Verb::Cert | Verb::Induct),
             OptionName::Vcd => matches!(self, Verb::Sim),
         }
     }
@@ -62,6 +67,8 @@ pub(crate) fn verb_of(word: &[u8]) -> Option<Verb>
         Some(Verb::Cert)
     } else if word == b"check".as_slice() {
         Some(Verb::Check)
+    } else if word == b"induct".as_slice() {
+        Some(Verb::Induct)
     } else if word == b"wave".as_slice() {
         Some(Verb::Wave)
     } else {

@@ -16,15 +16,13 @@ use crate::waves::{VcdVar, Waves};
 use crate::word::Cursor;
 use items::Items;
 use std::alloc::Global;
-use sv_outside::{Place, Refusal, TextErr};
-
-const VCD_SYNTAX: u8 = 47;
+use sv_outside::{Place, Refusal, TextErr, refusals};
 
 fn syntax(place: Place) -> TextErr
     ensures { result ≡ No (refused 47 place) }
 {
     TextErr::No(Refusal {
-        number: VCD_SYNTAX,
+        number: refusals::VCD_SYNTAX,
         place,
         count: 0,
     })

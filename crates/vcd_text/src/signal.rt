@@ -16,9 +16,7 @@ use crate::waves::{VarKind, VcdVar, Waves};
 use fourvec::Four;
 use std::alloc::Global;
 use std::marker::Model;
-use sv_outside::{Name, Place, Refusal, TextErr};
-
-const VCD_SIGNAL: u8 = 48;
+use sv_outside::{FILE_START, Name, Refusal, TextErr, refusals};
 
 /// The changes of a signal that are left, each with the value that it gives. They stand in the text, and take no memory.
 pub struct SignalChanges<'w, 'a> {
@@ -104,12 +102,8 @@ fn no_signal() -> Refusal
     ensures { result ≡ refused 48 start }
 {
     Refusal {
-        number: VCD_SIGNAL,
-        place: Place {
-            file: 0,
-            line: 1,
-            column: 1,
-        },
+        number: refusals::VCD_SIGNAL,
+        place: FILE_START,
         count: 0,
     }
 }

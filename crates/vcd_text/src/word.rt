@@ -6,7 +6,7 @@ ghost use Rattle.vcd_text.specs.Words as spec;
 ghost use Rattle.vcd_text.specs.Words.{Room, words_from};
 ghost use Rattle.vcd_text.specs.Cursors.{Next};
 
-use sv_outside::Place;
+use sv_outside::{FILE_START, Place};
 
 /// A word, and where it begins.
 #[derive(Clone, Copy)]
@@ -71,11 +71,7 @@ impl<'a> Cursor<'a> {
     {
         Cursor {
             rest: text,
-            place: Place {
-                file: 0,
-                line: 1,
-                column: 1,
-            },
+            place: FILE_START,
         }
     }
 

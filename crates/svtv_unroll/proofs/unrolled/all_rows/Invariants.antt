@@ -15,6 +15,6 @@ invariant-phases l = record {
   unknown : (choice : List (List Bit)) → IsChoice l.bound.vars choice → (n k : ℕ) → store_in choice l.fsm.flat.arena l.blank.items n k ≡ Unknown;
   previous : IsRow l.bound.vars l.fsm.flat.arena (widths_of l.fn.fsm.flat.wires) l.previous.items;
   rows : AreRows l.fn.fsm l.bound l.fsm.flat.arena l.rows l.phase;
-  tells : AllTell l.fn.fsm l.bound l.fsm.flat.arena l.needs l.rows l.phase;
-  told : IsTold l.fn.fsm l.bound l.fsm.flat.arena l.sets l.needs l.previous.items l.phase;
+  tells : AllTell l.fn.fsm l.bound (record { shapes = l.fn.fsm.flat.arena; row = l.start }) l.fsm.flat.arena l.needs l.rows l.phase;
+  told : IsTold l.fn.fsm l.bound (record { shapes = l.fn.fsm.flat.arena; row = l.start }) l.fsm.flat.arena l.sets l.needs l.previous.items l.phase;
 }

@@ -1,0 +1,11 @@
+pub mod Nodes
+pub mod Reading
+pub mod Joined
+pub mod States
+pub mod Widening
+pub mod Firsts
+pub mod Hypotheses
+pub mod Base
+pub mod Step
+pub mod Failing
+pub mod Answering

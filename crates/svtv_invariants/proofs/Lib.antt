@@ -1,0 +1,5 @@
+mod Reading
+mod Breaking
+mod Saying
+pub mod Halving
+mod Keeping

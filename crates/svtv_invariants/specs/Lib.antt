@@ -1,0 +1,4 @@
+pub mod Deciding
+pub mod Finding
+pub mod Halving
+pub mod Showing

@@ -1,0 +1,4 @@
+pub mod Ends
+pub mod Holding
+pub mod Words
+mod Examples
