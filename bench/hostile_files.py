@@ -6,6 +6,7 @@ tool bounds, which say so. Most kinds are of one layer: cutting into tokens, dir
 form, tables, values, goals. Those that simulate or prove do so over few variables or none, so that no search is measured.
 """
 
+import hashlib
 import os
 import subprocess
 import tempfile
@@ -76,8 +77,17 @@ def alike_constant(number):
 # ---- names that begin at one place in a table
 
 
-def alike_names(count):
-    """Names of six bytes at which a table of as many begins at one place; they are searched for, by a program in C (cc)."""
+def key_of(texts):
+    """The key of the maps of names of a text with these words: a digest of them, as hexadecimal digits."""
+    digest = hashlib.md5()
+    for text in texts:
+        digest.update(len(text).to_bytes(8, "little") + text.encode())
+    return digest.hexdigest()
+
+
+def alike_names(count, before, behind):
+    """Names of six bytes at which a table of as many begins at one place; they are searched for, by a program in C (cc), for the key of
+    a text which has other names where these are to stand, so that the key is another one once they stand there."""
     groups = 1
     while 9 * groups < count:
         groups *= 2
@@ -85,7 +95,7 @@ def alike_names(count):
         program = os.path.join(room, "alike_names")
         source = os.path.join(os.path.dirname(os.path.abspath(__file__)), "alike_names.c")
         subprocess.run(["cc", "-O2", "-o", program, source], check=True)
-        found = subprocess.run([program, str(count), str(groups - 1)], check=True, capture_output=True)
+        found = subprocess.run([program, str(count), str(groups - 1), key_of(before(count) + behind)], check=True, capture_output=True)
     return found.stdout.decode().split()
 
 
@@ -350,7 +360,8 @@ def nets_of_a_type_of_many_ranges(size):
 @kind
 def nets_with_alike_names(size):
     """Not of that size, as the search grows with the square, but of a hundredth."""
-    return dump(b"module m; logic n" + "".join("," + name for name in alike_names(size // 700)).encode() + b"; endmodule\n")
+    names = alike_names(size // 700, lambda count: "module m ; logic n".split() + [word for n in range(count) for word in (",", "n%d" % n)], "; endmodule".split())
+    return dump(b"module m; logic n" + "".join("," + name for name in names).encode() + b"; endmodule\n")
 
 
 @kind
@@ -524,7 +535,7 @@ def variables(size):
 @kind
 def variables_with_alike_names(size):
     """The same with names that begin at one place; not of that size, as the search for them grows with the square, but of a hundredth."""
-    names = alike_names(size // 700)
+    names = alike_names(size // 700, lambda count: ["v%d" % n for n in range(count)], ["s"])
     design = b"module m(" + counted("input i%d,", len(names)) + b"output y); assign y = 1; endmodule\n"
     table = "".join("in,i%d,%s\n" % (n, name) for n, name in enumerate(names)).encode() + b"out,y,s\n"
     return sim(design, table, "".join("%s,1\n" % name for name in names).encode())

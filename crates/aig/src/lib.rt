@@ -1,7 +1,7 @@
 //! And-inverter graphs: nodes that are false, inputs, or conjunctions of two literals, a literal being a node or its negation.
 //!
-//! A graph only grows. It is hashed: no two conjunctions have the same operands, in either order, and none is made whose
-//! value its operands alone decide.
+//! A graph only grows. It is hashed (structural hashing; Kuehlmann and Krohm, 1997): no two conjunctions have the same operands,
+//! in either order, and none is made whose value its operands alone decide.
 #![tactic(auto)]
 
 mod eval;

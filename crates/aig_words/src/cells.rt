@@ -1,7 +1,7 @@
-//! Circuits on single literals: disjunctions, differences, choices, and the columns of sums and comparisons. Words are made of
-//! these from the least significant place up. A sum of two literals is made of its carry, so that the difference and the carry
-//! share a node; two operands that are swapped give the same literals, since the graph finds conjunctions again in either
-//! order.
+//! Circuits on single literals: disjunctions, differences (xor), choices (multiplexers), and the columns of sums (full adders)
+//! and comparisons. Words are made of these from the least significant place up. A sum of two literals is made of its carry, so
+//! that the difference and the carry share a node; two operands that are swapped give the same literals, since the graph finds
+//! conjunctions again in either order.
 
 ghost use Rattle.std.specs.Prelude.{◌≡◌, ℕ, Bool, ◌+◌, ◌*◌, ◌<◌, ◌≤◌, IfOk, ◌&&◌, ◌||◌, if◌then◌else◌, length};
 ghost use Rattle.aig.specs.Graph.{holds, Always, IsIn};

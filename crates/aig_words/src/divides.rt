@@ -1,6 +1,6 @@
-//! Quotients and remainders, one bit of the quotient at a time, from the most significant down. A turn subtracts only as many
-//! low bits of the divisor as the rest has, and looks at the others for a bit that is set, so that the first turns are small.
-//! By zero the result is any bits, so no gate is spent on that case.
+//! Quotients and remainders, one bit of the quotient at a time, from the most significant down (restoring division). A turn
+//! subtracts only as many low bits of the divisor as the rest has, and looks at the others for a bit that is set, so that the
+//! first turns are small. By zero the result is any bits, so no gate is spent on that case.
 
 ghost use Rattle.std.specs.Prelude.{◌≡◌, ℕ, Bool, not, ◌&&◌, ◌+◌, ◌-◌, ◌*◌, ◌/◌, ◌^◌, ◌%◌, ◌<◌, ◌≤◌, nat_lt, IfOk, length};
 ghost use Rattle.std.specs.List.{All};

@@ -1,4 +1,4 @@
-//! Products.
+//! Products, one row for each bit of an operand (shift and add).
 
 ghost use Rattle.std.specs.Prelude.{◌≡◌, ℕ, Bool, ◌+◌, ◌-◌, ◌*◌, ◌^◌, ◌%◌, ◌<◌, ◌≤◌, IfOk, length, if◌then◌else◌};
 ghost use Rattle.std.specs.List.{All};

@@ -1,4 +1,6 @@
-//! Shifts, in stages by the bits of the amount.
+//! Shifts, in stages by the bits of the amount (a barrel shifter). A stage moves the word by the weight of its bit, or leaves it.
+//! There are no more stages than the word needs: a bit of the amount above these moves all of the word out, which one disjunction
+//! tells.
 
 ghost use Rattle.std.specs.Prelude.{◌≡◌, ℕ, Bool, ◌+◌, ◌-◌, ◌*◌, ◌/◌, ◌^◌, ◌%◌, ◌<◌, ◌≤◌, IfOk, length, nat_lt, if◌then◌else◌};
 ghost use Rattle.std.specs.List.{All};

@@ -1,5 +1,5 @@
-//! Judges the gates of expressions, by the values of the expressions, and verdicts of goals. The cases stand in data/ of the crate rows; what they mean stands at the head of
-//! each module.
+//! Judges the gates of expressions, by the values of the expressions, and verdicts of goals. The test cases stand in data/ of the
+//! crate rows; what they mean stands at the head of each module.
 #![tactic(auto)]
 
 mod choices;

@@ -1,4 +1,6 @@
-//! Which variables and nodes a goal may be asked of.
+//! Which variables and nodes a goal may be asked of. A file of cases may give any, and a goal is asked only of what passes these
+//! tests. A sample passes where it is a variable, a constant, or one operator over these, which is seen with no walk through the
+//! graph.
 
 ghost use Rattle.std.specs.Prelude.{◌≡◌, ◌<◌, ℕ, All, Bool, IsTrue, length};
 ghost use Rattle.goal_gates.specs.Goals.{is_chosen};

@@ -1,4 +1,4 @@
-//! Case files, in which values that were worked out by hand stand as text, and what judges them by.
+//! Case files (of test cases), in which values that were worked out by hand stand as text, and what judges them by.
 //!
 //! A file has cases, each begun by a line `case NAME`. Below it stand lines `KEY WORDS`, each with a block of rows behind it, and a row is a
 //! line `| text`. Lines that begin with `#` and empty lines are passed over. What a case does not give is as in the case before it.

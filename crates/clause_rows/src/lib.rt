@@ -1,5 +1,5 @@
-//! Judges what the crates of clauses, of the judge of refutations and of the solver give, by answers that were found by hand. They stand in
-//! data/ of the crate rows; what they mean stands at the head of each module.
+//! Judges what the crates of clauses, of the judge of refutations and of the solver give, by test cases whose answers were found
+//! by hand. They stand in data/ of the crate rows; what they mean stands at the head of each module.
 #![tactic(auto)]
 
 mod formulas;

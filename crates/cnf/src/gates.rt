@@ -1,4 +1,4 @@
-//! The clauses of a graph and a literal.
+//! The clauses of a graph and a literal, by the encoding of Tseitin (1968).
 
 ghost use Rattle.std.specs.Prelude.{◌≡◌, IfOk, ◌∷◌, ◌++◌, [], map, length};
 ghost use Rattle.aig.specs.Graph.{IsIn, gate_at};
@@ -63,7 +63,7 @@ fn clause_list(alloc: Global, aig: &Aig, root: Lit) -> Result<Vec<Vec<Dim>>, All
     Ok(clauses)
 }
 
-/// The clauses that say that each gate is obeyed and the literal is true (Tseitin's encoding). Variable k is node k.
+/// The clauses that say that each gate is obeyed and the literal is true. Variable k is node k.
 #[tactic(auto, using(crate::proofs::Solutions::below))]
 pub fn clauses_of(alloc: Global, aig: &Aig, root: Lit) -> Result<Cnf, AllocError>
     requires { IsIn aig.now root }

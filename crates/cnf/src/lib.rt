@@ -1,5 +1,5 @@
-//! Clauses over numbered variables and what it means that they have a solution, the clauses of a graph of gates, and the
-//! walk over a clause by which a solver and a judge of refutations go.
+//! Clauses over numbered variables (a conjunctive normal form) and what it means that they have a solution (a satisfying
+//! assignment), the clauses of a graph of gates, and the walk over a clause by which a solver and a judge of refutations go.
 #![tactic(auto)]
 
 ghost use Rattle.std.specs.Prelude.{◌≡◌};

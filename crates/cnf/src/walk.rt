@@ -1,4 +1,4 @@
-//! The walk over a clause.
+//! The walk over a clause that tells whether it is false, unit, or neither.
 
 ghost use Rattle.std.specs.Prelude.{◌<◌, ◌++◌, ◌∷◌, [], List, length};
 ghost use Rattle.std.specs.Bool.{OnFalse, OnTrue};

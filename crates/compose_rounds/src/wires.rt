@@ -1,4 +1,6 @@
-//! The nodes of wires, made of those of segments.
+//! The nodes of wires, made of those of segments. A wire is put together of pieces, the most significant first: a piece of a
+//! segment with an equation is a slice of its node, and a piece of a free one is X. What is made is loose where some segment is
+//! not settled yet, since later rounds may give that one another node.
 
 ghost use Rattle.std.specs.Prelude.{◌≡◌, ℕ, ◌<◌, ◌≤◌, ◌+◌, ◌++◌, List, length, All, IsTrue, IfOk, false};
 ghost use Rattle.fourvec.specs.Bits.{all_x};

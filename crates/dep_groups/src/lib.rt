@@ -1,4 +1,5 @@
-//! Groups of places that depend on each other, in an order of dependence, for any lists of what each place depends on.
+//! Groups of places that depend on each other (strongly connected components), in an order of dependence, for any lists of what
+//! each place depends on.
 #![tactic(auto)]
 
 mod finder;

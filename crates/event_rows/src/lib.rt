@@ -1,5 +1,6 @@
-//! Judges flat designs: their equations, how they settle, by events and by machines of one phase, and the least runs of tables over them, by
-//! values that were found by hand. They stand in data/ of the crate rows; what they mean stands at the head of each module.
+//! Judges flat designs: their equations, how they settle, by events and by machines of one phase, and the least runs of tables
+//! over them, by test cases whose values were found by hand. They stand in data/ of the crate rows; what they mean stands at the
+//! head of each module.
 #![tactic(auto)]
 
 mod design;

@@ -1,5 +1,5 @@
 -- Flat designs that are well formed, and the valuations that settle them.
-use Rattle.std.specs.Prelude.{◌&&◌, nat_le, ℕ, ◌≤◌, Bool, List, [], ◌∷◌, ◌++◌, length, All, IsTrue}
+use Rattle.std.specs.Prelude.{ℕ, ◌≤◌, Bool, List, [], ◌∷◌, ◌++◌, length, All, IsTrue}
 use Rattle.std.specs.List.{zip}
 use Rattle.lhs_alias.specs.Segs.{lhs_bits}
 use Rattle.lhs_alias.specs.Lies.{LieIn}
@@ -8,15 +8,12 @@ use Rattle.settling.specs.Settling.{Store, Contribution, Link, SettlesBy}
 use Rattle.settling.specs.Least.{Giving, IsLeast}
 use Rattle.settling.specs.Overriding.{overridden}
 use Rattle.sv_outside.specs.declared.text.Signal.{Signal}
+pub use Rattle.sv_outside.specs.Paths.{is_path_byte}
 use Rattle.driver_resolve.specs.Drivers.{Phase, drivers_give, stimuli_from, overriding_from, widths_of, IsDriver}
 use Rattle.flat_net.specs.declared.flat.Flat.{Flat}
 use Rattle.flat_net.specs.declared.flat.Join.{Join}
 
 -- ---- well formed
-
--- a byte that a path may have: it is printed, and no blank
-abbrev pub is_path_byte : ℕ → Bool
-is_path_byte b = nat_le 33 b && nat_le b 126
 
 -- a path, and a width of 1 to 128
 pub record IsSignal (s : Signal) : Type 0 where

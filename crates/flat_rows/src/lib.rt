@@ -1,5 +1,5 @@
-//! Judges texts of flat designs by what was found by hand: which are read and printed again as they stand, which are printed otherwise,
-//! and which line is refused. The cases stand in data/ of the crate rows.
+//! Judges texts of flat designs by what was found by hand: which are read and printed again as they stand, which are printed
+//! otherwise, and which line is refused. The test cases stand in data/ of the crate rows.
 //!
 //! `text` gives the lines of a text, each behind `| `. A row of `read` says what comes of it: `same` where the design that is read is
 //! printed as the text stands, `other` where it is printed otherwise, and `line N` where line N is refused. `prints` gives the lines

@@ -4,7 +4,7 @@ use Rattle.std.specs.Prelude.{ℕ, Bool, true, false, List, [], ◌∷◌, ◌++
 use Rattle.std.specs.List.{flat_map}
 use Rattle.std.specs.Fmt.{signed_decimal}
 use Rattle.fourvec.specs.declared.Bit.{Bit}
-use Rattle.fourvec.specs.declared.Bit.TheVariants.{Zero, One, Unknown, Floating}
+pub use Rattle.fourvec.specs.Bits.{digit}
 use Rattle.fourvec.specs.declared.Spot.{Spot}
 use Rattle.lhs_alias.specs.declared.segs.Seg.{Seg}
 use Rattle.sv_outside.specs.declared.text.Signal.{Signal}
@@ -24,12 +24,6 @@ abbrev pub Text : Type 0
 Text = List ℕ
 
 -- ---- words
-
-abbrev pub digit : Bit → ℕ
-digit Zero = 48
-digit One = 49
-digit Unknown = 120
-digit Floating = 122
 
 -- VALUE: the width, `'b`, and all bits from the most significant on
 abbrev pub value_text : List Bit → Text

@@ -8,23 +8,12 @@ ghost use Rattle.flat_text.specs.FlatTexts.{FitsSpot, HasSpot, is_long};
 ghost use Rattle.flat_text.specs.Lines.{ended, next, value_text, seg_text, lhs_text, flag, spot_text, name_has_form, name_text, has_form, shape_text, node_line, drive_line, join_line, wire_line};
 
 use flat_net::Join;
-use fourvec::{Bit, Four, Spot};
+use fourvec::{Four, Spot, digit};
 use itoa::Buffer;
 use lhs_alias::{Lhs, Seg};
 use std::alloc::AllocError;
 use sv_outside::Signal;
 use svex_shape::{Bin, Node, Shape, Un, VarName};
-
-fn digit(bit: Bit) -> u8
-    ensures { result ≡ t.digit bit }
-{
-    match bit {
-        Bit::Zero => b'0',
-        Bit::One => b'1',
-        Bit::Unknown => b'x',
-        Bit::Floating => b'z',
-    }
-}
 
 // A value: its width and its bits.
 fn push_value(text: &mut Vec<u8>, value: &Four) -> Result<(), AllocError>

@@ -4,7 +4,7 @@ ghost use Rattle.std.specs.Prelude.{◌≡◌, ◌+◌, ◌<◌, ◌≤◌, ◌�
 ghost use Rattle.flat_words.specs.Readers as spec;
 ghost use Rattle.flat_words.specs.Readers.{bits_onto};
 
-use fourvec::{Bit, Four};
+use fourvec::{Bit, Four, one_bit};
 
 fn bit_of(digit: u8) -> Option<Bit>
     ensures { result ≡ spec.bit_of digit }
@@ -15,18 +15,6 @@ fn bit_of(digit: u8) -> Option<Bit>
         b'x' => Some(Bit::Unknown),
         b'z' => Some(Bit::Floating),
         _ => None,
-    }
-}
-
-#[tactic(auto, unfolding(fourvec::specs::Bits::planes))]
-fn one_bit(bit: Bit) -> Four
-    ensures { result ≡ bit ∷ [] }
-{
-    match bit {
-        Bit::Zero => Four::new(1, 0, 0),
-        Bit::One => Four::new(1, 1, 1),
-        Bit::Unknown => Four::new(1, 1, 0),
-        Bit::Floating => Four::new(1, 0, 1),
     }
 }
 

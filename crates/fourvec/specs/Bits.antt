@@ -43,6 +43,13 @@ unfoldable pub low_plane : List Bit → ℕ
 low_plane [] = 0
 low_plane (b ∷ bs) = low_bit b + 2 * low_plane bs
 
+-- a bit as a byte: `0`, `1`, `x` or `z`
+abbrev pub digit : Bit → ℕ
+digit Zero = 48
+digit One = 49
+digit Unknown = 120
+digit Floating = 122
+
 -- ---- operators on bits
 
 -- Z counts as X in an expression (6.3.1)

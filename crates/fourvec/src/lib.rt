@@ -13,10 +13,12 @@ use std::marker::Model;
 mod arith;
 mod laws;
 mod logic;
+mod made;
 mod selects;
 mod shifts;
 
 pub use laws::{operators_are_monotone, order_of_contributions_is_free};
+pub use made::{all_unknown, digit, one_bit};
 pub use selects::Reach;
 
 /// One bit: 0, 1, X or Z.

@@ -24,7 +24,7 @@ use items::Items;
 use std::alloc::{AllocError, Global};
 use sv_lower::{Look, lower};
 use sv_modules::NameSet;
-use sv_names::Names;
+use sv_names::{NameDigest, Names};
 use sv_outside::{TextErr, refusals};
 use sv_tree::{Expr, Word};
 use sv_typed::Typed;
@@ -125,6 +125,15 @@ fn goal(
     Ok(Goal { name, hyps, claims })
 }
 
+// A digest of the names of goals.
+fn names_key(trees: &[GoalTree]) -> u128 {
+    let mut digest = NameDigest::new();
+    'trees: for tree in trees {
+        digest.take(tree.name.text.bytes());
+    }
+    digest.key()
+}
+
 // The goals of trees, in order.
 fn goals(
     alloc: Global,
@@ -138,7 +147,7 @@ fn goals(
     ensures goals { IfOk result (λ goals. AllZip (IsLowered (names_are hyps.now) (names_are claims.now) arena.new) trees.now goals) }
     ensures cause { IfErr result (λ e. IsCause (goals_faults [] (names_are hyps.now) (names_are claims.now) trees.now) e) }
 {
-    let mut names = NameSet::new(alloc);
+    let mut names = NameSet::new(alloc, names_key(trees));
     let mut found = Items::new(alloc);
     'trees: for tree in trees {
         let part = goal(alloc, arena, tree, &mut names, hyps, claims)?;

@@ -10,7 +10,7 @@ ghost use Rattle.sv_meaning.specs.Meanings.{is_bound};
 ghost use Rattle.svtv_table.specs.Binding.{HasWidth};
 
 use std::alloc::{AllocError, Global};
-use sv_names::{Form, Layout, Names, Scope, Shared, What, scalar};
+use sv_names::{Form, Layout, NameDigest, Names, Scope, Shared, What, scalar};
 use svtv_table::{Sample, VarDecl};
 
 // [left:right], unsigned, where that has so many bits.
@@ -44,12 +44,30 @@ fn vector(alloc: Global, width: u8) -> Result<Layout, AllocError>
     range(alloc, width, left, 0)
 }
 
+// A digest of the names of variables.
+fn variables_key(vars: &[VarDecl]) -> u128 {
+    let mut digest = NameDigest::new();
+    'vars: for var in vars {
+        digest.take(var.name.bytes());
+    }
+    digest.key()
+}
+
+// A digest of the names of samples.
+fn samples_key(samples: &[Sample]) -> u128 {
+    let mut digest = NameDigest::new();
+    'samples: for sample in samples {
+        digest.take(sample.name.bytes());
+    }
+    digest.key()
+}
+
 /// The variables of a table.
 pub fn variables(alloc: Global, vars: &[VarDecl]) -> Result<Scope, AllocError>
     requires { All (λ var. HasWidth var.width) vars.now }
     ensures { IfOk result (λ scope. entries_are scope ≡ variable_entries vars.now) }
 {
-    let mut scope = Scope::new(alloc);
+    let mut scope = Scope::new(alloc, variables_key(vars));
     'vars: for (number, var) in vars.iter().enumerate() {
         let layout = vector(alloc, var.width)?;
         let name = var.name.copy()?;
@@ -63,7 +81,7 @@ pub fn sampled(alloc: Global, samples: &[Sample]) -> Result<Scope, AllocError>
     requires { All (λ sample. HasWidth sample.width) samples.now }
     ensures { IfOk result (λ scope. entries_are scope ≡ sample_entries samples.now) }
 {
-    let mut scope = Scope::new(alloc);
+    let mut scope = Scope::new(alloc, samples_key(samples));
     'samples: for (number, sample) in samples.iter().enumerate() {
         let layout = vector(alloc, sample.width)?;
         let name = sample.name.copy()?;
@@ -72,12 +90,12 @@ pub fn sampled(alloc: Global, samples: &[Sample]) -> Result<Scope, AllocError>
     Ok(scope)
 }
 
-/// What hypotheses name: variables.
+/// What hypotheses name: variables. No loop is entered, so the map of the names of loops needs no key.
 pub fn hyp_names<'a>(alloc: Global, variables: &'a Scope) -> Result<Names<'a>, AllocError>
     ensures { IfOk result (λ names. names_are names ≡ scope_of (entries_are variables.now)) }
 {
     let count = variables.len();
-    let mut names = Names::new(alloc);
+    let mut names = Names::new(alloc, 0);
     names.push_scope(variables, count, count)?;
     Ok(names)
 }
@@ -91,7 +109,7 @@ pub fn claim_names<'a>(
     ensures { IfOk result (λ names. names_are names ≡ scope_of (entries_are variables.now ++ entries_are samples.now)) }
 {
     let (count, sampled) = (variables.len(), samples.len());
-    let mut names = Names::new(alloc);
+    let mut names = Names::new(alloc, 0);
     names.push_scope(variables, count, count)?;
     names.push_scope(samples, sampled, sampled)?;
     Ok(names)

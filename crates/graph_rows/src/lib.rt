@@ -1,5 +1,5 @@
-//! Judges what the crates of vectors, of the graph of expressions, of gates, of lists and of joined wires give, by values that were worked
-//! out by hand. They stand in data/ of the crate rows; what they mean stands at the head of each module.
+//! Judges what the crates of vectors, of the graph of expressions, of gates, of lists and of joined wires give, by test cases
+//! whose values were worked out by hand. They stand in data/ of the crate rows; what they mean stands at the head of each module.
 #![tactic(auto)]
 
 mod circuits;

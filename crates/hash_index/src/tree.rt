@@ -1,7 +1,7 @@
-//! Trees of entries by the bits of their hashes, linked by number. A hash has a bucket, and there a way that begins at the
-//! bucket's root and goes on behind each entry by the next bit of the hash, from the lowest up. An entry stands where the way
-//! of its hash ended when it was put in, so each entry behind it shares one bit more with it: a way passes at most 64 entries
-//! of other hashes. Entries behind an entry are younger.
+//! Trees of entries by the bits of their hashes (digital search trees; Coffman and Eve, 1970), linked by number. A hash has a
+//! bucket, and there a way that begins at the bucket's root and goes on behind each entry by the next bit of the hash, from the
+//! lowest up. An entry stands where the way of its hash ended when it was put in, so each entry behind it shares one bit more
+//! with it: a way passes at most 64 entries of other hashes. Entries behind an entry are younger.
 
 ghost use Rattle.std.specs.Prelude.{◌≡◌, ℕ, true, false, List, ◌<◌, ◌≤◌, ◌+◌, ◌%◌, length, slice_index, IfSome, IfNone, replicate};
 ghost use Rattle.hash_index.specs.declared.tree.Place.TheVariants.{Root};

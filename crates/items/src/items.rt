@@ -1,6 +1,6 @@
-// A `Vec` that contracts see as the list of its elements, without its capacity or its address. So a type may reach itself
-// through it and still be plain data in a contract: two trees are the same where their lists are. Only `push` and `append` may
-// want memory; what they were given is let go then, and the list is as before.
+// A `Vec` that contracts see as the list of its elements, without its capacity or its address. So a type may reach itself through
+// it and still be plain data in a contract: two trees are the same where their lists are. Only `push` and `append` may want
+// memory (run out of it); what they were given is let go then, and the list is as before.
 ghost use Rattle.std.specs.Prelude.{◌≡◌, [], ◌∷◌, ◌++◌, ◌<◌, length, slice_get, slice_set, ◌↔◌, IsTrue, MatchOption, OnOk, OnErr};
 ghost use Rattle.std.specs.Option.{option_copied};
 

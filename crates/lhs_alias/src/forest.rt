@@ -1,6 +1,7 @@
-// Classes of numbers, as trees of links from each number to a root (union by size). The smaller tree is linked to the larger,
-// so a search takes a logarithm of steps without any links being changed, and asking for a class needs no mutable access. The
-// first number of a class is kept at its root, since joins decide which it is, and the shape of the tree does not.
+// Classes of numbers, as trees of links from each number to a root (union-find, of Galler and Fischer, 1964, with union by size).
+// The smaller tree is linked to the larger, so a search takes a logarithm of steps without any links being changed, and asking
+// for a class needs no mutable access. The first number of a class is kept at its root, since joins decide which it is, and the
+// shape of the tree does not.
 ghost use Rattle.std.specs.Prelude.{◌≡◌, ◌+◌, ◌^◌, ◌<◌, ◌≤◌, length, slice_index, slice_set, IfOk};
 ghost use Rattle.std.specs.List.{range_with_len};
 ghost use Rattle.lhs_alias.specs.Roots.{root_of, EndAtRoots, IsForest, IsLinkable, firsts_of, merged};

@@ -1,7 +1,7 @@
 // How many nodes and drivers a design takes.
 use case_rows::{Fault, Judge, put, size_at};
 use std::alloc::Global;
-use sv_elab::elaborate;
+use sv_elab::{elaborate, key_of};
 use sv_outside::{Name, TextErr, Tokens};
 use sv_parser::parse;
 use sv_token::{end_of, lex};
@@ -29,7 +29,7 @@ pub fn fault_of(error: TextErr) -> Fault {
 fn is_within(alloc: Global, text: &[u8], nodes: usize, drivers: usize) -> Result<bool, TextErr> {
     let tokens = tokens_of(alloc, text)?;
     let source = parse(alloc, &tokens)?;
-    let flat = elaborate(alloc, &source, None)?;
+    let flat = elaborate(alloc, key_of(&tokens), &source, None)?;
     Ok(flat.arena.len() <= nodes && flat.drivers.len() <= drivers)
 }
 

@@ -1,5 +1,5 @@
-//! Judges what shows in no run of the tool: the turns of loops where nearly all that are allowed were made before, and how many nodes and
-//! drivers a design takes. The cases stand in data/ of the crate rows.
+//! Judges what shows in no run of the tool: the turns of loops where nearly all that are allowed were made before, and how many
+//! nodes and drivers a design takes. The test cases stand in data/ of the crate rows.
 //!
 //! A row of `turns`, `MADE STATEMENT => TURNS`, says what comes of a statement behind so many turns, in which `a` is a signal of one bit:
 //! the turns that are made behind it, or the refusal's number and its column in the statement. `design` keeps the lines of a design, and

@@ -88,9 +88,9 @@ fn put_statement(
 
 // What comes of a statement over the signal behind so many turns.
 fn put_turns(alloc: Global, text: &[u8], made: u64, out: &mut Vec<u8>) -> Result<(), TextErr> {
-    let mut scope = Scope::new(alloc);
+    let mut scope = Scope::new(alloc, 0);
     put_wire(alloc, &mut scope)?;
-    let mut names = Names::new(alloc);
+    let mut names = Names::new(alloc, 0);
     names.push_scope(&scope, scope.len(), scope.len())?;
     put_statement(alloc, text, &mut names, made, out)
 }

@@ -14,11 +14,11 @@ pub struct NameIndex {
 impl NameIndex {
     /// Of no names.
     #[tactic(auto, using(crate::proofs::Indexes::indexes_none))]
-    pub fn new(alloc: Global) -> NameIndex
+    pub fn new(alloc: Global, key: u128) -> NameIndex
         ensures { Indexes result [] }
     {
         NameIndex {
-            numbers: NameMap::new(alloc),
+            numbers: NameMap::new(alloc, key),
         }
     }
 

@@ -17,7 +17,7 @@ use Rattle.svex_arena.proofs.Numbering.{map_children}
 use Rattle.svex_arena.proofs.Steps.{value-step, value_reads, fits_same}
 use Rattle.svex_arena.proofs.Widths.{length-value_at}
 use Rattle.node_memo.specs.declared.memo.Memo.{Memo}
-use Rattle.node_memo.specs.Children.{children_of}
+use Rattle.svex_shape.specs.Children.{children_of}
 use Rattle.node_memo.specs.Memos.{rows_in, is_fresh, AreClosed, AreParents, IsMemo}
 use Rattle.node_memo.specs.Walks.{IsPath, IsDown, KeepsUp, stale_marks}
 

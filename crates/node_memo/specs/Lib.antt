@@ -1,4 +1,3 @@
-pub mod Children
 pub mod Lists
 pub mod Memos
 pub mod Walks

@@ -12,11 +12,11 @@ ghost use Rattle.svex_shape.specs.Values.{read};
 ghost use Rattle.node_memo.specs.Memos.{IsMemo, HasFresh, StayFresh, IsForgotten, is_fresh};
 ghost use Rattle.node_memo.specs.Walks.{is_stale, IsDown, KeepsUp, AreDropped, stale_marks, fresh_marks};
 
-use crate::children::child_nodes;
 use crate::parents::parents_of;
 use fourvec::Four;
 use std::alloc::{AllocError, Global};
 use svex_arena::{Arena, Env, Node, shape_value};
+use svex_shape::child_nodes;
 
 /// Values of the nodes of a graph, and which of them are fresh. Only `new` takes memory.
 pub struct Memo {

@@ -5,10 +5,10 @@ ghost use Rattle.svex_shape.specs.Shapes.{OnChildren, shape_at};
 ghost use Rattle.node_memo.specs.Memos.{rows_in, AreParents};
 ghost use Rattle.node_memo.specs.Lists.{Gains};
 
-use crate::children::child_nodes;
 use crate::lists::{no_lists, put_number};
 use std::alloc::{AllocError, Global};
 use svex_arena::{Arena, Node};
+use svex_shape::child_nodes;
 
 // Puts a node at the end of the parents of another, if there is one.
 fn put_parent(

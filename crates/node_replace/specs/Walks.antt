@@ -3,11 +3,11 @@ use Rattle.std.specs.Prelude.{◌≡◌, ◌⊎◌, ◌||◌, ◌+◌, ◌-◌, 
 use Rattle.std.specs.List.{Contains, count_by}
 use Rattle.svex_shape.specs.declared.shape.VarName.{VarName}
 use Rattle.svex_shape.specs.declared.shape.Shape.{Shape}
-use Rattle.svex_shape.specs.declared.shape.Shape.TheVariants.{Const, Var, Unary, Binary, Cond, Pick, Slice, Zext, Sext, DynSlice, DynPut}
+use Rattle.svex_shape.specs.declared.shape.Shape.TheVariants.{Var}
 use Rattle.svex_shape.specs.Shapes.{width_at}
 use Rattle.svex_shape.specs.Values.{Reading, HasWidths, value_at, each_variable}
 use Rattle.svex_arena.specs.Marks.{IsMarked}
-use Rattle.node_replace.specs.declared.children.Children.{Children}
+pub use Rattle.svex_shape.specs.Children.{children_of}
 use Rattle.node_replace.specs.declared.replacer.Replacer.{Replacer}
 
 abbrev pub is_loose : Replacer → ℕ → Bool
@@ -147,19 +147,6 @@ pub record IsForgotten (m m2 : Replacer) : Type 0 where
   pub answers : m2.answers ≡ m.answers
 
 -- ---- children
-
-abbrev pub children_of : Shape → Children
-children_of (Const v) = record { first = None; second = None; third = None }
-children_of (Var name width) = record { first = None; second = None; third = None }
-children_of (Unary op a) = record { first = Some a; second = None; third = None }
-children_of (Binary op a b) = record { first = Some a; second = Some b; third = None }
-children_of (Cond c a b) = record { first = Some c; second = Some a; third = Some b }
-children_of (Pick c a b) = record { first = Some c; second = Some a; third = Some b }
-children_of (Slice a lo width) = record { first = Some a; second = None; third = None }
-children_of (Zext a width) = record { first = Some a; second = None; third = None }
-children_of (Sext a width) = record { first = Some a; second = None; third = None }
-children_of (DynSlice a at spot) = record { first = Some a; second = Some at; third = None }
-children_of (DynPut a at spot put) = record { first = Some a; second = Some at; third = Some put }
 
 -- there is a child, which has no mark
 abbrev pub is_open : List Bool → Option ℕ → Bool

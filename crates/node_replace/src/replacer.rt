@@ -15,10 +15,10 @@ ghost use Rattle.node_replace.specs.Replacing.{AreNamed, IsReplacing};
 ghost use Rattle.svex_rewrite.specs.Meaning.{IsOver, Makes};
 ghost use Rattle.node_replace.specs.Walks.{Begins, IsThere, IsWalk, IsNew, GoesOn, IsGiven, IsForgotten, Waits, Entered, Left, IsCleared, answer_at, children_of, is_open, is_marked, is_variable, any_loose, work_left};
 
-use crate::children::{Children, child_nodes};
 use std::alloc::{AllocError, Global};
 use svex_arena::{Arena, Node, Shape, rename};
 use svex_rewrite::make;
+use svex_shape::{Children, child_nodes};
 
 /// The answers for the nodes of the beginning.
 pub struct Replacer {

@@ -1,4 +1,4 @@
-//! Circuits over four-valued bits, as pairs of literals.
+//! Circuits over four-valued bits, as pairs of literals (a dual-rail encoding).
 //!
 //! A four-valued bit is a pair of literals, and a vector a list of such pairs, the least significant first. Each circuit has the
 //! value of its operator under all values of the nodes that obey the graph, and so under all values of its inputs, takes no more

@@ -1,4 +1,6 @@
-//! Circuits for vectors, bit by bit.
+//! Circuits for vectors, bit by bit: an operator on each bit or on the two bits of each place, an operator over all bits, and
+//! whether all bits are known. Over all bits an operator goes from the last bit to the first; `xor` alone goes by halves, since a
+//! solver does better with that.
 
 ghost use Rattle.std.specs.Prelude.{◌≡◌, ◌*◌, ◌-◌, ◌<◌, IfOk, ◌&&◌, length};
 ghost use Rattle.std.specs.List.{All};

@@ -1,5 +1,5 @@
 //! The machine of one phase of a flat design: for each set of wires that are overridden a node for each wire, over the phase
-//! before and what comes from outside.
+//! before and what comes from outside (its next-state function).
 #![tactic(auto)]
 
 mod firsts;

@@ -1,4 +1,6 @@
-//! One step of a log.
+//! One step of a log. Its literals are denied, and each hint names a clause that has one open literal left, which is assumed,
+//! until the last one names a clause that is false. A hint names a given clause or the clause of an earlier step; any other ends
+//! the step unproved. What a step sets is taken back whatever comes of it, so each step is judged from marks that are clear.
 
 ghost use Rattle.std.specs.Prelude.{◌≡◌, ℕ, ◌+◌, ◌<◌, ◌≤◌, ◌↔◌, List, None, map, length, replicate, IfOk, IsTrue};
 ghost use Rattle.cnf.specs.Clauses.{AllBelow, valuation, all_open};

@@ -1,4 +1,6 @@
-//! Literals and hints as numbers of a row. Of a hint the row has how far it is from the one before it, which is a smaller number.
+//! Literals and hints as numbers of a row. A literal is twice its variable, and one more where it is negated. Of a hint the row
+//! has how far it is from the one before it (delta coding), which is a smaller number; its direction stands where a literal has
+//! its sign.
 
 ghost use Rattle.std.specs.Prelude.{◌≡◌, ◌≤◌, ◌++◌, ◌∷◌, IfOk, OnOk, length, map, if◌then◌else◌};
 ghost use Rattle.cnf.specs.declared.Dim.{Dim};

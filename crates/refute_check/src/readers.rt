@@ -1,4 +1,5 @@
-//! The literals and the hints of a step, as they are read from its row. Readers take no memory.
+//! The literals and the hints of a step, as they are read from its row. Readers take no memory. A number of the row is a literal,
+//! or with the hint before it a hint, so the judge goes over a step with no list of it. Lists are made for copies alone.
 
 ghost use Rattle.std.specs.Prelude.{◌≡◌, ◌∷◌, [], ◌↔◌, IfNone, IfOk, IfSome, IsTrue, drop, map, take};
 ghost use Rattle.refute_check.specs.Packed.{literal_of, places_at};

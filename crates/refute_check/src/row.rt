@@ -1,4 +1,4 @@
-//! A row of numbers.
+//! A row of numbers, each of as many groups of 7 bits as it takes (a variable-length code).
 
 ghost use Rattle.std.specs.Prelude.{◌≡◌, ◌<◌, IfOk, OnOk, ◌++◌, ◌∷◌, []};
 ghost use Rattle.std.specs.List.{All};

@@ -1,4 +1,4 @@
-//! Judges files of cases, each by the crate of rows that the folder of the file names, and prints what was found.
+//! Judges files of cases (test cases), each by the crate of rows that the folder of the file names, and prints what was found.
 #![tactic(auto)]
 
 use blast_rows::BlastRows;

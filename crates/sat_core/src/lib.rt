@@ -1,4 +1,4 @@
-//! Finds a solution of clauses, or a log that refutes them.
+//! Finds a solution of clauses, or a log that refutes them (a solver of Boolean satisfiability, SAT).
 #![tactic(auto)]
 
 mod prepare;

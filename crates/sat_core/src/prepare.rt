@@ -1,12 +1,12 @@
-//! What is done before the first round: steps are proposed, and those are kept that the judge finds to follow. So a way to find
-//! clauses, and which clauses rest for them, needs no proof of its own.
+//! What is done before the first round (preprocessing): steps are proposed, and those are kept that the judge finds to follow. So
+//! a way to find clauses, and which clauses rest for them, needs no proof of its own.
 
 ghost use Rattle.std.specs.Prelude.{IfOk, length};
 ghost use Rattle.refute_check.specs.Accepted.{AllDerived};
 
 use cnf::Cnf;
 use refute_check::{Checker, Log, Step};
-use sat_rests::{Rests, Uses};
+use sat_reduce::{Rests, Uses};
 use std::alloc::{AllocError, Global};
 
 /// What the first round begins with.

@@ -1,7 +1,8 @@
 //! The search where there is no budget. It goes in rounds, each over some of the clauses, which it knows by their numbers among
 //! all: the given ones first, then those of the steps. To the search the clauses of a round are all that there are. What it
 //! learns follows from these, so it follows from all by the same hints with their numbers among all. A clause that is not in a
-//! round rests; it stays in the log, so nothing that was learned from it is lost.
+//! round rests (between two rounds the clause database is reduced); it stays in the log, so nothing that was learned from it is
+//! lost.
 //!
 //! A solution of a round is tried on each given clause. Where one does not hold, or after some conflicts, another round comes.
 //! There are only so many rounds, and behind the last one a search over all clauses, so the whole ends.
@@ -24,7 +25,7 @@ use crate::trim::trim;
 use crate::{Stop, search_whole, solution};
 use cnf::{Cnf, Dim};
 use refute_check::{Draft, Step, clause_of};
-use sat_rests::Rests;
+use sat_reduce::Rests;
 use sat_search::back::{cut, restart};
 use sat_search::learn::{Lesson, Notes, learn};
 use sat_search::search::conflict_of;

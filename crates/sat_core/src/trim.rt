@@ -6,7 +6,7 @@ ghost use Rattle.refute_check.specs.Accepted.{AllDerived};
 use crate::prepare::judged;
 use cnf::Cnf;
 use refute_check::Step;
-use sat_rests::Rests;
+use sat_reduce::Rests;
 use std::alloc::{AllocError, Global};
 use std::mem;
 

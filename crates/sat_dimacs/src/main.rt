@@ -1,5 +1,5 @@
-//! Reads clauses in DIMACS form from standard input and tells whether they have a solution. A refutation is checked before it
-//! is told. (What it reads is not proved to be what the text says.)
+//! Reads clauses in DIMACS form (of the second DIMACS challenge, 1993) from standard input and tells whether they have a
+//! solution. A refutation is checked before it is told. (What it reads is not proved to be what the text says.)
 //!
 //! The text has comments, lines that begin with `c`; before all clauses one line `p cnf V C`; and then C clauses, each of
 //! numbers from 1 to V, a negation with a sign, and a 0 at its end. Anything else is no such text.

@@ -1,8 +1,9 @@
-//! Variables that are likely to have the same value, tried one pair after another before the search goes its own way. Clauses of
-//! gates often describe one function twice, and the two agree at many places inside, not at the end alone. That two variables
-//! agree is refuted or shown quickly where that is known of those below them, and what is learned there are short clauses. So
-//! for each pair, the lowest first, the search is made to decide that the two differ, before all else, until that is refuted or
-//! has taken too many conflicts. Products that are summed up by rows take a hundredth of the conflicts by it.
+//! Variables that are likely to have the same value (the candidate equivalences of SAT sweeping; Kuehlmann, 2004), tried one pair
+//! after another before the search goes its own way. Clauses of gates often describe one function twice, and the two agree at
+//! many places inside, not at the end alone. That two variables agree is refuted or shown quickly where that is known of those
+//! below them, and what is learned there are short clauses. So for each pair, the lowest first, the search is made to decide that
+//! the two differ, before all else (after the explicit learning of Lu, Wang, Cheng and Huang, 2003), until that is refuted or has
+//! taken too many conflicts. Products that are summed up by rows take a hundredth of the conflicts by it.
 //!
 //! It is a choice of speed alone, of which no proof says anything but that a variable that is decided has no value.
 

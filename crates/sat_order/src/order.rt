@@ -2,8 +2,10 @@
 //! which no proof says anything.
 //!
 //! The variables of a conflict are moved to the front in the order in which they stand, so that those of newer conflicts are
-//! decided first. The search starts anew where the newest clauses have more levels than clauses had in the mean: then it is on a
-//! path on which much is decided and little follows. Where conflicts walk over many variables, to start anew costs much, and it is
+//! decided first (VMTF, variable move-to-front, of Siege; Ryan, 2004). The search starts anew (a restart) where the newest
+//! clauses have more levels than clauses had in the mean, after Glucose (Audemard and Simon, 2009) and with the exponential
+//! moving averages of Biere and Froehlich (2015): then it is on a path on which much is decided and little follows. The levels of
+//! a clause are its glue (literal block distance). Where conflicts walk over many variables, to start anew costs much, and it is
 //! not done before some times as many values were given as there are.
 
 ghost use Rattle.std.specs.Prelude.{◌<◌};
@@ -15,9 +17,9 @@ use std::alloc::{AllocError, Global};
 const SCALE: u64 = 1 << 20;
 
 /// How many clauses count in the mean of the newest ones, and in that of all.
-const NEWEST: u64 = 32;
+const FAST: u64 = 32;
 
-const MOST: u64 = 1_024;
+const SLOW: u64 = 1_024;
 
 /// How many conflicts the search goes on at least before it starts anew, and how many times as many values as there are it gives
 /// where derivations are long.
@@ -73,7 +75,7 @@ impl Drop for Order {
 }
 
 // A mean of so many numbers in which one is replaced by a new number.
-fn renewed(mean: u64, number: u64, count: u64) -> u64
+fn moving_average(mean: u64, number: u64, count: u64) -> u64
     requires { 0 < count }
 {
     mean.saturating_sub(mean / count)
@@ -143,7 +145,7 @@ impl Order {
     pub fn count(&mut self, levels: &[usize], clause: &[Dim], walked: usize) {
         self.conflicts = self.conflicts.saturating_add(1);
         let walked = (walked as u64).saturating_mul(SCALE);
-        self.walked = renewed(self.walked, walked, self.conflicts.clamp(1, WALKS));
+        self.walked = moving_average(self.walked, walked, self.conflicts.clamp(1, WALKS));
         let mut found: u64 = 0;
         for d in clause {
             if self.meets(levels, d.var) {
@@ -152,8 +154,8 @@ impl Order {
         }
         self.levels = found;
         let scaled = found.saturating_mul(SCALE);
-        self.newest = renewed(self.newest, scaled, NEWEST);
-        self.all = renewed(self.all, scaled, self.conflicts.clamp(1, MOST));
+        self.newest = moving_average(self.newest, scaled, FAST);
+        self.all = moving_average(self.all, scaled, self.conflicts.clamp(1, SLOW));
     }
 
     /// How many levels the clause of the newest conflict has.

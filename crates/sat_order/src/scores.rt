@@ -1,6 +1,7 @@
-//! Variables by scores, of which the one with the greatest is decided first: how often conflicts walked over it, newer ones counting
-//! more. Where conflicts walk over hundreds of variables, the order by the newest conflict alone forgets within one what was learned
-//! in the ones before, and scores that fall slowly need half of the conflicts; where they do not, the order by the newest is better.
+//! Variables by scores (VSIDS of Chaff, Moskewicz et al., 2001, in the exponential form of MiniSat, Een and Sorensson, 2003), of
+//! which the one with the greatest is decided first: how often conflicts walked over it, newer ones counting more. Where
+//! conflicts walk over hundreds of variables, the order by the newest conflict alone forgets within one what was learned in the
+//! ones before, and scores that fall slowly need half of the conflicts; where they do not, the order by the newest is better.
 //!
 //! The variables stand in a heap (the one at place k is no less than those at 2k + 1 and 2k + 2). It is a choice of speed alone,
 //! of which no proof says anything but that a variable that is decided has no value.
@@ -10,14 +11,15 @@ ghost use Rattle.cnf.specs.Clauses.{valuation};
 
 use std::alloc::{AllocError, Global};
 
-/// What the first conflict counts, the share by which each counts more than the one before it, and where all scores are made smaller.
+/// What the first conflict counts, the share by which each counts more than the one before it, and where and by what factor all
+/// scores are made smaller.
 const FIRST: u64 = 1 << 20;
 
 const SHARE: u64 = 200;
 
 const MOST: u64 = 1 << 60;
 
-const SHRINK: u64 = 1 << 30;
+const RESCALE_FACTOR: u64 = 1 << 30;
 
 /// A place in the heap, or a level of it, is below this.
 const LEVELS: usize = 64;
@@ -127,7 +129,7 @@ impl Scores {
     }
 
     // Moves the variable at a place to where none below it has less.
-    fn rise(&mut self, place: usize) {
+    fn sift_up(&mut self, place: usize) {
         let mut here = place;
         for _ in 0..LEVELS {
             let above = here.saturating_sub(1) / 2;
@@ -153,7 +155,7 @@ impl Scores {
     }
 
     // Moves the variable at a place to where none below it has more.
-    fn sink(&mut self, place: usize) {
+    fn sift_down(&mut self, place: usize) {
         let mut here = place;
         for _ in 0..LEVELS {
             match self.greater_below(here) {
@@ -170,13 +172,13 @@ impl Scores {
     }
 
     // Makes all scores smaller, if one is near the greatest number.
-    fn shrink(&mut self) {
+    fn rescale(&mut self) {
         if self.step < MOST {
             return;
         }
-        self.step /= SHRINK;
+        self.step /= RESCALE_FACTOR;
         for score in self.scores.iter_mut() {
-            *score /= SHRINK;
+            *score /= RESCALE_FACTOR;
         }
     }
 
@@ -187,7 +189,7 @@ impl Scores {
         }
         let place = at(&self.places, var);
         if place > 0 {
-            self.rise(place - 1);
+            self.sift_up(place - 1);
         }
     }
 
@@ -200,7 +202,7 @@ impl Scores {
             self.bump(*var);
         }
         self.step = self.step.saturating_add(self.step / SHARE);
-        self.shrink();
+        self.rescale();
     }
 
     /// Puts a variable back that has no value any more.
@@ -211,7 +213,7 @@ impl Scores {
         let place = self.count;
         self.set(place, var);
         self.count = place.saturating_add(1);
-        self.rise(place);
+        self.sift_up(place);
     }
 
     // Takes the first variable out of the heap.
@@ -221,7 +223,7 @@ impl Scores {
         let last = at(&self.heap, self.count);
         self.set(0, last);
         put(&mut self.places, first, 0);
-        self.sink(0);
+        self.sift_down(0);
     }
 
     /// The variable with the greatest score that has no value, if there is one.

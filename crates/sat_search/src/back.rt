@@ -1,6 +1,6 @@
-//! Back along the trail: to where a learned clause has one open literal, or to the first decision, where the search is to start
-//! anew. Levels on which no literal of the clause lies are taken away whole. Where a level ends is told by the decision on the
-//! trail and not by the numbers of levels, which are kept for choices alone.
+//! Back along the trail: to where a learned clause has one open literal (backjumping), or to the first decision, where the search
+//! is to start anew (a restart). Levels on which no literal of the clause lies are taken away whole. Where a level ends is told
+//! by the decision on the trail and not by the numbers of levels, which are kept for choices alone.
 
 ghost use Rattle.std.specs.Prelude.{◌≡◌, ℕ, ◌+◌, ◌-◌, ◌<◌, ◌≤◌, Option, None, length, MatchBool, IfSome, List, ◌++◌, reverse, take, slice_index_or, ◌⊎◌};
 ghost use Rattle.std.specs.List.{All, filter};

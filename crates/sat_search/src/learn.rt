@@ -1,7 +1,7 @@
-//! From a conflict back to a new clause, with the hints from which it follows. The trail is walked from the newest literal
-//! down, and a marked one is replaced by the others of the clause that made it false, until one marked literal of its level is
-//! left; then literals that the others imply are dropped. What is marked is written down, so that marks are taken away by that
-//! list and not by a walk over all variables.
+//! From a conflict back to a new clause (conflict analysis), with the hints from which it follows. The trail is walked from the
+//! newest literal down, and a marked one is replaced by the others of the clause that made it false, until one marked literal of
+//! its level is left (the first unique implication point); then literals that the others imply are dropped (clause minimisation).
+//! What is marked is written down, so that marks are taken away by that list and not by a walk over all variables.
 
 ghost use Rattle.std.specs.Prelude.{◌≢◌, ◌≡◌, ℕ, ◌+◌, ◌*◌, ◌<◌, ◌≤◌, Bool, true, false, Option, Some, None, length, OnOk, IfOk, MatchBool, IsTrue, List, [], ◌∷◌, ◌++◌, reverse, take, IfNone, IfSome, ◌⊎◌};
 ghost use Rattle.std.specs.List.{All, filter};

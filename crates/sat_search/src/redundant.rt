@@ -1,7 +1,8 @@
-//! Which literals of a new clause the others imply: those whose reasons lead, by any number of steps, to literals of the clause
-//! alone. A literal is looked up by its reason, and those of the reason in their turn, up to one that was decided or that is of
-//! a level on which the clause has none; what was found is kept for the next literal of the clause. After some literals the
-//! search gives up, since each that is left out costs the log as many hints as there were steps.
+//! Which literals of a new clause the others imply (clause minimisation, after Sorensson and Biere, 2009): those whose reasons
+//! lead, by any number of steps, to literals of the clause alone. A literal is looked up by its reason, and those of the reason
+//! in their turn, up to one that was decided or that is of a level on which the clause has none; what was found is kept for the
+//! next literal of the clause. After some literals the search gives up, since each that is left out costs the log as many hints
+//! as there were steps.
 //!
 //! It is a choice of speed alone, of which no proof says anything: what is left out is resolved away by its reason, and the clause
 //! is right whichever literals these are.

@@ -1,6 +1,6 @@
-//! Propagation and decisions, up to a conflict or a solution. The trail itself is the queue of what is to be propagated: a
-//! place goes along it, and literals that become false are put behind. A variable is decided as it was last, which keeps what
-//! was found of a solution; where no variable is open, each clause holds.
+//! Unit propagation and decisions, up to a conflict or a solution. The trail itself is the queue of what is to be propagated: a
+//! place goes along it, and literals that become false are put behind. A variable is decided as it was last, which keeps what was
+//! found of a solution (phase saving; Pipatsrisawat and Darwiche, 2007); where no variable is open, each clause holds.
 
 ghost use Rattle.std.specs.Prelude.{◌≡◌, ◌+◌, ◌<◌, None, length, OnOk, IfOk};
 ghost use Rattle.std.specs.List.{All};

@@ -1,5 +1,5 @@
-//! For each literal the clauses in which it is watched. A list that is walked is moved out as a whole and put back, so that
-//! watches can be put into other lists meanwhile.
+//! For each literal the clauses in which it is watched (watch lists). A list that is walked is moved out as a whole and put back,
+//! so that watches can be put into other lists meanwhile.
 
 ghost use Rattle.std.specs.Prelude.{◌≡◌, IfOk, ◌^◌, ◌+◌, ◌*◌, ◌<◌, ◌≤◌, ◌++◌, ◌∷◌, [], OnOk, length, map, slice_set, slice_index_or, take, drop};
 ghost use Rattle.std.specs.List.{All};

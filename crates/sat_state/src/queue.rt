@@ -1,7 +1,8 @@
-//! The variables in the order in which they are decided, and a pointer before which none is open. Stamps fall along the list,
-//! so that two variables are compared without a walk when one is open again. Where the pointer has passed the end, each
-//! variable has a value, so nothing is looked through for that; a variable that moves to the front gets a greater stamp, and
-//! where stamps are used up none moves.
+//! The variables in the order in which they are decided, and a pointer before which none is open: the queue of VMTF (variable
+//! move-to-front, of Siege; Ryan, 2004), with the stamps of Biere and Froehlich (2015). Stamps fall along the list, so that two
+//! variables are compared without a walk when one is open again. Where the pointer has passed the end, each variable has a value,
+//! so nothing is looked through for that; a variable that moves to the front gets a greater stamp, and where stamps are used up
+//! none moves.
 
 ghost use Rattle.std.specs.Prelude.{◌≡◌, ℕ, ◌+◌, ◌-◌, ◌<◌, ◌≤◌, Bool, Option, Some, None, ◌⊎◌, ◌^◌, List, ◌∷◌, length, IfOk, MatchBool, MatchOption, IfSome, slice_set};
 ghost use Rattle.std.specs.List.{All};

@@ -1,6 +1,6 @@
-//! All clauses in one piece of memory: the literals one after another, and for each clause where they begin and end. The search
-//! reads clauses all the time, and so they lie close together and packed in 8 bytes a literal. Clauses never change and are never
-//! taken out, so that a number names one clause for ever.
+//! All clauses in one piece of memory (a clause arena): the literals one after another, and for each clause where they begin and
+//! end. The search reads clauses all the time, and so they lie close together and packed in 8 bytes a literal. Clauses never
+//! change and are never taken out, so that a number names one clause for ever.
 
 ghost use Rattle.std.specs.Prelude.{◌≡◌, ◌*◌, ◌+◌, ◌<◌, ◌^◌, ◌≤◌, ◌++◌, ◌∷◌, [], length, map, take, OnOk, OnErr, IfOk};
 ghost use Rattle.std.specs.List.{All};

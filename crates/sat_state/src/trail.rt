@@ -1,6 +1,7 @@
-//! The values so far, and the literals that they make false, with why. The trail holds the false literals and not the true
-//! ones, so that a learned clause is a part of it as it stands. Contracts see values and trail; the levels, phases, order and
-//! places beside them choose what is tried, and no proof rests on them, so a sum of them may stop at the greatest number.
+//! The values so far (a partial assignment), and the literals that they make false, with why (the implication graph). The trail
+//! holds the false literals and not the true ones, so that a learned clause is a part of it as it stands. Contracts see values
+//! and trail; the levels, phases, order and places beside them choose what is tried, and no proof rests on them, so a sum of them
+//! may stop at the greatest number.
 
 ghost use Rattle.std.specs.Prelude.{◌≡◌, ◌+◌, ◌<◌, None, length, OnOk, MatchOption, IfOk, [], ◌∷◌, ◌++◌};
 ghost use Rattle.std.specs.List.{All};

@@ -1,7 +1,7 @@
-//! Two literals of each clause are watched: while neither is false, the clause is neither false nor unit, so it is looked at
-//! only when one of them becomes false. What is to be done with it then is decided here, without changing anything. The literal
-//! beside is looked at first, and another one is looked for from the place at which one was found last, and then before it, so
-//! that long clauses are not read from the front each time.
+//! Two literals of each clause are watched (as in Chaff; Moskewicz et al., 2001): while neither is false, the clause is neither
+//! false nor unit, so it is looked at only when one of them becomes false. What is to be done with it then is decided here,
+//! without changing anything. The literal beside is looked at first, and another one is looked for from the place at which one
+//! was found last, and then before it (circular search; Gent, 2013), so that long clauses are not read from the front each time.
 
 ghost use Rattle.std.specs.Prelude.{◌≡◌, ◌≢◌, ℕ, ◌<◌, ◌≤◌, ◌⊎◌, ◌↔◌, Option, Some, None, not, length, MatchOption, IsTrue};
 ghost use Rattle.std.specs.List.{All, Contains};
@@ -20,7 +20,7 @@ pub struct Pair {
     pub b: PackedDim,
 }
 
-/// The number of a clause, and one of its literals: while that one is true, the clause need not be looked at.
+/// The number of a clause, and one of its literals (a blocking literal): while that is true, the clause need not be looked at.
 #[derive(Clone, Copy)]
 pub struct Watch {
     pub clause: usize,

@@ -15,7 +15,8 @@ use Rattle.sv_outside.specs.declared.refusal.Place.{Place}
 use Rattle.sv_outside.specs.Words.{goes_on, headed, starts_word}
 use Rattle.sv_meaning.specs.Faults.{fault_if, bad_token, twice}
 use Rattle.sv_meaning.specs.Layouts.{Name}
-use Rattle.sv_hierarchy.specs.Scopes.{is_printed, is_name, name_faults, dot, prefix_of, turn_name}
+use Rattle.sv_outside.specs.Paths.{is_path_byte}
+use Rattle.sv_hierarchy.specs.Scopes.{is_name, name_faults, dot, prefix_of, turn_name}
 use Rattle.scope_laws.specs.Wires.{is_dot, parts_of, IsPart, IsPath}
 use Rattle.scope_laws.proofs.Plain.{first_clear, if_not}
 
@@ -23,29 +24,29 @@ use Rattle.scope_laws.proofs.Plain.{first_clear, if_not}
 
 -- a printed byte that is no dot
 abbrev is_plain : ℕ → Bool
-is_plain b = is_printed b && not (is_dot b)
+is_plain b = is_path_byte b && not (is_dot b)
 
 apart : (f : ℕ → Bool) (b k : ℕ) → f b ≡ true → f k ≡ false → eqb b k ≡ false
 apart f b k h none = ne_eqb b k (λ e. false≢true (sym none ∙ ap f (sym e) ∙ h))
 
-starts_printed : (b : ℕ) → starts_word b ≡ true → is_printed b ≡ true
+starts_printed : (b : ℕ) → starts_word b ≡ true → is_path_byte b ≡ true
 starts_printed b h = grind arith
 
-goes_printed : (b : ℕ) → goes_on b ≡ true → is_printed b ≡ true
+goes_printed : (b : ℕ) → goes_on b ≡ true → is_path_byte b ≡ true
 goes_printed b h = grind arith
 
 starts_plain : (b : ℕ) → starts_word b ≡ true → is_plain b ≡ true
-starts_plain b h = and_from (is_printed b) (not (is_dot b)) (starts_printed b h) (ap not (apart starts_word b 46 h refl))
+starts_plain b h = and_from (is_path_byte b) (not (is_dot b)) (starts_printed b h) (ap not (apart starts_word b 46 h refl))
 
 goes_plain : (b : ℕ) → goes_on b ≡ true → is_plain b ≡ true
-goes_plain b h = and_from (is_printed b) (not (is_dot b)) (goes_printed b h) (ap not (apart goes_on b 46 h refl))
+goes_plain b h = and_from (is_path_byte b) (not (is_dot b)) (goes_printed b h) (ap not (apart goes_on b 46 h refl))
 
-plain_printed : (b : ℕ) → is_plain b ≡ true → is_printed b ≡ true
-plain_printed b h = (and_parts (is_printed b) (not (is_dot b)) h).0
+plain_printed : (b : ℕ) → is_plain b ≡ true → is_path_byte b ≡ true
+plain_printed b h = (and_parts (is_path_byte b) (not (is_dot b)) h).0
 
 plain_within : (b : ℕ) → 47 ≤ b → b ≤ 126 → is_plain b ≡ true
 plain_within b low high =
-    and_from (is_printed b) (not (is_dot b)) (and_from (nat_le 33 b) (nat_le b 126) (le-leb 33 b (omega arith)) (le-leb b 126 high)) (ap not (ne_eqb b 46 (λ e. omega (arith, e, low))))
+    and_from (is_path_byte b) (not (is_dot b)) (and_from (nat_le 33 b) (nat_le b 126) (le-leb 33 b (omega arith)) (le-leb b 126 high)) (ap not (ne_eqb b 46 (λ e. omega (arith, e, low))))
 
 -- ---- texts of such bytes
 
@@ -53,7 +54,7 @@ abbrev ArePlain : Name → Type 0
 ArePlain n = list_all is_plain n ≡ true
 
 abbrev ArePrinted : Name → Type 0
-ArePrinted n = list_all is_printed n ≡ true
+ArePrinted n = list_all is_path_byte n ≡ true
 
 all_weaker : (p q : ℕ → Bool) → ((b : ℕ) → p b ≡ true → q b ≡ true) → (n : Name) → list_all p n ≡ true → list_all q n ≡ true
 all_weaker p q f n h = list_all-from_AllPass q n (All-weaker (λ b. p b ≡ true) (λ b. q b ≡ true) f n (AllPass-from_list_all p n h))
@@ -63,7 +64,7 @@ both_plain m n f g = list_all-append is_plain m n ∙ and_from (list_all is_plai
 
 no_dots : (n : Name) → ArePlain n → All (λ b. is_dot b ≡ false) n
 no_dots n h =
-    All-weaker (λ b. is_plain b ≡ true) (λ b. is_dot b ≡ false) (λ b g. not-true (is_dot b) (and_parts (is_printed b) (not (is_dot b)) g).1) n (AllPass-from_list_all is_plain n h)
+    All-weaker (λ b. is_plain b ≡ true) (λ b. is_dot b ≡ false) (λ b g. not-true (is_dot b) (and_parts (is_path_byte b) (not (is_dot b)) g).1) n (AllPass-from_list_all is_plain n h)
 
 -- ---- names
 
@@ -131,7 +132,7 @@ step_part (b ∷ bs) h =
     let p = and_parts (starts_word b) (list_all is_plain bs) h in
     record {
       some = omega arith;
-      printed = and_from (is_printed b) (list_all is_printed bs) (starts_printed b p.0) (all_weaker is_plain is_printed plain_printed bs p.1);
+      printed = and_from (is_path_byte b) (list_all is_path_byte bs) (starts_printed b p.0) (all_weaker is_plain is_path_byte plain_printed bs p.1);
       no_dollar = apart starts_word b 36 p.0 refl;
       no_bracket = apart starts_word b 91 p.0 refl;
     }
@@ -171,23 +172,23 @@ joined (c ∷ more) n (inl e) g = cc
 joined (c ∷ more) n (inr h) g =
     All-same IsPart (parts_of (((c ∷ more) ++ dot) ++ n)) (parts_of (c ∷ more) ++ parts_of n) (parts_behind (c ∷ more) n) (All-append IsPart (parts_of (c ∷ more)) (parts_of n) h (step_parts n g))
 
-first_printed : (b : Bool) (c : ℕ) (all : List Name) → is_dot c ≡ b → 0 < length all → All ArePrinted (cond b ([] ∷ all) (onto_first c all)) → (is_printed c ≡ true) × All ArePrinted all
+first_printed : (b : Bool) (c : ℕ) (all : List Name) → is_dot c ≡ b → 0 < length all → All ArePrinted (cond b ([] ∷ all) (onto_first c all)) → (is_path_byte c ≡ true) × All ArePrinted all
 first_printed b c [] e some h = absurd (omega (arith, some))
-first_printed true c (part ∷ all) e some h = (subst (λ (k : ℕ). is_printed k ≡ true) (sym (eqb-true c 46 e)) refl, All-tail ArePrinted [] (part ∷ all) h)
+first_printed true c (part ∷ all) e some h = (subst (λ (k : ℕ). is_path_byte k ≡ true) (sym (eqb-true c 46 e)) refl, All-tail ArePrinted [] (part ∷ all) h)
 first_printed false c (part ∷ all) e some h =
-    let p = and_parts (is_printed c) (list_all is_printed part) (All-head ArePrinted (c ∷ part) all h) in
+    let p = and_parts (is_path_byte c) (list_all is_path_byte part) (All-head ArePrinted (c ∷ part) all h) in
     (p.0, All-cons ArePrinted part all p.1 (All-tail ArePrinted (c ∷ part) all h))
 
 all_printed : (path : Name) → All ArePrinted (parts_of path) → ArePrinted path
 all_printed [] h = refl
 all_printed (c ∷ path) h =
     let p = first_printed (is_dot c) c (parts_of path) refl (some_parts path) h in
-    and_from (is_printed c) (list_all is_printed path) p.0 (all_printed path p.1)
+    and_from (is_path_byte c) (list_all is_path_byte path) p.0 (all_printed path p.1)
 
 -- its bytes are printed, since those of its parts and dots are
 pub is_path : (path : Name) → HasParts path → IsPath path
 is_path [] h = let s = (All-head IsPart [] [] h).some in absurd (omega (arith, s))
 is_path (c ∷ more) h = record {
   some = omega arith;
-  printed = AllPass-from_list_all is_printed (c ∷ more) (all_printed (c ∷ more) (All-weaker IsPart ArePrinted (λ part g. g.printed) (parts_of (c ∷ more)) h));
+  printed = AllPass-from_list_all is_path_byte (c ∷ more) (all_printed (c ∷ more) (All-weaker IsPart ArePrinted (λ part g. g.printed) (parts_of (c ∷ more)) h));
 }

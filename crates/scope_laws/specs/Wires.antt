@@ -4,7 +4,8 @@ use Rattle.std.specs.List.{list_all, slice_split}
 use Rattle.sv_outside.specs.declared.text.Signal.{Signal}
 use Rattle.sv_outside.specs.Words.{begins_with}
 use Rattle.sv_meaning.specs.Layouts.{Name, of_wires, NamedSignal}
-use Rattle.sv_hierarchy.specs.Scopes.{is_printed, Task, assigning, running, connecting, Standing}
+use Rattle.sv_outside.specs.Paths.{is_path_byte}
+use Rattle.sv_hierarchy.specs.Scopes.{Task, assigning, running, connecting, Standing}
 
 abbrev pub widths : List Signal → List ℕ
 widths wires = map (λ w. w.width) wires
@@ -29,7 +30,7 @@ connected_wires (w ∷ more) = port_wire w.task ++ connected_wires more
 -- a path: bytes, of which each is printed
 pub record IsPath (path : Name) : Type 0 where
   pub some : 1 ≤ length path
-  pub printed : All (λ b. IsTrue (is_printed b)) path
+  pub printed : All (λ b. IsTrue (is_path_byte b)) path
 
 -- each wire has a path
 abbrev pub HavePaths : List Signal → Type 0
@@ -45,7 +46,7 @@ parts_of path = slice_split is_dot path
 -- a part of a path: printed bytes, of which the first is neither `$` nor `[`
 pub record IsPart (part : Name) : Type 0 where
   pub some : 0 < length part
-  pub printed : list_all is_printed part ≡ true
+  pub printed : list_all is_path_byte part ≡ true
   pub no_dollar : begins_with 36 part ≡ false
   pub no_bracket : begins_with 91 part ≡ false
 

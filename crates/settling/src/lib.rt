@@ -1,5 +1,7 @@
 //! Which valuations of wires settle: joined bits are equal, and each class of joined bits has the resolution of what drivers and
-//! stimuli give to its bits.
+//! stimuli give to its bits. Where what is given rises with the valuation, in an order in which X lies below all, what settles
+//! are the fixpoints of a monotone function. There is a least one (Tarski, 1955), the least settling, and events come to it from
+//! X on, in any order (chaotic iteration; Cousot and Cousot, 1977).
 #![tactic(auto)]
 
 ghost use Rattle.settling.specs.Settling.{FirstBitsTell};

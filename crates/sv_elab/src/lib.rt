@@ -10,4 +10,5 @@ mod signals;
 mod whole;
 mod works;
 
+pub use sv_names::key_of;
 pub use whole::elaborate;

@@ -127,11 +127,16 @@ fn flattened(alloc: Global, scopes: &DesignScopes<'_>) -> Result<Flat, TextErr>
 /// instantiates. Its settlings are exactly those of the source; or why the source is refused: E2 and E10 to E25.
 ///
 /// Wires are numbered as `scopes` numbers them. The drivers follow the order in which the text of each instance has its
-/// assignments, blocks and ports, an instance's ports before its items.
-pub fn elaborate(alloc: Global, source: &Source, top: Option<&Name>) -> Result<Flat, TextErr>
+/// assignments, blocks and ports, an instance's ports before its items. The key is `key_of` the source's tokens: it changes no answer.
+pub fn elaborate(
+    alloc: Global,
+    key: u128,
+    source: &Source,
+    top: Option<&Name>,
+) -> Result<Flat, TextErr>
     ensures is { Answers (λ d flat. IsElaborated d flat) (sound_design source.now (option_copied top.entry)) result }
     ensures sound { IfOk result IsFlat }
 {
-    let found = scopes(alloc, source, top)?;
+    let found = scopes(alloc, key, source, top)?;
     flattened(alloc, &found)
 }

@@ -1,7 +1,7 @@
-// The rules of expressions without operators between two parts: primaries, selects, casts, braces and prefixes (IEEE 1800-2017,
-// A.8). Expressions hold expressions, so the rules that hold them take the reader of those as a parameter: each is proved by
-// itself over any reader, and the cycle is closed once, elsewhere. A depth goes down with each expression that holds another,
-// so that the recursion ends.
+// The rules of expressions without operators between two parts, by recursive descent: primaries, selects, casts, braces and
+// prefixes (IEEE 1800-2017, A.8). Expressions hold expressions, so the rules that hold them take the reader of those as a
+// parameter: each is proved by itself over any reader, and the cycle is closed once, elsewhere. A depth goes down with each
+// expression that holds another, so that the recursion ends.
 ghost use Rattle.std.specs.Prelude.{◌≡◌, ◌≢◌, Ok, Err, is_some, IfOk, IfErr};
 ghost use Rattle.sv_cursor.specs.Parsers as parser;
 ghost use Rattle.sv_cursor.specs.Parsers.{Reads, ◌⊗◌};

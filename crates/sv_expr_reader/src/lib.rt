@@ -1,4 +1,4 @@
-//! Expressions are read by precedence climbing, from a cursor on and to a depth.
+//! Expressions are read by precedence climbing (a form of the parsing of Pratt, 1973), from a cursor on and to a depth.
 #![tactic(auto)]
 
 mod gathered;

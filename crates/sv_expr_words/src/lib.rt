@@ -1,4 +1,4 @@
-//! What a token says of the expression that it begins or goes on with, and how tightly operators bind.
+//! What a token says of the expression that it begins or goes on with, and how tightly operators bind (their precedence).
 #![tactic(auto)]
 
 mod openers;

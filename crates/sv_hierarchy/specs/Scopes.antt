@@ -1,5 +1,5 @@
 -- The scopes of a design: its instances and generate blocks, their names, its wires, and all that contributes.
-use Rattle.std.specs.Prelude.{ℕ, zero, suc, ◌+◌, Bool, true, false, ◌&&◌, ◌||◌, not, nat_lt, nat_le, List, [], ◌∷◌, ◌++◌, length, map, take, bytes_eq, Option, Some, None, Ok, Err, decimal, codes, if◌then◌else◌}
+use Rattle.std.specs.Prelude.{ℕ, zero, suc, ◌+◌, Bool, true, false, ◌&&◌, ◌||◌, not, nat_lt, List, [], ◌∷◌, ◌++◌, length, map, take, bytes_eq, Option, Some, None, Ok, Err, decimal, codes, if◌then◌else◌}
 use Rattle.std.specs.Fmt.{signed_decimal}
 use mathlib.Core.Former.{Count}
 use Rattle.fourvec.specs.declared.Bit.{Bit}
@@ -172,10 +172,6 @@ abbrev pub seen : State → Scope
 seen st = seen_at st.levels (here st)
 
 -- ---- declarations, sections 6.5, 6.18 and 6.20
-
--- a byte of a path: it is printed, and no blank
-abbrev pub is_printed : ℕ → Bool
-is_printed b = nat_le 33 b && nat_le b 126
 
 -- A name is a simple identifier (5.6): a letter or an underscore, and letters, digits, underscores and dollars behind it.
 abbrev pub is_name : Name → Bool

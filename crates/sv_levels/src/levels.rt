@@ -65,24 +65,31 @@ pub struct Instance<'a> {
     pub at: Front,
 }
 
-/// All scopes so far, by number.
+/// All scopes so far, by number, and the key of their maps of names: a digest of the text.
 pub struct Levels {
     list: Vec<Level>,
+    key: u128,
 }
 
 impl Drop for Levels {
     fn drop(self) {
-        let Levels { list: _ } = self;
+        let Levels { list: _, key: _ } = self;
     }
 }
 
 impl Levels {
-    pub fn new(alloc: Global) -> Levels
+    pub fn new(alloc: Global, key: u128) -> Levels
         ensures { levels_are result ≡ [] }
     {
         Levels {
             list: Vec::new(alloc),
+            key,
         }
+    }
+
+    /// The key of maps of names.
+    pub fn key(&self) -> u128 {
+        self.key
     }
 
     pub fn len(&self) -> usize
@@ -206,7 +213,7 @@ impl Levels {
             parent: level,
             around,
             nets,
-            consts: Scope::new(alloc),
+            consts: Scope::new(alloc, self.key),
         })
     }
 
@@ -250,7 +257,7 @@ impl Levels {
         ensures loops { IfOk result (λ names. loops_of names ≡ []) }
     {
         let fronts = self.fronts(alloc, at)?;
-        seen_along(alloc, &self.list, fronts.as_slice())
+        seen_along(alloc, self.key, &self.list, fronts.as_slice())
     }
 
     /// What all else at a place sees: all nets and variables of the scopes around it, and the constants and types above it. Its
@@ -260,7 +267,7 @@ impl Levels {
         ensures loops { IfOk result (λ names. loops_of names ≡ []) }
     {
         let fronts = self.fronts(alloc, at)?;
-        live_along(alloc, &self.list, fronts.as_slice())
+        live_along(alloc, self.key, &self.list, fronts.as_slice())
     }
 }
 
@@ -310,13 +317,14 @@ fn enter<'a>(
 // The names of fronts of scopes, with the nets above each.
 fn seen_along<'a>(
     alloc: Global,
+    key: u128,
     levels: &'a [Level],
     fronts: &[Front],
 ) -> Result<Names<'a>, AllocError>
     ensures names { IfOk result (λ names. names_are names ≡ scope_of (seen_frames (map level_is levels.now) fronts.now)) }
     ensures loops { IfOk result (λ names. loops_of names ≡ []) }
 {
-    let mut names = Names::new(alloc);
+    let mut names = Names::new(alloc, key);
     'fronts: for front in fronts {
         enter(&mut names, levels, *front, front.nets)?;
     }
@@ -326,13 +334,14 @@ fn seen_along<'a>(
 // The names of fronts of scopes, with all nets of each, of which a constant expression sees those above.
 fn live_along<'a>(
     alloc: Global,
+    key: u128,
     levels: &'a [Level],
     fronts: &[Front],
 ) -> Result<Names<'a>, AllocError>
     ensures names { IfOk result (λ names. names_are names ≡ live_scope (map level_is levels.now) fronts.now) }
     ensures loops { IfOk result (λ names. loops_of names ≡ []) }
 {
-    let mut names = Names::new(alloc);
+    let mut names = Names::new(alloc, key);
     'fronts: for front in fronts {
         enter(&mut names, levels, *front, nets_of(levels, front.level))?;
     }

@@ -20,6 +20,7 @@ mod texts;
 mod wires;
 
 pub use fronts::{Fronts, outermost, within};
+pub use held::let_go;
 pub use levels::{Front, Instance, Level, Levels};
 pub use library::{Known, Library, Wiring, wiring_of};
 pub use loops::{Turns, index_scope, is_loop_variable};

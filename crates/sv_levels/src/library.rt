@@ -57,13 +57,14 @@ impl Drop for Wiring<'_> {
 // What is given to the parameters of a module.
 fn params_given<'a>(
     alloc: Global,
+    key: u128,
     tree: &'a Module,
     params: Option<&'a Pins>,
 ) -> Result<Vec<Connection<'a>>, TextErr>
     ensures { (at : Seen) → Answers IsListed (connections at (m.open_params tree.now) (lent params.entry)) result }
 {
     let names = open_params(alloc, tree)?;
-    let found = connections(alloc, &names, params);
+    let found = connections(alloc, key, &names, params);
     let_go(names);
     found
 }
@@ -71,27 +72,29 @@ fn params_given<'a>(
 // What the ports of a module are connected to.
 fn ports_joined<'a>(
     alloc: Global,
+    key: u128,
     tree: &'a Module,
     pins: Option<&'a Pins>,
 ) -> Result<Vec<Connection<'a>>, TextErr>
     ensures { (at : Seen) → Answers IsListed (connections at (m.port_texts (m.ports_of tree.now)) (lent pins.entry)) result }
 {
     let names = port_names(alloc, ports_of(tree))?;
-    let found = connections(alloc, &names, pins);
+    let found = connections(alloc, key, &names, pins);
     let_go(names);
     found
 }
 
-/// What an instance of a module gives to it; or E17 or E18.
+/// What an instance of a module gives to it; or E17 or E18. The key is a digest of the text.
 pub fn wiring_of<'a>(
     alloc: Global,
+    key: u128,
     tree: &'a Module,
     child: &Child<'a>,
 ) -> Result<Wiring<'a>, TextErr>
     ensures { (at : Seen) → Answers IsWiring (wiring at tree.now (child_is child.now)) result }
 {
-    let params = params_given(alloc, tree, child.params)?;
-    let pins = ports_joined(alloc, tree, child.pins)?;
+    let params = params_given(alloc, key, tree, child.params)?;
+    let pins = ports_joined(alloc, key, tree, child.pins)?;
     Ok(Wiring { params, pins })
 }
 

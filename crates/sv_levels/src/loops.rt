@@ -53,11 +53,16 @@ impl Drop for Turns {
     }
 }
 
-/// The variable of a loop in a turn, as the first name of its block.
-pub fn index_scope(alloc: Global, variable: &Word, bits: Four) -> Result<Scope, AllocError>
+/// The variable of a loop in a turn, as the first name of its block. The key is a digest of the text.
+pub fn index_scope(
+    alloc: Global,
+    key: u128,
+    variable: &Word,
+    bits: Four,
+) -> Result<Scope, AllocError>
     ensures { IfOk result (λ scope. entries_are scope ≡ index_entry variable.now.text bits ∷ []) }
 {
-    let mut scope = Scope::new(alloc);
+    let mut scope = Scope::new(alloc, key);
     let name = variable.text.copy()?;
     scope.push(
         name,

@@ -115,10 +115,10 @@ pub fn given_to<'a>(given: &Overrides<'a>, word: ParamWord, own: Given<'a>) -> G
 }
 
 // Where each name stands first among those to which something is given.
-fn index_of(alloc: Global, list: &[Given<'_>]) -> Result<NameIndex, AllocError>
+fn index_of(alloc: Global, key: u128, list: &[Given<'_>]) -> Result<NameIndex, AllocError>
     ensures { IfOk result (λ index. Indexes index (map given_name list.now)) }
 {
-    let mut index = NameIndex::new(alloc);
+    let mut index = NameIndex::new(alloc, key);
     'list: for (number, given) in list.iter().enumerate() {
         index.note(given.name.text.bytes(), number)?;
     }
@@ -136,18 +136,18 @@ pub fn entry_word(port: &ParPort, before: ParamWord) -> ParamWord
 }
 
 impl<'a> Overrides<'a> {
-    /// Nothing is given.
-    pub fn none(alloc: Global) -> Result<Overrides<'a>, AllocError>
+    /// Nothing is given. The key is a digest of the text.
+    pub fn none(alloc: Global, key: u128) -> Result<Overrides<'a>, AllocError>
         ensures { IfOk result (λ all. all.list.items ≡ []) }
     {
-        Overrides::new(alloc, Vec::new(alloc))
+        Overrides::new(alloc, key, Vec::new(alloc))
     }
 
     /// These.
-    pub fn new(alloc: Global, list: Vec<Given<'a>>) -> Result<Overrides<'a>, AllocError>
+    pub fn new(alloc: Global, key: u128, list: Vec<Given<'a>>) -> Result<Overrides<'a>, AllocError>
         ensures { IfOk result (λ all. all.list.items ≡ list.entry.items) }
     {
-        let index = index_of(alloc, &list)?;
+        let index = index_of(alloc, key, &list)?;
         Ok(Overrides { list, index })
     }
 

@@ -71,10 +71,10 @@ fn actual_of<'a>(connection: &Connection<'a>) -> Option<Actual<'a>>
 }
 
 // Where each name stands first among the ports.
-fn index_of(alloc: Global, ports: &[OpenPort<'_>]) -> Result<NameIndex, AllocError>
+fn index_of(alloc: Global, key: u128, ports: &[OpenPort<'_>]) -> Result<NameIndex, AllocError>
     ensures { IfOk result (λ index. Indexes index (map port_name ports.now)) }
 {
-    let mut index = NameIndex::new(alloc);
+    let mut index = NameIndex::new(alloc, key);
     'ports: for (number, port) in ports.iter().enumerate() {
         index.note(port.name.text.bytes(), number)?;
     }
@@ -98,9 +98,10 @@ fn port_named<'p, 'a>(
     }
 }
 
-/// One task more for each port that is connected, in the order of the connections.
+/// One task more for each port that is connected, in the order of the connections. The key is a digest of the text.
 pub fn add_port_works<'a>(
     alloc: Global,
+    key: u128,
     at: Front,
     connections: &[Connection<'a>],
     ports: &[OpenPort<'a>],
@@ -109,7 +110,7 @@ pub fn add_port_works<'a>(
     requires { PortsAreSound ports.now }
     ensures { OnOk result (map work_is works.new.items ≡ map work_is works.old.items ++ m.port_works (front_is at) (map connection_is connections.now) (map port_is ports.now)) }
 {
-    let index = index_of(alloc, ports)?;
+    let index = index_of(alloc, key, ports)?;
     'connections: for connection in connections {
         add_port_work(at, connection, &index, ports, works)?;
     }

@@ -48,10 +48,10 @@ fn joined_of(pin: &Pin) -> Joined<'_>
 }
 
 // The set of some words' texts.
-fn set_of(alloc: Global, words: &[&Word]) -> Result<NameSet, AllocError>
+fn set_of(alloc: Global, key: u128, words: &[&Word]) -> Result<NameSet, AllocError>
     ensures { IfOk result (λ names. Holds names (texts_of words.now)) }
 {
-    let mut names = NameSet::new(alloc);
+    let mut names = NameSet::new(alloc, key);
     'words: for word in words {
         names.add(word.text.bytes())?;
     }
@@ -84,13 +84,14 @@ fn put_pin<'a>(
 // By name: each is one of the names, and comes once.
 fn by_name<'a>(
     alloc: Global,
+    key: u128,
     names: &[&'a Word],
     pins: &'a [NamedPin],
 ) -> Result<Vec<Connection<'a>>, TextErr>
     ensures { Answers (λ all list. map connection_is list.items ≡ all) (by_name (texts_of names.now) [] pins.now) result }
 {
-    let known = set_of(alloc, names)?;
-    let mut used = NameSet::new(alloc);
+    let known = set_of(alloc, key, names)?;
+    let mut used = NameSet::new(alloc, key);
     let mut list = Vec::new(alloc);
     'pins: for pin in pins {
         put_pin(&known, &mut used, &mut list, pin)?;
@@ -121,8 +122,10 @@ fn in_order<'a>(
 
 /// What an instance gives to names, of ports or of parameters: by name, where each is one of them (E17) and comes once (E18),
 /// or in order, where there are no more expressions than names (E17 where the first of the others begins) (23.3.2).
+/// The key is a digest of the text.
 pub fn connections<'a>(
     alloc: Global,
+    key: u128,
     names: &[&'a Word],
     pins: Option<&'a Pins>,
 ) -> Result<Vec<Connection<'a>>, TextErr>
@@ -131,7 +134,7 @@ pub fn connections<'a>(
     match pins {
         None => Ok(Vec::new(alloc)),
         Some(pins) => match pins {
-            Pins::Named(list) => by_name(alloc, names, list.as_slice()),
+            Pins::Named(list) => by_name(alloc, key, names, list.as_slice()),
             Pins::Ordered(list) => in_order(alloc, names, list.as_slice()),
         },
     }

@@ -33,11 +33,11 @@ fn put<'a>(
 }
 
 // The modules among the parts of a text under their names, or E13 at the name of the first whose name stands before it.
-fn named_in<'a>(alloc: Global, parts: &'a [SourcePart]) -> Result<Modules<'a>, TextErr>
+fn named_in<'a>(alloc: Global, key: u128, parts: &'a [SourcePart]) -> Result<Modules<'a>, TextErr>
     ensures ok { IfOk result (λ m. Lists m.numbers (modules_of m) (modules_in parts.now)) }
     ensures err { IfErr result (λ why. IsCause (repeated [] (modules_in parts.now)) why) }
 {
-    let mut numbers = NameIndex::new(alloc);
+    let mut numbers = NameIndex::new(alloc, key);
     let mut trees = Vec::new(alloc);
     'parts: for part in parts {
         match part {
@@ -50,11 +50,11 @@ fn named_in<'a>(alloc: Global, parts: &'a [SourcePart]) -> Result<Modules<'a>, T
 }
 
 impl<'a> Modules<'a> {
-    /// The modules of a source, or E13 at the name of the first whose name stands before it (3.13).
-    pub fn new(alloc: Global, source: &'a Source) -> Result<Modules<'a>, TextErr>
+    /// The modules of a source, or E13 at the name of the first whose name stands before it (3.13). The key is a digest of its text.
+    pub fn new(alloc: Global, key: u128, source: &'a Source) -> Result<Modules<'a>, TextErr>
         ensures { Answers (λ all m. modules_of m ≡ all) (modules_once source.now.parts) result }
     {
-        let modules = named_in(alloc, source.parts.as_slice())?;
+        let modules = named_in(alloc, key, source.parts.as_slice())?;
         Ok(modules)
     }
 

@@ -12,13 +12,13 @@ pub struct NameSet {
 }
 
 impl NameSet {
-    /// Of no names.
+    /// Of no names. The key is a digest of the text that they are read in.
     #[tactic(auto, using(crate::proofs::Sets::holds_none))]
-    pub fn new(alloc: Global) -> NameSet
+    pub fn new(alloc: Global, key: u128) -> NameSet
         ensures { Holds result [] }
     {
         NameSet {
-            names: NameMap::new(alloc),
+            names: NameMap::new(alloc, key),
         }
     }
 

@@ -53,18 +53,24 @@ fn only_one(numbers: &[usize]) -> Result<usize, TextErr>
 }
 
 // The number of the one module that no module instantiates.
-fn unused_one(alloc: Global, modules: &[&Module]) -> Result<usize, TextErr>
+fn unused_one(alloc: Global, key: u128, modules: &[&Module]) -> Result<usize, TextErr>
     ensures { (all : Library) → IsLibraryOf (trees_of modules.now) all → Answers (λ m n. m.number ≡ n) (top_module all None) result }
 {
-    let used = used_by(alloc, modules)?;
+    let used = used_by(alloc, key, modules)?;
     let numbers = unused_of(alloc, modules, &used)?;
     only_one(&numbers)
 }
 
 /// The number of the top: the module of a given name or, where none is given, the one module that no module instantiates.
 /// Refused as E11 where no module has the name, and as E10 with how many modules are not instantiated where these are not
-/// one; both at the start of the design's file. The time is linear in the text.
-pub fn top_of(alloc: Global, modules: &Modules<'_>, top: Option<&Name>) -> Result<usize, TextErr>
+/// one; both at the start of the design's file. The time is linear in the text,
+/// of which the key is a digest.
+pub fn top_of(
+    alloc: Global,
+    key: u128,
+    modules: &Modules<'_>,
+    top: Option<&Name>,
+) -> Result<usize, TextErr>
     ensures { (all : Library) → IsLibraryOf (modules_of modules.now) all → Answers (λ m n. m.number ≡ n) (top_module all (option_copied top.entry)) result }
 {
     match top {
@@ -72,6 +78,6 @@ pub fn top_of(alloc: Global, modules: &Modules<'_>, top: Option<&Name>) -> Resul
             Some(number) => Ok(number),
             None => Err(refused(refusals::UNKNOWN_MODULE, 0)),
         },
-        None => unused_one(alloc, modules.list()),
+        None => unused_one(alloc, key, modules.list()),
     }
 }

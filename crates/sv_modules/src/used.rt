@@ -57,10 +57,10 @@ fn add_body(body: &Gen, used: &mut NameSet) -> Result<(), AllocError>
 }
 
 /// The names that modules instantiate.
-pub(crate) fn used_by(alloc: Global, modules: &[&Module]) -> Result<NameSet, AllocError>
+pub(crate) fn used_by(alloc: Global, key: u128, modules: &[&Module]) -> Result<NameSet, AllocError>
     ensures { IfOk result (λ used. Holds used (used_in (trees_of modules.now))) }
 {
-    let mut used = NameSet::new(alloc);
+    let mut used = NameSet::new(alloc, key);
     'modules: for module in modules {
         add_items(module.items.as_slice(), &mut used)?;
     }

@@ -15,12 +15,12 @@ pub(crate) struct Links {
 }
 
 impl Links {
-    /// Of no names.
-    pub(crate) fn new(alloc: Global) -> Links
+    /// Of no names, in a map with this key.
+    pub(crate) fn new(alloc: Global, key: u128) -> Links
         ensures { IsLinked result [] }
     {
         Links {
-            latest: NameMap::new(alloc),
+            latest: NameMap::new(alloc, key),
             earlier: Vec::new(alloc),
         }
     }

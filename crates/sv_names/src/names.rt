@@ -37,14 +37,14 @@ impl Drop for Names<'_> {
 }
 
 impl<'a> Names<'a> {
-    /// No names.
-    pub fn new(alloc: Global) -> Names<'a>
+    /// No names. The key is a digest of the text that those of the loops are read in.
+    pub fn new(alloc: Global, key: u128) -> Names<'a>
         ensures frames { stack_of result ≡ [] }
         ensures loops { loops_of result ≡ [] }
     {
         Names {
             frames: Vec::new(alloc),
-            loops: Scope::new(alloc),
+            loops: Scope::new(alloc, key),
         }
     }
 

@@ -42,13 +42,13 @@ impl Model for Scope {
 }
 
 impl Scope {
-    /// Nothing is declared.
-    pub fn new(alloc: Global) -> Scope
+    /// Nothing is declared. The key is a digest of the text that the names are read in.
+    pub fn new(alloc: Global, key: u128) -> Scope
         ensures { result ≡ [] }
     {
         Scope {
             list: Vec::new(alloc),
-            links: Links::new(alloc),
+            links: Links::new(alloc, key),
         }
     }
 

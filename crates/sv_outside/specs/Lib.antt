@@ -1,5 +1,6 @@
 pub mod Literals
 pub mod Memory
 pub mod Outside
+pub mod Paths
 pub mod Text
 pub mod Words

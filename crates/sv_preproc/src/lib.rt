@@ -1,4 +1,4 @@
-//! Reads a whole text: the main file, with its directives and the files that it includes, one behind the other.
+//! Reads a whole text (a preprocessor): the main file, with its directives and the files that it includes, one behind the other.
 #![tactic(auto)]
 
 mod branch;

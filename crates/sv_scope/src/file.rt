@@ -21,12 +21,12 @@ pub(crate) struct Listed {
 }
 
 impl Listed {
-    /// No modules.
-    fn new(alloc: Global) -> Listed
+    /// No modules. The key is a digest of the text.
+    fn new(alloc: Global, key: u128) -> Listed
         ensures { Lists result [] }
     {
         Listed {
-            names: NameSet::new(alloc),
+            names: NameSet::new(alloc, key),
             above: Items::new(alloc),
         }
     }
@@ -72,7 +72,7 @@ pub(crate) fn file_level<'a>(
 ) -> Result<Items<usize>, TextErr>
     ensures { Finds (λ all above. map (λ (k : m.Known). k.above) all ≡ above) (m.library parts.now []) walker.old current.old walker.new current.new result }
 {
-    let mut listed = Listed::new(walker.alloc);
+    let mut listed = Listed::new(walker.alloc, walker.levels.key());
     'parts: for part in parts {
         add_part(walker, current, &mut listed, part)?;
     }

@@ -75,7 +75,7 @@ fn read_library<'a>(
     ensures { ReadsInto source.now walker.new file.new result }
 {
     let above = file_level(walker, file, source.parts.as_slice())?;
-    let modules = Modules::new(walker.alloc, source);
+    let modules = Modules::new(walker.alloc, walker.levels.key(), source);
     let (above, modules) = both(above, modules)?;
     Ok(Library { modules, above })
 }
@@ -102,7 +102,7 @@ fn topped<'a>(
 ) -> Result<(), TextErr>
     ensures { FromSome library.now (option_copied top.entry) walker.old file.now walker.new result }
 {
-    let number = top_of(walker.alloc, &library.modules, top)?;
+    let number = top_of(walker.alloc, walker.levels.key(), &library.modules, top)?;
     match library.known(number) {
         Some(known) => from_top(walker, file, library, known),
         None => Err(TextErr::No(refusal(refusals::UNKNOWN_MODULE, FILE_START))),
@@ -123,15 +123,16 @@ fn walk<'a>(walker: &mut Walker<'a>, source: &'a Source, top: Option<&Name>) -> 
 /// wires are numbered so: the ports of an instance, its declarations in text order with generate blocks in their place, and then
 /// its children. Refused are E10 to E18 and E20 to E23, and literals (E2).
 ///
-/// The time is linear in the design that is laid out, but for the depth of nested blocks.
+/// The time is linear in the design that is laid out, but for the depth of nested blocks. The key is a digest of the text.
 pub fn scopes<'a>(
     alloc: Global,
+    key: u128,
     source: &'a Source,
     top: Option<&Name>,
 ) -> Result<DesignScopes<'a>, TextErr>
     ensures { Answers (λ st scopes. IsScoped st scopes) (m.scopes source.now (option_copied top.entry)) result }
 {
-    let mut walker = Walker::new(alloc);
+    let mut walker = Walker::new(alloc, key);
     let done = walk(&mut walker, source, top);
     let (walker, _) = both(walker, done)?;
     let Walker {

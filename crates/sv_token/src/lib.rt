@@ -1,4 +1,4 @@
-//! Cuts a text into tokens.
+//! Cuts a text into tokens (a lexer), each the longest that begins at its place (maximal munch).
 #![tactic(auto)]
 
 mod bytes;

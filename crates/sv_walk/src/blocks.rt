@@ -61,7 +61,7 @@ impl<'a> Walker<'a> {
         let block = self.levels.block(self.alloc, current.level, part, nets)?;
         let level = self.levels.len();
         self.levels.push(block)?;
-        Open::bare(self.alloc, level)
+        Open::bare(self.alloc, self.levels.key(), level)
     }
 
     /// A block with a label, or with the number of its construct, is declared and begun; or E13 (27.6).
@@ -76,7 +76,8 @@ impl<'a> Walker<'a> {
     {
         let name = block_name(self.alloc, label, number)?;
         current.declare_at(block_place(label, place), name.bytes())?;
-        let block = self.begin(current, name.bytes(), Scope::new(self.alloc))?;
+        let nets = Scope::new(self.alloc, self.levels.key());
+        let block = self.begin(current, name.bytes(), nets)?;
         Ok(block)
     }
 
@@ -115,7 +116,7 @@ impl<'a> Walker<'a> {
     {
         self.tally = self.tally.with_turn(place)?;
         let part = turn_name(self.alloc, name, &bits)?;
-        let nets = index_scope(self.alloc, variable, bits)?;
+        let nets = index_scope(self.alloc, self.levels.key(), variable, bits)?;
         let block = self.begin(current, part.bytes(), nets)?;
         Ok(block)
     }

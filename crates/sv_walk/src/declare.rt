@@ -12,10 +12,9 @@ ghost use Rattle.sv_walk.specs.declared.walker.Open.{Open as Opened};
 ghost use Rattle.sv_walk.specs.declared.walker.Walker.{Walker as Walking};
 ghost use Rattle.sv_walk.specs.Walks.{Finds, Walks, state_of};
 
-use crate::held::let_go;
 use crate::walker::{Open, Walker};
 use std::alloc::{AllocError, Global};
-use sv_levels::{Levels, Wires};
+use sv_levels::{Levels, Wires, let_go};
 use sv_names::{Layout, What, scalar};
 use sv_outside::{Name, Place, Signal, TextErr};
 use sv_tree::{TypeTree, Typedef, Word};

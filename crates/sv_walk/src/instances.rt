@@ -11,13 +11,13 @@ ghost use Rattle.sv_walk.specs.declared.walker.Open.{Open as Opened};
 ghost use Rattle.sv_levels.specs.Tasks.{child_is, given_is};
 ghost use Rattle.sv_walk.specs.Walks.{Walks, state_of};
 
-use crate::held::{after, let_go};
+use crate::held::after;
 use crate::walker::{Open, Walker};
 use std::alloc::AllocError;
 use std::mem;
 use sv_levels::{
-    Child, Front, Given, Known, Level, Library, Overrides, add_port_works, given_by, outermost,
-    ports_of, wiring_of, within,
+    Child, Front, Given, Known, Level, Library, Overrides, add_port_works, given_by, let_go,
+    outermost, ports_of, wiring_of, within,
 };
 use sv_modules::Connection;
 use sv_names::Scope;
@@ -43,18 +43,18 @@ impl<'a> Walker<'a> {
         };
         let none = outermost(self.alloc)?;
         let around = within(self.alloc, front, &none)?;
-        let level = self.levels.len();
+        let (level, key) = (self.levels.len(), self.levels.key());
         self.levels.push(Level {
             path,
             module: known.number,
             parent,
             around,
-            nets: Scope::new(self.alloc),
-            consts: Scope::new(self.alloc),
+            nets: Scope::new(self.alloc, key),
+            consts: Scope::new(self.alloc, key),
         })?;
         self.children = Vec::new(self.alloc);
-        let overridden = Overrides::new(self.alloc, given)?;
-        Ok(Open::new(self.alloc, level, overridden))
+        let overridden = Overrides::new(self.alloc, key, given)?;
+        Ok(Open::new(self.alloc, key, level, overridden))
     }
 
     /// What an instance has without its children, with its ports connected so.
@@ -70,7 +70,14 @@ impl<'a> Walker<'a> {
     {
         self.header_params(current, tree.params.as_slice())?;
         let ports = self.header_ports(current, top, ports_of(tree))?;
-        let joined = add_port_works(self.alloc, at, pins, &ports, &mut self.works);
+        let joined = add_port_works(
+            self.alloc,
+            self.levels.key(),
+            at,
+            pins,
+            &ports,
+            &mut self.works,
+        );
         let_go(ports);
         joined?;
         self.items(current, tree.items.as_slice())
@@ -118,7 +125,7 @@ impl<'a> Walker<'a> {
     fn open_child(&mut self, known: Known<'a>, child: &Child<'a>) -> Result<Open<'a>, TextErr>
         ensures { (current : Opened) → Answers (λ st own. st ≡ state_of self.new own) (child_alone (known_is known.entry) (child_is child.now) (state_of self.old current)) result }
     {
-        let wiring = wiring_of(self.alloc, known.tree, child)?;
+        let wiring = wiring_of(self.alloc, self.levels.key(), known.tree, child)?;
         self.tally = self.tally.with_bits(child.name.place, 1)?;
         let path = child.path.copy()?;
         let given = given_by(self.alloc, child.at, &wiring.params)?;

@@ -6,11 +6,10 @@ ghost use Rattle.sv_hierarchy.specs.Scopes.{seen};
 ghost use Rattle.sv_walk.specs.Looping.{loop_judged};
 ghost use Rattle.sv_walk.specs.Walks.{state_of};
 
-use crate::held::let_go;
 use crate::walker::{Open, Walker};
 use fourvec::Four;
 use items::Items;
-use sv_levels::is_loop_variable;
+use sv_levels::{is_loop_variable, let_go};
 use sv_loops::{condition, turns};
 use sv_outside::{Place, TextErr, refusals};
 use sv_tree::{Expr, Step, Word};

@@ -6,11 +6,10 @@ ghost use Rattle.sv_hierarchy.specs.Scopes.{act, conditional, turn_walk, under, 
 ghost use Rattle.sv_walk.specs.Items.{IsPlain, else_of, items_walk};
 ghost use Rattle.sv_walk.specs.Walks.{Walks};
 
-use crate::held::let_go;
 use crate::walker::{Open, Walker};
 use fourvec::Four;
 use items::Boxed;
-use sv_levels::{Task, Turns};
+use sv_levels::{Task, Turns, let_go};
 use sv_outside::{Place, TextErr};
 use sv_tree::{Expr, Gen, Item, Word};
 

@@ -53,8 +53,8 @@ impl Drop for Open<'_> {
 }
 
 impl<'a> Open<'a> {
-    /// A scope with no names, to whose parameters this is given.
-    pub fn new(alloc: Global, level: usize, overridden: Overrides<'a>) -> Open<'a>
+    /// A scope with no names, to whose parameters this is given. The key is a digest of the text.
+    pub fn new(alloc: Global, key: u128, level: usize, overridden: Overrides<'a>) -> Open<'a>
         ensures level { result.level ≡ level }
         ensures constructs { result.constructs.items ≡ [] }
         ensures overridden { map given_is result.overridden.list.items ≡ map given_is overridden.entry.list.items }
@@ -62,18 +62,18 @@ impl<'a> Open<'a> {
     {
         Open {
             level,
-            taken: NameSet::new(alloc),
+            taken: NameSet::new(alloc, key),
             constructs: Vec::new(alloc),
             overridden,
         }
     }
 
     /// A scope with no names, to whose parameters nothing is given.
-    pub(crate) fn bare(alloc: Global, level: usize) -> Result<Open<'a>, AllocError>
+    pub(crate) fn bare(alloc: Global, key: u128, level: usize) -> Result<Open<'a>, AllocError>
         ensures { IfOk result (IsBare level) }
     {
-        let overridden = Overrides::none(alloc)?;
-        Ok(Open::new(alloc, level, overridden))
+        let overridden = Overrides::none(alloc, key)?;
+        Ok(Open::new(alloc, key, level, overridden))
     }
 
     /// Declares a name: E2 at a place where no text spells such a name (5.6), E13 where it is taken (3.13, 23.9).
@@ -100,13 +100,13 @@ impl<'a> Open<'a> {
 }
 
 impl<'a> Walker<'a> {
-    /// Nothing is found.
-    pub fn new(alloc: Global) -> Walker<'a>
+    /// Nothing is found. The key is a digest of the text.
+    pub fn new(alloc: Global, key: u128) -> Walker<'a>
         ensures { IsNothing result }
     {
         Walker {
             alloc,
-            levels: Levels::new(alloc),
+            levels: Levels::new(alloc, key),
             tally: Tally::new(),
             wires: Wires::new(alloc),
             works: Vec::new(alloc),
@@ -135,14 +135,15 @@ impl<'a> Walker<'a> {
         requires { IsNothing self.old }
         ensures { IfOk result (λ current. state_of self.new current ≡ file_state) }
     {
+        let key = self.levels.key();
         self.levels.push(Level {
             path: Name::new(self.alloc, b"")?,
             module: 0,
             parent: 0,
             around: outermost(self.alloc)?,
-            nets: Scope::new(self.alloc),
-            consts: Scope::new(self.alloc),
+            nets: Scope::new(self.alloc, key),
+            consts: Scope::new(self.alloc, key),
         })?;
-        Open::bare(self.alloc, 0)
+        Open::bare(self.alloc, key, 0)
     }
 }

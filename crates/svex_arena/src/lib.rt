@@ -1,4 +1,4 @@
-//! A graph of expressions over four-valued vectors, in which no two nodes have equal shapes.
+//! A graph of expressions over four-valued vectors, in which no two nodes have equal shapes (hash consing; Goto, 1974).
 //!
 //! A node is a number. Its shape names an operator and its children, which have lower numbers; its value, width and variables come
 //! from its shape and its children alone.

@@ -1,4 +1,6 @@
-//! Nodes for equations, group by group.
+//! Nodes for equations, group by group, each behind those on which it depends, so that all else that a group reads is settled. A
+//! group is settled in rounds, of which one is enough for an equation that does not reach itself. A group of over 1,024 bits is
+//! refused: it may take as many rounds as it has bits.
 
 ghost use Rattle.std.specs.Prelude.{◌≡◌, ℕ, ◌<◌, ◌≤◌, List, length, map, IfOk, OnOk, Err, Some, None};
 ghost use Rattle.svex_arena.specs.Arenas.{IsArena, Extends};

@@ -1,5 +1,5 @@
-//! Composes equations: for each a node over stimuli and previous values alone, which has in every environment the value of the least
-//! solution; and from these a node for each wire.
+//! Composes equations: for each a node over stimuli and previous values alone, which has in every environment the value of the
+//! least solution (the least fixpoint); and from these a node for each wire.
 #![tactic(auto)]
 
 mod grouping;

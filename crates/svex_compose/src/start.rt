@@ -1,4 +1,5 @@
-//! The scene before the first round: each equation has a node that is X at each bit of its segment, and none is settled.
+//! The scene before the first round: each equation has a node that is X at each bit of its segment, and none is settled. X lies
+//! below each value, so rounds that begin there come to the least solution.
 
 ghost use Rattle.std.specs.Prelude.{◌≡◌, ℕ, ◌<◌, ◌≤◌, ◌+◌, List, length, map, IfOk, OnOk};
 ghost use Rattle.lhs_alias.specs.declared.segs.Seg.{Seg};

@@ -1,11 +1,10 @@
 //! What the variables have.
 
 ghost use Rattle.std.specs.Prelude.{◌≡◌, ℕ, ◌<◌, ◌≤◌, [], slice_index_or};
-ghost use Rattle.fourvec.specs.Bits.{all_x};
 ghost use Rattle.svex_shape.specs.Values.{read, fitted};
 
 use crate::shape::VarName;
-use fourvec::Four;
+use fourvec::{Four, all_unknown};
 use std::marker::Model;
 
 /// The values of the variables, a list for each kind by number. Contracts see the five lists.
@@ -32,16 +31,6 @@ impl Model for Env {
     } };
 }
 
-// X at every bit.
-#[tactic(auto, using(crate::proofs::Readings::x_widened, fourvec::proofs::Basic::views))]
-fn unknown(width: u8) -> Four
-    requires some { 0 < width }
-    requires most { width ≤ 128 }
-    ensures { result ≡ all_x width }
-{
-    Four::new(1, 1, 0).sext(width)
-}
-
 // A place of a list where it has the width.
 #[tactic(auto, unfolding(crate::specs::Values::fitted))]
 fn place(list: &[Four], at: usize, width: u8) -> Four
@@ -52,7 +41,7 @@ fn place(list: &[Four], at: usize, width: u8) -> Four
     if at < list.len() && list[at].width() == width {
         list[at]
     } else {
-        unknown(width)
+        all_unknown(width)
     }
 }
 

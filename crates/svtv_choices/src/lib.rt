@@ -1,4 +1,4 @@
-//! The choices of a table's variables: by number, for tables of few variable bits.
+//! The choices of a table's variables (assignments): by number, for tables of few variable bits.
 #![tactic(auto)]
 
 mod choice;

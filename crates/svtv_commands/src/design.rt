@@ -13,7 +13,7 @@ ghost use Rattle.svtv_files.specs.Stopping.{Counts, IfUnread, IsInFile, IsInOneO
 
 use flat_net::Flat;
 use std::alloc::Global;
-use sv_elab::elaborate;
+use sv_elab::{elaborate, key_of};
 use sv_outside::{Files, Name, TextErr, Tokens};
 use sv_parser::parse;
 use sv_preproc::{PreErr, preprocess};
@@ -77,7 +77,7 @@ pub fn load_design<F: Files>(
         Ok(tree) => tree,
         Err(error) => return Err(in_file(&tokens, error)),
     };
-    match elaborate(alloc, &tree, top) {
+    match elaborate(alloc, key_of(&tokens), &tree, top) {
         Ok(flat) => Ok(flat),
         Err(error) => Err(in_file(&tokens, error)),
     }

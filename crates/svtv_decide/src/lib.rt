@@ -1,4 +1,4 @@
-//! Goals decided for all choices of a table's variables, with the samples of those that fail.
+//! Goals decided for all choices of a table's variables, with the samples of those that fail (counterexamples).
 #![tactic(auto)]
 
 mod goals;

@@ -1,4 +1,5 @@
-// What a failing step shows: the values of the period's variables, and the valuation that those behind them stand for.
+// What a failing step shows: the values of the period's variables, and the valuation that those behind them stand for. Joined
+// bits are one, so each bit of a wire is shown as the first bit of its class has it, whatever its own two variables say.
 ghost use Rattle.std.specs.Prelude.{◌≡◌, ◌+◌, ◌<◌, ℕ, [], All, IfOk, IsTrue, length, map, slice_index_or};
 ghost use Rattle.event_nets.specs.Tables.{store_of};
 ghost use Rattle.fourvec.specs.Bits.{is_known};

@@ -16,25 +16,12 @@ ghost use Rattle.svtv_induct.specs.States.{AreJoined, AreOwn, ArePartsOf, AreWid
 ghost use Rattle.svtv_table.specs.Binding.{HasWidth};
 
 use crate::half::segs_at;
-use fourvec::{Bit, Four};
+use fourvec::{Bit, one_bit};
 use lhs_alias::{Lhs, Seg};
 use std::alloc::{AllocError, Global};
 use sv_outside::Signal;
 use svex_arena::{Arena, Bin, Node, Shape, VarName};
 use svtv_table::VarDecl;
-
-// One bit.
-#[tactic(auto, unfolding(fourvec::specs::Bits::planes))]
-fn one_bit(bit: Bit) -> Four
-    ensures { result ≡ bit ∷ [] }
-{
-    match bit {
-        Bit::Zero => Four::new(1, 0, 0),
-        Bit::One => Four::new(1, 1, 1),
-        Bit::Unknown => Four::new(1, 1, 0),
-        Bit::Floating => Four::new(1, 0, 1),
-    }
-}
 
 // A constant bit.
 fn constant(arena: &mut Arena, alloc: Global, bit: Bit) -> Result<Node, AllocError>

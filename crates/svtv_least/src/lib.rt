@@ -1,4 +1,4 @@
-//! The least run of a flat design under the stimuli of a table, phase by phase, and its samples.
+//! The least run of a flat design under the stimuli of a table, phase by phase (a least fixpoint each), and its samples.
 #![tactic(auto)]
 
 mod runner;

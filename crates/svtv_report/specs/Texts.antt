@@ -2,7 +2,7 @@
 use Rattle.std.specs.Prelude.{ℕ, List, [], ◌∷◌, ◌++◌, length, map, reverse, codes, decimal, Option, Some, None}
 use Rattle.std.specs.List.{flat_map}
 use Rattle.fourvec.specs.declared.Bit.{Bit}
-use Rattle.fourvec.specs.declared.Bit.TheVariants.{Zero, One, Unknown, Floating}
+pub use Rattle.fourvec.specs.Bits.{digit}
 use Rattle.svtv_verdicts.specs.Verdicts.{Verdict, proved, vacuous, failed, undecided}
 
 abbrev pub Text : Type 0
@@ -12,12 +12,6 @@ abbrev pub line_feed : Text
 line_feed = 10 ∷ []
 
 -- ---- values
-
-abbrev pub digit : Bit → ℕ
-digit Zero = 48
-digit One = 49
-digit Unknown = 120
-digit Floating = 122
 
 -- the width, `'b`, and all bits from the most significant on
 abbrev pub value_text : List Bit → Text

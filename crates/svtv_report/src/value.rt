@@ -1,23 +1,11 @@
 // Values as they are printed.
 ghost use Rattle.std.specs.Prelude.{◌≡◌, ◌++◌, IfOk, OnOk};
-ghost use Rattle.svtv_report.specs.Texts.{digit, value_line, value_lines, value_text};
+ghost use Rattle.svtv_report.specs.Texts.{value_line, value_lines, value_text};
 
-use fourvec::{Bit, Four};
+use fourvec::{Four, digit};
 use itoa::Buffer;
 use std::alloc::AllocError;
 use sv_outside::Name;
-
-// The digit of a bit.
-fn digit(bit: Bit) -> u8
-    ensures { result ≡ digit bit }
-{
-    match bit {
-        Bit::Zero => b'0',
-        Bit::One => b'1',
-        Bit::Unknown => b'x',
-        Bit::Floating => b'z',
-    }
-}
 
 /// A value: its width and its bits.
 pub(crate) fn push_value(text: &mut Vec<u8>, value: &Four) -> Result<(), AllocError>

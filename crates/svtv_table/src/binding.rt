@@ -18,6 +18,7 @@ ghost use Rattle.svtv_table.specs.declared.bound.VarDecl.{VarDecl};
 use crate::bound::{Bound, Drive, VarDecl};
 use crate::drives::drives_of;
 use crate::faults::refused;
+use crate::key::key_of;
 use crate::names::{Target, Wires, add_rows, declarations, no_variables, wire_of, wires_of};
 use crate::overs::overs_of;
 use crate::samples::{Samples, sample_cells};
@@ -209,8 +210,8 @@ fn no_rows<T: Drop>(alloc: Global, wires: &Wires) -> Result<Marked<T>, AllocErro
     })
 }
 
-// The work before any row.
-fn no_work(alloc: Global, wires: &Wires) -> Result<Work, AllocError>
+// The work before any row. The key is a digest of the table.
+fn no_work(alloc: Global, key: u128, wires: &Wires) -> Result<Work, AllocError>
     ensures { IfOk result (λ work. (vars : List VarDecl) → Follows wires.now.list.now vars [] work) }
 {
     let drives = no_rows(alloc, wires)?;
@@ -220,7 +221,7 @@ fn no_work(alloc: Global, wires: &Wires) -> Result<Work, AllocError>
         overs,
         samples: Samples {
             list: Items::new(alloc),
-            taken: NameIndex::new(alloc),
+            taken: NameIndex::new(alloc, key),
         },
     })
 }
@@ -237,7 +238,7 @@ fn bind_rows(
     ensures fine { OnOk result (at_each (spec.row_faults wires.now.list.now (listed variables.now) rows.now) 0 rows.now ≡ []) }
     ensures err { IfErr result (Stops (at_each (spec.row_faults wires.now.list.now (listed variables.now) rows.now) 0 rows.now)) }
 {
-    let mut work = no_work(alloc, wires)?;
+    let mut work = no_work(alloc, key_of(rows), wires)?;
     for (at, row) in rows.iter().enumerate() {
         bind_row(alloc, wires, variables, &rows[..at], row, &mut work)?;
     }
@@ -290,7 +291,7 @@ fn bind_wires(alloc: Global, table: &Table, wires: &Wires) -> Result<Bound, Text
     ensures fine { OnOk result (spec.bind_faults wires.now.list.now table.now ≡ []) }
     ensures err { IfErr result (Stops (spec.bind_faults wires.now.list.now table.now)) }
 {
-    let mut variables = no_variables(alloc);
+    let mut variables = no_variables(alloc, key_of(table.rows.as_slice()));
     bind_with(alloc, table, wires, &mut variables)
 }
 

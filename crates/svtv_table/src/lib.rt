@@ -11,6 +11,7 @@ mod bound;
 mod drives;
 mod faults;
 mod fields;
+mod key;
 mod names;
 mod overs;
 mod read;

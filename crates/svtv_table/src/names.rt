@@ -1,5 +1,5 @@
-// The wires of a design and the variables of a table, by name. Both are found in maps that no names make slow, so that binding takes
-// linear time. Of wires with one path the first counts. A variable stands where an `in` or `over` row names it first and gets the
+// The wires of a design and the variables of a table, by name. Both are found in maps whose key is a digest of the names, so that binding
+// takes linear time whatever they are. Of wires with one path the first counts. A variable stands where an `in` or `over` row names it first and gets the
 // width of that row's wire; whether other rows fit is judged when they are bound. Variables borrow their names from the rows; these
 // are copied once, into the list of the bound table.
 ghost use Rattle.std.specs.Prelude.{◌≡◌, ◌≤◌, ◌<◌, [], map, length, All, IfOk, IfSome, OnOk};
@@ -11,7 +11,7 @@ ghost use Rattle.svtv_table.specs.Names.{name_in, name_of, names_in, path_of};
 use crate::bound::VarDecl;
 use crate::variables::{Variable, Variables};
 use items::Items;
-use name_index::{NameIndex, NameMap};
+use name_index::{NameDigest, NameIndex, NameMap};
 use std::alloc::{AllocError, Global};
 use sv_outside::{Name, Signal};
 use table_cells::{Cell, Row, RowKind};
@@ -34,10 +34,28 @@ pub struct Target {
     ghost most: { width ≤ 128 },
 }
 
+// A digest of the paths of wires.
+fn paths_key(wires: &[Signal]) -> u128 {
+    let mut digest = NameDigest::new();
+    'wires: for wire in wires {
+        digest.take(wire.path.bytes());
+    }
+    digest.key()
+}
+
+// A digest of the names of variables.
+fn names_key(vars: &[VarDecl]) -> u128 {
+    let mut digest = NameDigest::new();
+    'vars: for var in vars {
+        digest.take(var.name.bytes());
+    }
+    digest.key()
+}
+
 fn by_path(alloc: Global, wires: &[Signal]) -> Result<NameIndex, AllocError>
     ensures { IfOk result (λ index. Indexes index (map path_of wires.now)) }
 {
-    let mut index = NameIndex::new(alloc);
+    let mut index = NameIndex::new(alloc, paths_key(wires));
     for (at, wire) in wires.iter().enumerate() {
         index.note(wire.path.bytes(), at)?;
     }
@@ -48,7 +66,7 @@ fn by_path(alloc: Global, wires: &[Signal]) -> Result<NameIndex, AllocError>
 pub fn by_name(alloc: Global, vars: &[VarDecl]) -> Result<NameIndex, AllocError>
     ensures { IfOk result (λ index. Indexes index (map name_of vars.now)) }
 {
-    let mut index = NameIndex::new(alloc);
+    let mut index = NameIndex::new(alloc, names_key(vars));
     for (at, var) in vars.iter().enumerate() {
         index.note(var.name.bytes(), at)?;
     }
@@ -93,13 +111,13 @@ fn width_of(wires: &Wires, path: &Name) -> u8
     }
 }
 
-/// No variables.
-pub fn no_variables<'a>(alloc: Global) -> Variables<'a>
+/// No variables. The key is a digest of the table.
+pub fn no_variables<'a>(alloc: Global, key: u128) -> Variables<'a>
     ensures { listed result ≡ [] }
 {
     Variables {
         list: Vec::new(alloc),
-        numbers: NameMap::new(alloc),
+        numbers: NameMap::new(alloc, key),
     }
 }
 

@@ -1,6 +1,6 @@
-//! Runs files of cases of what stands below the trees: tokens, directives, expressions, whole texts, literals, names, files and sinks.
-//! It prints of each file how many of its cases are as they should be, or of each case that differs what came and what should have
-//! come. `cases.rt` says how a case is written, `acts.rt` what its keys do. What is expected was found by hand.
+//! Runs files of test cases of what stands below the trees: tokens, directives, expressions, whole texts, literals, names, files
+//! and sinks. It prints of each file how many of its cases are as they should be, or of each case that differs what came and what
+//! should have come. `cases.rt` says how a case is written, `acts.rt` what its keys do. What is expected was found by hand.
 #![tactic(auto)]
 
 mod acts;

@@ -7,7 +7,7 @@ ghost use Rattle.vcd_print.specs.Printed as printed;
 ghost use Rattle.vcd_print.specs.Printed.{code_of, closed, scope_line, digits_of, change_line, time_line, lines_since, phase_text, scopes_of, name_of, IsCut, moved, var_line, wire_lines, declared, declarations, is_same};
 ghost use Rattle.vcd_print.specs.Dumps.{HasBits};
 
-use fourvec::{Bit, Four};
+use fourvec::{Four, digit};
 use itoa::Buffer;
 use std::alloc::AllocError;
 use sv_outside::Signal;
@@ -32,17 +32,6 @@ fn push_code(text: &mut Vec<u8>, number: usize) -> Result<(), AllocError>
         rest /= BASE;
     }
     Ok(())
-}
-
-fn digit(bit: Bit) -> u8
-    ensures { result ≡ printed.digit bit }
-{
-    match bit {
-        Bit::Zero => b'0',
-        Bit::One => b'1',
-        Bit::Unknown => b'x',
-        Bit::Floating => b'z',
-    }
 }
 
 // All bits, the most significant first.

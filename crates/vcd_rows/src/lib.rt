@@ -1,5 +1,5 @@
-//! Judges value change dumps by what was found by hand: which are read, where the others break the form, what signals and changes they
-//! have, and what is printed of wires. The cases stand in data/ of the crate rows.
+//! Judges value change dumps by test cases that were worked out by hand: which are read, where the others break the form, what
+//! signals and changes they have, and what is printed of wires. The cases stand in data/ of the crate rows.
 //!
 //! `text` gives the lines of a text, each behind `| `, and `open` takes its last line feed away. A row of `read` says `stands`, or the line
 //! and the column where the text breaks the form. A row of `signal` has a path and says the width, the code and the place of the first

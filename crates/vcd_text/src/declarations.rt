@@ -1,4 +1,6 @@
-//! Takes the words of the declarations, one after the other.
+//! Takes the words of the declarations, one after the other. What is waited for is a mode, and each word leads to the next mode
+//! or is refused (a finite automaton, with the open scopes and the signals so far beside it). So no word is read twice, and what
+//! a word does is one step of a definition. A code may be declared more than once, with one width.
 
 ghost use Rattle.std.specs.Prelude.{◌≡◌, ◌&&◌, ◌==◌, ◌++◌, ◌∷◌, [], not, true, if◌then◌else◌, length, IfOk, OnOk};
 ghost use Rattle.sv_outside.specs.declared.refusal.Place.{Place as APlace};
@@ -87,9 +89,9 @@ fn path_in(alloc: Global, scopes: &[Name], name: &[u8]) -> Result<Name, AllocErr
 }
 
 impl<'a> Declarations<'a> {
-    /// Where nothing is read.
+    /// Where nothing is read. The key is a digest of the text.
     #[tactic(auto, unfolding(crate::specs::Waves::width_under))]
-    pub fn new(alloc: Global) -> Declarations<'a>
+    pub fn new(alloc: Global, key: u128) -> Declarations<'a>
         ensures start { state_of result ≡ at_start }
         ensures widths { HoldsWidths result }
     {
@@ -97,7 +99,7 @@ impl<'a> Declarations<'a> {
             alloc,
             mode: Mode::Between,
             scopes: Items::new(alloc),
-            widths: NameMap::new(alloc),
+            widths: NameMap::new(alloc, key),
             vars: Items::new(alloc),
         }
     }

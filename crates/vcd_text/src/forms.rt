@@ -1,4 +1,5 @@
-//! Forms of single words: codes, numbers, bits and real numbers.
+//! Forms of single words: codes, numbers, bits and real numbers. Each test is one definition of the forms, and goes through the
+//! word from the left with no memory. A real number is only told from other words, since changes of those do not count.
 
 ghost use Rattle.std.specs.Prelude.{◌≡◌, ◌-◌, ◌^◌, ◌≤◌, drop, length, min};
 ghost use Rattle.std.specs.List.{prefix_len};

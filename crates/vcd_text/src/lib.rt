@@ -1,4 +1,5 @@
-//! Value change dumps as text: read, and the changes of one signal.
+//! Value change dumps as text: read, and the changes of one signal. The changes are no list: they are read again from the text,
+//! one at each call (a pull parser).
 #![tactic(auto)]
 
 mod changes;

@@ -15,6 +15,7 @@ use crate::declarations::{Declarations, Progress};
 use crate::waves::{VcdVar, Waves};
 use crate::word::Cursor;
 use items::Items;
+use name_index::digest_of;
 use std::alloc::Global;
 use sv_outside::{Place, Refusal, TextErr, refusals};
 
@@ -29,12 +30,16 @@ fn syntax(place: Place) -> TextErr
 }
 
 // Takes the words up to the end of the declarations, or to the first that may not come.
-fn read_declarations<'a>(alloc: Global, cursor: &mut Cursor<'a>) -> Result<Items<VcdVar>, TextErr>
+fn read_declarations<'a>(
+    alloc: Global,
+    key: u128,
+    cursor: &mut Cursor<'a>,
+) -> Result<Items<VcdVar>, TextErr>
     ensures told { IfOk result (λ vars. (scopes : List AText) × (outcome (past cursor.old.place cursor.old.rest.now) at_start (words_from cursor.old.place cursor.old.rest.now)
         ≡ outcome_of scopes vars cursor.new.place cursor.new.rest.now)) }
     ensures refused { (r : ARefusal) → result ≡ Err (No r) → IsRefusedAt (outcome (past cursor.old.place cursor.old.rest.now) at_start (words_from cursor.old.place cursor.old.rest.now)) r }
 {
-    let mut declarations = Declarations::new(alloc);
+    let mut declarations = Declarations::new(alloc, key);
     'words: while let Some(word) = cursor.next() {
         match declarations.step(word)? {
             Progress::Taken => {}
@@ -73,7 +78,7 @@ pub fn read_vcd<'a>(alloc: Global, text: &'a [u8]) -> Result<Waves<'a>, TextErr>
     ensures taken { (r : ARefusal) → result ≡ Err (No r) → (vars : List AVar) (changes : List AChange) → Wave text.entry.now vars changes → ⊥ }
 {
     let mut cursor = Cursor::new(text);
-    match read_declarations(alloc, &mut cursor) {
+    match read_declarations(alloc, digest_of(text), &mut cursor) {
         Ok(vars) => read_changes(vars, cursor),
         Err(e) => Err(e),
     }

@@ -1,4 +1,6 @@
-//! What words begin.
+//! What words begin: an item of the dump by its keyword, and a time or a change by its first byte. Keywords are told here alone,
+//! and the readers match on roles. Those with one meaning to a reader have one role: the four that dump values, and the four
+//! whose text is skipped.
 
 ghost use Rattle.std.specs.Prelude.{◌≡◌};
 ghost use Rattle.vcd_text.specs.Forms as form;

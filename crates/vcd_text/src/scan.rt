@@ -1,4 +1,6 @@
-//! Takes the words behind the declarations, one after the other.
+//! Takes the words behind the declarations, one after the other: times, changes and what is skipped. It is a finite automaton,
+//! which holds what is waited for, whether values are dumped, and the time, which never falls. A change is handed out as it
+//! stands in the text; whose code it has is not asked here.
 
 ghost use Rattle.std.specs.Prelude.{◌≡◌, is_some, true};
 ghost use Rattle.vcd_text.specs.Forms.{bits_of};

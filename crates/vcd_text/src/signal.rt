@@ -1,4 +1,6 @@
-//! The changes of one signal.
+//! The changes of one signal, which is the first one with a path. They are found by its code while the text is gone over once
+//! more, and each value is made as wide as the signal, so nothing is held for the other signals. A signal of real numbers has no
+//! changes.
 
 ghost use Rattle.std.specs.Prelude.{◌≡◌, ◌∷◌, ◌++◌, [], None, Some, Err, IfOk, IfErr, MatchOption, List, option_copied, if◌then◌else◌};
 ghost use Rattle.std.specs.Str.{bytes_eq};

@@ -6,19 +6,7 @@ ghost use Rattle.vcd_text.specs.Said as wrote;
 ghost use Rattle.vcd_text.specs.Said.{bit_said, bits_said, onto_bits};
 
 use crate::forms::bit;
-use fourvec::{Bit, Four};
-
-#[tactic(auto, unfolding(fourvec::specs::Bits::planes))]
-fn one_bit(bit: Bit) -> Four
-    ensures { result ≡ bit ∷ [] }
-{
-    match bit {
-        Bit::Zero => Four::new(1, 0, 0),
-        Bit::One => Four::new(1, 1, 1),
-        Bit::Unknown => Four::new(1, 1, 0),
-        Bit::Floating => Four::new(1, 0, 1),
-    }
-}
+use fourvec::{Bit, Four, one_bit};
 
 // The bit that a byte of bits says.
 fn said(byte: u8) -> Bit

@@ -1,4 +1,5 @@
-//! Words of a text, one after the other. What is left and its place are kept, so each byte is looked at once.
+//! Words of a text, one after the other. What is left and its place are kept, so each byte is looked at once. Blanks, tabs and
+//! line ends part the words. A place is a line and a column in bytes, from 1, and tells where a text is refused.
 
 ghost use Rattle.std.specs.Prelude.{◌≡◌, ◌+◌, ◌<◌, ◌≤◌, ◌^◌, length, take, drop, None, Some};
 ghost use Rattle.std.specs.List.{prefix_len};

@@ -1,4 +1,4 @@
-//! Places of wires by their numbers, at a cost that does not depend on the numbers.
+//! Places of wires by their numbers (a sparse array), at a cost that does not depend on the numbers.
 #![tactic(auto)]
 
 mod places;

@@ -4,8 +4,8 @@ use Rattle.std.proofs.lemmas.Option.{IfSome_then}
 use Rattle.std.proofs.lemmas.Result.{on_ok_weaker}
 use Rattle.svex_shape.specs.declared.shape.Shape.{Shape}
 use Rattle.svex_shape.specs.Shapes.{shape_at}
-use Rattle.node_memo.specs.declared.children.Children.{Children}
-use Rattle.node_memo.specs.Children.{children_of}
+use Rattle.svex_shape.specs.declared.children.Children.{Children}
+use Rattle.svex_shape.specs.Children.{children_of}
 use Rattle.node_memo.specs.Memos.{rows_in}
 use Rattle.node_memo.proofs.Downs.{children_have}
 use Rattle.node_memo.proofs.Rows.{gains-both, on_ok_two}

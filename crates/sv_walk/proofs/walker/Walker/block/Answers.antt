@@ -28,5 +28,5 @@ returns c =
     record {
       declared = declared_as c.block_place.result (block_place (option_copied c.args.label) c.args.place) c.bytes.result.now (block_name (option_copied c.args.label) c.args.number) s q c.block_place.ensures (c.bytes.ensures ∙ c.in_ok-name.ensures)
           (ended q (declare_at c.block_place.result c.bytes.result.now s) (tt {0}) (c.in_ok-declare_at.ensures c.args.self.now));
-      begun = c.in_ok-block.ensures ∙ λ i. inner ((c.bytes-2.ensures ∙ c.in_ok-name.ensures) i) (entries_are (c.new.ensures i)) q;
+      begun = c.in_ok-block.ensures ∙ λ i. inner ((c.bytes-2.ensures ∙ c.in_ok-name.ensures) i) (entries_are (c.new-nets.ensures i)) q;
     }

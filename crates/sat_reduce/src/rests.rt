@@ -1,6 +1,7 @@
-//! Which clauses rest. A round of the search has all given clauses that may still be false, and of those that were learned the
-//! ones that are short, have few levels or were of use lately, and the better half of the others. It is a choice of speed alone,
-//! of which no proof says anything: a clause that rests stays in the log, and can be in a later round.
+//! Which clauses rest (clause-database reduction). A round of the search has all given clauses that may still be false, and of
+//! those that were learned the ones that are short, have few levels (glue, the literal block distance of Audemard and Simon,
+//! 2009) or were of use lately, and the better half of the others, after the three tiers of Oh (2015). It is a choice of speed
+//! alone, of which no proof says anything: a clause that rests stays in the log, and can be in a later round.
 
 use crate::eliminate::Uses;
 use crate::tries::likenesses;
@@ -20,12 +21,12 @@ const MORE: u64 = 30;
 /// A learned clause stays where it has so few literals, or levels, or levels while it is of use.
 const SHORT: usize = 2;
 
-const FEW: u64 = 2;
+const LOW_GLUE: u64 = 2;
 
-const SOME: u64 = 6;
+const MIDDLE_GLUE: u64 = 6;
 
-/// After so many rounds the variables have their first order again, and are decided by turns to be false and to be true first.
-/// Without it the search is stuck now and then, where it takes ten times the conflicts that it needs.
+/// After so many rounds the variables have their first order again, and are decided by turns to be false and to be true first
+/// (rephasing). Without it the search is stuck now and then, where it takes ten times the conflicts that it needs.
 const TURN: u64 = 4;
 
 /// From how many steps on a log is trimmed.
@@ -244,7 +245,7 @@ impl Rests {
         let place = name.saturating_sub(given);
         let levels = self.levels.get(place).copied().unwrap_or(0);
         let is_used = self.used.get(place).copied().unwrap_or(false);
-        levels <= FEW || (is_used && levels <= SOME)
+        levels <= LOW_GLUE || (is_used && levels <= MIDDLE_GLUE)
     }
 
     // How late a learned clause comes among those of which half stay: by its levels, and then its literals.

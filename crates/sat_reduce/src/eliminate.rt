@@ -1,8 +1,8 @@
-//! Takes variables out of the clauses before the search. The clauses in which a variable stands may rest where all resolvents
-//! of them are there: each clause of the one sign with each of the other, without the variable. That is done where the
-//! resolvents are no more than the clauses, and all their literals no more than those of the clauses, so that it turns the gates
-//! of a difference or of a choice into clauses over their inputs. (Without the second bound sums that are regrouped cost the
-//! search more than twice as much.)
+//! Takes variables out of the clauses before the search (bounded variable elimination, of SatELite; Een and Biere, 2005). The
+//! clauses in which a variable stands may rest where all resolvents of them are there: each clause of the one sign with each of
+//! the other, without the variable. That is done where the resolvents are no more than the clauses, and all their literals no
+//! more than those of the clauses, so that it turns the gates of a difference or of a choice into clauses over their inputs.
+//! (Without the second bound sums that are regrouped cost the search more than twice as much.)
 //!
 //! Nothing is proved here but that it is safe. A resolvent is proposed as a step, with its two clauses for hints, and the search
 //! takes it where the judge says that it follows. A solution is tried on the given clauses, so none has to be mended for the
@@ -340,7 +340,7 @@ impl Uses {
     }
 
     // Takes a variable out, where the steps from a place on are its resolvents.
-    fn take_out(
+    fn eliminate(
         &mut self,
         alloc: Global,
         clauses: &[Vec<Dim>],
@@ -361,7 +361,7 @@ impl Uses {
     }
 
     // Takes a variable out, if that is fit.
-    fn try_out(
+    fn try_to_eliminate(
         &mut self,
         alloc: Global,
         clauses: &[Vec<Dim>],
@@ -373,7 +373,7 @@ impl Uses {
             Some(mut found) => {
                 let from = steps.len();
                 steps.append(&mut found)?;
-                self.take_out(alloc, clauses, steps, from, var)
+                self.eliminate(alloc, clauses, steps, from, var)
             }
         }
     }
@@ -394,7 +394,7 @@ impl Uses {
         for _ in 0..PASSES {
             let candidates = self.candidates(alloc)?;
             for (_, var) in candidates.as_slice() {
-                self.try_out(alloc, clauses, &mut steps, *var)?;
+                self.try_to_eliminate(alloc, clauses, &mut steps, *var)?;
             }
         }
         Ok(steps)

@@ -1,6 +1,6 @@
-//! Which steps of a log are still of use: those whose clauses are wanted, and those by which they follow. The others are left out,
-//! and hints get the numbers that their steps have then. Nothing is proved here but that it is safe; the judge says that what is
-//! left follows.
+//! Which steps of a log are still of use: those whose clauses are wanted, and those by which they follow. The others are left out
+//! (proof trimming), and hints get the numbers that their steps have then. Nothing is proved here but that it is safe; the judge
+//! says that what is left follows.
 
 use refute_check::Step;
 use std::alloc::{AllocError, Global};

@@ -1,6 +1,7 @@
-//! Which variables are likely to be alike. Random values are run through the clauses, and variables that have the same values
-//! in all tries, or opposite ones, are a pair. Where clauses describe gates, each behind those that it reads, a variable is what
-//! the clauses make it in which it is the greatest, and where they leave it free it is random. Other clauses give no pairs.
+//! Which variables are likely to be alike (the candidate equivalences of SAT sweeping; Kuehlmann, 2004). Random values are run
+//! through the clauses (random simulation), and variables that have the same values in all tries, or opposite ones, are a pair.
+//! Where clauses describe gates, each behind those that it reads, a variable is what the clauses make it in which it is the
+//! greatest, and where they leave it free it is random. Other clauses give no pairs.
 //!
 //! 64 tries go at once, as the bits of a word. The random bits are 1 more often or more seldom by turns, since a gate of many
 //! inputs hardly ever changes where each input is 1 in half of the tries.
@@ -30,7 +31,7 @@ const SEED: u64 = 88_172_645_463_325_252;
 
 const MULTIPLIER: u64 = 0x9e37_79b9_7f4a_7c15;
 
-/// Random numbers, the same in each run.
+/// Random numbers, the same in each run (xorshift; Marsaglia, 2003).
 #[derive(Clone, Copy)]
 struct Random {
     state: u64,
@@ -154,7 +155,7 @@ fn noted(t: Told, is_first: bool) -> Told {
 }
 
 // Tries 64 random values of each variable.
-fn try_word(
+fn simulate_word(
     told: &mut [Told],
     order: &[(usize, usize)],
     clauses: &[Vec<Dim>],
@@ -198,7 +199,7 @@ fn tell(alloc: Global, vars: usize, clauses: &[Vec<Dim>]) -> Result<Vec<Told>, A
     let mut told = vec![in alloc; nothing; vars]?;
     let mut random = Random { state: SEED };
     for number in 0..words(clauses.len()) {
-        try_word(
+        simulate_word(
             told.as_mut_slice(),
             order.as_slice(),
             clauses,

@@ -1,9 +1,9 @@
 //! The children of a shape, by their numbers.
 
 ghost use Rattle.std.specs.Prelude.{◌≡◌};
-ghost use Rattle.node_replace.specs.Walks.{children_of};
+ghost use Rattle.svex_shape.specs.Children.{children_of};
 
-use svex_arena::Shape;
+use crate::shape::Shape;
 
 /// The children of a shape, by their numbers.
 #[derive(Clone, Copy)]

@@ -2,7 +2,7 @@
 use Rattle.std.specs.Prelude.{None, Some}
 use Rattle.svex_shape.specs.declared.shape.Shape.{Shape}
 use Rattle.svex_shape.specs.declared.shape.Shape.TheVariants.{Const, Var, Unary, Binary, Cond, Pick, Slice, Zext, Sext, DynSlice, DynPut}
-use Rattle.node_memo.specs.declared.children.Children.{Children}
+use Rattle.svex_shape.specs.declared.children.Children.{Children}
 
 -- the children of a shape
 abbrev pub children_of : Shape → Children
