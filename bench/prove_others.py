@@ -15,7 +15,7 @@ import subprocess
 FALSE, TRUE = 0, 1
 
 GATES = "async2sync; techmap; simplemap; dffunmap; aigmap; setundef -zero; opt_clean"
-READ = "hierarchy -top %s; proc; flatten; tribuf -formal; chformal -remove; opt"
+READ = "hierarchy -top %s; proc; flatten; memory; tribuf -formal; chformal -remove; opt"
 
 
 class Graph:

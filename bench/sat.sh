@@ -21,15 +21,14 @@ seconds() {
     done | sort -n | head -n 1
 }
 
-printf '%-14s %-14s %8s %8s %9s %8s %8s\n' clauses answer steps ours conflicts minisat ratio
+printf '%-14s %-14s %8s %9s %8s %8s\n' clauses answer ours conflicts minisat ratio
 for file in "$files"/*.cnf; do
     name=$(basename "$file" .cnf)
     ours=$(seconds "$files/ours" "$file" "$top/crates/sat_dimacs/out/sat_dimacs")
     theirs=$(seconds "$files/theirs" /dev/null minisat "$file")
     answer=$(sed -n 's/^s //p' "$files/ours")
-    steps=$(sed -n 's/^c \([0-9]*\) steps$/\1/p' "$files/ours")
     conflicts=$(sed -n 's/^conflicts *: *\([0-9]*\).*/\1/p' "$files/theirs")
     grep -qx "${answer:-none}" "$files/theirs" || answer="${answer:-none} (?)"
     ratio=$(awk -v a="$ours" -v b="$theirs" 'BEGIN { if (b > 0) printf "%.1f", a / b; else printf "-" }')
-    printf '%-14s %-14s %8s %8s %9s %8s %8s\n' "$name" "$answer" "${steps:--}" "$ours" "${conflicts:--}" "$theirs" "$ratio"
+    printf '%-14s %-14s %8s %9s %8s %8s\n' "$name" "$answer" "$ours" "${conflicts:--}" "$theirs" "$ratio"
 done
