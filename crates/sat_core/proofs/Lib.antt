@@ -1,3 +1,1 @@
-pub mod Names
-mod Examples
 pub mod Ends

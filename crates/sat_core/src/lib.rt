@@ -1,10 +1,8 @@
 //! Finds a solution of clauses, or a log that refutes them (a solver of Boolean satisfiability, SAT).
 #![tactic(auto)]
 
-mod prepare;
-mod rounds;
+mod answers;
 mod solver;
-mod trim;
 mod whole;
 
 pub use solver::{SatEnd, solve};

@@ -1,6 +1,5 @@
-//! The solver. Within a budget each step has to be new, so it searches over all clauses, which none is then left out of. Without
-//! one it does so for a few steps only, by which most questions are answered; then it takes variables out of the clauses, and
-//! searches in rounds.
+//! The solver. Within a budget each step has to be new, so it searches over all clauses, of which none is left out. Without one the
+//! engine searches, of which nothing is proved; where what it says does not stand its check, the search over all clauses answers.
 
 ghost use Rattle.std.specs.Prelude.{ℕ, ◌<◌, None, IfOk, IfSome, length, map, Option};
 ghost use Rattle.cnf.specs.Formula.{Formula, formula_of};
@@ -8,15 +7,11 @@ ghost use Rattle.cnf.specs.Clauses.{AllBelow};
 ghost use Rattle.sat_core.specs.Stop.{IsRightStop};
 ghost use Rattle.sat_core.specs.End.{IsRightEnd};
 
-use crate::prepare::{Prepared, prepare};
-use crate::rounds::search_rounds;
+use crate::answers::solve_by_engine;
 use crate::{Stop, search_whole};
 use cnf::{Cnf, Dim};
 use refute_check::{Log, Step};
 use std::alloc::{AllocError, Global};
-
-/// How many steps the search over all clauses has where there is no budget.
-const FEW_STEPS: u64 = 300;
 
 /// How the search ended.
 #[derive(Drop)]
@@ -56,62 +51,14 @@ fn solve_within(
     Ok(ended(stop, steps))
 }
 
-// The end, if it is one where the steps were not used up.
-fn ended_early(stop: Stop, steps: Vec<Step>) -> Option<SatEnd>
-    ensures { (formula : Formula) (budget : Option ℕ) → IsRightStop formula budget steps.items stop → IfSome result (IsRightEnd formula None) }
-{
-    match stop {
-        Stop::Solved(values) => Some(SatEnd::Sat(values)),
-        Stop::Refuted => Some(SatEnd::Unsat(Log { steps })),
-        Stop::UsedUp => None,
-    }
-}
-
-/// Searches over all clauses for a few steps.
-fn solve_shortly(alloc: Global, cnf: &Cnf) -> Result<Option<SatEnd>, AllocError>
-    requires { AllBelow cnf.now.vars cnf.now.clauses }
-    ensures { IfOk result (λ end. IfSome end (IsRightEnd cnf.now None)) }
-{
-    let mut steps: Vec<Step> = Vec::new(alloc);
-    let stop = search_whole(
-        alloc,
-        cnf.vars,
-        cnf.clauses.as_slice(),
-        Some(FEW_STEPS),
-        &mut steps,
-    )?;
-    Ok(ended_early(stop, steps))
-}
-
-/// Searches in rounds.
-fn solve_in_rounds(alloc: Global, cnf: &Cnf) -> Result<SatEnd, AllocError>
-    requires { AllBelow cnf.now.vars cnf.now.clauses }
-    ensures { IfOk result (IsRightEnd cnf.now None) }
-{
-    let prepared = prepare(alloc, cnf)?;
-    let Prepared {
-        mut steps,
-        mut rests,
-    } = prepared;
-    let stop = search_rounds(
-        alloc,
-        cnf,
-        cnf.vars,
-        cnf.clauses.as_slice(),
-        &mut rests,
-        &mut steps,
-    )?;
-    Ok(ended(stop, steps))
-}
-
-/// Searches shortly, and then in rounds.
+/// Answers what the engine finds, where that stands its check, and else what the search over all clauses finds.
 fn solve_freely(alloc: Global, cnf: &Cnf) -> Result<SatEnd, AllocError>
     requires { AllBelow cnf.now.vars cnf.now.clauses }
     ensures { IfOk result (IsRightEnd cnf.now None) }
 {
-    match solve_shortly(alloc, cnf)? {
+    match solve_by_engine(alloc, cnf)? {
         Some(end) => Ok(end),
-        None => solve_in_rounds(alloc, cnf),
+        None => solve_within(alloc, cnf.vars, cnf.clauses.as_slice(), None),
     }
 }
 

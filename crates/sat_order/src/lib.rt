@@ -1,8 +1,8 @@
-//! Which variable is decided next (decision heuristics), and when the search starts anew (restarts): the pairs of variables that
-//! are tried first, scores, and means over the newest conflicts. These are choices of speed alone, of which no proof says
-//! anything but that a variable that is to be decided has no value.
+//! What steers the search of the engine (sat_cdcl): which variable is decided next, and what its value is to be (decision heuristics),
+//! when the search begins anew (restarts), and when learned clauses go. No proof says anything of it but that it is safe and returns.
 #![tactic(auto)]
 
-pub mod likeness;
-pub mod order;
+pub mod pace;
+pub mod phases;
+pub mod queue;
 pub mod scores;

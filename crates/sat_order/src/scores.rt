@@ -1,39 +1,34 @@
-//! Variables by scores (VSIDS of Chaff, Moskewicz et al., 2001, in the exponential form of MiniSat, Een and Sorensson, 2003), of
-//! which the one with the greatest is decided first: how often conflicts walked over it, newer ones counting more. Where
-//! conflicts walk over hundreds of variables, the order by the newest conflict alone forgets within one what was learned in the
-//! ones before, and scores that fall slowly need half of the conflicts; where they do not, the order by the newest is better.
+//! Variables by scores, of which the one with the greatest is decided first: how often conflicts walked over it, newer ones counting
+//! more (variable state independent decaying sum, Moskewicz and others 2001, as in minisat). Where conflicts walk over hundreds of
+//! variables, the order by the newest conflict alone forgets within one what was learned in the ones before; where they do not, it is
+//! better.
 //!
-//! The variables stand in a heap (the one at place k is no less than those at 2k + 1 and 2k + 2). It is a choice of speed alone,
-//! of which no proof says anything but that a variable that is decided has no value.
+//! The variables stand in a heap (the one at place k is no less than those at 2k + 1 and 2k + 2).
 
-ghost use Rattle.std.specs.Prelude.{◌≡◌, ◌<◌, None, length, IfSome, IsTrue};
-ghost use Rattle.cnf.specs.Clauses.{valuation};
-
+use sat_arena::words::{NONE, at, narrow, put};
 use std::alloc::{AllocError, Global};
 
-/// What the first conflict counts, the share by which each counts more than the one before it, and where and by what factor all
-/// scores are made smaller.
+/// What the first conflict counts, the share by which each counts more than the one before it, and where all scores are made smaller,
+/// by how much (minisat: var-decay 0.95).
 const FIRST: u64 = 1 << 20;
 
-const SHARE: u64 = 200;
+const SHARE: u64 = 20;
 
-const MOST: u64 = 1 << 60;
+const MOST: u64 = 1 << 56;
 
-const RESCALE_FACTOR: u64 = 1 << 30;
+const SHRINK: u64 = 1 << 36;
 
-/// A place in the heap, or a level of it, is below this.
+/// A place in the heap has fewer levels above it.
 const LEVELS: usize = 64;
 
-/// Scores of variables, and those of them that may have no value, in a heap. There are no variables before it was begun.
+/// Scores of variables, and those of them that may be open, in a heap.
 pub struct Scores {
     scores: Vec<u64>,
     // What the next conflict counts.
     step: u64,
-    // The heap has so many variables, which stand at the front of this vector.
-    heap: Vec<usize>,
-    count: usize,
-    // Of each variable one more than its place in the heap, or 0 where it is not in it.
-    places: Vec<usize>,
+    heap: Vec<u32>,
+    // Of each variable its place in the heap, or none.
+    places: Vec<u32>,
 }
 
 impl Drop for Scores {
@@ -42,201 +37,138 @@ impl Drop for Scores {
             scores: _,
             step: _,
             heap: _,
-            count: _,
             places: _,
         } = self;
     }
 }
 
-// The number at a place, or 0.
-fn at(numbers: &[usize], place: usize) -> usize {
-    numbers.get(place).copied().unwrap_or(0)
-}
-
-// Sets the number at a place, if there is one.
-fn put(numbers: &mut [usize], place: usize, number: usize) {
-    if let Some(old) = numbers.get_mut(place) {
-        *old = number;
-    }
-}
-
-// Whether there is such a variable, and it has no value.
-fn is_open(values: &[Option<bool>], var: usize) -> bool
-    ensures { IsTrue result → (var < length values.now) × (valuation values.now var ≡ None) }
-{
-    if var >= values.len() {
-        return false;
-    }
-    values[var].is_none()
-}
-
 impl Scores {
-    /// No variables.
-    pub fn new(alloc: Global) -> Scores {
-        Scores {
-            scores: Vec::new(alloc),
+    /// So many variables, of which none is in the heap.
+    pub fn new(alloc: Global, vars: usize) -> Result<Scores, AllocError> {
+        Ok(Scores {
+            scores: vec![in alloc; 0; vars]?,
             step: FIRST,
-            heap: Vec::new(alloc),
-            count: 0,
-            places: Vec::new(alloc),
+            heap: Vec::with_capacity(alloc, vars)?,
+            places: vec![in alloc; NONE; vars]?,
+        })
+    }
+
+    /// Puts all variables into the heap, the greatest first.
+    pub fn begin(&mut self) {
+        for var in (0..narrow(self.places.len())).rev() {
+            self.insert(var);
         }
     }
 
-    /// Begins with these variables, the least first.
-    pub fn begin(&mut self, alloc: Global, vars: usize) -> Result<(), AllocError> {
-        self.scores = vec![in alloc; 0; vars]?;
-        self.heap = Vec::with_capacity(alloc, vars)?;
-        self.places = Vec::with_capacity(alloc, vars)?;
-        for var in 0..vars {
-            self.heap.push(var)?;
-            self.places.push(var.saturating_add(1))?;
-        }
-        self.count = vars;
-        Ok(())
-    }
-
-    /// Ends with no variables. Its room is kept.
-    pub fn end(&mut self) {
-        self.scores.clear();
-        self.heap.clear();
-        self.places.clear();
-        self.count = 0;
-        self.step = FIRST;
-    }
-
-    /// Whether it has variables.
-    pub fn is_begun(&self) -> bool {
-        !self.scores.is_empty()
+    /// The score of a variable.
+    pub fn score(&self, var: u32) -> u64 {
+        self.scores.get(var as usize).copied().unwrap_or(0)
     }
 
     // The score of the variable at a place of the heap.
     fn score_at(&self, place: usize) -> u64 {
-        self.scores.get(at(&self.heap, place)).copied().unwrap_or(0)
+        self.score(at(&self.heap, place))
     }
 
     // Puts a variable at a place of the heap.
-    fn set(&mut self, place: usize, var: usize) {
+    fn set(&mut self, place: usize, var: u32) {
         put(&mut self.heap, place, var);
-        put(&mut self.places, var, place.saturating_add(1));
-    }
-
-    // Lets two places of the heap change their variables.
-    fn swap(&mut self, one: usize, other: usize) {
-        let first = at(&self.heap, one);
-        let second = at(&self.heap, other);
-        self.set(one, second);
-        self.set(other, first);
+        put(&mut self.places, var as usize, narrow(place));
     }
 
     // Moves the variable at a place to where none below it has less.
-    fn sift_up(&mut self, place: usize) {
+    fn rise(&mut self, place: usize) {
+        let var = at(&self.heap, place);
+        let score = self.score(var);
         let mut here = place;
         for _ in 0..LEVELS {
             let above = here.saturating_sub(1) / 2;
-            if here == 0 || self.score_at(here) <= self.score_at(above) {
-                return;
+            if here == 0 || score <= self.score_at(above) {
+                break;
             }
-            self.swap(here, above);
+            let moved = at(&self.heap, above);
+            self.set(here, moved);
             here = above;
         }
+        self.set(here, var);
     }
 
     // The place below this one that has the greater score, if there is one.
     fn greater_below(&self, place: usize) -> Option<usize> {
         let left = place.saturating_mul(2).saturating_add(1);
         let right = left.saturating_add(1);
-        if left >= self.count {
+        if left >= self.heap.len() {
             return None;
         }
-        if right < self.count && self.score_at(right) > self.score_at(left) {
+        if right < self.heap.len() && self.score_at(right) > self.score_at(left) {
             return Some(right);
         }
         Some(left)
     }
 
     // Moves the variable at a place to where none below it has more.
-    fn sift_down(&mut self, place: usize) {
+    fn sink(&mut self, place: usize) {
+        let var = at(&self.heap, place);
+        let score = self.score(var);
         let mut here = place;
         for _ in 0..LEVELS {
             match self.greater_below(here) {
-                None => return,
+                None => break,
                 Some(below) => {
-                    if self.score_at(below) <= self.score_at(here) {
-                        return;
+                    if self.score_at(below) <= score {
+                        break;
                     }
-                    self.swap(here, below);
+                    let moved = at(&self.heap, below);
+                    self.set(here, moved);
                     here = below;
                 }
             }
         }
+        self.set(here, var);
     }
 
-    // Makes all scores smaller, if one is near the greatest number.
-    fn rescale(&mut self) {
-        if self.step < MOST {
-            return;
-        }
-        self.step /= RESCALE_FACTOR;
-        for score in self.scores.iter_mut() {
-            *score /= RESCALE_FACTOR;
+    /// Puts a variable into the heap, if it is not in it. There is room for all variables.
+    pub fn insert(&mut self, var: u32) {
+        let place = self.heap.len();
+        if at(&self.places, var as usize) == NONE && self.heap.push(var).is_ok() {
+            self.rise(place);
         }
     }
 
-    // Counts one variable of a conflict.
-    fn bump(&mut self, var: usize) {
-        if let Some(score) = self.scores.get_mut(var) {
+    /// The variable with the greatest score in the heap, if there is one.
+    pub fn first(&self) -> Option<u32> {
+        self.heap.first().copied()
+    }
+
+    /// Takes the variable with the greatest score out of the heap.
+    pub fn pop(&mut self) {
+        let first = at(&self.heap, 0);
+        if let Some(last) = self.heap.pop() {
+            put(&mut self.heap, 0, last);
+            self.sink(0);
+        }
+        put(&mut self.places, first as usize, NONE);
+    }
+
+    /// Counts a variable of a conflict.
+    pub fn bump(&mut self, var: u32) {
+        if let Some(score) = self.scores.get_mut(var as usize) {
             *score = score.saturating_add(self.step);
         }
-        let place = at(&self.places, var);
-        if place > 0 {
-            self.sift_up(place - 1);
+        let place = at(&self.places, var as usize);
+        if place != NONE {
+            self.rise(place as usize);
         }
     }
 
-    /// Counts the variables that a conflict walked over.
-    pub fn bump_all(&mut self, walked: &[usize]) {
-        if !self.is_begun() {
-            return;
-        }
-        for var in walked {
-            self.bump(*var);
-        }
+    /// Lets the next conflict count more.
+    pub fn decay(&mut self) {
         self.step = self.step.saturating_add(self.step / SHARE);
-        self.rescale();
-    }
-
-    /// Puts a variable back that has no value any more.
-    pub fn reopen(&mut self, var: usize) {
-        if var >= self.places.len() || at(&self.places, var) > 0 {
-            return;
-        }
-        let place = self.count;
-        self.set(place, var);
-        self.count = place.saturating_add(1);
-        self.sift_up(place);
-    }
-
-    // Takes the first variable out of the heap.
-    fn pop(&mut self) {
-        let first = at(&self.heap, 0);
-        self.count = self.count.saturating_sub(1);
-        let last = at(&self.heap, self.count);
-        self.set(0, last);
-        put(&mut self.places, first, 0);
-        self.sift_down(0);
-    }
-
-    /// The variable with the greatest score that has no value, if there is one.
-    pub fn choose(&mut self, values: &[Option<bool>]) -> Option<usize>
-        ensures { IfSome result (λ v. (v < length values.now) × (valuation values.now v ≡ None)) }
-    {
-        for _ in 0..self.count {
-            let var = at(&self.heap, 0);
-            if is_open(values, var) {
-                return Some(var);
+        if self.step > MOST {
+            self.step /= SHRINK;
+            for score in self.scores.iter_mut() {
+                *score /= SHRINK;
             }
-            self.pop();
         }
-        None
     }
 }

@@ -4,6 +4,7 @@
 #![tactic(auto)]
 
 pub mod lists;
+mod order;
 pub mod packed;
 mod queue;
 pub mod store;

@@ -8,11 +8,9 @@ ghost use Rattle.std.specs.List.{All};
 ghost use Rattle.cnf.specs.Clauses.{all_open, valuation};
 ghost use Rattle.sat_state.specs.Trail.{Tracks, open_count};
 
+use crate::order::Order;
 use crate::queue::Queue;
 use cnf::Dim;
-use sat_order::likeness::{Attempts, Likeness, Wish};
-use sat_order::order::Order;
-use sat_order::scores::Scores;
 use std::alloc::{AllocError, Global};
 use std::marker::Model;
 
@@ -25,8 +23,8 @@ pub struct Assigned {
 
 /// Values of variables, and the literals that they make false in the order in which they came. Contracts see these two
 /// lists. Beside them it keeps a queue of the variables, and, for the choice of decisions alone, the level at which each variable
-/// had a value last, that value, the place on the trail that it had, scores of the variables, what the newest conflicts were like,
-/// and the place of each clause at which a literal was found last.
+/// had a value last, that value, the place on the trail that it had, what the newest conflicts were like, and the place of each clause
+/// at which a literal was found last.
 pub struct Trail {
     values: Vec<Option<bool>>,
     entries: Vec<Assigned>,
@@ -35,8 +33,6 @@ pub struct Trail {
     level: usize,
     queue: Queue,
     order: Order,
-    attempts: Attempts,
-    scores: Scores,
     places: Vec<usize>,
     spots: Vec<usize>,
 }
@@ -51,8 +47,6 @@ impl Drop for Trail {
             level: _,
             queue: _,
             order: _,
-            attempts: _,
-            scores: _,
             places: _,
             spots: _,
         } = self;
@@ -108,28 +102,10 @@ fn open_values(alloc: Global, vars: usize) -> Result<Vec<Option<bool>>, AllocErr
     Ok(values)
 }
 
-// Sets all flags.
-fn set_all(flags: &mut Vec<bool>, value: bool)
-    ensures { length flags.new.items ≡ length flags.old.items }
-{
-    for i in 0..flags.len() {
-        flags[i] = value;
-    }
-}
-
 // Sets the number of a variable, if there is one.
 fn note_at(numbers: &mut [usize], var: usize, number: usize) {
     if let Some(old) = numbers.get_mut(var) {
         *old = number;
-    }
-}
-
-// Sets the flag of a variable, if there is one.
-fn set_at(flags: &mut Vec<bool>, wish: Wish)
-    ensures { length flags.new.items ≡ length flags.old.items }
-{
-    if wish.var < flags.len() {
-        flags[wish.var] = wish.value;
     }
 }
 
@@ -148,8 +124,6 @@ impl Trail {
             level: 0,
             queue: Queue::new(alloc, vars)?,
             order: Order::new(alloc, vars)?,
-            attempts: Attempts::new(alloc),
-            scores: Scores::new(alloc),
             places: Vec::new(alloc),
             spots: vec![in alloc; 0; vars]?,
         })
@@ -205,24 +179,7 @@ impl Trail {
         ensures open { MatchOption result (All (λ o. o ≡ None → ⊥) self.old.values) (λ v. (v < length self.old.values) × (valuation self.old.values v ≡ None)) }
         ensures unchanged { self.new ≡ self.old }
     {
-        match self.attempts.wish(&self.values) {
-            None => self.next_open(),
-            Some(wish) => {
-                set_at(&mut self.phases, wish);
-                Some(wish.var)
-            }
-        }
-    }
-
-    // A variable that has no value: that with the greatest score, where there are scores, or else the first one of the queue.
-    fn next_open(&mut self) -> Option<usize>
-        ensures open { MatchOption result (All (λ o. o ≡ None → ⊥) self.old.values) (λ v. (v < length self.old.values) × (valuation self.old.values v ≡ None)) }
-        ensures unchanged { self.new ≡ self.old }
-    {
-        match self.scores.choose(&self.values) {
-            None => self.queue.choose(&self.values),
-            Some(var) => Some(var),
-        }
+        self.queue.choose(&self.values)
     }
 
     /// Of each clause, by its number, the place from which to look for a literal that is not false.
@@ -250,60 +207,16 @@ impl Trail {
         ensures { self.new ≡ self.old }
     {
         self.order.arrange(self.queue.stamps(), walked)?;
-        self.order.count(&self.levels, clause, walked.len());
-        self.scores.bump_all(walked);
+        self.order.count(&self.levels, clause);
         self.queue.bump_all(&self.values, walked);
-        if self.attempts.after_conflict() {
-            self.order.ask();
-        }
         fill_up(&mut self.places, count)
-    }
-
-    /// Lets variables be chosen before all others, the last one first.
-    pub fn prefer(&mut self, vars: &[usize])
-        ensures { self.new ≡ self.old }
-    {
-        self.queue.bump_all(&self.values, vars);
-    }
-
-    /// Tries first that variables differ that are likely to be alike.
-    pub fn attempt(&mut self, pairs: Vec<Likeness>)
-        ensures { self.new ≡ self.old }
-    {
-        self.attempts.begin(pairs);
-    }
-
-    /// Forgets the values that variables had: from now on each is decided to be this one first.
-    pub fn set_phases(&mut self, value: bool)
-        ensures { self.new ≡ self.old }
-    {
-        set_all(&mut self.phases, value);
-    }
-
-    /// Chooses variables by scores from now on, and tries no pairs any more, where conflicts walk over many variables; or no longer
-    /// by scores where they do not.
-    pub fn choose_by_scores(&mut self, alloc: Global) -> Result<(), AllocError>
-        ensures { self.new ≡ self.old }
-    {
-        if !self.order.is_long() {
-            self.scores.end();
-        } else if !self.scores.is_begun() {
-            self.scores.begin(alloc, self.values.len())?;
-            self.attempts.begin(Vec::new(alloc));
-        }
-        Ok(())
-    }
-
-    /// How many levels the clause of the newest conflict has.
-    pub fn newest_levels(&self) -> u64 {
-        self.order.levels()
     }
 
     /// Whether the search is to start anew.
     pub fn is_restart_due(&mut self) -> bool
         ensures { self.new ≡ self.old }
     {
-        self.order.is_restart_due(self.entries.len())
+        self.order.is_restart_due()
     }
 
     /// Makes an open literal false.
@@ -318,7 +231,6 @@ impl Trail {
         ensures fewer { OnOk result (open_count self.new.values + 1 ≡ open_count self.old.values) }
     {
         note_at(&mut self.spots, e.dim.var, self.entries.len());
-        self.order.give();
         self.entries.push(e)?;
         self.values[e.dim.var] = Some(e.dim.negated);
         self.level = level_with(self.level, e);
@@ -339,7 +251,6 @@ impl Trail {
         self.values[e.dim.var] = None;
         self.level = level_without(self.level, e);
         self.queue.reopen(e.dim.var);
-        self.scores.reopen(e.dim.var);
         e
     }
 }

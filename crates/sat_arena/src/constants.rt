@@ -1,0 +1,95 @@
+//! The numbers that steer the search, and where they are from. What is answered does not depend on them, only how soon.
+
+/// A clause, a watch and a step of the log are named by four bytes, and a clause by one bit less, so the search gives up beyond
+/// these.
+pub const MOST_VARIABLES: usize = 1 << 30;
+
+pub const MOST_CLAUSES: usize = 1 << 30;
+
+pub const MOST_WORDS: usize = 1 << 30;
+
+pub const MOST_STEPS: u32 = 1 << 31;
+
+/// Restarts: over how many conflicts a quick and a slow mean of the levels of new clauses go, by how many hundredths the quick one
+/// has to be of the slow one, and how many conflicts lie between two restarts at least (cadical: emagluefast, emaglueslow,
+/// restartmargin, restartint).
+pub const QUICK: u64 = 33;
+
+pub const SLOW: u64 = 100_000;
+
+pub const MARGIN: u64 = 110;
+
+pub const PAUSE: u64 = 2;
+
+/// Reduction of the learned clauses: after how many conflicts the first one comes, and how many more lie between two each time; how
+/// many hundredths of the clauses that may go do go; up to how many levels a clause stays for ever, and up to how many it stays
+/// for two reductions after it was used (cadical: reduceint, reducetarget, reducetier1glue, reducetier2glue).
+pub const REDUCE: u64 = 300;
+
+pub const SHARE: usize = 75;
+
+pub const FEW_LEVELS: u32 = 2;
+
+pub const SOME_LEVELS: u32 = 6;
+
+/// From how many bytes on the log is trimmed.
+pub const LEAST_LOG: usize = 4_000_000;
+
+/// After how many conflicts the values that are tried first change, and how many more lie between two changes each time (cadical:
+/// rephaseint).
+pub const REPHASE: u64 = 1_000;
+
+/// Scores in place of the order by the newest conflict: from how many variables on that conflicts walk over in the mean, below how
+/// many they end, over how many conflicts that mean goes, and how many there have to be (the present solver's).
+pub const LONG_WALK: u32 = 250;
+
+pub const SHORT_WALK: u32 = 150;
+
+pub const WALKS: u64 = 500;
+
+pub const FEWEST_WALKS: u64 = 200;
+
+/// The first search, before anything is simplified: how many conflicts it has, and how many clauses it looks at. (Measured: a
+/// search in clauses of which nothing was taken out is dear.)
+pub const FIRST_CONFLICTS: u64 = 500;
+
+pub const FIRST_WORK: u64 = 100_000;
+
+/// Elimination: in how many clauses of one sign a variable stands that is taken out, how many literals a resolvent has at most,
+/// and how often all variables are tried (cadical: elimocclim, elimrounds; minisat: clause-lim).
+pub const MOST_USES: usize = 100;
+
+pub const LONGEST: usize = 20;
+
+pub const PASSES: usize = 2;
+
+/// How much is looked at while variables are eliminated.
+pub const ELIMINATION: u64 = 20_000_000;
+
+/// Subsumption: how many clauses a clause is tried on, and how many literals it has at most (cadical: subsumeocclim,
+/// subsumeclslim, which is 100).
+pub const MOST_SUBSUMED: usize = 1_000;
+
+pub const SUBSUMING: usize = 100;
+
+/// Likely pairs: how many words of 64 tries there are at most, over how many words of clauses together, and in how many tries a
+/// variable has another value than in most at least (the present solver's; measured on its clauses).
+pub const MOST_TRIES: usize = 16;
+
+pub const TRIED_LITERALS: usize = 20_000_000;
+
+pub const LEAST_TRIES: u64 = 16;
+
+/// How many conflicts each way of a pair takes at most, how many pairs may be given up, and one more for how many ways that were
+/// refuted, and how many clauses are looked at for all of them (measured: fewer are too few for Gray counters and products by rows,
+/// more cost seconds on large clauses).
+pub const PAIR_CONFLICTS: u64 = 100;
+
+pub const PAIR_FAILURES: u64 = 2;
+
+pub const PAIR_SHARE: u64 = 16;
+
+pub const PAIR_WORK: u64 = 300_000;
+
+/// How deep reasons are looked through for one literal of a new clause (cadical has 1,000; half is enough, and spares the stack).
+pub const DEPTH: usize = 500;

@@ -1,0 +1,379 @@
+//! The derivations of a search, in bytes: of each step how many literals its clause has, these, how many hints there are, and how
+//! far each of these is back from the step (LRAT, Cruz-Filipe and others 2017, without deletions). Numbers are in groups of seven
+//! bits, the least significant first. A search takes most of its memory for this, so nothing else is kept of a step, and steps
+//! are left out that no clause which is still there needs.
+//!
+//! The bytes stand in blocks, each of whole steps. So where steps are left out, or written out for the judge, a block is let go as
+//! soon as it is read, and no second log stands beside the first.
+
+use crate::words::{Lit, at, is_negated, is_set, narrow, set, var_of};
+use cnf::Dim;
+use refute_check::Step;
+use std::alloc::{AllocError, Global};
+use std::mem;
+
+/// In how many groups of seven bits a word stands at most.
+const GROUPS: u32 = 5;
+
+/// With how many bytes a block is full.
+const BLOCK: usize = 1 << 16;
+
+/// Steps one behind the other, the first of which has this place in the log.
+struct Block {
+    bytes: Vec<u8>,
+    first: u32,
+    steps: u32,
+}
+
+impl Drop for Block {
+    fn drop(self) {
+        let Block {
+            bytes: _,
+            first: _,
+            steps: _,
+        } = self;
+    }
+}
+
+/// A step as it is read.
+struct Reading {
+    clause: Vec<Lit>,
+    hints: Vec<u32>,
+}
+
+impl Drop for Reading {
+    fn drop(self) {
+        let Reading {
+            clause: _,
+            hints: _,
+        } = self;
+    }
+}
+
+/// Steps, whose clauses have numbers behind those of the given ones.
+pub struct Log {
+    alloc: Global,
+    blocks: Vec<Block>,
+    given: u32,
+    pub steps: u32,
+    /// How many steps there are up to the first whose clause is empty, or 0.
+    pub end: u32,
+    /// How many bytes they take.
+    pub size: usize,
+}
+
+impl Drop for Log {
+    fn drop(self) {
+        let Log {
+            alloc: _,
+            blocks: _,
+            given: _,
+            steps: _,
+            end: _,
+            size: _,
+        } = self;
+    }
+}
+
+// Puts a number behind the bytes.
+#[inline]
+fn push(bytes: &mut Vec<u8>, number: u32) -> Result<(), AllocError> {
+    let mut rest = number;
+    for _ in 1..GROUPS {
+        if rest < 128 {
+            break;
+        }
+        bytes.push(128 + (rest % 128) as u8)?;
+        rest /= 128;
+    }
+    bytes.push((rest % 128) as u8)?;
+    Ok(())
+}
+
+/// A place from which numbers are read.
+#[derive(Clone, Copy)]
+struct Cursor {
+    place: usize,
+}
+
+impl Cursor {
+    // The next number. Behind the end there are zeros.
+    #[inline]
+    fn next(&mut self, bytes: &[u8]) -> u32 {
+        let mut number: u32 = 0;
+        for group in 0..GROUPS {
+            let byte = bytes.get(self.place).copied().unwrap_or(0);
+            self.place = self.place.saturating_add(1);
+            number = number | u32::from(byte % 128).wrapping_shl(7 * group);
+            if byte < 128 {
+                break;
+            }
+        }
+        number
+    }
+
+    // Goes behind so many numbers, each of which ends with a byte below 128.
+    fn skip(&mut self, bytes: &[u8], count: u32) {
+        let mut left = count;
+        for place in self.place..bytes.len() {
+            if left == 0 {
+                break;
+            }
+            left = left.wrapping_sub(u32::from(bytes[place] < 128));
+            self.place = place.wrapping_add(1);
+        }
+    }
+
+    // Goes behind a step.
+    fn skip_step(&mut self, bytes: &[u8]) {
+        let literals = self.next(bytes);
+        self.skip(bytes, literals);
+        let hints = self.next(bytes);
+        self.skip(bytes, hints);
+    }
+}
+
+impl Block {
+    // Puts a step of this number behind the others.
+    fn add(&mut self, number: u32, clause: &[Lit], hints: &[u32]) -> Result<(), AllocError> {
+        push(&mut self.bytes, narrow(clause.len()))?;
+        for lit in clause {
+            push(&mut self.bytes, *lit)?;
+        }
+        push(&mut self.bytes, narrow(hints.len()))?;
+        for hint in hints {
+            push(&mut self.bytes, number.wrapping_sub(*hint))?;
+        }
+        self.steps = self.steps.saturating_add(1);
+        Ok(())
+    }
+
+    // Marks the steps that a step cites.
+    fn need_hints(&self, start: usize, place: usize, needed: &mut [bool]) {
+        let mut cursor = Cursor { place: start };
+        let literals = cursor.next(&self.bytes);
+        cursor.skip(&self.bytes, literals);
+        for _ in 0..cursor.next(&self.bytes) {
+            let distance = cursor.next(&self.bytes);
+            set(needed, place.wrapping_sub(distance as usize), true);
+        }
+    }
+
+    // Marks the steps that the marked steps of this block cite, the last one first.
+    fn need_all(&self, starts: &mut Vec<usize>, needed: &mut [bool]) -> Result<(), AllocError> {
+        starts.clear();
+        let mut cursor = Cursor { place: 0 };
+        for _ in 0..self.steps {
+            starts.push(cursor.place)?;
+            cursor.skip_step(&self.bytes);
+        }
+        for k in (0..starts.len()).rev() {
+            let place = (self.first as usize).wrapping_add(k);
+            if is_set(needed, place) {
+                self.need_hints(starts[k], place, needed);
+            }
+        }
+        Ok(())
+    }
+}
+
+impl Reading {
+    // Reads a step of this number.
+    fn read(&mut self, bytes: &[u8], cursor: &mut Cursor, number: u32) -> Result<(), AllocError> {
+        self.clause.clear();
+        self.hints.clear();
+        for _ in 0..cursor.next(bytes) {
+            self.clause.push(cursor.next(bytes))?;
+        }
+        for _ in 0..cursor.next(bytes) {
+            self.hints.push(number.wrapping_sub(cursor.next(bytes)))?;
+        }
+        Ok(())
+    }
+
+    // The step as the judge takes it.
+    fn written(&self, alloc: Global) -> Result<Step, AllocError> {
+        let mut clause: Vec<Dim> = Vec::with_capacity(alloc, self.clause.len())?;
+        for lit in self.clause.iter() {
+            let var = var_of(*lit);
+            let negated = is_negated(*lit);
+            clause.push(Dim { var, negated })?;
+        }
+        let mut hints: Vec<usize> = Vec::with_capacity(alloc, self.hints.len())?;
+        for hint in self.hints.iter() {
+            hints.push(*hint as usize)?;
+        }
+        Step::of(alloc, clause.as_slice(), hints.as_slice())
+    }
+}
+
+impl Log {
+    /// No steps, behind so many given clauses.
+    pub fn new(alloc: Global, given: u32) -> Log {
+        Log {
+            alloc,
+            blocks: Vec::new(alloc),
+            given,
+            steps: 0,
+            end: 0,
+            size: 0,
+        }
+    }
+
+    // Begins a block, where there is none or the last one is full.
+    fn begin_block(&mut self) -> Result<(), AllocError> {
+        let is_full = match self.blocks.last() {
+            None => true,
+            Some(block) => block.bytes.len() >= BLOCK,
+        };
+        if is_full {
+            self.blocks.push(Block {
+                bytes: Vec::new(self.alloc),
+                first: self.steps,
+                steps: 0,
+            })?;
+        }
+        Ok(())
+    }
+
+    /// Puts a step behind the others. Answers its number.
+    pub fn add(&mut self, clause: &[Lit], hints: &[u32]) -> Result<u32, AllocError> {
+        self.begin_block()?;
+        let number = self.given.wrapping_add(self.steps);
+        if let Some(block) = self.blocks.last_mut() {
+            let before = block.bytes.len();
+            block.add(number, clause, hints)?;
+            let more = block.bytes.len().saturating_sub(before);
+            self.size = self.size.saturating_add(more);
+        }
+        self.steps = self.steps.saturating_add(1);
+        if clause.is_empty() && self.end == 0 {
+            self.end = self.steps;
+        }
+        Ok(number)
+    }
+
+    /// Marks the step whose clause has this number, if it is none of the given ones.
+    pub fn need(&self, number: u32, needed: &mut [bool]) {
+        set(needed, number.wrapping_sub(self.given) as usize, true);
+    }
+
+    // The new number of each step.
+    fn renumbered(&self, needed: &[bool]) -> Result<Vec<u32>, AllocError> {
+        let mut numbers = Vec::with_capacity(self.alloc, needed.len())?;
+        let mut next = self.given;
+        for is_needed in needed {
+            numbers.push(next)?;
+            next = next.saturating_add(u32::from(*is_needed));
+        }
+        Ok(numbers)
+    }
+
+    /// The new number of a clause, where `numbers` has those of the steps.
+    pub fn new_number(&self, numbers: &[u32], number: u32) -> u32 {
+        if number < self.given {
+            return number;
+        }
+        at(numbers, (number - self.given) as usize)
+    }
+
+    // Takes the steps of a block over that are needed, with their new numbers.
+    fn take_over(
+        &mut self,
+        block: &Block,
+        needed: &[bool],
+        numbers: &[u32],
+        step: &mut Reading,
+    ) -> Result<(), AllocError> {
+        let mut cursor = Cursor { place: 0 };
+        for k in 0..block.steps {
+            let place = block.first.wrapping_add(k);
+            if is_set(needed, place as usize) {
+                step.read(&block.bytes, &mut cursor, self.given.wrapping_add(place))?;
+                for hint in step.hints.iter_mut() {
+                    *hint = self.new_number(numbers, *hint);
+                }
+                let _number = self.add(&step.clause, &step.hints)?;
+            } else {
+                cursor.skip_step(&block.bytes);
+            }
+        }
+        Ok(())
+    }
+
+    // Takes all blocks out.
+    fn take_blocks(&mut self) -> Vec<Block> {
+        self.steps = 0;
+        self.end = 0;
+        self.size = 0;
+        mem::replace(&mut self.blocks, Vec::new(self.alloc))
+    }
+
+    // Marks the steps that the marked ones need.
+    fn need_all(&self, needed: &mut [bool]) -> Result<(), AllocError> {
+        let mut starts: Vec<usize> = Vec::new(self.alloc);
+        for block in self.blocks.iter().rev() {
+            block.need_all(&mut starts, needed)?;
+        }
+        Ok(())
+    }
+
+    /// Leaves out what no marked step needs. Answers the new numbers of the steps.
+    pub fn trim(&mut self, needed: &mut [bool]) -> Result<Vec<u32>, AllocError> {
+        self.need_all(needed)?;
+        let numbers = self.renumbered(needed)?;
+        let mut step = new_reading(self.alloc);
+        for block in self.take_blocks() {
+            self.take_over(&block, needed, &numbers, &mut step)?;
+        }
+        Ok(numbers)
+    }
+
+    // Writes the steps of a block that are needed behind others, with their new numbers, as the judge takes them.
+    fn write_block(
+        &self,
+        block: &Block,
+        needed: &[bool],
+        numbers: &[u32],
+        step: &mut Reading,
+        steps: &mut Vec<Step>,
+    ) -> Result<(), AllocError> {
+        let mut cursor = Cursor { place: 0 };
+        for k in 0..block.steps {
+            let place = block.first.wrapping_add(k);
+            if is_set(needed, place as usize) {
+                step.read(&block.bytes, &mut cursor, self.given.wrapping_add(place))?;
+                for hint in step.hints.iter_mut() {
+                    *hint = self.new_number(numbers, *hint);
+                }
+                let written = step.written(self.alloc)?;
+                steps.push(written)?;
+            } else {
+                cursor.skip_step(&block.bytes);
+            }
+        }
+        Ok(())
+    }
+
+    /// The steps that the first empty clause needs, and it. The log is empty then.
+    pub fn written(&mut self) -> Result<Vec<Step>, AllocError> {
+        let mut needed = vec![in self.alloc; false; self.steps as usize]?;
+        set(&mut needed, (self.end as usize).saturating_sub(1), true);
+        self.need_all(&mut needed)?;
+        let numbers = self.renumbered(&needed)?;
+        let mut steps = Vec::new(self.alloc);
+        let mut step = new_reading(self.alloc);
+        for block in self.take_blocks() {
+            self.write_block(&block, &needed, &numbers, &mut step, &mut steps)?;
+        }
+        Ok(steps)
+    }
+}
+
+// Room for a step.
+fn new_reading(alloc: Global) -> Reading {
+    Reading {
+        clause: Vec::new(alloc),
+        hints: Vec::new(alloc),
+    }
+}

@@ -1,0 +1,234 @@
+//! Propagation. Two literals of each clause are watched (Moskewicz and others 2001): a clause is looked at only where one of them
+//! becomes false, and then another literal is watched, or the clause gives its other watched literal, or it is false. A watch takes
+//! eight bytes, the clause and another of its literals, the blocker (Chu and others 2008): while that is true nothing is to be
+//! done. A clause of two literals is told from its watches alone.
+
+use crate::arena::{FIRST, HEADER, LAST, SIZE};
+use crate::trail::{Trail, Value, is_false, is_true, value_of};
+use crate::words::{Lit, at, narrow, put};
+use std::alloc::{AllocError, Global};
+use std::mem;
+
+/// In a watch of a clause of two literals this bit is set in the place of the clause.
+const PAIR: u32 = 1 << 31;
+
+/// A clause in the list of one of its literals, and another literal of it.
+#[derive(Clone, Copy)]
+pub struct Watch {
+    clause: u32,
+    pub blocker: Lit,
+}
+
+impl Watch {
+    /// A watch of a clause of so many literals.
+    pub fn new(clause: u32, size: u32, blocker: Lit) -> Watch {
+        let clause = if size == 2 { clause | PAIR } else { clause };
+        Watch { clause, blocker }
+    }
+
+    /// Whether the clause has two literals, which are the one in whose list this is, and the blocker.
+    #[inline]
+    pub fn is_pair(self) -> bool {
+        self.clause >= PAIR
+    }
+
+    /// The clause.
+    #[inline]
+    pub fn clause(self) -> u32 {
+        self.clause % PAIR
+    }
+}
+
+/// What is to be done with a clause of which a watched literal became false.
+#[derive(Clone, Copy)]
+enum Visit {
+    /// It stays in the list, with this blocker.
+    Keep(Lit),
+    /// The first literal is watched from now on, with the second for its blocker.
+    Move(Lit, Lit),
+    /// This literal is open, and each other one is false.
+    Unit(Lit),
+    /// Each literal is false.
+    Conflict,
+}
+
+/// How a list was walked through: the clause that is false, if any, how many watches are kept at its front, and how many clauses
+/// were looked at.
+#[derive(Clone, Copy)]
+pub struct Walk {
+    pub conflict: Option<u32>,
+    pub kept: usize,
+    pub visits: u64,
+}
+
+// The place among all words, from one up to another, of a literal that is not false.
+#[inline]
+fn free_place(values: &[Value], words: &[u32], from: usize, to: usize) -> Option<usize> {
+    for place in from..to {
+        if !is_false(values, at(words, place)) {
+            return Some(place);
+        }
+    }
+    None
+}
+
+// The place among all words of a literal of the clause that is not watched and not false. It is looked for from where one was
+// found last, and then before that (Gent 2013).
+#[inline]
+fn replacement(values: &[Value], words: &mut [u32], clause: u32) -> Option<usize> {
+    let header = clause as usize;
+    let front = header + HEADER;
+    let end = front + at(words, header + SIZE) as usize;
+    let last = front + at(words, header + LAST) as usize;
+    let mut found = free_place(values, words, last, end);
+    if found.is_none() {
+        found = free_place(values, words, front + FIRST as usize, last.min(end));
+    }
+    if let Some(place) = found {
+        put(words, header + LAST, narrow(place.wrapping_sub(front)));
+    }
+    found
+}
+
+// Decides what is to be done with a clause, and moves the literal that is to be watched to its front.
+#[inline]
+fn look_at(values: &[Value], words: &mut [u32], clause: u32, failed: Lit) -> Visit {
+    let front = clause as usize + HEADER;
+    let other = at(words, front) ^ at(words, front + 1) ^ failed;
+    let is_other_false = match value_of(values, other) {
+        Value::True => return Visit::Keep(other),
+        Value::Open => false,
+        Value::False => true,
+    };
+    match replacement(values, words, clause) {
+        Some(place) => {
+            let found = at(words, place);
+            if is_true(values, found) {
+                return Visit::Keep(found);
+            }
+            put(words, front, other);
+            put(words, front + 1, found);
+            put(words, place, failed);
+            Visit::Move(found, other)
+        }
+        None => {
+            if is_other_false {
+                Visit::Conflict
+            } else {
+                Visit::Unit(other)
+            }
+        }
+    }
+}
+
+// Decides what is to be done with a watch whose blocker is not true.
+#[inline]
+fn look(values: &[Value], words: &mut [u32], watch: Watch, failed: Lit) -> Visit {
+    if !watch.is_pair() {
+        return look_at(values, words, watch.clause(), failed);
+    }
+    if is_false(values, watch.blocker) {
+        Visit::Conflict
+    } else {
+        Visit::Unit(watch.blocker)
+    }
+}
+
+// Writes a watch over the front of the list.
+#[inline]
+fn keep(list: &mut [Watch], kept: &mut usize, watch: Watch) {
+    if let Some(place) = list.get_mut(*kept) {
+        *place = watch;
+    }
+    *kept = (*kept).wrapping_add(1);
+}
+
+// Keeps all watches from a place on.
+fn keep_rest(list: &mut [Watch], kept: &mut usize, from: usize) {
+    for i in from..list.len() {
+        let watch = list[i];
+        keep(list, kept, watch);
+    }
+}
+
+/// Walks through the list of a literal that became false, up to a clause that is false. The watches that stay are written over
+/// the front of the list.
+pub fn walk_through(
+    trail: &mut Trail,
+    words: &mut [u32],
+    lists: &mut [Vec<Watch>],
+    list: &mut [Watch],
+    failed: Lit,
+) -> Result<Walk, AllocError> {
+    let mut kept: usize = 0;
+    let mut visits: u64 = 0;
+    for i in 0..list.len() {
+        let watch = list[i];
+        if is_true(&trail.values, watch.blocker) {
+            keep(list, &mut kept, watch);
+            continue;
+        }
+        visits = visits.wrapping_add(1);
+        match look(&trail.values, words, watch, failed) {
+            Visit::Keep(blocker) => {
+                let clause = watch.clause;
+                keep(list, &mut kept, Watch { clause, blocker });
+            }
+            Visit::Move(to, blocker) => {
+                let clause = watch.clause;
+                push(lists, to, Watch { clause, blocker })?;
+            }
+            Visit::Unit(lit) => {
+                keep(list, &mut kept, watch);
+                trail.assign(lit, watch.clause())?;
+            }
+            Visit::Conflict => {
+                keep_rest(list, &mut kept, i);
+                let conflict = Some(watch.clause());
+                return Ok(Walk {
+                    conflict,
+                    kept,
+                    visits,
+                });
+            }
+        }
+    }
+    Ok(Walk {
+        conflict: None,
+        kept,
+        visits,
+    })
+}
+
+/// Empty lists.
+pub fn empty_lists(alloc: Global, count: usize) -> Result<Vec<Vec<Watch>>, AllocError> {
+    let mut lists = Vec::with_capacity(alloc, count)?;
+    for _ in 0..count {
+        lists.push(Vec::new(alloc))?;
+    }
+    Ok(lists)
+}
+
+/// Takes the list of a literal out, and leaves an empty one.
+pub fn take_list(alloc: Global, lists: &mut [Vec<Watch>], lit: Lit) -> Vec<Watch> {
+    match lists.get_mut(lit as usize) {
+        Some(list) => mem::replace(list, Vec::new(alloc)),
+        None => Vec::new(alloc),
+    }
+}
+
+/// Puts the list of a literal in its place.
+pub fn put_list(lists: &mut [Vec<Watch>], lit: Lit, list: Vec<Watch>) {
+    if let Some(place) = lists.get_mut(lit as usize) {
+        *place = list;
+    }
+}
+
+/// Puts a watch into the list of a literal.
+#[inline]
+pub fn push(lists: &mut [Vec<Watch>], lit: Lit, watch: Watch) -> Result<(), AllocError> {
+    if let Some(list) = lists.get_mut(lit as usize) {
+        list.push(watch)?;
+    }
+    Ok(())
+}

@@ -1,0 +1,97 @@
+//! The cone of two variables: what their gates read, what the gates of these read, and so on, the nearest first, up to some number.
+//! Whether two literals are equal is mostly told by what lies near to them, so that nothing else is decided for a pair.
+
+use crate::ranks::Ranks;
+use sat_arena::words::{Lit, NONE, at, is_set, lit_of, narrow, put, var_of};
+use sat_cdcl::engine::Engine;
+use std::alloc::AllocError;
+
+/// How many gates near to a pair are looked at (measured: it spares Gray counters and products by rows work on pairs that differ).
+const GATES: usize = 1_000;
+
+/// Variables in the order in which they are decided.
+pub struct Cone {
+    vars: Vec<u32>,
+    // For each variable the newest cone that it is in.
+    stamps: Vec<u32>,
+    stamp: u32,
+    // Before this place no variable is open.
+    next: usize,
+}
+
+impl Drop for Cone {
+    fn drop(self) {
+        let Cone {
+            vars: _,
+            stamps: _,
+            stamp: _,
+            next: _,
+        } = self;
+    }
+}
+
+impl Cone {
+    /// An empty one.
+    pub fn new(engine: &Engine) -> Result<Cone, AllocError> {
+        Ok(Cone {
+            vars: Vec::new(engine.alloc),
+            stamps: vec![in engine.alloc; 0; engine.gone.len()]?,
+            stamp: 0,
+            next: 0,
+        })
+    }
+
+    // Adds a variable, if it is not in the cone.
+    fn add(&mut self, var: usize) -> Result<(), AllocError> {
+        if at(&self.stamps, var) != self.stamp {
+            put(&mut self.stamps, var, self.stamp);
+            self.vars.push(narrow(var))?;
+        }
+        Ok(())
+    }
+
+    /// Makes it that of two literals.
+    pub fn make(
+        &mut self,
+        engine: &Engine,
+        ranks: &Ranks,
+        one: Lit,
+        other: Lit,
+    ) -> Result<(), AllocError> {
+        self.vars.clear();
+        self.stamp = self.stamp.wrapping_add(1);
+        self.add(var_of(one))?;
+        self.add(var_of(other))?;
+        for k in 0..GATES {
+            if k >= self.vars.len() {
+                break;
+            }
+            let gate = at(&ranks.gates, at(&self.vars, k) as usize);
+            if gate != NONE {
+                for lit in engine.arena.literals(gate) {
+                    self.add(var_of(*lit))?;
+                }
+            }
+        }
+        Ok(())
+    }
+
+    /// Begins at the front again.
+    pub fn rewind(&mut self) {
+        self.next = 0;
+    }
+
+    /// Decides a variable. Answers whether some was open.
+    pub fn decide(&mut self, engine: &mut Engine) -> Result<bool, AllocError> {
+        for k in self.next..self.vars.len() {
+            let var = at(&self.vars, k);
+            if engine.is_open(var) {
+                self.next = k;
+                let value = is_set(&engine.phases.saved, var as usize);
+                engine.trail.decide(lit_of(var, value))?;
+                return Ok(true);
+            }
+        }
+        Ok(false)
+    }
+}

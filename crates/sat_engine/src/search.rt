@@ -1,0 +1,150 @@
+//! The search over given clauses.
+
+use crate::equal::merge;
+use crate::ranks::rank_all;
+use crate::sweep::sweep;
+use crate::tries::{given, likely_pairs};
+use cnf::{Cnf, Dim};
+use refute_check::Log;
+use sat_arena::constants::{
+    ELIMINATION, FIRST_CONFLICTS, FIRST_WORK, MOST_CLAUSES, MOST_VARIABLES,
+};
+use sat_arena::log;
+use sat_arena::words::{Lit, at, lit_of, narrow};
+use sat_cdcl::engine::{End, Engine, GIVEN};
+use sat_simplify::clean::{clean, holds_always};
+use sat_simplify::eliminate::eliminate;
+use std::alloc::{AllocError, Global};
+use std::mem;
+
+/// What was found. Nothing is promised of it: a solution is to be tried on the clauses, and a log to be judged.
+#[derive(Drop)]
+pub enum Found {
+    /// Values of variables.
+    Solution(Vec<bool>),
+    /// Steps.
+    Refutation(Log),
+    /// Nothing.
+    GivenUp,
+}
+
+// Reads a clause as literals in their order, each once. Answers whether its variables are below the bound.
+fn read(clause: &[Dim], vars: usize, literals: &mut Vec<Lit>) -> Result<bool, AllocError> {
+    literals.clear();
+    for d in clause {
+        if d.var >= vars {
+            return Ok(false);
+        }
+        literals.push(lit_of(narrow(d.var), !d.negated))?;
+    }
+    literals.sort_unstable();
+    literals.dedup();
+    Ok(true)
+}
+
+// Takes a given clause, as it was read.
+fn take_given(engine: &mut Engine, literals: &[Lit], number: u32) -> Result<(), AllocError> {
+    if holds_always(literals) {
+        return Ok(());
+    }
+    match literals.len() {
+        0 => {
+            let _number = engine.log.add(&[], &[number])?;
+        }
+        1 => engine.add_unit(at(literals, 0), number)?,
+        _ => {
+            let _place = engine.add(literals, number, GIVEN)?;
+        }
+    }
+    Ok(())
+}
+
+// Takes the given clauses, up to one by which they are refuted. Answers whether they could be read.
+fn load(engine: &mut Engine, cnf: &Cnf) -> Result<bool, AllocError> {
+    let mut literals: Vec<Lit> = Vec::new(engine.alloc);
+    for (number, clause) in cnf.clauses.iter().enumerate() {
+        if engine.log.end > 0 {
+            break;
+        }
+        if !read(clause.as_slice(), cnf.vars, &mut literals)? {
+            return Ok(false);
+        }
+        take_given(engine, &literals, narrow(number))?;
+    }
+    Ok(true)
+}
+
+// Leaves out what is fixed, and puts one literal in the place of all that are equal to it, while nothing is decided.
+fn join(engine: &mut Engine) -> Result<(), AllocError> {
+    engine.backtrack(0);
+    clean(engine)?;
+    engine.collect()?;
+    if engine.log.end == 0 {
+        merge(engine)?;
+    }
+    Ok(())
+}
+
+// Shows pairs of literals to be equal that are likely to be.
+fn pair(engine: &mut Engine) -> Result<(), AllocError> {
+    join(engine)?;
+    engine.collect()?;
+    if engine.log.end == 0 {
+        let clauses = given(engine)?;
+        let ranks = rank_all(engine, &clauses)?;
+        let pairs = likely_pairs(engine, &ranks, &clauses)?;
+        sweep(engine, &ranks, &pairs)?;
+    }
+    Ok(())
+}
+
+// Simplifies the clauses, while nothing is decided.
+fn simplify(engine: &mut Engine) -> Result<(), AllocError> {
+    join(engine)?;
+    engine.unwatch();
+    if engine.log.end == 0 {
+        eliminate(engine, 0, ELIMINATION)?;
+    }
+    engine.collect()?;
+    engine.queue.rewind();
+    Ok(())
+}
+
+// Loads the clauses and searches: shortly at first, and then in simpler clauses.
+fn run(engine: &mut Engine, cnf: &Cnf, most: u64) -> Result<End, AllocError> {
+    if !load(engine, cnf)? {
+        return Ok(End::GivenUp);
+    }
+    if engine.log.end > 0 {
+        return Ok(End::Refuted);
+    }
+    match engine.search(FIRST_CONFLICTS, FIRST_WORK)? {
+        End::Paused => {}
+        end => return Ok(end),
+    }
+    pair(engine)?;
+    simplify(engine)?;
+    if engine.log.end > 0 {
+        return Ok(End::Refuted);
+    }
+    engine.search(most, u64::MAX)
+}
+
+/// Searches for a solution of the clauses, or for a log that refutes them, up to so many conflicts.
+pub fn search_for(alloc: Global, cnf: &Cnf, most: u64) -> Result<Found, AllocError> {
+    if cnf.vars > MOST_VARIABLES || cnf.clauses.len() > MOST_CLAUSES {
+        return Ok(Found::GivenUp);
+    }
+    let mut engine = Engine::new(alloc, cnf.vars, cnf.clauses.len())?;
+    match run(&mut engine, cnf, most)? {
+        End::Solved => Ok(Found::Solution(engine.solution()?)),
+        End::Refuted => {
+            let mut log = mem::replace(&mut engine.log, log::Log::new(alloc, 0));
+            drop(engine);
+            let steps = log.written()?;
+            Ok(Found::Refutation(Log { steps }))
+        }
+        End::Paused => Ok(Found::GivenUp),
+        End::GivenUp => Ok(Found::GivenUp),
+    }
+}

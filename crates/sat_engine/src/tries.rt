@@ -1,0 +1,283 @@
+//! Which literals are likely to be equal (SAT sweeping, Kuehlmann and others 2002, on clauses). Random values are run through the
+//! clauses, and variables that have the same values in all tries, or opposite ones, are a pair. Where clauses describe gates, each
+//! behind those that it reads, a variable is what the clauses make it in which it is the greatest, and where they leave it free it is
+//! random.
+//!
+//! 64 tries go at once, as the bits of a word. The random bits are 1 more often or more seldom by turns, since a gate of many
+//! inputs hardly ever changes where each input is 1 in half of the tries.
+
+use crate::ranks::Ranks;
+use sat_arena::constants::{LEAST_TRIES, MOST_TRIES, TRIED_LITERALS};
+use sat_arena::words::{Lit, at, is_negated, lit_of, narrow, var_of};
+use sat_cdcl::engine::Engine;
+use std::alloc::AllocError;
+
+/// So many kinds of random words come by turns.
+const KINDS: usize = 5;
+
+/// A number that is not 0, and one by which numbers are mixed.
+const SEED: u64 = 0x9e37_79b9_7f4a_7c15;
+
+const MULTIPLIER: u64 = 0x9e37_79b9_7f4a_7c15;
+
+/// Random numbers, the same in each run (Marsaglia 2003).
+#[derive(Clone, Copy)]
+struct Random {
+    state: u64,
+}
+
+/// What is known of a variable.
+#[derive(Clone, Copy)]
+struct Told {
+    // Its values in the newest 64 tries.
+    values: u64,
+    // Whether the first value of all was true. Then the values are turned round for what follows.
+    is_turned: bool,
+    // A number that comes of all values, and in how many tries the value was not the first one.
+    sum: u64,
+    count: u64,
+    // Whether clauses made it true in some try, and false in some.
+    is_made_true: bool,
+    is_made_false: bool,
+}
+
+const NOTHING: Told = Told {
+    values: 0,
+    is_turned: false,
+    sum: 0,
+    count: 0,
+    is_made_true: false,
+    is_made_false: false,
+};
+
+impl Random {
+    // The next number.
+    fn number(&mut self) -> u64 {
+        let first = self.state ^ self.state.wrapping_shl(13);
+        let second = first ^ first.wrapping_shr(7);
+        self.state = second ^ second.wrapping_shl(17);
+        self.state
+    }
+
+    // A word whose bits are 1 in half of the tries, in a quarter, in three, in an eighth or in seven.
+    fn word(&mut self, kind: usize) -> u64 {
+        let one = self.number();
+        let two = self.number();
+        let three = self.number();
+        match kind {
+            0 => one,
+            1 => one & two,
+            2 => one | two,
+            3 => one & two & three,
+            _ => one | two | three,
+        }
+    }
+}
+
+// The given clauses.
+pub fn given(engine: &Engine) -> Result<Vec<u32>, AllocError> {
+    let clauses = engine.arena.clauses(engine.alloc)?;
+    let mut found = Vec::new(engine.alloc);
+    for clause in clauses.as_slice() {
+        let status = engine.arena.status(*clause);
+        if !status.is_learned {
+            found.push(*clause)?;
+        }
+    }
+    Ok(found)
+}
+
+// The greatest rank of a variable in a clause.
+fn greatest(ranks: &Ranks, literals: &[Lit]) -> u32 {
+    let mut greatest: u32 = 0;
+    for lit in literals {
+        greatest = greatest.max(at(&ranks.ranks, var_of(*lit)));
+    }
+    greatest
+}
+
+// Clauses, by the greatest rank of a variable in each.
+fn by_greatest(
+    engine: &Engine,
+    clauses: &[u32],
+    ranks: &Ranks,
+) -> Result<Vec<(u32, u32)>, AllocError> {
+    let mut found = Vec::new(engine.alloc);
+    for clause in clauses {
+        let rank = greatest(ranks, engine.arena.literals(*clause));
+        found.push((rank, *clause))?;
+    }
+    found.sort_unstable();
+    Ok(found)
+}
+
+// The newest values of a literal.
+fn values_of(told: &[Told], lit: Lit) -> u64 {
+    let values = match told.get(var_of(lit)) {
+        Some(t) => t.values,
+        None => 0,
+    };
+    if is_negated(lit) { !values } else { values }
+}
+
+// Makes the clause true by the variable, where it is false.
+fn mend(told: &mut [Told], literals: &[Lit], var: u32) {
+    let mut open = u64::MAX;
+    let mut is_false_wanted = false;
+    for lit in literals {
+        if *lit / 2 == var {
+            is_false_wanted = is_negated(*lit);
+        } else {
+            open = open & !values_of(told, *lit);
+        }
+    }
+    if let Some(t) = told.get_mut(var as usize) {
+        if is_false_wanted {
+            t.values = t.values & !open;
+            t.is_made_false = t.is_made_false || open != 0;
+        } else {
+            t.values = t.values | open;
+            t.is_made_true = t.is_made_true || open != 0;
+        }
+    }
+}
+
+// What is known of a variable behind its newest values.
+fn noted(t: Told, is_first: bool) -> Told {
+    let is_turned = if is_first {
+        t.values % 2 == 1
+    } else {
+        t.is_turned
+    };
+    let values = if is_turned { !t.values } else { t.values };
+    let sum = (t.sum ^ values).wrapping_mul(MULTIPLIER);
+    Told {
+        is_turned,
+        sum: sum ^ sum.wrapping_shr(29),
+        count: t.count.saturating_add(values.count_ones() as u64),
+        ..t
+    }
+}
+
+// Tries 64 random values of each variable.
+fn try_word(
+    told: &mut [Told],
+    engine: &Engine,
+    vars: &[u32],
+    order: &[(u32, u32)],
+    random: &mut Random,
+    k: usize,
+) {
+    for t in told.iter_mut() {
+        t.values = random.word(k % KINDS);
+    }
+    for (rank, clause) in order {
+        let var = at(vars, *rank as usize);
+        mend(told, engine.arena.literals(*clause), var);
+    }
+    for t in told.iter_mut() {
+        *t = noted(*t, k == 0);
+    }
+}
+
+// How many words of tries there are: as many as look at so many literals together.
+fn words(engine: &Engine) -> usize {
+    TRIED_LITERALS
+        .checked_div(engine.arena.words.len())
+        .unwrap_or(MOST_TRIES)
+        .min(MOST_TRIES)
+}
+
+// What comes of all tries.
+fn tell(
+    engine: &Engine,
+    clauses: &[u32],
+    ranks: &Ranks,
+    words: usize,
+) -> Result<Vec<Told>, AllocError> {
+    let order = by_greatest(engine, clauses, ranks)?;
+    let mut told = vec![in engine.alloc; NOTHING; engine.gone.len()]?;
+    let mut random = Random { state: SEED };
+    for k in 0..words {
+        try_word(&mut told, engine, &ranks.vars, &order, &mut random, k);
+    }
+    Ok(told)
+}
+
+// The ranks of the variables that may be paired, with their sums, so that those of one sum stand beside one another.
+fn ranked(
+    engine: &Engine,
+    told: &[Told],
+    ranks: &Ranks,
+    words: usize,
+) -> Result<Vec<(u64, u32)>, AllocError> {
+    let most = (words as u64)
+        .saturating_mul(64)
+        .saturating_sub(LEAST_TRIES);
+    let mut found = Vec::new(engine.alloc);
+    for (var, t) in told.iter().enumerate() {
+        if LEAST_TRIES <= t.count && t.count <= most && engine.is_open(narrow(var)) {
+            found.push((t.sum, at(&ranks.ranks, var)))?;
+        }
+    }
+    found.sort_unstable();
+    Ok(found)
+}
+
+// Whether clauses make a variable what it is.
+fn is_made(told: &[Told], var: u32) -> bool {
+    match told.get(var as usize) {
+        Some(t) => t.is_made_true && t.is_made_false,
+        None => false,
+    }
+}
+
+// The literal of a variable that had the first value of all.
+fn first_literal(told: &[Told], var: u32) -> Lit {
+    match told.get(var as usize) {
+        Some(t) => lit_of(var, t.is_turned),
+        None => lit_of(var, true),
+    }
+}
+
+// The ranks of variables that are likely to be equal, the greater one first, in the order of these.
+fn rank_pairs(
+    engine: &Engine,
+    told: &[Told],
+    ranks: &Ranks,
+    words: usize,
+) -> Result<Vec<(u32, u32)>, AllocError> {
+    let ranked = ranked(engine, told, ranks, words)?;
+    let mut found = Vec::new(engine.alloc);
+    for k in 1..ranked.len() {
+        let (sum, first) = ranked[k - 1];
+        let (other, second) = ranked[k];
+        if sum == other && is_made(told, at(&ranks.vars, second as usize)) {
+            found.push((second, first))?;
+        }
+    }
+    found.sort_unstable();
+    Ok(found)
+}
+
+/// Pairs of literals that are likely to be equal, of which the first is of the variable that is made later, and the pair with the
+/// earliest such variable comes first.
+pub fn likely_pairs(
+    engine: &Engine,
+    ranks: &Ranks,
+    clauses: &[u32],
+) -> Result<Vec<(Lit, Lit)>, AllocError> {
+    let mut found = Vec::new(engine.alloc);
+    let words = words(engine);
+    if words < 3 {
+        return Ok(found);
+    }
+    let told = tell(engine, clauses, ranks, words)?;
+    let pairs = rank_pairs(engine, &told, ranks, words)?;
+    for (later, earlier) in pairs.as_slice() {
+        let one = at(&ranks.vars, *later as usize);
+        let other = at(&ranks.vars, *earlier as usize);
+        found.push((first_literal(&told, one), first_literal(&told, other)))?;
+    }
+    Ok(found)
+}

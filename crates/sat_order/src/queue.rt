@@ -1,0 +1,146 @@
+//! The order in which variables are decided: those of newer conflicts first (variable move to front, Ryan 2004, with stamps as in
+//! Biere and Froehlich 2015). A list in both directions; a variable is moved to its end, and gets a stamp greater than all others.
+//! The variable from which the search for an open one begins is one behind which none is open.
+
+use sat_arena::words::NONE;
+use std::alloc::{AllocError, Global};
+
+/// The neighbours of a variable, and its stamp.
+#[derive(Clone, Copy)]
+struct Link {
+    previous: u32,
+    next: u32,
+    stamp: u64,
+}
+
+const NO_LINK: Link = Link {
+    previous: NONE,
+    next: NONE,
+    stamp: 0,
+};
+
+/// Variables in the order in which they are decided, the first one at the end.
+pub struct Queue {
+    links: Vec<Link>,
+    last: u32,
+    /// Where the search for an open variable is. None is open behind it.
+    pub search: u32,
+    stamp: u64,
+}
+
+impl Drop for Queue {
+    fn drop(self) {
+        let Queue {
+            links: _,
+            last: _,
+            search: _,
+            stamp: _,
+        } = self;
+    }
+}
+
+impl Queue {
+    /// So many variables, the greatest first.
+    pub fn new(alloc: Global, vars: u32) -> Result<Queue, AllocError> {
+        let mut queue = Queue {
+            links: vec![in alloc; NO_LINK; vars as usize]?,
+            last: NONE,
+            search: NONE,
+            stamp: 0,
+        };
+        for var in 0..vars {
+            queue.append(var);
+        }
+        queue.rewind();
+        Ok(queue)
+    }
+
+    // The link of a variable.
+    fn link(&self, var: u32) -> Link {
+        self.links.get(var as usize).copied().unwrap_or(NO_LINK)
+    }
+
+    // Sets the link of a variable, if there is one.
+    fn set_link(&mut self, var: u32, link: Link) {
+        if let Some(old) = self.links.get_mut(var as usize) {
+            *old = link;
+        }
+    }
+
+    /// The stamp of a variable.
+    pub fn stamp(&self, var: u32) -> u64 {
+        let link = self.link(var);
+        link.stamp
+    }
+
+    // Takes a variable out of the list that is not its last.
+    fn unlink(&mut self, link: Link) {
+        let before = self.link(link.previous);
+        self.set_link(
+            link.previous,
+            Link {
+                next: link.next,
+                ..before
+            },
+        );
+        let behind = self.link(link.next);
+        self.set_link(
+            link.next,
+            Link {
+                previous: link.previous,
+                ..behind
+            },
+        );
+    }
+
+    // Puts a variable at the end of the list.
+    fn append(&mut self, var: u32) {
+        let last = self.link(self.last);
+        self.set_link(self.last, Link { next: var, ..last });
+        self.stamp = self.stamp.saturating_add(1);
+        let link = Link {
+            previous: self.last,
+            next: NONE,
+            stamp: self.stamp,
+        };
+        self.set_link(var, link);
+        self.last = var;
+    }
+
+    /// Moves a variable to the end.
+    pub fn bump(&mut self, var: u32, is_open: bool) {
+        let link = self.link(var);
+        if link.next != NONE {
+            if self.search == var {
+                self.search = if link.previous == NONE {
+                    link.next
+                } else {
+                    link.previous
+                };
+            }
+            self.unlink(link);
+            self.append(var);
+        }
+        if is_open {
+            self.search = var;
+        }
+    }
+
+    /// Notes that a variable is open again.
+    pub fn reopen(&mut self, var: u32) {
+        if self.stamp(var) > self.stamp(self.search) {
+            self.search = var;
+        }
+    }
+
+    /// Lets the search for an open variable begin at the end.
+    pub fn rewind(&mut self) {
+        self.search = self.last;
+    }
+
+    /// Goes on from a variable that is not open.
+    pub fn advance(&mut self) {
+        let link = self.link(self.search);
+        self.search = link.previous;
+    }
+}
