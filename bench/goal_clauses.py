@@ -1,4 +1,4 @@
-"""The solver beside minisat and cadical on svtv's own clauses of each goal of the suite: time, and peak of memory.
+"""The solver beside minisat and cadical on the clauses of each goal of a suite: time, and peak of memory.
 
 Both questions of a goal count: whether some choice meets the hypotheses and breaks a claim, and, where none does, whether some choice
 meets the hypotheses. Times are processor seconds without those of the system, the least of three runs, one after the other by each program, so that
@@ -86,9 +86,12 @@ def write_suite(room, words):
             continue
         name = re.sub(r"\W+", "_", "%s %s" % (run.name, run.size))
         if not all((room / ("%s-%s-breaks.cnf" % (name, goal.name))).exists() for goal in run.goals):
-            write_yosys(room, name, run) if BY == "yosys" else write_own(room, name, run)
+            if BY == "yosys":
+                write_yosys(room, name, run)
+            else:
+                write_own(room, name, run)
         asks = {"%s-%s-%s" % (name, goal.name, kind): answer for goal in run.goals for kind, answer in asked(goal).items()}
-        awaited.update({name: answer for name, answer in asks.items() if (room / (name + ".cnf")).exists()})
+        awaited.update({question: answer for question, answer in asks.items() if (room / (question + ".cnf")).exists()})
     return awaited
 
 

@@ -200,10 +200,21 @@ def turns(width):
     )
 
 
+def over_edges(name, size, edges, inputs, outputs, body, goals):
+    """A run of a clock with so many edges behind one at which `load` is 1. Each other input is a variable at each edge, of its first letter
+    and the number of the edge; each output is sampled at the end: s, t, and so on."""
+    phases = 2 * edges + 2
+    cells = {"clk": clock(phases), "load": ["1", "1"] + ["0"] * (phases - 2)}
+    cells.update({each: each_edge(phases, "_", ["%s%d" % (each[0], turn) for turn in range(edges)]) for each in inputs})
+    samples = {each: [""] * (phases - 1) + [sample] for each, sample in zip(outputs, "stuv")}
+    inputs = {"clk": 1, "load": 1, **inputs}
+    design = "module m(%s);\n%s\nendmodule\n" % (ports(inputs, outputs), body)
+    return Run(name, size, design, "m", inputs, outputs, cells, samples, goals)
+
+
 def states(count, edges):
     """A machine whose states are one bit each, beside one whose states are numbers."""
     bits = log2(count)
-    steps = ["h <= {h[%d:0], h[%d]};" % (count - 2, count - 1)]
     body = """  logic [%(top)d:0] h;
   logic [%(high)d:0] n;
   assign y = h;
@@ -212,22 +223,10 @@ def states(count, edges):
     if (load) begin h <= %(count)d'd1; n <= '0; end
     else if (go) begin
       if (back) begin h <= {h[0], h[%(top)d:1]}; n <= n - %(bits)d'd1; end
-      else begin %(step)s n <= n + %(bits)d'd1; end
-    end""" % {"top": count - 1, "high": bits - 1, "count": count, "bits": bits, "step": steps[0]}
-    phases = 2 * edges + 2
-    inputs = {"clk": 1, "load": 1, "go": 1, "back": 1}
-    outputs = words(count, "yw")
-    cells = {
-        "clk": clock(phases),
-        "load": ["1", "1"] + ["0"] * (phases - 2),
-        "go": each_edge(phases, "_", ["g%d" % turn for turn in range(edges)]),
-        "back": each_edge(phases, "_", ["b%d" % turn for turn in range(edges)]),
-    }
-    last = [""] * (phases - 1)
-    samples = {"y": last + ["s"], "w": last + ["t"]}
+      else begin h <= {h[%(below)d:0], h[%(top)d]}; n <= n + %(bits)d'd1; end
+    end""" % {"top": count - 1, "below": count - 2, "high": bits - 1, "count": count, "bits": bits}
     goals = [Goal("alike", ["s == t"]), Goal("one", ["s != 0", "(s & (s - 1)) == 0"]), Goal("first", ["s[0]"], [], "failed")]
-    design = "module m(%s);\n%s\nendmodule\n" % (ports(inputs, outputs), body)
-    return Run("states", "%d, %d edges" % (count, edges), design, "m", inputs, outputs, cells, samples, goals)
+    return over_edges("states", "%d, %d edges" % (count, edges), edges, {"go": 1, "back": 1}, words(count, "yw"), body, goals)
 
 
 def queue(depth, width, edges):
@@ -265,20 +264,9 @@ def queue(depth, width, edges):
         "puts": puts,
         "move": move,
     }
-    phases = 2 * edges + 2
-    inputs = {"clk": 1, "load": 1, "push": 1, "d": width}
-    outputs = {"y": width, "w": width, "e": 1, "f": 1}
-    cells = {
-        "clk": clock(phases),
-        "load": ["1", "1"] + ["0"] * (phases - 2),
-        "push": each_edge(phases, "_", ["p%d" % turn for turn in range(edges)]),
-        "d": each_edge(phases, "_", ["d%d" % turn for turn in range(edges)]),
-    }
-    last = [""] * (phases - 1)
-    samples = {"y": last + ["s"], "w": last + ["t"], "e": last + ["u"], "f": last + ["v"]}
     goals = [Goal("alike", ["u == v", "u || s == t"]), Goal("empty", ["u"], [], "failed")]
-    design = "module m(%s);\n%s\nendmodule\n" % (ports(inputs, outputs), body)
-    return Run("memory queue", "%d of %d, %d edges" % (depth, width, edges), design, "m", inputs, outputs, cells, samples, goals)
+    outputs = {"y": width, "w": width, "e": 1, "f": 1}
+    return over_edges("memory queue", "%d of %d, %d edges" % (depth, width, edges), edges, {"push": 1, "d": width}, outputs, body, goals)
 
 
 def stages(width, more):
