@@ -1,7 +1,8 @@
 // Lists of segments of wires, the most significant first, as targets are written (IEEE 1800-2017, 10.3.2). Contracts see the
 // segments. A segment is a run of bits, so that a wire of 128 bits is one and not 128; cutting out a part goes from the least
 // significant segment up and so makes its list backwards, which is turned round at the end. Of the calls only `normal` unites
-// segments that adjoin; the others keep what was given.
+// segments that adjoin; the others keep what was given. Most targets are a whole wire or two, which stand in the value itself, so
+// that a design of many instances has no allocation for each of its nets.
 ghost use Rattle.std.specs.Prelude.{◌≡◌, ◌↔◌, ℕ, ◌+◌, ◌-◌, ◌<◌, ◌≤◌, ◌^◌, List, [], ◌∷◌, ◌++◌, length, take, drop, reverse, min, map, sum, IsTrue, IfOk, OnOk, OnErr};
 ghost use Rattle.lhs_alias.specs.Segs.{seg_bits, lhs_bits, IsSeg, AreSegs, Adjoin, IsUnited};
 ghost use Rattle.lhs_alias.specs.Lies.{LiesIn, LieIn};
@@ -9,7 +10,7 @@ ghost use Rattle.lhs_alias.specs.Pairs.{FallTo};
 
 use crate::bits::Bits;
 use crate::segs::Seg;
-use items::Items;
+use smallvec::SmallVec;
 use std::alloc::{AllocError, Global};
 use std::marker::Model;
 
@@ -17,8 +18,7 @@ use std::marker::Model;
 /// It keeps its allocator.
 #[derive(Drop)]
 pub struct Lhs {
-    alloc: Global,
-    segs: Items<Seg>,
+    segs: SmallVec<Seg, 2>,
 }
 
 impl Model for Lhs {
@@ -27,7 +27,7 @@ impl Model for Lhs {
 
     ghost Value = { List Seg };
 
-    ghost view = { λ lhs. lhs.segs };
+    ghost view = { λ lhs. lhs.segs.items };
 }
 
 impl Lhs {
@@ -36,19 +36,17 @@ impl Lhs {
         ensures { result ≡ [] }
     {
         Lhs {
-            alloc,
-            segs: Items::new(alloc),
+            segs: SmallVec::new(alloc),
         }
     }
 
-    /// Takes no memory.
+    /// Takes no memory, and gives the room back that is not used.
     pub fn from_vec(segs: Vec<Seg>) -> Lhs
         ensures { result ≡ segs.items }
     {
-        Lhs {
-            alloc: *segs.allocator(),
-            segs: Items::from_vec(segs),
-        }
+        let mut segs = SmallVec::from_vec(segs);
+        segs.shrink_to_fit();
+        Lhs { segs }
     }
 
     /// The segments, the most significant first.
@@ -61,7 +59,9 @@ impl Lhs {
     pub fn copy(&self) -> Result<Lhs, AllocError>
         ensures { IfOk result (λ copy. copy ≡ self.now) }
     {
-        Ok(Lhs::from_vec(self.segs().to_vec(self.alloc)?))
+        Ok(Lhs {
+            segs: SmallVec::from_slice(*self.segs.allocator(), self.segs())?,
+        })
     }
 
     /// The number of bits.
@@ -99,9 +99,9 @@ impl Lhs {
         ensures lies { IfOk result (λ both. (widths : List ℕ) →
             LieIn widths self.now → LieIn widths low.now → LieIn widths both) }
     {
-        let mut segs = self.segs().to_vec(self.alloc)?;
+        let mut segs = SmallVec::from_slice(*self.segs.allocator(), self.segs())?;
         segs.extend_from_slice(low.segs())?;
-        Ok(Lhs::from_vec(segs))
+        Ok(Lhs { segs })
     }
 
     /// `width` of the bits, from the bit `lo` on, which is counted from the least significant one.
@@ -112,7 +112,7 @@ impl Lhs {
         ensures segs { IfOk result AreSegs }
         ensures lies { IfOk result (λ slice. (widths : List ℕ) → LieIn widths self.now → LieIn widths slice) }
     {
-        let mut parts = cut_out(self.alloc, self.segs(), lo, width)?;
+        let mut parts = cut_out(*self.segs.allocator(), self.segs(), lo, width)?;
         parts.reverse();
         Ok(Lhs::from_vec(parts))
     }
@@ -126,7 +126,7 @@ impl Lhs {
         ensures united { IfOk result IsUnited }
         ensures lies { IfOk result (λ normal. (widths : List ℕ) → LieIn widths self.now → LieIn widths normal) }
     {
-        let mut united = Vec::new(self.alloc);
+        let mut united = Vec::new(*self.segs.allocator());
         for seg in self.segs() {
             put_below(&mut united, *seg)?;
         }

@@ -1,6 +1,6 @@
 /// A part of a wire: `width` bits from the place `lo` on. Wires are numbered from 0, and places
 /// are counted from the least significant bit, which has place 0.
-#[derive(Clone, Copy)]
+#[derive(Clone, Copy, Default)]
 pub struct Seg {
     pub wire: usize,
     pub lo: u8,

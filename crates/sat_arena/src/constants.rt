@@ -10,6 +10,9 @@ pub const MOST_WORDS: usize = 1 << 30;
 
 pub const MOST_STEPS: u32 = 1 << 31;
 
+/// With how many conflicts a search gives up that has no other bound, years from its beginning.
+pub const MOST_CONFLICTS: u64 = 1 << 40;
+
 /// Restarts: over how many conflicts a quick and a slow mean of the levels of new clauses go, by how many hundredths the quick one
 /// has to be of the slow one, and how many conflicts lie between two restarts at least (cadical: emagluefast, emaglueslow,
 /// restartmargin, restartint).
@@ -32,12 +35,16 @@ pub const FEW_LEVELS: u32 = 2;
 
 pub const SOME_LEVELS: u32 = 6;
 
-/// From how many bytes on the log is trimmed.
+/// From how many bytes on the log is trimmed, and with how many a block of it is full.
 pub const LEAST_LOG: usize = 4_000_000;
 
+pub const LOG_BLOCK: usize = 1 << 16;
+
 /// After how many conflicts the values that are tried first change, and how many more lie between two changes each time (cadical:
-/// rephaseint).
+/// rephaseint), and how many changes come before they are repeated.
 pub const REPHASE: u64 = 1_000;
+
+pub const PHASE_TURNS: u64 = 4;
 
 /// Scores in place of the order by the newest conflict: from how many variables on that conflicts walk over in the mean, below how
 /// many they end, over how many conflicts that mean goes, and how many there have to be (the present solver's).
@@ -48,6 +55,9 @@ pub const SHORT_WALK: u32 = 150;
 pub const WALKS: u64 = 500;
 
 pub const FEWEST_WALKS: u64 = 200;
+
+/// By which share each conflict counts more in the scores than the one before it (minisat: var-decay 0.95).
+pub const SCORE_SHARE: u64 = 20;
 
 /// The first search, before anything is simplified: how many conflicts it has, and how many clauses it looks at. (Measured: a
 /// search in clauses of which nothing was taken out is dear.)
@@ -79,6 +89,10 @@ pub const MOST_TRIES: usize = 16;
 pub const TRIED_LITERALS: usize = 20_000_000;
 
 pub const LEAST_TRIES: u64 = 16;
+
+/// How many gates near to a pair are looked at to decide it (measured: it spares Gray counters and products by rows work on pairs
+/// that differ).
+pub const PAIR_GATES: usize = 1_000;
 
 /// How many conflicts each way of a pair takes at most, how many pairs may be given up, and one more for how many ways that were
 /// refuted, and how many clauses are looked at for all of them (measured: fewer are too few for Gray counters and products by rows,

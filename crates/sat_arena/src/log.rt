@@ -6,6 +6,7 @@
 //! The bytes stand in blocks, each of whole steps. So where steps are left out, or written out for the judge, a block is let go as
 //! soon as it is read, and no second log stands beside the first.
 
+use crate::constants::LOG_BLOCK;
 use crate::words::{Lit, at, is_negated, is_set, narrow, set, var_of};
 use cnf::Dim;
 use refute_check::Step;
@@ -14,9 +15,6 @@ use std::mem;
 
 /// In how many groups of seven bits a word stands at most.
 const GROUPS: u32 = 5;
-
-/// With how many bytes a block is full.
-const BLOCK: usize = 1 << 16;
 
 /// Steps one behind the other, the first of which has this place in the log.
 struct Block {
@@ -224,7 +222,7 @@ impl Log {
     fn begin_block(&mut self) -> Result<(), AllocError> {
         let is_full = match self.blocks.last() {
             None => true,
-            Some(block) => block.bytes.len() >= BLOCK,
+            Some(block) => block.bytes.len() >= LOG_BLOCK,
         };
         if is_full {
             self.blocks.push(Block {

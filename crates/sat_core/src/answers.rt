@@ -11,9 +11,6 @@ use refute_check::{Checker, Log};
 use sat_engine::{Found, search_for};
 use std::alloc::{AllocError, Global};
 
-/// How many conflicts the engine has.
-const CONFLICTS: u64 = 1 << 40;
-
 /// Whether the literal is true. A variable that has no value is false.
 fn holds(values: &[bool], d: Dim) -> bool
     ensures { IsTrue result → slice_index_or values.now d.var false ≡ not d.negated }
@@ -71,7 +68,7 @@ fn judged(alloc: Global, cnf: &Cnf, log: Log) -> Result<Option<SatEnd>, AllocErr
 pub fn solve_by_engine(alloc: Global, cnf: &Cnf) -> Result<Option<SatEnd>, AllocError>
     ensures { IfOk result (λ end. IfSome end (IsRightEnd cnf.now None)) }
 {
-    match search_for(alloc, cnf, CONFLICTS)? {
+    match search_for(alloc, cnf)? {
         Found::Solution(values) => Ok(tried(cnf, values)),
         Found::Refutation(log) => judged(alloc, cnf, log),
         Found::GivenUp => Ok(None),

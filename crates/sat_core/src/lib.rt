@@ -6,4 +6,4 @@ mod solver;
 mod whole;
 
 pub use solver::{SatEnd, solve};
-pub use whole::{Stop, search_whole, solution};
+pub use whole::{Stop, search_whole};

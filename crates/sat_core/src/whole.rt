@@ -27,7 +27,7 @@ use sat_state::watch::{Pair, Watch};
 use std::alloc::{AllocError, Global};
 
 /// The values, where each variable has one.
-pub fn solution(alloc: Global, values: &[Option<bool>]) -> Result<Vec<bool>, AllocError>
+fn solution(alloc: Global, values: &[Option<bool>]) -> Result<Vec<bool>, AllocError>
     ensures { IfOk result (λ found. found.items ≡ map (λ o. unwrap_or o false) values.now) }
 {
     values.iter().map(|o| o.unwrap_or(false)).collect(alloc)

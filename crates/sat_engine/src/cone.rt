@@ -2,12 +2,10 @@
 //! Whether two literals are equal is mostly told by what lies near to them, so that nothing else is decided for a pair.
 
 use crate::ranks::Ranks;
+use sat_arena::constants::PAIR_GATES;
 use sat_arena::words::{Lit, NONE, at, is_set, lit_of, narrow, put, var_of};
 use sat_cdcl::engine::Engine;
 use std::alloc::AllocError;
-
-/// How many gates near to a pair are looked at (measured: it spares Gray counters and products by rows work on pairs that differ).
-const GATES: usize = 1_000;
 
 /// Variables in the order in which they are decided.
 pub struct Cone {
@@ -62,7 +60,7 @@ impl Cone {
         self.stamp = self.stamp.wrapping_add(1);
         self.add(var_of(one))?;
         self.add(var_of(other))?;
-        for k in 0..GATES {
+        for k in 0..PAIR_GATES {
             if k >= self.vars.len() {
                 break;
             }

@@ -7,7 +7,7 @@ use crate::tries::{given, likely_pairs};
 use cnf::{Cnf, Dim};
 use refute_check::Log;
 use sat_arena::constants::{
-    ELIMINATION, FIRST_CONFLICTS, FIRST_WORK, MOST_CLAUSES, MOST_VARIABLES,
+    ELIMINATION, FIRST_CONFLICTS, FIRST_WORK, MOST_CLAUSES, MOST_CONFLICTS, MOST_VARIABLES,
 };
 use sat_arena::log;
 use sat_arena::words::{Lit, at, lit_of, narrow};
@@ -111,7 +111,7 @@ fn simplify(engine: &mut Engine) -> Result<(), AllocError> {
 }
 
 // Loads the clauses and searches: shortly at first, and then in simpler clauses.
-fn run(engine: &mut Engine, cnf: &Cnf, most: u64) -> Result<End, AllocError> {
+fn run(engine: &mut Engine, cnf: &Cnf) -> Result<End, AllocError> {
     if !load(engine, cnf)? {
         return Ok(End::GivenUp);
     }
@@ -127,16 +127,16 @@ fn run(engine: &mut Engine, cnf: &Cnf, most: u64) -> Result<End, AllocError> {
     if engine.log.end > 0 {
         return Ok(End::Refuted);
     }
-    engine.search(most, u64::MAX)
+    engine.search(MOST_CONFLICTS, u64::MAX)
 }
 
-/// Searches for a solution of the clauses, or for a log that refutes them, up to so many conflicts.
-pub fn search_for(alloc: Global, cnf: &Cnf, most: u64) -> Result<Found, AllocError> {
+/// Searches for a solution of the clauses, or for a log that refutes them.
+pub fn search_for(alloc: Global, cnf: &Cnf) -> Result<Found, AllocError> {
     if cnf.vars > MOST_VARIABLES || cnf.clauses.len() > MOST_CLAUSES {
         return Ok(Found::GivenUp);
     }
     let mut engine = Engine::new(alloc, cnf.vars, cnf.clauses.len())?;
-    match run(&mut engine, cnf, most)? {
+    match run(&mut engine, cnf)? {
         End::Solved => Ok(Found::Solution(engine.solution()?)),
         End::Refuted => {
             let mut log = mem::replace(&mut engine.log, log::Log::new(alloc, 0));

@@ -1,12 +1,9 @@
 //! Which value a variable is decided to have: the one that it had last. By turns all of them are set to one value, or to those of the
 //! longest trail that had no conflict (as in cadical, without its local search and its second mode).
 
-use sat_arena::constants::REPHASE;
+use sat_arena::constants::{PHASE_TURNS, REPHASE};
 use sat_arena::words::{Lit, at, is_negated, is_set, set, var_of};
 use std::alloc::{AllocError, Global};
-
-/// How many turns come before they are repeated.
-const TURNS: u64 = 4;
 
 /// The values that variables are decided to have.
 pub struct Phases {
@@ -82,7 +79,7 @@ impl Phases {
 
     /// Takes the next turn: the best values, false, the best ones, true, and so on.
     pub fn turn(&mut self, conflicts: u64) {
-        match self.turns % TURNS {
+        match self.turns % PHASE_TURNS {
             1 => self.set_all(false),
             3 => self.set_all(true),
             _ => self.take_best(),

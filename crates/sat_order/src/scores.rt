@@ -5,14 +5,12 @@
 //!
 //! The variables stand in a heap (the one at place k is no less than those at 2k + 1 and 2k + 2).
 
+use sat_arena::constants::SCORE_SHARE;
 use sat_arena::words::{NONE, at, narrow, put};
 use std::alloc::{AllocError, Global};
 
-/// What the first conflict counts, the share by which each counts more than the one before it, and where all scores are made smaller,
-/// by how much (minisat: var-decay 0.95).
+/// What the first conflict counts, and where all scores are made smaller, by how much.
 const FIRST: u64 = 1 << 20;
-
-const SHARE: u64 = 20;
 
 const MOST: u64 = 1 << 56;
 
@@ -163,7 +161,7 @@ impl Scores {
 
     /// Lets the next conflict count more.
     pub fn decay(&mut self) {
-        self.step = self.step.saturating_add(self.step / SHARE);
+        self.step = self.step.saturating_add(self.step / SCORE_SHARE);
         if self.step > MOST {
             self.step /= SHRINK;
             for score in self.scores.iter_mut() {
