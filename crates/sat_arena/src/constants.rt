@@ -13,6 +13,10 @@ pub const MOST_STEPS: u32 = 1 << 31;
 /// With how many conflicts a search gives up that has no other bound, years from its beginning.
 pub const MOST_CONFLICTS: u64 = 1 << 40;
 
+/// Up to how many literals a clause has for which it is not written down where another literal to watch was found last (measured:
+/// in these it costs more than it spares).
+pub const SHORT_CLAUSE: u32 = 16;
+
 /// Restarts: over how many conflicts a quick and a slow mean of the levels of new clauses go, by how many hundredths the quick one
 /// has to be of the slow one, and how many conflicts lie between two restarts at least (cadical: emagluefast, emaglueslow,
 /// restartmargin, restartint).

@@ -33,10 +33,12 @@ impl Drop for Block {
     }
 }
 
-/// A step as it is read.
+/// A step as it is read, and as the judge takes it. The room is used again for the next step.
 struct Reading {
     clause: Vec<Lit>,
     hints: Vec<u32>,
+    dims: Vec<Dim>,
+    places: Vec<usize>,
 }
 
 impl Drop for Reading {
@@ -44,6 +46,8 @@ impl Drop for Reading {
         let Reading {
             clause: _,
             hints: _,
+            dims: _,
+            places: _,
         } = self;
     }
 }
@@ -190,18 +194,18 @@ impl Reading {
     }
 
     // The step as the judge takes it.
-    fn written(&self, alloc: Global) -> Result<Step, AllocError> {
-        let mut clause: Vec<Dim> = Vec::with_capacity(alloc, self.clause.len())?;
+    fn written(&mut self, alloc: Global) -> Result<Step, AllocError> {
+        self.dims.clear();
+        self.places.clear();
         for lit in self.clause.iter() {
             let var = var_of(*lit);
             let negated = is_negated(*lit);
-            clause.push(Dim { var, negated })?;
+            self.dims.push(Dim { var, negated })?;
         }
-        let mut hints: Vec<usize> = Vec::with_capacity(alloc, self.hints.len())?;
         for hint in self.hints.iter() {
-            hints.push(*hint as usize)?;
+            self.places.push(*hint as usize)?;
         }
-        Step::of(alloc, clause.as_slice(), hints.as_slice())
+        Step::of(alloc, self.dims.as_slice(), self.places.as_slice())
     }
 }
 
@@ -373,5 +377,7 @@ fn new_reading(alloc: Global) -> Reading {
     Reading {
         clause: Vec::new(alloc),
         hints: Vec::new(alloc),
+        dims: Vec::new(alloc),
+        places: Vec::new(alloc),
     }
 }

@@ -4,6 +4,7 @@
 //! done. A clause of two literals is told from its watches alone.
 
 use crate::arena::{FIRST, HEADER, LAST, SIZE};
+use crate::constants::SHORT_CLAUSE;
 use crate::trail::{Trail, Value, is_false, is_true, value_of};
 use crate::words::{Lit, at, narrow, put};
 use std::alloc::{AllocError, Global};
@@ -72,13 +73,17 @@ fn free_place(values: &[Value], words: &[u32], from: usize, to: usize) -> Option
     None
 }
 
-// The place among all words of a literal of the clause that is not watched and not false. It is looked for from where one was
-// found last, and then before that (Gent 2013).
+// The place among all words of a literal of the clause that is not watched and not false. In a long clause it is looked for from
+// where one was found last, and then before that (Gent 2013).
 #[inline]
 fn replacement(values: &[Value], words: &mut [u32], clause: u32) -> Option<usize> {
     let header = clause as usize;
     let front = header + HEADER;
-    let end = front + at(words, header + SIZE) as usize;
+    let size = at(words, header + SIZE);
+    let end = front + size as usize;
+    if size <= SHORT_CLAUSE {
+        return free_place(values, words, front + FIRST as usize, end);
+    }
     let last = front + at(words, header + LAST) as usize;
     let mut found = free_place(values, words, last, end);
     if found.is_none() {

@@ -56,6 +56,15 @@ impl Drop for Sides {
     }
 }
 
+impl Sides {
+    // Puts the clauses in their places.
+    fn put_back(self, uses: &mut Uses, var: u32) {
+        let Sides { positive, negative } = self;
+        uses.put_back(lit_of(var, true), positive);
+        uses.put_back(lit_of(var, false), negative);
+    }
+}
+
 // How many literals clauses have together.
 fn literal_count(engine: &Engine, clauses: &[u32]) -> usize {
     let mut count: usize = 0;
@@ -66,17 +75,25 @@ fn literal_count(engine: &Engine, clauses: &[u32]) -> usize {
 }
 
 impl Resolvents {
-    // None yet, of clauses of two sides, with so many clauses more than there were.
-    fn new(alloc: Global, engine: &Engine, sides: &Sides, more: usize) -> Resolvents {
-        let clauses = sides.positive.len().saturating_add(sides.negative.len());
-        let positive = literal_count(engine, &sides.positive);
-        let negative = literal_count(engine, &sides.negative);
+    // None yet.
+    fn new(alloc: Global) -> Resolvents {
         Resolvents {
             literals: Vec::new(alloc),
             found: Vec::new(alloc),
-            clauses: clauses.saturating_add(more),
-            room: positive.saturating_add(negative),
+            clauses: 0,
+            room: 0,
         }
+    }
+
+    // None yet, of clauses of two sides, with so many clauses more than there were.
+    fn begin(&mut self, engine: &Engine, sides: &Sides, more: usize) {
+        let clauses = sides.positive.len().saturating_add(sides.negative.len());
+        let positive = literal_count(engine, &sides.positive);
+        let negative = literal_count(engine, &sides.negative);
+        self.literals.clear();
+        self.found.clear();
+        self.clauses = clauses.saturating_add(more);
+        self.room = positive.saturating_add(negative);
     }
 
     // Puts the resolvent of a clause, whose literals are marked, and another behind the others, if it does not hold always. Answers
@@ -209,34 +226,46 @@ fn take_out(
     Ok(())
 }
 
-// The clauses of a variable.
-fn clauses_of(engine: &Engine, uses: &mut Uses, var: u32) -> Result<Sides, AllocError> {
-    let positive = uses.clauses(engine, lit_of(var, true))?;
-    let negative = uses.clauses(engine, lit_of(var, false))?;
-    Ok(Sides { positive, negative })
+// Finds the resolvents of the clauses of a variable. Answers whether there is room for them.
+fn resolve_all(
+    engine: &Engine,
+    uses: &mut Uses,
+    resolvents: &mut Resolvents,
+    var: u32,
+    sides: &Sides,
+) -> Result<bool, AllocError> {
+    if sides.positive.len() > MOST_USES || sides.negative.len() > MOST_USES {
+        return Ok(false);
+    }
+    for first in sides.positive.as_slice() {
+        let others = &sides.negative;
+        if !resolvents.add_all(engine, uses, var as usize, *first, others)? {
+            return Ok(false);
+        }
+    }
+    Ok(true)
 }
 
 // Takes a variable out of the clauses, if that is fit.
 fn try_variable(
     engine: &mut Engine,
     uses: &mut Uses,
+    resolvents: &mut Resolvents,
     var: u32,
     more: usize,
 ) -> Result<(), AllocError> {
-    let sides = clauses_of(engine, uses, var)?;
-    if sides.positive.len() > MOST_USES || sides.negative.len() > MOST_USES {
-        return Ok(());
+    let sides = Sides {
+        positive: uses.take(engine, lit_of(var, true)),
+        negative: uses.take(engine, lit_of(var, false)),
+    };
+    resolvents.begin(engine, &sides, more);
+    if resolve_all(engine, uses, resolvents, var, &sides)? {
+        take_out(engine, uses, var, &sides)?;
+        resolvents.write(engine, uses)?;
+        return settle(engine, uses);
     }
-    let mut resolvents = Resolvents::new(engine.alloc, engine, &sides, more);
-    for first in sides.positive.as_slice() {
-        let others = &sides.negative;
-        if !resolvents.add_all(engine, uses, var as usize, *first, others)? {
-            return Ok(());
-        }
-    }
-    take_out(engine, uses, var, &sides)?;
-    resolvents.write(engine, uses)?;
-    settle(engine, uses)
+    sides.put_back(uses, var);
+    Ok(())
 }
 
 // The variables that are to be tried, those with the fewest pairs of clauses first.
@@ -260,9 +289,10 @@ fn candidates(engine: &Engine, uses: &mut Uses) -> Result<Vec<(usize, u32)>, All
 fn pass(engine: &mut Engine, uses: &mut Uses, more: usize) -> Result<usize, AllocError> {
     let before = engine.left_out;
     let candidates = candidates(engine, uses)?;
+    let mut resolvents = Resolvents::new(engine.alloc);
     for (_, var) in candidates.as_slice() {
         if uses.work > 0 && engine.log.end == 0 && engine.is_open(*var) {
-            try_variable(engine, uses, *var, more)?;
+            try_variable(engine, uses, &mut resolvents, *var, more)?;
         }
     }
     subsume_all(engine, uses)?;

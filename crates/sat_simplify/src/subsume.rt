@@ -70,11 +70,10 @@ pub fn strengthen(
 
 // Leaves out a literal that is fixed: clauses in which it stands hold, and its negation goes of others.
 fn settle_one(engine: &mut Engine, uses: &mut Uses, lit: Lit) -> Result<(), AllocError> {
-    let holding = uses.clauses(engine, lit)?;
-    for clause in holding.as_slice() {
-        engine.arena.discard(*clause);
+    for clause in uses.take(engine, lit) {
+        engine.arena.discard(clause);
     }
-    let shorter = uses.clauses(engine, lit ^ 1)?;
+    let shorter = uses.take(engine, lit ^ 1);
     for clause in shorter.as_slice() {
         if engine.log.end == 0 {
             let unit = engine.trail.unit(var_of(lit));
@@ -132,8 +131,9 @@ fn look_through(
 
 // Tries a clause, whose literals are marked, on the clauses of one of its literals or of the negation of that.
 fn try_list(engine: &mut Engine, uses: &mut Uses, clause: u32, lit: Lit) -> Result<(), AllocError> {
-    let list = uses.clauses(engine, lit)?;
+    let list = uses.take(engine, lit);
     let shorter = look_through(engine, uses, clause, &list)?;
+    uses.put_back(lit, list);
     for k in 0..shorter.len() {
         let (other, flipped) = shorter[k];
         engine.notes.hints.clear();
@@ -159,15 +159,15 @@ fn rarest(uses: &Uses, literals: &[Lit]) -> (Lit, usize) {
 
 // Tries a clause on those that it may subsume or make shorter.
 fn subsume(engine: &mut Engine, uses: &mut Uses, clause: u32) -> Result<(), AllocError> {
-    let literals = Vec::from_slice(engine.alloc, engine.arena.literals(clause))?;
-    let (lit, count) = rarest(uses, &literals);
+    let literals = engine.arena.literals(clause);
+    let (lit, count) = rarest(uses, literals);
     if count > MOST_SUBSUMED || literals.len() > SUBSUMING {
         return Ok(());
     }
-    uses.mark(&literals, true);
+    uses.mark(literals, true);
     try_list(engine, uses, clause, lit)?;
     try_list(engine, uses, clause, lit ^ 1)?;
-    uses.mark(&literals, false);
+    uses.mark(engine.arena.literals(clause), false);
     settle(engine, uses)
 }
 

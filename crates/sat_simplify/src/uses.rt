@@ -1,9 +1,10 @@
 //! In which given clauses each literal stands, while variables are eliminated.
 
 use sat_arena::arena::Status;
-use sat_arena::words::{Lit, is_set, set, var_of};
+use sat_arena::words::{Lit, put, set, var_of};
 use sat_cdcl::engine::Engine;
 use std::alloc::{AllocError, Global};
+use std::mem;
 
 /// The clauses of literals, and what is still to be tried.
 pub struct Uses {
@@ -102,20 +103,30 @@ impl Uses {
         Ok(())
     }
 
-    /// The clauses of a literal that are no garbage. The others are forgotten.
-    pub fn clauses(&mut self, engine: &Engine, lit: Lit) -> Result<Vec<u32>, AllocError> {
-        let mut found = Vec::new(engine.alloc);
-        if let Some(list) = self.lists.get_mut(lit as usize) {
-            for clause in list.iter() {
-                let status = engine.arena.status(*clause);
-                if !status.is_garbage {
-                    found.push(*clause)?;
-                }
+    /// Takes out the clauses of a literal that are no garbage. The others are forgotten.
+    pub fn take(&mut self, engine: &Engine, lit: Lit) -> Vec<u32> {
+        let mut list = match self.lists.get_mut(lit as usize) {
+            Some(list) => mem::replace(list, Vec::new(engine.alloc)),
+            None => Vec::new(engine.alloc),
+        };
+        let mut kept: usize = 0;
+        for k in 0..list.len() {
+            let clause = list[k];
+            let status = engine.arena.status(clause);
+            if !status.is_garbage {
+                put(&mut list, kept, clause);
+                kept = kept.wrapping_add(1);
             }
-            list.clear();
-            list.extend_from_slice(&found)?;
         }
-        Ok(found)
+        list.truncate(kept);
+        list
+    }
+
+    /// Puts the clauses of a literal in their place.
+    pub fn put_back(&mut self, lit: Lit, list: Vec<u32>) {
+        if let Some(place) = self.lists.get_mut(lit as usize) {
+            *place = list;
+        }
     }
 
     /// Whether there is no work left.
