@@ -25,6 +25,12 @@ JOINED = (
     "module c(inout w, input e, d); assign w = e ? d : 1'bz; endmodule "
     "module m(input e, f, d, g, inout b); c u(.w(b), .e(e), .d(d)); c v(.w(b), .e(f), .d(g)); endmodule"
 )
+COUNTER = (
+    "module m(input logic clk, rst, output logic [3:0] q); always_ff @(posedge clk) "
+    "if (rst) q <= 4'd0; else if (q < 4'd9) q <= q + 4'd1; else q <= 4'd0; endmodule"
+)
+SUMS = "module m(input logic [4:0] a, b, c, output logic [4:0] x, y); assign x = (a + b) + c; assign y = a + (b + c); endmodule"
+DUMP = "$timescale 1 ns $end $scope module top $end $var wire 1 ! a $end $upscope $end $enddefinitions $end #0 0! #1 1! #2 x!"
 GATE_TABLE = "in,a,a\nin,b,b\nout,y,s\n"
 PROVE, SIM = ["prove", "d.sv", "t.csv", "g.txt"], ["sim", "d.sv", "t.csv", "v.csv"]
 
@@ -48,6 +54,16 @@ RUNS = {
         PROVE + ["--budget", "1"],
         files("module m(input logic [7:0] a, b, c, output logic [7:0] y); assign y = a * (b + c); endmodule",
               "in,a,a\nin,b,b\nin,c,c\nout,y,s\n", "goal g { claim s == a * b + a * c; }")),
+    "a proof over a sum that is regrouped": (
+        PROVE, files(SUMS, "in,a,a\nin,b,b\nin,c,c\nout,x,s\nout,y,t\n", "goal r { claim s == t; }")),
+    "a certificate": (["cert", *PROVE[1:], "eq"], files(GATE, GATE_TABLE, "goal eq { claim s == (a & b); }")),
+    "a certificate that is checked": (["check", "c.txt"], {"c.txt": "p cnf 1 2\n1 0\n-1 0\n3 0 1 2 0\n"}),
+    "an invariant, and one that is none": (
+        ["induct", "d.sv", "r.csv", "p.csv", "g.txt"],
+        files(COUNTER, goals="goal digit { claim s <= 4'd9; } goal low { claim s < 4'd9; }",
+              **{"r.csv": "in,clk,0,~\nin,rst,1,1\nout,q,,s\n", "p.csv": "in,clk,0,~\nin,rst,r,_\nout,q,,s\n"})),
+    "a simulation as waveforms": (SIM + ["--vcd"], files(REGISTER, "in,clk,0,~\nin,a,3,\nin,b,4,\nout,y,,s\n")),
+    "the changes of a signal": (["wave", "w.vcd", "top.a"], {"w.vcd": DUMP}),
     "a simulation with a free index": (SIM, files(WRITE, "out,y,s\n")),
     "a simulation with a constant": (SIM, files(WRITE, "in,i,9\nout,y,s\n")),
     "a simulation with a value": (SIM, files(WRITE, "in,i,i\nout,y,s\n", values="i,7\n")),
