@@ -145,6 +145,8 @@ def summary(rows, title):
     for other in ("minisat", "cadical"):
         ratios = [max(row["solver"][0], floor) / max(row[other][0], floor) for row in both if row[other][0] is not None]
         print("time to %s's: %.2f, mean of %d files" % (other, mean(ratios), len(ratios)))
+    ratios = [max(row["solver"][0], floor) / row["best"] for row in both]
+    print("time to the better of both: %.2f, mean of %d files" % (mean(ratios), len(ratios)))
     ratios = [row["solver"][1] / row["minisat"][1] for row in rows]
     print("memory to minisat's: %.2f in the mean, %.2f at the most" % (mean(ratios), max(ratios, default=0)))
     worst = sorted(((row["solver"][0] / row["best"], row["name"]) for row in both if row["best"] > COUNTED), reverse=True)

@@ -2,8 +2,8 @@
 
 Prints processor seconds (with those of the system): the median of three runs, or one run where it takes over ten seconds. For minisat,
 cadical and abc the making of gates and clauses is not counted, for yosys and svtv all is. The ratio is svtv's time to the least of the
-others. Behind the table stand the geometric mean of the ratios and the goals that fall short: those that take over twice the least of
-the others where that is over a second, and over half a second more where it is less.
+others. Behind the table stand the geometric means of the ratios, the worst ones, and the goals that fall short: those that take over
+twice the least of the others where that is over a second, and over half a second more where it is less.
 
 Words choose the runs whose name begins with one of them; none: all. From the environment: SVTV is the program, LIMIT the processor
 seconds of one run (60), RUNS how often each is run (3), MEMORY the bytes that one may take (8 GiB), and CLAUSES the program that
@@ -172,10 +172,12 @@ def judge(folder, run, goal):
 def summary(times):
     """The mean of the ratios, and what falls short."""
     both = {key: (ours, best) for key, (ours, best) in times.items() if ours and best}
-    for told, bound in (("all goals", 0), ("over a tenth of a second elsewhere", 0.1), ("over a second elsewhere", 1)):
+    for told, bound in (("all goals", 0), ("over 0.05 seconds elsewhere", 0.05), ("over a second elsewhere", 1)):
         ratios = [math.log(ours / best) for ours, best in both.values() if best > bound]
         if ratios:
             print("geometric mean of %d ratios (%s): %.2f" % (len(ratios), told, math.exp(statistics.mean(ratios))))
+    worst = sorted(((ours / best, key) for key, (ours, best) in both.items() if best > 0.2), reverse=True)
+    print("worst ratios over 0.2 seconds elsewhere: " + "; ".join("%.2f (%s)" % each for each in worst[:5]))
     for key, (ours, best) in times.items():
         if best and short(ours, best):
             print("falls short: %s: %s against %.3f" % (key, "none" if ours is None else "%.3f" % ours, best))
