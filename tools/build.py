@@ -107,7 +107,7 @@ class Kit:
     def __init__(self):
         found = shutil.which("rt")
         if found is None:
-            raise Refused("there is no command rt on the path: the Rattle kit is needed (README.md, Building and running)")
+            raise Refused("there is no command rt on the path: the Rattle kit is needed (README.md, Try it)")
         self.top = Path(found).resolve().parent.parent
         self.name = (self.top / "KIT-ID").read_text() + (self.top / "WHAT").read_text()
 

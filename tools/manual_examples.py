@@ -1,9 +1,9 @@
 #!/usr/bin/env python3
 """Runs the commands that documents show behind `$`, and compares what they print with what is shown: manual_examples.py [DOCUMENT ..]
 
-Without words these are docs/MANUAL.md and README.md. SVTV names the program; without it `./svtv` is run, which may build it first. The
-commands of a document are run one after the other, in a folder that looks like the repository's and is removed. Commands of svtv-goals
-are passed over where GNU parallel is not installed.
+Without words these are docs/MANUAL.md and README.md. SVTV names the program, for `./svtv` and `./svtv-try`; without it `./svtv` is run,
+which may build it first. The commands of a document are run one after the other, in a folder that looks like the repository's and is
+removed. Commands of svtv-goals are passed over where GNU parallel is not installed.
 """
 import os
 import re
@@ -45,9 +45,10 @@ def main(names):
         with tempfile.TemporaryDirectory() as room:
             for it in ("examples", "docs", "svtv-goals"):
                 os.symlink(TOP / it, f"{room}/{it}")
-            script = Path(room, "svtv")
-            script.write_text(f'#!/bin/sh\nexec "{program}" "$@"\n')
-            script.chmod(0o755)
+            for it in ("svtv", "svtv-try"):
+                script = Path(room, it)
+                script.write_text(f'#!/bin/sh\nexec "{program}" "$@"\n')
+                script.chmod(0o755)
             found, count = differences(Path(TOP, name), room)
         print(*found, f"{name}: {count} commands, {len(found)} differ", sep="\n")
         bad += len(found)
