@@ -5,7 +5,7 @@ Use: try_edits.py CRATE LIBS EDIT..    at the top of the repository; LIBS is a f
          file of crates/CRATE/must-fail, .edit or .md. Each is tried over what the ones before it proved.
      try_edits.py --turn N [LIBS]      N of the edits that `rt ci` does not try (must-fail/*.md of all crates), as the commit says that is
          checked out, so that each commit has its own; over what `rt ci` has left in crates/*/out/rlib, and as many at a time as there are
-         processors. Before that it looks whether every .md applies; with N = 0 that is all.
+         processors. Before that it looks whether every .md applies; with N = 0, as in .ci/run, that is all.
 
 The status is 1 where an edit is not refused or does not apply. What it says of a contract is in the goal that is printed: it has to be
 one of the edited function's own contract, and no name that a proof file lacks.
@@ -92,8 +92,9 @@ def take_turn(room, count, libs):
         os.mkdir(libs)
         for rlib in glob.glob("crates/*/out/rlib/*.rlib"):
             os.symlink(os.path.abspath(rlib), f"{libs}/{os.path.basename(rlib)}")
-    turn = in_turn(count, edits)
-    print(*lost, f"of {len(edits)} must-fail edits that rt ci does not try, {len(turn)} are tried", sep="\n", flush=True)
+    turn = in_turn(count, edits) if count else []
+    apply = f"of {len(edits)} must-fail edits that rt ci does not try, {len(edits) - len(lost)} apply"
+    print(*lost, f"{apply}, and {len(turn)} are tried", sep="\n", flush=True)
     with ThreadPoolExecutor(len(os.sched_getaffinity(0))) as pool:
         refused = list(pool.map(lambda at: tried(f"{room}/{at}", turn[at], libs), range(len(turn))))
     return not lost and all(refused)
