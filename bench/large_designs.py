@@ -1,10 +1,10 @@
-"""Designs that are legal and large: what each takes, by a program that is given.
+"""Designs and waveforms that are legal and large: what each takes, by a program that is given.
 
 Use: SVTV=PROGRAM python3 bench/large_designs.py [NAME ..]
 
 Each design is within every bound of the language. A line is printed for each: its name, the processor seconds and megabytes of
 one run, and how it ended. Without a name all are run, one after the other, each with a limit of LIMIT processor seconds (600) and
-MEMORY bytes (22 GiB).
+MEMORY bytes (22 GiB). The run is `sim` of the design, but for those that give words of their own.
 """
 
 import os
@@ -78,7 +78,7 @@ def long_names():
 
 
 def shared_parameters():
-    """Instances that are given one parameter of 64 KB, as many as there may be."""
+    """60,000 instances that are given one parameter of 80 KB."""
     value = "7"
     for count in (50, 50, 8):
         value = "(%s)" % " + ".join([value] * count)
@@ -91,13 +91,35 @@ def many_files():
     return "`include \"e.sv\"\n" * 100 + "module m(input logic a);\nendmodule\n", "out,a,s\n"
 
 
-DESIGNS = [looping_instances, nested_generates, large_modules, netlist, turns_over_conditions, turns_of_statements, long_names, shared_parameters, many_files]
+def changing_wires():
+    """8,180 wires of 128 bits, all of which change in each of 64 phases."""
+    return ("module m(input logic a);\nfor (genvar i = 0; i < 2; i++) begin : x for (genvar j = 0; j < 4090; j++) begin : y wire [127:0] w; assign w = {128{a}}; end end\nendmodule\n",
+            "in,a,0%s\nout,x[0].y[0].w,s%s\n" % (",~" * 63, "," * 63))
+
+
+def changing_wires_dumped():
+    """The waveform of the same, of 70 MB."""
+    return *changing_wires(), "sim", "d.sv", "t.csv", "v.csv", "--vcd"
+
+
+def read_dump():
+    """The changes of one signal of a dump of 15 MB: 8,180 wires of 128 bits that change at each of 14 times."""
+    codes = [chr(33 + n % 94) + chr(33 + n // 94) for n in range(8180)]
+    text = "$scope module top $end\n" + "".join("$var wire 128 %s w%d $end\n" % (code, n) for n, code in enumerate(codes)) + "$upscope $end\n$enddefinitions $end\n"
+    for time_of in range(14):
+        text += "#%d\n" % time_of + "".join("b%s %s\n" % (str(time_of % 2) * 128, code) for code in codes)
+    return text, "", "wave", "w.vcd", "top.w0"
+
+
+DESIGNS = [looping_instances, nested_generates, large_modules, netlist, turns_over_conditions, turns_of_statements, long_names, shared_parameters, many_files,
+           changing_wires, changing_wires_dumped, read_dump]
 
 
 def run(program, design):
-    text, table = design()
+    text, table, *words = design()
+    words = words or ["sim", "d.sv", "t.csv", "v.csv"]
     with tempfile.TemporaryDirectory() as folder:
-        for name, content in [("d.sv", text), ("t.csv", table), ("v.csv", ""), ("e.sv", "/*%s*/\n" % ("-" * 60) * (16777216 // 65))]:
+        for name, content in [(words[1], text), ("t.csv", table), ("v.csv", ""), ("e.sv", "/*%s*/\n" % ("-" * 60) * (16777216 // 65))]:
             with open(os.path.join(folder, name), "w") as it:
                 it.write(content)
 
@@ -106,7 +128,7 @@ def run(program, design):
             resource.setrlimit(resource.RLIMIT_AS, (MEMORY, MEMORY))
 
         begun = time.time()
-        child = subprocess.Popen([program, "sim", "d.sv", "t.csv", "v.csv"], cwd=folder, stdout=subprocess.PIPE, stderr=subprocess.STDOUT, preexec_fn=bound)
+        child = subprocess.Popen([program, *words], cwd=folder, stdout=subprocess.PIPE, stderr=subprocess.STDOUT, preexec_fn=bound)
         said = child.stdout.read().decode(errors="replace").strip().splitlines()
         _, status, used = os.wait4(child.pid, 0)
         child.returncode = status
