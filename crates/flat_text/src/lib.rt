@@ -4,4 +4,4 @@
 
 mod lines;
 
-pub use lines::{binary_name, push_drive, push_join, push_line, push_wire, unary_name};
+pub use lines::{binary_name, push_drive, push_join, push_line, push_value, push_wire, unary_name};

@@ -15,8 +15,8 @@ use std::alloc::AllocError;
 use sv_outside::Signal;
 use svex_shape::{Bin, Node, Shape, Un, VarName};
 
-// A value: its width and its bits.
-fn push_value(text: &mut Vec<u8>, value: &Four) -> Result<(), AllocError>
+/// A value: its width and its bits.
+pub fn push_value(text: &mut Vec<u8>, value: &Four) -> Result<(), AllocError>
     ensures { OnOk result (text.new.items ≡ text.old.items ++ value_text value.now) }
 {
     let mut buffer = Buffer::new();

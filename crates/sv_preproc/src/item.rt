@@ -7,7 +7,7 @@ ghost use Rattle.sv_preproc.specs.Seen.{shown};
 
 use crate::line::line_rest;
 use crate::role::{Role, may_name, role_of};
-use sv_outside::{Kind, Place, Token};
+use sv_outside::{Kind, Place, Token, refusals};
 use sv_token::Lined;
 
 /// What stands at the front, and what stands behind it.
@@ -74,13 +74,13 @@ fn define_item<'a>(directive: &'a Lined, after: &'a [Lined]) -> Item<'a>
     ensures { shown result ≡ spec.define_item directive.now after.now }
 {
     let Some((name, behind)) = after.split_first() else {
-        return Item::Broken(2, directive.token.place);
+        return Item::Broken(refusals::BAD_TOKEN, directive.token.place);
     };
     if !is_macro_name(directive, name) {
-        return Item::Broken(2, directive.token.place);
+        return Item::Broken(refusals::BAD_TOKEN, directive.token.place);
     }
     match arguments(&name.token, behind) {
-        Some(place) => Item::Broken(25, place),
+        Some(place) => Item::Broken(refusals::OUT_OF_SCOPE, place),
         None => Item::Defined(&name.token, directive.line, behind),
     }
 }
@@ -90,7 +90,7 @@ fn undef_item<'a>(directive: &'a Lined, after: &'a [Lined]) -> Item<'a>
 {
     match after.split_first() {
         Some((name, behind)) if is_word(&name.token) => Item::Forgotten(&name.token, behind),
-        _ => Item::Broken(2, directive.token.place),
+        _ => Item::Broken(refusals::BAD_TOKEN, directive.token.place),
     }
 }
 
@@ -99,7 +99,7 @@ fn open_item<'a>(wanted: bool, directive: &'a Lined, after: &'a [Lined]) -> Item
 {
     match after.split_first() {
         Some((name, behind)) if is_word(&name.token) => Item::Opened(wanted, &name.token, behind),
-        _ => Item::Broken(2, directive.token.place),
+        _ => Item::Broken(refusals::BAD_TOKEN, directive.token.place),
     }
 }
 
@@ -110,7 +110,7 @@ fn include_item<'a>(directive: &'a Lined, after: &'a [Lined]) -> Item<'a>
         Some((name, behind)) if is_quoted(&name.token) => {
             Item::Included(&directive.token, &name.token, behind)
         }
-        _ => Item::Broken(2, directive.token.place),
+        _ => Item::Broken(refusals::BAD_TOKEN, directive.token.place),
     }
 }
 
@@ -124,7 +124,7 @@ pub fn item_at<'a>(live: bool, first: &'a Lined, after: &'a [Lined]) -> Item<'a>
         Role::Define if live => define_item(first, after),
         Role::Undef if live => undef_item(first, after),
         Role::Include if live => include_item(first, after),
-        Role::Continued => Item::Broken(2, first.token.place),
+        Role::Continued => Item::Broken(refusals::BAD_TOKEN, first.token.place),
         Role::Ifdef => open_item(true, first, after),
         Role::Ifndef => open_item(false, first, after),
         Role::Elsif => Item::Ended,

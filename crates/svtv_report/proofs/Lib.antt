@@ -1,4 +1,3 @@
-pub mod Bits
 pub mod Sayings
 pub mod Lines
 pub mod Words

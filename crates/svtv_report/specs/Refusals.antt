@@ -4,7 +4,7 @@ use Rattle.sv_outside.specs.declared.refusal.Refusal.{Refusal}
 use Rattle.sv_outside.specs.declared.refusal.Place.{Place}
 use Rattle.svtv_report.specs.Texts.{Text, line_feed}
 
--- the words of the refusals, from number 1 on; 40, 45 and 46 never come
+-- the words of the refusals, from number 1 on; 40 never comes
 abbrev pub words : List Text
 words =
     codes "BadByte" ∷ codes "BadToken" ∷ codes "IncludeDeep" ∷ codes "TooLong" ∷ codes "Unbalanced" ∷ codes "MacroUnknown" ∷ codes "MacroDeep" ∷ codes "Syntax" ∷ codes "TooDeep" ∷ codes "TopUnclear"

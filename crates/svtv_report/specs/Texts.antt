@@ -2,7 +2,7 @@
 use Rattle.std.specs.Prelude.{ℕ, List, [], ◌∷◌, ◌++◌, length, map, reverse, codes, decimal, Option, Some, None}
 use Rattle.std.specs.List.{flat_map}
 use Rattle.fourvec.specs.declared.Bit.{Bit}
-pub use Rattle.fourvec.specs.Bits.{digit}
+pub use Rattle.flat_text.specs.Lines.{value_text}
 use Rattle.svtv_verdicts.specs.Verdicts.{Verdict, proved, vacuous, failed, undecided}
 
 abbrev pub Text : Type 0
@@ -12,10 +12,6 @@ abbrev pub line_feed : Text
 line_feed = 10 ∷ []
 
 -- ---- values
-
--- the width, `'b`, and all bits from the most significant on
-abbrev pub value_text : List Bit → Text
-value_text v = decimal (length v) ++ (codes "'b" ++ map digit (reverse v))
 
 -- a name with its value, after so much
 abbrev pub value_line : Text → Text → List Bit → Text

@@ -1,26 +1,11 @@
 // Values as they are printed.
 ghost use Rattle.std.specs.Prelude.{◌≡◌, ◌++◌, IfOk, OnOk};
-ghost use Rattle.svtv_report.specs.Texts.{value_line, value_lines, value_text};
+ghost use Rattle.svtv_report.specs.Texts.{value_line, value_lines};
 
-use fourvec::{Four, digit};
-use itoa::Buffer;
+use flat_text::push_value;
+use fourvec::Four;
 use std::alloc::AllocError;
 use sv_outside::Name;
-
-/// A value: its width and its bits.
-pub(crate) fn push_value(text: &mut Vec<u8>, value: &Four) -> Result<(), AllocError>
-    ensures { OnOk result (text.new.items ≡ text.old.items ++ value_text value.now) }
-{
-    let mut buffer = Buffer::new();
-    text.extend_from_slice(buffer.format(value.width()).as_bytes())?;
-    text.extend_from_slice(b"'b")?;
-    let mut at = value.width();
-    'bits: while at > 0 {
-        at -= 1;
-        text.push(digit(value.bit(at)))?;
-    }
-    Ok(())
-}
 
 /// A name with its value, after so much.
 pub(crate) fn push_line(

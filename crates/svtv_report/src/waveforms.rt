@@ -2,7 +2,7 @@
 ghost use Rattle.std.specs.Prelude.{◌≡◌, ◌++◌, OnOk};
 ghost use Rattle.svtv_report.specs.Texts.{change_line};
 
-use crate::value::push_value;
+use flat_text::push_value;
 use fourvec::Four;
 use itoa::Buffer;
 use std::alloc::AllocError;
