@@ -7,6 +7,9 @@ use Rattle.aig.specs.declared.gate.Gate.{Gate}
 use Rattle.aig.specs.declared.gate.Gate.TheVariants.{False, Input, And}
 use Rattle.aig.specs.Graph.{gate_at, holds, Says, values, count_inputs, IsGraph, Grows, KeepsValues, IsIn}
 use Rattle.aig.specs.Conjunction.{IsBoth, NeedsNoGate, IsSimplified, IsMadePlain, IsGateOf}
+use Rattle.aig.specs.Sums.{AreSummed}
+use Rattle.xor_forms.specs.Forms.{Entry}
+use Rattle.aig.proofs.Summing.{none_summed, summed_pushed}
 use Rattle.aig.specs.Table.{hash_of, HasNone, IsHashed, IsLinked, IsKept, IsNodeOf}
 use Rattle.aig.proofs.Growth.{IsGraph-push_and, IsGraph-push_input, start, none_counted, Grows-refl, Grows-push, count_inputs-push_input}
 use Rattle.aig.proofs.Values.{always_from, kept_values, value_input}
@@ -72,8 +75,9 @@ hashed_and gates a b some lt none h = record {
 
 -- ---- what an `Aig` keeps
 
-pub kept_start : (gates : List Gate) (hashes : List ℕ) → gates ≡ False ∷ [] → hashes ≡ map hash_of gates → IsKept 0 gates hashes
+pub kept_start : (gates : List Gate) (hashes : List ℕ) → gates ≡ False ∷ [] → hashes ≡ map hash_of gates → IsKept 0 gates hashes []
 kept_start gates hashes is e = record {
+  summed = none_summed gates;
   linked = record {
     graph = subst (λ (g : List Gate). IsGraph g) (sym is) start;
     hashed = subst (λ (g : List Gate). IsHashed g) (sym is) hashed_start;
@@ -82,8 +86,9 @@ kept_start gates hashes is e = record {
   counted = subst (λ (g : List Gate). 0 ≡ count_inputs g) (sym is) none_counted;
 }
 
-pub kept_input : (inputs : ℕ) (gates new : List Gate) (hashes hashes' : List ℕ) → new ≡ gates ++ Input inputs ∷ [] → hashes' ≡ map hash_of new → IsKept inputs gates hashes → IsKept (inputs + 1) new hashes'
-kept_input inputs gates new hashes hashes' is e h = record {
+pub kept_input : (inputs : ℕ) (gates new : List Gate) (hashes hashes' : List ℕ) (sums : List Entry) → new ≡ gates ++ Input inputs ∷ [] → hashes' ≡ map hash_of new → IsKept inputs gates hashes sums → IsKept (inputs + 1) new hashes' sums
+kept_input inputs gates new hashes hashes' sums is e h = record {
+  summed = subst (λ (g : List Gate). AreSummed g sums) (sym is) (summed_pushed gates (Input inputs) sums h.linked.graph.some h.summed);
   linked = record {
     graph = subst (λ (g : List Gate). IsGraph g) (sym is) (IsGraph-push_input gates inputs h.linked.graph h.counted);
     hashed = subst (λ (g : List Gate). IsHashed g) (sym is) (hashed_input gates inputs h.linked.hashed);

@@ -5,6 +5,8 @@ use Rattle.aig.specs.declared.gate.Lit.{Lit}
 use Rattle.aig.specs.declared.gate.Gate.{Gate}
 use Rattle.aig.specs.declared.gate.Gate.TheVariants.{False, Input, And}
 use Rattle.aig.specs.Graph.{gate_at, IsGraph, count_inputs}
+use Rattle.aig.specs.Sums.{AreSummed}
+use Rattle.xor_forms.specs.Forms.{Entry}
 
 -- a number of 64 bits for a literal
 unfoldable pub code_of : Lit → ℕ
@@ -42,10 +44,11 @@ pub record IsLinked (gates : List Gate) (hashes : List ℕ) : Type 0 where
   pub hashed : IsHashed gates
   pub indexed : hashes ≡ map hash_of gates
 
--- the same, with the number of inputs
-pub record IsKept (inputs : ℕ) (gates : List Gate) (hashes : List ℕ) : Type 0 where
+-- the same, with the number of inputs, and the exclusive ors that were made
+pub record IsKept (inputs : ℕ) (gates : List Gate) (hashes : List ℕ) (sums : List Entry) : Type 0 where
   pub linked : IsLinked gates hashes
   pub counted : inputs ≡ count_inputs gates
+  pub summed : AreSummed gates sums
 
 -- node k is the conjunction of a and b: it was there, or it alone is new
 pub record IsNodeOf (old : List Gate) (a b : Lit) (new : List Gate) (k : ℕ) : Type 0 where

@@ -2,11 +2,12 @@
 //! two operands is found again and not made twice; the operand with the lower node comes first, so that both orders are one.
 //! Operands that decide the value make no gate. Where memory runs out the graph is as before.
 
-ghost use Rattle.std.specs.Prelude.{◌≡◌, ℕ, ◌+◌, ◌<◌, ◌≤◌, IfOk, IfErr, Bool, false, [], ◌∷◌, ◌++◌, length, List, slice_index_or};
+ghost use Rattle.std.specs.Prelude.{◌≡◌, ℕ, ◌+◌, ◌<◌, ◌≤◌, IfOk, IfErr, IfSome, Bool, false, [], ◌∷◌, ◌++◌, length, List, slice_index_or};
 ghost use Rattle.aig.specs.declared.gate.Gate.TheVariants.{False, Input};
 ghost use Rattle.aig.specs.declared.gate.Lit.{Lit};
-ghost use Rattle.aig.specs.Graph.{gate_at, count_inputs, IsGraph, Grows, KeepsValues, IsIn, value};
+ghost use Rattle.aig.specs.Graph.{gate_at, count_inputs, holds, IsGraph, Grows, KeepsValues, IsIn, Obeys, value};
 ghost use Rattle.aig.specs.Conjunction.{IsBoth, NeedsNoGate, IsSimplified, IsGateOf};
+ghost use Rattle.aig.specs.Sums.{IsDifference, differ, value_of};
 ghost use Rattle.aig.specs.Table.{IsHashed, IsNodeOf};
 
 use crate::eval::value_at;
@@ -15,15 +16,61 @@ use crate::table::{node_of, push_gate};
 use hash_index::HashIndex;
 use std::alloc::{AllocError, Global};
 use std::marker::Model;
+use xor_forms::{Form, Table, sum};
+
+/// For how many nodes of forms there is room beside each gate, and beside none.
+const FORM_NODES: usize = 8;
+
+const FIRST_FORM_NODES: usize = 1 << 16;
+
+/// The sum of two literals (half adder).
+#[derive(Clone, Copy)]
+pub struct HalfSum {
+    pub sum: Lit,
+    pub carry: Lit,
+}
 
 /// An and-inverter graph. Contracts see the list of its gates, by the numbers of the nodes.
 ///
-/// Beside the gates it keeps an index of their hashes, by which a conjunction is found again.
+/// Beside the gates it keeps an index of their hashes, by which a conjunction is found again, and the exclusive ors that were made,
+/// by which another of the same nodes is.
 #[derive(Drop)]
 pub struct Aig {
     gates: Vec<Gate>,
     inputs: usize,
     index: HashIndex,
+    sums: Table,
+}
+
+// The form, turned round where it is that of a negation.
+fn turned(form: Form, negated: bool) -> Form
+    ensures nodes { result.nodes.items ≡ form.nodes.items }
+    ensures odd { result.odd ≡ differ negated form.odd }
+{
+    let Form { nodes, odd } = form;
+    Form {
+        nodes,
+        odd: odd != negated,
+    }
+}
+
+// The literal that a form of one node is, or of none, where there are so many nodes.
+fn short(form: &Form, count: usize) -> Option<Lit>
+    requires { 0 < count }
+    ensures within { IfSome result (λ c. c.node < count) }
+    ensures value { IfSome result (λ c. (v : ℕ → Bool) → v 0 ≡ false → holds v c ≡ value_of v form.now.odd form.now.nodes.items) }
+{
+    if form.nodes.is_empty() {
+        return Some(Lit::constant(form.odd));
+    }
+    let node = form.nodes[0];
+    if form.nodes.len() == 1 && node < count {
+        return Some(Lit {
+            node,
+            negated: form.odd,
+        });
+    }
+    None
 }
 
 impl Model for Aig {
@@ -35,7 +82,7 @@ impl Model for Aig {
 
     ghost view = { λ a. a.gates.items };
 
-    ghost invariant = { λ a. IsKept a.inputs a.gates.items a.index };
+    ghost invariant = { λ a. IsKept a.inputs a.gates.items a.index a.sums };
 }
 
 impl Aig {
@@ -50,6 +97,7 @@ impl Aig {
             gates,
             inputs: 0,
             index,
+            sums: Table::new(alloc),
         })
     }
 
@@ -149,6 +197,127 @@ impl Aig {
         } else {
             self.gate_of(b, a)
         }
+    }
+
+    // The exclusive or of two literals as a form.
+    fn form_of(&self, alloc: Global, a: Lit, b: Lit) -> Result<Form, AllocError>
+        ensures { IfOk result (λ form. (v : ℕ → Bool) → Obeys v self.now → value_of v form.odd form.nodes.items ≡ differ (holds v a) (holds v b)) }
+    {
+        let one = self.sums.form_of(alloc, a.node, a.negated)?;
+        let other = self.sums.form_of(alloc, b.node, b.negated)?;
+        sum(alloc, &one, &other)
+    }
+
+    // The literal that is known to be a form, if there is one.
+    fn known(&self, form: &Form) -> Option<Lit>
+        ensures within { IfSome result (λ c. IsIn self.now c) }
+        ensures value { IfSome result (λ c. (v : ℕ → Bool) → Obeys v self.now → holds v c ≡ value_of v form.now.odd form.now.nodes.items) }
+    {
+        if let Some(c) = short(form, self.gates.len()) {
+            return Some(c);
+        }
+        let known = self.sums.known(form)?;
+        Some(Lit {
+            node: known.node,
+            negated: known.odd,
+        })
+    }
+
+    // Notes that a literal is a form.
+    fn note(&mut self, alloc: Global, c: Lit, form: Form) -> Result<(), AllocError>
+        requires within { IsIn self.old c }
+        requires value { (v : ℕ → Bool) → Obeys v self.old → holds v c ≡ value_of v form.odd form.nodes.items }
+        ensures { self.new ≡ self.old }
+    {
+        let room = self
+            .gates
+            .len()
+            .saturating_mul(FORM_NODES)
+            .saturating_add(FIRST_FORM_NODES);
+        let form = turned(form, c.negated);
+        self.sums.put(alloc, c.node, form, room)
+    }
+
+    // The exclusive or of two literals by gates, where their conjunction is there.
+    fn difference(&mut self, a: Lit, b: Lit, carry: Lit) -> Result<Lit, AllocError>
+        requires a_in { IsIn self.old a }
+        requires b_in { IsIn self.old b }
+        requires carry_in { IsIn self.old carry }
+        requires carry { IsBoth self.old a b carry }
+        ensures within { IfOk result (λ c. IsIn self.new c) }
+        ensures value { IfOk result (λ c. IsDifference self.new a b c) }
+        ensures grows { Grows self.old self.new }
+        ensures nodes { length self.new ≤ length self.old + 2 }
+        ensures flat { length self.old ≤ 1 → length self.new ≤ 1 }
+    {
+        let neither = self.and(!a, !b)?;
+        self.and(!carry, !neither)
+    }
+
+    // The exclusive or of two literals by gates, where their conjunction is there, and their form.
+    fn made(
+        &mut self,
+        alloc: Global,
+        a: Lit,
+        b: Lit,
+        carry: Lit,
+        form: Form,
+    ) -> Result<Lit, AllocError>
+        requires a_in { IsIn self.old a }
+        requires b_in { IsIn self.old b }
+        requires carry_in { IsIn self.old carry }
+        requires carry { IsBoth self.old a b carry }
+        requires form { (v : ℕ → Bool) → Obeys v self.old → value_of v form.odd form.nodes.items ≡ differ (holds v a) (holds v b) }
+        ensures within { IfOk result (λ c. IsIn self.new c) }
+        ensures value { IfOk result (λ c. IsDifference self.new a b c) }
+        ensures grows { Grows self.old self.new }
+        ensures nodes { length self.new ≤ length self.old + 2 }
+        ensures flat { length self.old ≤ 1 → length self.new ≤ 1 }
+    {
+        let c = self.difference(a, b, carry)?;
+        self.note(alloc, c, form)?;
+        Ok(c)
+    }
+
+    /// Whether two literals differ (exclusive or): the literal of the same nodes, as far as these are known, or three gates at most.
+    pub fn xor(&mut self, a: Lit, b: Lit) -> Result<Lit, AllocError>
+        requires a_in { IsIn self.old a }
+        requires b_in { IsIn self.old b }
+        ensures within { IfOk result (λ c. IsIn self.new c) }
+        ensures value { IfOk result (λ c. IsDifference self.new a b c) }
+        ensures grows { Grows self.old self.new }
+        ensures nodes { length self.new ≤ length self.old + 3 }
+        ensures flat { length self.old ≤ 1 → length self.new ≤ 1 }
+    {
+        let alloc = *self.gates.allocator();
+        let form = self.form_of(alloc, a, b)?;
+        if let Some(c) = self.known(&form) {
+            return Ok(c);
+        }
+        let carry = self.and(a, b)?;
+        self.made(alloc, a, b, carry, form)
+    }
+
+    /// The sum of two literals: their conjunction, and whether they differ, by three gates at most.
+    pub fn half_sum(&mut self, a: Lit, b: Lit) -> Result<HalfSum, AllocError>
+        requires a_in { IsIn self.old a }
+        requires b_in { IsIn self.old b }
+        ensures sum_in { IfOk result (λ s. IsIn self.new s.sum) }
+        ensures carry_in { IfOk result (λ s. IsIn self.new s.carry) }
+        ensures sum { IfOk result (λ s. IsDifference self.new a b s.sum) }
+        ensures carry { IfOk result (λ s. IsBoth self.new a b s.carry) }
+        ensures grows { Grows self.old self.new }
+        ensures nodes { length self.new ≤ length self.old + 3 }
+        ensures flat { length self.old ≤ 1 → length self.new ≤ 1 }
+    {
+        let alloc = *self.gates.allocator();
+        let carry = self.and(a, b)?;
+        let form = self.form_of(alloc, a, b)?;
+        let sum = match self.known(&form) {
+            Some(c) => c,
+            None => self.made(alloc, a, b, carry, form)?,
+        };
+        Ok(HalfSum { sum, carry })
     }
 
     /// The value of a literal, where the inputs have these values, by their numbers. Each node that it rests on is

@@ -30,16 +30,6 @@ or_by x y nx ny neither r e1 e2 e3 e4 = let h : r ≡ not (not x && not y) = cc 
 pub pick_by : (c x y nc first second d : Bool) → nc ≡ not c → first ≡ (c && x) → second ≡ (nc && y) → d ≡ (first || second) → d ≡ cond c x y
 pick_by c x y nc first second d e1 e2 e3 e4 = let h : d ≡ ((c && x) || (not c && y)) = cc in h ∙ pick_table c x y
 
-xor_table : (x y : Bool) → (not (x && y) && not (not x && not y)) ≡ differ x y
-xor_table true true = refl
-xor_table true false = refl
-xor_table false true = refl
-xor_table false false = refl
-
-pub xor_by : (x y both neither one nx ny nb nn : Bool) → nx ≡ not x → ny ≡ not y → nb ≡ not both → nn ≡ not neither → both ≡ (x && y) → neither ≡ (nx && ny) → one ≡ (nb && nn) → one ≡ differ x y
-xor_by x y both neither one nx ny nb nn e1 e2 e3 e4 e5 e6 e7 =
-    let h : one ≡ (not (x && y) && not (not x && not y)) = cc in h ∙ xor_table x y
-
 column_table : (x y z : Bool) → weight (differ (differ x y) z) + 2 * weight ((x && y) || (differ x y && z)) ≡ weight x + weight y + weight z
 column_table true true true = refl
 column_table true true false = refl

@@ -4,6 +4,7 @@ use Rattle.std.specs.List.{All}
 use Rattle.aig.specs.declared.gate.Lit.{Lit}
 use Rattle.aig.specs.declared.gate.Gate.{Gate}
 use Rattle.aig.specs.Graph.{holds, constant_lit, Obeys, Grows, IsIn}
+pub use Rattle.aig.specs.Sums.{differ}
 use Rattle.aig_words.specs.declared.lists.Way.{Way}
 use Rattle.aig_words.specs.declared.lists.Way.TheVariants.{Up, Down}
 
@@ -49,10 +50,6 @@ abbrev pub sar_of : ℕ → ℕ → ℕ → ℕ
 sar_of width n k = moved_down_by (not (nat_lt n (2 ^ (width - 1)))) width n k
 
 -- ---- parts of circuits
-
-abbrev pub differ : Bool → Bool → Bool
-differ true b = not b
-differ false b = b
 
 -- one column of a sum
 abbrev pub IsColumn : Lit → Lit → Lit → Lit → Lit → (ℕ → Bool) → Type 0

@@ -1,7 +1,7 @@
 //! Circuits on single literals: disjunctions, differences (xor), choices (multiplexers), and the columns of sums (full adders)
 //! and comparisons. Words are made of these from the least significant place up. A sum of two literals is made of its carry, so
 //! that the difference and the carry share a node; two operands that are swapped give the same literals, since the graph finds
-//! conjunctions again in either order.
+//! conjunctions again in either order, and exclusive ors in any.
 
 ghost use Rattle.std.specs.Prelude.{◌≡◌, ℕ, Bool, ◌+◌, ◌*◌, ◌<◌, ◌≤◌, IfOk, ◌&&◌, ◌||◌, if◌then◌else◌, length};
 ghost use Rattle.aig.specs.Graph.{holds, Always, IsIn};
@@ -29,7 +29,7 @@ pub fn or(aig: &mut Aig, a: Lit, b: Lit) -> Result<Lit, AllocError>
     Ok(!neither)
 }
 
-/// Whether the two differ. The operands may be swapped: the same nodes serve.
+/// Whether the two differ. The operands may be swapped, and what they share cancels: sums of the same nodes are one literal.
 pub fn xor(aig: &mut Aig, a: Lit, b: Lit) -> Result<Lit, AllocError>
     requires a_in { IsIn aig.old a }
     requires b_in { IsIn aig.old b }
@@ -37,8 +37,7 @@ pub fn xor(aig: &mut Aig, a: Lit, b: Lit) -> Result<Lit, AllocError>
     ensures within { IfOk result (λ c. IsIn aig.new c) }
     ensures value { IfOk result (λ c. Always aig.new (λ v. holds v c ≡ differ (holds v a) (holds v b))) }
 {
-    let both = add_pair(aig, a, b)?;
-    Ok(both.sum)
+    aig.xor(a, b)
 }
 
 /// The first literal where the condition is true, else the second.
@@ -66,10 +65,11 @@ fn add_pair(aig: &mut Aig, a: Lit, b: Lit) -> Result<Column, AllocError>
     ensures carry { IfOk result (λ d. Always aig.new (λ v. holds v d.carry ≡ (holds v a && holds v b))) }
     ensures sum { IfOk result (λ d. Always aig.new (λ v. holds v d.sum ≡ differ (holds v a) (holds v b))) }
 {
-    let carry = aig.and(a, b)?;
-    let neither = aig.and(!a, !b)?;
-    let sum = aig.and(!carry, !neither)?;
-    Ok(Column { sum, carry })
+    let both = aig.half_sum(a, b)?;
+    Ok(Column {
+        sum: both.sum,
+        carry: both.carry,
+    })
 }
 
 /// The sum of three literals. The first two may be swapped: the same nodes serve.

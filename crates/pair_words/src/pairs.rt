@@ -1,8 +1,9 @@
 //! Circuits for single four-valued bits. An operator of an expression takes Z for X, so its operands go through `unfloat` first, and
 //! then each rail is a gate or two of the rails: the upper one tells where the bit may be 1, the lower one where it must be. Of a bit that
 //! is known both rails are one literal, and `Aig` finds each gate again, so that a circuit of known bits has one gate for both rails.
+//! Of two bits that are known an exclusive or is made, which `Aig` finds again by all that is added up.
 
-ghost use Rattle.std.specs.Prelude.{◌≡◌, ◌<◌, IfOk, ◌&&◌, ◌||◌, not, if◌then◌else◌};
+ghost use Rattle.std.specs.Prelude.{◌≡◌, ◌<◌, IfOk, IsTrue, ◌↔◌, ◌&&◌, ◌||◌, not, if◌then◌else◌};
 ghost use Rattle.aig.specs.Graph.{holds, IsIn};
 ghost use Rattle.aig_words.specs.Words.{Grew, Obeyed, differ};
 ghost use Rattle.fourvec.specs.declared.Bit.TheVariants.{Unknown};
@@ -134,6 +135,13 @@ fn either(aig: &mut Aig, a: Pair, b: Pair) -> Result<Pair, AllocError>
     })
 }
 
+// Whether two literals are one.
+fn is_same(a: Lit, b: Lit) -> bool
+    ensures { IsTrue result ↔ (a ≡ b) }
+{
+    a == b
+}
+
 // One of `a` and `b` without the other, where the other's opposite rail tells that it may be, or must be, 0.
 fn without(aig: &mut Aig, a: Lit, b: Lit, other_a: Lit, other_b: Lit) -> Result<Lit, AllocError>
     requires a_in { IsIn aig.old a }
@@ -144,6 +152,9 @@ fn without(aig: &mut Aig, a: Lit, b: Lit, other_a: Lit, other_b: Lit) -> Result<
     ensures within { IfOk result (λ r. IsIn aig.new r) }
     ensures value { IfOk result (λ r. Obeyed aig.new (λ v. holds v r ≡ ((holds v a && not (holds v other_b)) || (holds v b && not (holds v other_a))))) }
 {
+    if is_same(a, other_a) && is_same(b, other_b) {
+        return xor(aig, a, b);
+    }
     let alone = two_gates(aig, a, !other_b, b, !other_a)?;
     or(aig, alone.up, alone.low)
 }

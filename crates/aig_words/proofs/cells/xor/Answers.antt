@@ -1,8 +1,4 @@
-use Rattle.std.proofs.lemmas.Result.{IfOk-from_err}
 use Rattle.aig_words.proofs.cells.xor.Goals as goal
 
-pub returns-in_err-both-clause-value : goal.returns-in_err-both-clause-value
-returns-in_err-both-clause-value c = IfOk-from_err _ _ c.from_residual.ensures.0
-
-pub returns-in_err-both-clause-within : goal.returns-in_err-both-clause-within
-returns-in_err-both-clause-within c = IfOk-from_err _ _ c.from_residual.ensures.0
+pub returns-clause-grew : goal.returns-clause-grew
+returns-clause-grew c = record { grows = c.xor.ensures.grows; nodes = c.xor.ensures.nodes; flat = c.xor.ensures.flat }

@@ -1,5 +1,6 @@
 use Rattle.std.proofs.lemmas.Result.{IfOk-from_err}
 use Rattle.std.proofs.Common.{sym, refl, false, ◌∙◌}
+use Rattle.aig.proofs.Summing.{summed_grown}
 use Rattle.aig.proofs.Linked.{grows_made, both_made}
 use Rattle.aig.proofs.graph.Aig.gate_of.Goals as goal
 
@@ -8,6 +9,7 @@ invariant_of-self-2 c =
     let made = c.in_ok-node.ensures.is in
     record {
       linked = c.node_of.ensures.linked;
+      summed = summed_grown _ _ _ (grows_made _ _ c.args.a c.args.b c.in_ok-node.node made) c.self.invariant.summed;
       counted = c.self.invariant.counted ∙ sym (grows_made _ _ c.args.a c.args.b c.in_ok-node.node made).inputs;
     }
 

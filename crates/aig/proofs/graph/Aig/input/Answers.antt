@@ -13,7 +13,7 @@ overflow_add-self c = omega (arith, count_inputs_lt c.self.inside.gates.items c.
 
 pub invariant_of-self-2 : goal.invariant_of-self-2
 invariant_of-self-2 c =
-    kept_input c.self.inside.inputs c.self.inside.gates.items _ c.self.inside.index _ c.in_ok-node.ensures.gates c.push_gate.ensures.indexed c.self.invariant
+    kept_input c.self.inside.inputs c.self.inside.gates.items _ c.self.inside.index _ c.self.inside.sums c.in_ok-node.ensures.gates c.push_gate.ensures.indexed c.self.invariant
 
 pub returns-clause-count : goal.returns-clause-count
 returns-clause-count c = rw (c.in_ok-node.ensures.gates, ← c.self.view_is) (count_inputs-push_input c.self.inside.gates.items c.self.inside.inputs)
