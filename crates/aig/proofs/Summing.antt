@@ -1,15 +1,14 @@
 -- What is known of exclusive ors stays as a graph grows.
-use Rattle.std.proofs.Common.{◌≡◌, ℕ, ◌+◌, ◌<◌, ◌≤◌, ⊎_elim, Bool, true, false, not, ◌&&◌, cond, List, [], ◌∷◌, ◌++◌, length, get_or, refl, sym, ap, subst, ◌∙◌, arith}
-use Rattle.std.specs.List.{All}
+use Rattle.std.proofs.Common.{◌≡◌, ℕ, ◌<◌, ⊎_elim, Bool, true, false, not, ◌&&◌, cond, List, [], ◌∷◌, ◌++◌, length, get_or, refl, sym, ap, subst, ◌∙◌, arith}
 use Rattle.std.proofs.lemmas.List.{length_push, get_or_append_left}
 use Rattle.std.proofs.lemmas.List.Elements.{All-nil, All-push, All-weaker}
 use Rattle.aig.specs.declared.gate.Lit.{Lit}
 use Rattle.aig.specs.declared.gate.Gate.{Gate}
 use Rattle.aig.specs.declared.gate.Gate.TheVariants.{False}
-use Rattle.aig.specs.Graph.{gate_at, holds, negation, constant_lit, Says, Obeys, Grows, IsIn}
+use Rattle.aig.specs.Graph.{holds, negation, constant_lit, Says, Obeys, Grows}
 use Rattle.aig.specs.Sums.{AreSummed, differ, value_of}
 use Rattle.aig.proofs.Growth.{Obeys-older}
-use Rattle.xor_forms.specs.Forms.{Entry, AreForms, IsPut, sum_of}
+use Rattle.xor_forms.specs.Forms.{Entry, IsPut, sum_of}
 
 pub holds_differ : (v : ℕ → Bool) (l : Lit) → holds v l ≡ differ l.negated (v l.node)
 holds_differ v l = by l.negated (v l.node)

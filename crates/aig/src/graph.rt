@@ -54,6 +54,26 @@ fn turned(form: Form, negated: bool) -> Form
     }
 }
 
+// The exclusive or of two literals where it needs no gate: one is constant, or both are of one node.
+fn plain_difference(a: Lit, b: Lit) -> Option<Lit>
+    ensures within { IfSome result (λ c. (n : ℕ) → a.node < n → b.node < n → c.node < n) }
+    ensures value { IfSome result (λ c. (v : ℕ → Bool) → v 0 ≡ false → holds v c ≡ differ (holds v a) (holds v b)) }
+{
+    if a.node == 0 {
+        return Some(if a.negated { !b } else { b });
+    }
+    if b.node == 0 {
+        return Some(if b.negated { !a } else { a });
+    }
+    if a.node == b.node {
+        return Some(Lit {
+            node: 0,
+            negated: a.negated != b.negated,
+        });
+    }
+    None
+}
+
 // The literal that a form of one node is, or of none, where there are so many nodes.
 fn short(form: &Form, count: usize) -> Option<Lit>
     requires { 0 < count }
@@ -290,6 +310,9 @@ impl Aig {
         ensures flat { length self.old ≤ 1 → length self.new ≤ 1 }
     {
         let alloc = *self.gates.allocator();
+        if let Some(c) = plain_difference(a, b) {
+            return Ok(c);
+        }
         let form = self.form_of(alloc, a, b)?;
         if let Some(c) = self.known(&form) {
             return Ok(c);
@@ -310,8 +333,11 @@ impl Aig {
         ensures nodes { length self.new ≤ length self.old + 3 }
         ensures flat { length self.old ≤ 1 → length self.new ≤ 1 }
     {
-        let alloc = *self.gates.allocator();
         let carry = self.and(a, b)?;
+        if let Some(sum) = plain_difference(a, b) {
+            return Ok(HalfSum { sum, carry });
+        }
+        let alloc = *self.gates.allocator();
         let form = self.form_of(alloc, a, b)?;
         let sum = match self.known(&form) {
             Some(c) => c,

@@ -4,6 +4,9 @@ use Rattle.aig.specs.Graph.{IsGraph}
 use Rattle.aig.proofs.Values.{always_from}
 use Rattle.aig.proofs.graph.Aig.xor.Goals as goal
 
+pub returns-in-Some-known-clause-value : goal.returns-in-Some-known-clause-value
+returns-in-Some-known-clause-value c =
+    always_from _ _ (subst (λ (g : List Gate). IsGraph g) c.self.view_is c.self.invariant.linked.graph) (λ v o. c.in-Some-known.ensures.value v o ∙ c.in_ok-form.ensures v o)
+
 pub returns-in-Some-clause-value : goal.returns-in-Some-clause-value
-returns-in-Some-clause-value c =
-    always_from _ _ (subst (λ (g : List Gate). IsGraph g) c.self.view_is c.self.invariant.linked.graph) (λ v o. c.in-Some.ensures.value v o ∙ c.in_ok-form.ensures v o)
+returns-in-Some-clause-value c = always_from _ _ (subst (λ (g : List Gate). IsGraph g) c.self.view_is c.self.invariant.linked.graph) (λ v o. c.in-Some.ensures.value v o.bottom)
