@@ -3,11 +3,13 @@
 Prints processor seconds (with those of the system): the median of three runs, or one run where it takes over ten seconds. For minisat,
 cadical and abc the making of gates and clauses is not counted, for yosys and svtv all is. The ratio is svtv's time to the least of the
 others. Behind the table stand the geometric means of the ratios, the worst ones, and the goals that fall short: those that take over
-twice the least of the others where that is over a second, and over half a second more where it is less.
+three times the least of the others where that is over 0.2 seconds.
 
 Words choose the runs whose name begins with one of them; none: all. From the environment: SVTV is the program, LIMIT the processor
-seconds of one run (60), RUNS how often each is run (3), MEMORY the bytes that one may take (8 GiB), and CLAUSES the program that
-clauses.sh makes, which writes svtv's own clauses of a goal: minisat and cadical are then run on those of its question too.
+seconds of one run (60), RUNS how often each is run (3), MEMORY the bytes that one may take (8 GiB), CLAUSES the program that clauses.sh
+makes, which writes svtv's own clauses of a goal: minisat and cadical are then run on those of its question too. SOLVER, beside
+CLAUSES, is the solver alone (sat_dimacs): it is run on the clauses of all questions that are asked of a goal, and what a whole run
+takes beside it is told of the goals that take over 0.05 seconds.
 """
 
 import math
@@ -30,6 +32,7 @@ RUNS = int(os.environ.get("RUNS", "3"))
 MEMORY = int(os.environ.get("MEMORY", str(8 << 30)))
 PROGRAM = os.environ.get("SVTV", "./svtv")
 CLAUSES = os.environ.get("CLAUSES")
+SOLVER = os.environ.get("SOLVER")
 
 NAMES = {"abc": ("berkeley-abc", "abc", "yosys-abc")}
 OTHERS = ("yosys", "abc", "minisat", "cadical")
@@ -137,6 +140,21 @@ def ask_ours(folder, goal):
     return {name: ask_solver(name, "ours.cnf")(folder) if tool(name) else (None, "-") for name in ("minisat", "cadical")}
 
 
+def ask_alone(folder, goal):
+    """The seconds of the solver alone on the clauses of the questions that are asked of a goal."""
+    told = subprocess.run([CLAUSES, "d.sv", "t.csv", "g.txt"], cwd=folder, stdout=subprocess.PIPE, check=False).stdout.decode()
+    seconds = 0
+    for _, asked, text in goal_clauses.questions(told):
+        if asked not in goal_clauses.asked(goal):
+            continue
+        (folder / "asked.cnf").write_text(text)
+        took, _ = measure(["sh", "-c", "%s <asked.cnf" % SOLVER], folder, lambda _, printed: re.search(r"^s (UN)?SATISFIABLE", printed, re.MULTILINE))
+        if took is None:
+            return None
+        seconds += took
+    return seconds
+
+
 def shown(measured, wanted):
     """Seconds; why there are none; and a mark where the answer is not the wanted one."""
     seconds, answer = measured
@@ -151,11 +169,11 @@ def columns(name, size, goal, verdict, cells):
 
 def short(ours, best):
     """Whether a time falls short of what is to be reached."""
-    return ours is None or ours > (2 * best if best > 1 else best + 0.5)
+    return ours is None or (best > 0.2 and ours > 3 * best)
 
 
 def judge(folder, run, goal):
-    """Runs one goal everywhere, prints its line, and gives its times: svtv's, and the least of the others that are right."""
+    """Runs one goal everywhere, prints its line, and gives its times: svtv's, the least of the others that are right, and the solver's alone."""
     verdict = "undecided" if run.budget else goal.verdict
     ours = ask_svtv(folder, run, [goal])
     others = ask_others(folder, run, goal)
@@ -165,27 +183,34 @@ def judge(folder, run, goal):
     cells = [shown(ours, [verdict])] + [shown(others[name], wanted) for name in OTHERS] + [ratio]
     if CLAUSES:
         cells += [shown(measured, wanted) for measured in ask_ours(folder, goal).values()]
+    alone = ask_alone(folder, goal) if CLAUSES and SOLVER else None
+    if alone is not None:
+        cells.append("%.3f" % alone)
     columns(run.name, run.size, goal.name, verdict, cells)
-    return ours[0], best
+    return ours[0], best, alone
 
 
 def summary(times):
     """The mean of the ratios, and what falls short."""
-    both = {key: (ours, best) for key, (ours, best) in times.items() if ours and best}
+    both = {key: (ours, best) for key, (ours, best, _) in times.items() if ours and best}
     for told, bound in (("all goals", 0), ("over 0.05 seconds elsewhere", 0.05), ("over a second elsewhere", 1)):
         ratios = [math.log(ours / best) for ours, best in both.values() if best > bound]
         if ratios:
             print("geometric mean of %d ratios (%s): %.2f" % (len(ratios), told, math.exp(statistics.mean(ratios))))
     worst = sorted(((ours / best, key) for key, (ours, best) in both.items() if best > 0.2), reverse=True)
     print("worst ratios over 0.2 seconds elsewhere: " + "; ".join("%.2f (%s)" % each for each in worst[:5]))
-    for key, (ours, best) in times.items():
+    for key, (ours, best, _) in times.items():
         if best and short(ours, best):
             print("falls short: %s: %s against %.3f" % (key, "none" if ours is None else "%.3f" % ours, best))
+    beside = sorted(((ours / alone, key) for key, (ours, _, alone) in times.items() if ours and alone and ours > 0.05), reverse=True)
+    if beside:
+        told = math.exp(statistics.mean(math.log(ratio) for ratio, _ in beside))
+        print("to the solver alone: %.2f, geometric mean of %d goals over 0.05 seconds; " % (told, len(beside)) + "; ".join("%.2f (%s)" % (ratio, key) for ratio, key in beside[:8]))
 
 
 def main(words):
     chosen = [run for run in prove_designs.runs() if not words or any(run.name.startswith(word) for word in words)]
-    columns("run", "size", "goal", "verdict", ["svtv", *OTHERS, "ratio"] + (["minisat*", "cadical*"] if CLAUSES else []))
+    columns("run", "size", "goal", "verdict", ["svtv", *OTHERS, "ratio"] + (["minisat*", "cadical*"] if CLAUSES else []) + (["alone"] if CLAUSES and SOLVER else []))
     times = {}
     with tempfile.TemporaryDirectory() as room:
         for number, run in enumerate(chosen):
