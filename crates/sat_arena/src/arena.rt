@@ -94,19 +94,34 @@ impl Arena {
             .wrapping_add(self.size(clause))
     }
 
-    /// The clauses that are no garbage.
-    pub fn clauses(&self, alloc: Global) -> Result<Vec<u32>, AllocError> {
-        let mut found = Vec::new(alloc);
-        let mut clause: u32 = 0;
+    /// The first clause that is no garbage, of those from a place on.
+    pub fn first_from(&self, place: u32) -> Option<u32> {
+        let mut clause = place;
         for _ in 0..self.words.len() {
             if clause >= self.end() {
                 break;
             }
             let status = self.status(clause);
             if !status.is_garbage {
-                found.push(clause)?;
+                return Some(clause);
             }
             clause = self.next(clause);
+        }
+        None
+    }
+
+    /// The clauses that are no garbage.
+    pub fn clauses(&self, alloc: Global) -> Result<Vec<u32>, AllocError> {
+        let mut found = Vec::new(alloc);
+        let mut place: u32 = 0;
+        for _ in 0..self.words.len() {
+            match self.first_from(place) {
+                None => break,
+                Some(clause) => {
+                    found.push(clause)?;
+                    place = self.next(clause);
+                }
+            }
         }
         Ok(found)
     }
@@ -184,8 +199,11 @@ impl Arena {
         Ok(clause)
     }
 
-    /// Copies a clause to a place before it.
+    /// Copies a clause to a place before it, or leaves it at its own.
     pub fn shift(&mut self, from: u32, to: u32) {
+        if from == to {
+            return;
+        }
         let count = HEADER + self.size(from) as usize;
         for i in 0..count {
             let word = at(&self.words, (from as usize).wrapping_add(i));

@@ -65,10 +65,12 @@ pub struct Walk {
 // The place among all words, from one up to another, of a literal that is not false.
 #[inline]
 fn free_place(values: &[Value], words: &[u32], from: usize, to: usize) -> Option<usize> {
-    for place in from..to {
-        if !is_false(values, at(words, place)) {
+    let mut place = from;
+    for lit in words.get(from..to)? {
+        if !is_false(values, *lit) {
             return Some(place);
         }
+        place = place.wrapping_add(1);
     }
     None
 }

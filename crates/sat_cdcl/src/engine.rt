@@ -36,8 +36,11 @@ pub struct Engine {
     pub kept: Vec<u32>,
     /// How many clauses were looked at.
     pub work: u64,
-    // How many literals of the trail are fixed by steps of the log.
-    fixed: usize,
+    /// How many literals of the trail are fixed by steps of the log, and how many were when clauses that hold by these went last.
+    pub fixed: usize,
+    pub satisfied: usize,
+    /// How many of the literals that are fixed no clause has any more, nor their negations.
+    pub cleaned: usize,
 }
 
 impl Drop for Engine {
@@ -59,6 +62,8 @@ impl Drop for Engine {
             kept: _,
             work: _,
             fixed: _,
+            satisfied: _,
+            cleaned: _,
         } = self;
     }
 }
@@ -105,6 +110,8 @@ impl Engine {
             kept: Vec::new(alloc),
             work: 0,
             fixed: 0,
+            satisfied: 0,
+            cleaned: 0,
         })
     }
 

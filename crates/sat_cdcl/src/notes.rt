@@ -223,13 +223,13 @@ impl Notes {
     // What can be told of a literal without looking at its reason. An inner one is not of the clause, but of a reason.
     fn known(&self, trail: &Trail, var: usize, is_inner: bool) -> Verdict {
         let mark = self.mark(var);
-        match mark.verdict {
-            Verdict::Unknown => {}
-            told => return told,
-        }
         let fact = trail.fact(var);
         if fact.level == 0 || (is_inner && mark.is_met) {
             return Verdict::Implied;
+        }
+        match mark.verdict {
+            Verdict::Unknown => {}
+            told => return told,
         }
         let part = self.part(fact.level);
         let least = if is_inner { 1 } else { 2 };

@@ -97,18 +97,19 @@ fn list_places(engine: &Engine, clauses: &[u32]) -> Result<Places, AllocError> {
     Ok(places)
 }
 
-// Marks the literals that follow from a literal by given clauses of two, or takes their marks back.
+// Marks the literals that follow from a literal by given clauses of two, which stand before others, or takes their marks back.
 fn mark_implied(engine: &Engine, lit: Lit, marks: &mut [bool], value: bool) {
     let list: &[Watch] = match engine.lists.get((lit ^ 1) as usize) {
         Some(list) => list.as_slice(),
         None => &[],
     };
     for watch in list {
-        if watch.is_pair() {
-            let status = engine.arena.status(watch.clause());
-            if !status.is_learned {
-                set(marks, watch.blocker as usize, value);
-            }
+        if !watch.is_pair() {
+            break;
+        }
+        let status = engine.arena.status(watch.clause());
+        if !status.is_learned {
+            set(marks, watch.blocker as usize, value);
         }
     }
 }

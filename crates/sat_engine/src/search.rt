@@ -74,33 +74,35 @@ fn load(engine: &mut Engine, cnf: &Cnf) -> Result<bool, AllocError> {
     Ok(true)
 }
 
-// Leaves out what is fixed, and puts one literal in the place of all that are equal to it, while nothing is decided.
-fn join(engine: &mut Engine) -> Result<(), AllocError> {
+// Leaves out what is fixed, and puts one literal in the place of all that are equal to it, while nothing is decided. Answers whether
+// clauses changed, which are not watched then.
+fn join(engine: &mut Engine) -> Result<bool, AllocError> {
     engine.backtrack(0);
     clean(engine)?;
     engine.collect()?;
-    if engine.log.end == 0 {
-        merge(engine)?;
+    if engine.log.end > 0 {
+        return Ok(false);
     }
-    Ok(())
+    merge(engine)
 }
 
 // Shows pairs of literals to be equal that are likely to be.
 fn pair(engine: &mut Engine) -> Result<(), AllocError> {
-    join(engine)?;
-    engine.collect()?;
+    if join(engine)? {
+        engine.collect()?;
+    }
     if engine.log.end == 0 {
         let clauses = given(engine)?;
         let ranks = rank_all(engine, &clauses)?;
         let pairs = likely_pairs(engine, &ranks, &clauses)?;
-        sweep(engine, &ranks, &pairs)?;
+        sweep(engine, &ranks.gates, &pairs)?;
     }
     Ok(())
 }
 
 // Simplifies the clauses, while nothing is decided.
 fn simplify(engine: &mut Engine) -> Result<(), AllocError> {
-    join(engine)?;
+    let _is_any = join(engine)?;
     engine.unwatch();
     if engine.log.end == 0 {
         eliminate(engine, 0, ELIMINATION)?;
@@ -123,6 +125,9 @@ fn run(engine: &mut Engine, cnf: &Cnf) -> Result<End, AllocError> {
         end => return Ok(end),
     }
     pair(engine)?;
+    if engine.log.end > 0 {
+        return Ok(End::Refuted);
+    }
     simplify(engine)?;
     if engine.log.end > 0 {
         return Ok(End::Refuted);

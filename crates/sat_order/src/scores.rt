@@ -142,10 +142,12 @@ impl Scores {
     pub fn pop(&mut self) {
         let first = at(&self.heap, 0);
         if let Some(last) = self.heap.pop() {
-            put(&mut self.heap, 0, last);
-            self.sink(0);
+            put(&mut self.places, first as usize, NONE);
+            if !self.heap.is_empty() {
+                put(&mut self.heap, 0, last);
+                self.sink(0);
+            }
         }
-        put(&mut self.places, first as usize, NONE);
     }
 
     /// Counts a variable of a conflict.

@@ -2,7 +2,7 @@
 //! literal, which it has negated (self-subsuming resolution, Een and Biere 2005). Each clause is tried once against those of its rarest
 //! literal.
 
-use crate::clean::replace;
+use crate::clean::{replace, shorten};
 use crate::uses::Uses;
 use sat_arena::constants::{MOST_SUBSUMED, SUBSUMING};
 use sat_arena::words::{Lit, is_set, var_of};
@@ -68,18 +68,26 @@ pub fn strengthen(
     }
 }
 
-// Leaves out a literal that is fixed: clauses in which it stands hold, and its negation goes of others.
-fn settle_one(engine: &mut Engine, uses: &mut Uses, lit: Lit) -> Result<(), AllocError> {
+// Leaves out a literal that is fixed: clauses in which it stands hold, and others lose what is false in them.
+fn settle_one(
+    engine: &mut Engine,
+    uses: &mut Uses,
+    lit: Lit,
+    rest: &mut Vec<Lit>,
+) -> Result<(), AllocError> {
     for clause in uses.take(engine, lit) {
+        uses.touch(engine.arena.literals(clause));
         engine.arena.discard(clause);
     }
     let shorter = uses.take(engine, lit ^ 1);
     for clause in shorter.as_slice() {
-        if engine.log.end == 0 {
-            let unit = engine.trail.unit(var_of(lit));
-            engine.notes.hints.clear();
-            engine.notes.hints.push(unit)?;
-            strengthen(engine, uses, *clause, lit ^ 1)?;
+        uses.touch(engine.arena.literals(*clause));
+        if engine.is_satisfied(*clause) {
+            engine.arena.discard(*clause);
+        } else if engine.log.end == 0 {
+            if let Some(place) = shorten(engine, *clause, rest)? {
+                uses.connect(engine, place)?;
+            }
         }
     }
     Ok(())
@@ -87,10 +95,11 @@ fn settle_one(engine: &mut Engine, uses: &mut Uses, lit: Lit) -> Result<(), Allo
 
 /// Leaves out what is fixed from the clauses that are noted.
 pub fn settle(engine: &mut Engine, uses: &mut Uses) -> Result<(), AllocError> {
+    let mut rest: Vec<Lit> = Vec::new(engine.alloc);
     for _ in 0..u64::MAX {
         match engine.trail.next() {
             None => break,
-            Some(lit) => settle_one(engine, uses, lit)?,
+            Some(lit) => settle_one(engine, uses, lit, &mut rest)?,
         }
     }
     Ok(())
@@ -120,7 +129,10 @@ fn look_through(
             let literals = engine.arena.literals(*other);
             uses.spend(literals.len() / 4);
             match covered(&uses.marks, count, literals) {
-                Cover::All => engine.arena.discard(*other),
+                Cover::All => {
+                    uses.touch(literals);
+                    engine.arena.discard(*other);
+                }
                 Cover::But(lit) => shorter.push((*other, lit))?,
                 Cover::No => {}
             }
