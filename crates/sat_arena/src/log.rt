@@ -1,6 +1,6 @@
 //! The derivations of a search, in bytes: of each step how many literals its clause has, these, how many hints there are, and how
-//! far each of these is back from the step (LRAT, Cruz-Filipe and others 2017, without deletions). Numbers are in groups of seven
-//! bits, the least significant first. A search takes most of its memory for this, so nothing else is kept of a step, and steps
+//! far each of these is from the one before it, the first from the step (LRAT, Cruz-Filipe and others 2017, without deletions). Numbers
+//! are in groups of seven bits, the least significant first. A search takes most of its memory for this, so nothing else is kept of a step, and steps
 //! are left out that no clause which is still there needs.
 //!
 //! The bytes stand in blocks, each of whole steps. So where steps are left out, or written out for the judge, a block is let go as
@@ -92,6 +92,26 @@ fn push(bytes: &mut Vec<u8>, number: u32) -> Result<(), AllocError> {
     Ok(())
 }
 
+// A difference of two numbers as one that is small where they are near to each other.
+#[inline]
+fn folded(difference: u32) -> u32 {
+    if difference < 1 << 31 {
+        difference.wrapping_mul(2)
+    } else {
+        (!difference).wrapping_mul(2).wrapping_add(1)
+    }
+}
+
+// The difference that was folded.
+#[inline]
+fn unfolded(number: u32) -> u32 {
+    if number % 2 == 0 {
+        number / 2
+    } else {
+        !(number / 2)
+    }
+}
+
 /// A place from which numbers are read.
 #[derive(Clone, Copy)]
 struct Cursor {
@@ -143,8 +163,10 @@ impl Block {
             push(&mut self.bytes, *lit)?;
         }
         push(&mut self.bytes, narrow(hints.len()))?;
+        let mut before = number;
         for hint in hints {
-            push(&mut self.bytes, number.wrapping_sub(*hint))?;
+            push(&mut self.bytes, folded(before.wrapping_sub(*hint)))?;
+            before = *hint;
         }
         self.steps = self.steps.saturating_add(1);
         Ok(())
@@ -155,9 +177,10 @@ impl Block {
         let mut cursor = Cursor { place: start };
         let literals = cursor.next(&self.bytes);
         cursor.skip(&self.bytes, literals);
+        let mut hint = narrow(place);
         for _ in 0..cursor.next(&self.bytes) {
-            let distance = cursor.next(&self.bytes);
-            set(needed, place.wrapping_sub(distance as usize), true);
+            hint = hint.wrapping_sub(unfolded(cursor.next(&self.bytes)));
+            set(needed, hint as usize, true);
         }
     }
 
@@ -187,8 +210,10 @@ impl Reading {
         for _ in 0..cursor.next(bytes) {
             self.clause.push(cursor.next(bytes))?;
         }
+        let mut hint = number;
         for _ in 0..cursor.next(bytes) {
-            self.hints.push(number.wrapping_sub(cursor.next(bytes)))?;
+            hint = hint.wrapping_sub(unfolded(cursor.next(bytes)));
+            self.hints.push(hint)?;
         }
         Ok(())
     }

@@ -1,7 +1,7 @@
 //! What is learned from a conflict: the clause of the first cut of its reasons with one literal of the newest level (first unique
 //! implication point, Marques-Silva and Sakallah 1996, Zhang and others 2001), made shorter.
 
-use crate::engine::Engine;
+use crate::engine::{Engine, is_open};
 use sat_arena::arena::Status;
 use sat_arena::constants::{FEW_LEVELS, LONG_WALK, SHORT_WALK, SOME_LEVELS};
 use sat_arena::words::{Lit, NONE, at, narrow, var_of};
@@ -22,7 +22,7 @@ impl Engine {
         let mut levels = status.levels;
         if levels > FEW_LEVELS {
             let literals = self.arena.literals(clause);
-            levels = levels.min(self.notes.count_levels(&self.trail, literals));
+            levels = self.notes.count_levels(&self.trail, literals, levels);
         }
         let used = used(levels);
         self.arena.set_status(
@@ -62,15 +62,16 @@ impl Engine {
     }
 
     // Begins or ends to decide by scores, where conflicts walk over many variables or no longer do.
-    fn choose_order(&mut self) {
+    fn choose_order(&mut self) -> Result<(), AllocError> {
         self.pace.count_walk(narrow(self.notes.met.len()));
         if self.is_scored && !self.pace.is_walk_long(SHORT_WALK) {
             self.is_scored = false;
             self.queue.rewind();
         } else if !self.is_scored && self.pace.is_walk_long(LONG_WALK) {
             self.is_scored = true;
-            self.scores.begin();
+            self.scores.begin(self.gone.len())?;
         }
+        Ok(())
     }
 
     // Lets the variables that were met come first by their scores.
@@ -83,14 +84,15 @@ impl Engine {
 
     // Moves the variables that were met to the front of the order, in the order in which they stand.
     fn bump(&mut self) -> Result<(), AllocError> {
-        let mut ranked: Vec<(u64, u32)> = Vec::with_capacity(self.alloc, self.notes.met.len())?;
+        self.notes.ranked.clear();
         for var in self.notes.met.iter() {
-            ranked.push((self.queue.stamp(*var), *var))?;
+            let rank = self.queue.stamp(*var).wrapping_shl(32) | u64::from(*var);
+            self.notes.ranked.push(rank)?;
         }
-        ranked.sort_unstable();
-        for (_, var) in ranked.as_slice() {
-            let is_open = self.is_open(*var);
-            self.queue.bump(*var, is_open);
+        self.notes.ranked.sort_unstable();
+        for rank in self.notes.ranked.iter() {
+            let var = (*rank % (1 << 32)) as u32;
+            self.queue.bump(var, is_open(&self.trail, &self.gone, var));
         }
         Ok(())
     }
@@ -122,7 +124,7 @@ impl Engine {
         let level = self.analyze(conflict)?;
         let levels = narrow(self.notes.levels.len());
         self.pace.count(levels);
-        self.choose_order();
+        self.choose_order()?;
         if self.is_scored {
             self.bump_scores();
         } else {

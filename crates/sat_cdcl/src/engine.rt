@@ -90,6 +90,13 @@ pub const GIVEN: Status = Status {
     levels: 0,
 };
 
+/// Whether a variable has no value, and was not taken out.
+#[inline]
+pub fn is_open(trail: &Trail, gone: &[bool], var: u32) -> bool {
+    let is_valued = !matches!(value_of(&trail.values, lit_of(var, true)), Value::Open);
+    !is_valued && !is_set(gone, var as usize)
+}
+
 impl Engine {
     /// So many variables, and a log behind so many given clauses.
     pub fn new(alloc: Global, vars: usize, given: usize) -> Result<Engine, AllocError> {
@@ -99,7 +106,7 @@ impl Engine {
             lists: empty_lists(alloc, vars.saturating_mul(2))?,
             trail: Trail::new(alloc, vars)?,
             queue: Queue::new(alloc, narrow(vars))?,
-            scores: Scores::new(alloc, vars)?,
+            scores: Scores::new(alloc),
             is_scored: false,
             phases: Phases::new(alloc, vars)?,
             notes: Notes::new(alloc, vars)?,
@@ -237,13 +244,13 @@ impl Engine {
 
     /// Whether a variable is to be decided.
     pub fn is_open(&self, var: u32) -> bool {
-        let is_valued = !matches!(value_of(&self.trail.values, lit_of(var, true)), Value::Open);
-        !is_valued && !is_set(&self.gone, var as usize)
+        is_open(&self.trail, &self.gone, var)
     }
 
     /// Notes that a variable is taken out of the clauses.
     pub fn leave_out(&mut self, var: u32) {
         set(&mut self.gone, var as usize, true);
+        self.queue.remove(var);
         self.left_out = self.left_out.saturating_add(1);
     }
 

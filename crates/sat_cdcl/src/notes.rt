@@ -76,6 +76,8 @@ pub struct Notes {
     pub clause: Vec<Lit>,
     /// The numbers of the clauses by which it follows.
     pub hints: Vec<u32>,
+    /// The variables that were met, by their places in the order of decisions.
+    pub ranked: Vec<u64>,
 }
 
 impl Drop for Notes {
@@ -94,6 +96,7 @@ impl Drop for Notes {
             chain: _,
             clause: _,
             hints: _,
+            ranked: _,
         } = self;
     }
 }
@@ -116,6 +119,7 @@ impl Notes {
             chain: Vec::new(alloc),
             clause: Vec::new(alloc),
             hints: Vec::new(alloc),
+            ranked: Vec::new(alloc),
         })
     }
 
@@ -204,11 +208,14 @@ impl Notes {
         Ok(count)
     }
 
-    /// How many levels literals have.
-    pub fn count_levels(&mut self, trail: &Trail, literals: &[Lit]) -> u32 {
+    /// How many levels literals have, or `most` if they have no fewer.
+    pub fn count_levels(&mut self, trail: &Trail, literals: &[Lit], most: u32) -> u32 {
         self.stamp = self.stamp.saturating_add(1);
         let mut count: u32 = 0;
         for lit in literals {
+            if count >= most {
+                break;
+            }
             let fact = trail.fact(var_of(*lit));
             if let Some(stamp) = self.stamps.get_mut(fact.level as usize) {
                 if *stamp != self.stamp {
