@@ -247,15 +247,17 @@ impl Log {
         }
     }
 
-    // Begins a block, where there is none or the last one is full.
-    fn begin_block(&mut self) -> Result<(), AllocError> {
+    // Begins a block, where there is none or the last one may lack room for a step of so many numbers.
+    fn begin_block(&mut self, numbers: usize) -> Result<(), AllocError> {
+        let most = numbers.saturating_mul(GROUPS as usize);
         let is_full = match self.blocks.last() {
             None => true,
-            Some(block) => block.bytes.len() >= LOG_BLOCK,
+            Some(block) => block.bytes.len().saturating_add(most) > LOG_BLOCK,
         };
         if is_full {
+            let bytes = Vec::with_capacity(self.alloc, LOG_BLOCK.max(most))?;
             self.blocks.push(Block {
-                bytes: Vec::new(self.alloc),
+                bytes,
                 first: self.steps,
                 steps: 0,
             })?;
@@ -265,7 +267,7 @@ impl Log {
 
     /// Puts a step behind the others. Answers its number.
     pub fn add(&mut self, clause: &[Lit], hints: &[u32]) -> Result<u32, AllocError> {
-        self.begin_block()?;
+        self.begin_block(clause.len().saturating_add(hints.len()).saturating_add(2))?;
         let number = self.given.wrapping_add(self.steps);
         if let Some(block) = self.blocks.last_mut() {
             let before = block.bytes.len();
@@ -388,13 +390,22 @@ impl Log {
         set(&mut needed, (self.end as usize).saturating_sub(1), true);
         self.need_all(&mut needed)?;
         let numbers = self.renumbered(&needed)?;
-        let mut steps = Vec::new(self.alloc);
+        let mut steps = Vec::with_capacity(self.alloc, count_of(&needed))?;
         let mut step = new_reading(self.alloc);
         for block in self.take_blocks() {
             self.write_block(&block, &needed, &numbers, &mut step, &mut steps)?;
         }
         Ok(steps)
     }
+}
+
+// How many flags are set.
+fn count_of(flags: &[bool]) -> usize {
+    let mut count: usize = 0;
+    for flag in flags {
+        count = count.wrapping_add(usize::from(*flag));
+    }
+    count
 }
 
 // Room for a step.

@@ -404,9 +404,9 @@ impl Engine {
         }
     }
 
-    /// The value of each variable.
-    pub fn solution(&self) -> Result<Vec<bool>, AllocError> {
-        let mut values = vec![in self.alloc; false; self.gone.len()]?;
+    /// The value of each of so many variables, of which those that the search does not have are false.
+    pub fn solution(&self, vars: usize) -> Result<Vec<bool>, AllocError> {
+        let mut values = vec![in self.alloc; false; vars]?;
         for lit in self.trail.lits.iter() {
             set(&mut values, var_of(*lit), !is_negated(*lit));
         }

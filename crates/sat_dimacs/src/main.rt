@@ -77,18 +77,26 @@ fn number(word: &str) -> Result<(bool, usize), ReadError> {
     }
 }
 
+/// A number that has no sign.
+fn count(word: &str) -> Result<usize, ReadError> {
+    match number(word)? {
+        (false, n) => Ok(n),
+        (true, _) => Err(ReadError::Form),
+    }
+}
+
 /// The numbers of variables and of clauses of the line `p cnf V C`.
 fn header(line: &str) -> Result<(usize, usize), ReadError> {
     let mut words = line.split_whitespace();
     if words.next() != Some("p") || words.next() != Some("cnf") {
         return Err(ReadError::Form);
     }
-    let (_, vars) = number(words.next().unwrap_or(""))?;
-    let (_, count) = number(words.next().unwrap_or(""))?;
+    let vars = count(words.next().unwrap_or(""))?;
+    let clauses = count(words.next().unwrap_or(""))?;
     if words.next().is_some() {
         return Err(ReadError::Form);
     }
-    Ok((vars, count))
+    Ok((vars, clauses))
 }
 
 impl Reader {
