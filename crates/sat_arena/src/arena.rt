@@ -20,8 +20,8 @@ pub const HEADER: usize = 4;
 /// The first literal that is not watched.
 pub const FIRST: u32 = 2;
 
-/// Up to how many levels are told apart.
-const MOST_LEVELS: u32 = (1 << 24) - 1;
+/// Up to which glue clauses are told apart.
+const MOST_GLUE: u32 = (1 << 24) - 1;
 
 /// What is known of a clause besides its literals.
 #[derive(Clone, Copy)]
@@ -34,7 +34,7 @@ pub struct Status {
     pub used: u32,
     /// How many levels its literals had, of those of conflicts that it took part in the least (literal block distance, Audemard and
     /// Simon 2009).
-    pub levels: u32,
+    pub glue: u32,
 }
 
 // The status in one word.
@@ -43,8 +43,8 @@ fn packed(status: Status) -> u32 {
     let garbage = u32::from(status.is_garbage).wrapping_mul(2);
     let tried = u32::from(status.is_tried).wrapping_mul(4);
     let used = status.used.min(3).wrapping_mul(8);
-    let levels = status.levels.min(MOST_LEVELS).wrapping_mul(32);
-    learned | garbage | tried | used | levels
+    let glue = status.glue.min(MOST_GLUE).wrapping_mul(32);
+    learned | garbage | tried | used | glue
 }
 
 // The status that a word is.
@@ -54,7 +54,7 @@ fn status_of(word: u32) -> Status {
         is_garbage: word / 2 % 2 == 1,
         is_tried: word / 4 % 2 == 1,
         used: word / 8 % 4,
-        levels: word / 32,
+        glue: word / 32,
     }
 }
 

@@ -35,9 +35,9 @@ pub const REDUCE: u64 = 300;
 
 pub const SHARE: usize = 75;
 
-pub const FEW_LEVELS: u32 = 2;
+pub const TIER1_GLUE: u32 = 2;
 
-pub const SOME_LEVELS: u32 = 6;
+pub const TIER2_GLUE: u32 = 6;
 
 /// From how many bytes on the log is trimmed, and with how many a block of it is full.
 pub const LEAST_LOG: usize = 4_000_000;

@@ -3,13 +3,13 @@
 
 use crate::engine::{Engine, is_open};
 use sat_arena::arena::Status;
-use sat_arena::constants::{FEW_LEVELS, LONG_WALK, SHORT_WALK, SOME_LEVELS};
+use sat_arena::constants::{TIER1_GLUE, LONG_WALK, SHORT_WALK, TIER2_GLUE};
 use sat_arena::words::{Lit, NONE, at, narrow, var_of};
 use std::alloc::AllocError;
 
 // For how many reductions a clause stays that is used.
-fn used(levels: u32) -> u32 {
-    if levels <= SOME_LEVELS { 2 } else { 1 }
+fn used(glue: u32) -> u32 {
+    if glue <= TIER2_GLUE { 2 } else { 1 }
 }
 
 impl Engine {
@@ -19,17 +19,17 @@ impl Engine {
         if !status.is_learned {
             return;
         }
-        let mut levels = status.levels;
-        if levels > FEW_LEVELS {
+        let mut glue = status.glue;
+        if glue > TIER1_GLUE {
             let literals = self.arena.literals(clause);
-            levels = self.notes.count_levels(&self.trail, literals, levels);
+            glue = self.notes.count_levels(&self.trail, literals, glue);
         }
-        let used = used(levels);
+        let used = used(glue);
         self.arena.set_status(
             clause,
             Status {
                 used,
-                levels,
+                glue,
                 ..status
             },
         );
@@ -98,7 +98,7 @@ impl Engine {
     }
 
     // Adds the clause that was found behind the level to which it goes back, and makes its first literal true.
-    fn take_up(&mut self, number: u32, levels: u32) -> Result<(), AllocError> {
+    fn take_up(&mut self, number: u32, glue: u32) -> Result<(), AllocError> {
         let first = at(&self.notes.clause, 0);
         if self.notes.clause.len() == 1 {
             return self.add_unit(first, number);
@@ -107,8 +107,8 @@ impl Engine {
             is_learned: true,
             is_garbage: false,
             is_tried: false,
-            used: used(levels),
-            levels,
+            used: used(glue),
+            glue,
         };
         let place = self.arena.add(&self.notes.clause, number, status)?;
         self.attach(place)?;
@@ -122,8 +122,8 @@ impl Engine {
         }
         self.phases.calm = self.trail.start(self.trail.level());
         let level = self.analyze(conflict)?;
-        let levels = narrow(self.notes.levels.len());
-        self.pace.count(levels);
+        let glue = narrow(self.notes.levels.len());
+        self.pace.count(glue);
         self.choose_order()?;
         if self.is_scored {
             self.bump_scores();
@@ -133,6 +133,6 @@ impl Engine {
         self.notes.clear();
         let number = self.log.add(&self.notes.clause, &self.notes.hints)?;
         self.backtrack(level);
-        self.take_up(number, levels)
+        self.take_up(number, glue)
     }
 }

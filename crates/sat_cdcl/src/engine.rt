@@ -8,7 +8,7 @@ use sat_arena::log::Log;
 use sat_arena::trail::{Trail, Value, value_of};
 use sat_arena::watches::{Watch, empty_lists, push, put_list, take_list, walk_through};
 use sat_arena::words::{Lit, NONE, at, is_negated, is_set, lit_of, narrow, set, var_of};
-use sat_order::pace::Pace;
+use sat_order::restarts::Pace;
 use sat_order::phases::Phases;
 use sat_order::queue::Queue;
 use sat_order::scores::Scores;
@@ -87,7 +87,7 @@ pub const GIVEN: Status = Status {
     is_garbage: false,
     is_tried: false,
     used: 0,
-    levels: 0,
+    glue: 0,
 };
 
 /// Whether a variable has no value, and was not taken out.

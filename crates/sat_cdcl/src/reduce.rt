@@ -3,7 +3,7 @@
 
 use crate::engine::Engine;
 use sat_arena::arena::Status;
-use sat_arena::constants::{FEW_LEVELS, LEAST_LOG, SHARE};
+use sat_arena::constants::{TIER1_GLUE, LEAST_LOG, SHARE};
 use sat_arena::trail::is_true;
 use sat_arena::words::var_of;
 use std::alloc::AllocError;
@@ -62,13 +62,13 @@ impl Engine {
         }
         let used = status.used.saturating_sub(1);
         self.arena.set_status(clause, Status { used, ..status });
-        status.levels > FEW_LEVELS && status.used == 0 && self.given_by(clause).is_none()
+        status.glue > TIER1_GLUE && status.used == 0 && self.given_by(clause).is_none()
     }
 
     // A number that is greater for a clause that is to go before others: its levels, and then its size.
     fn worth(&self, clause: u32) -> u64 {
         let status = self.arena.status(clause);
-        u64::from(status.levels) << 32 | u64::from(self.arena.size(clause))
+        u64::from(status.glue) << 32 | u64::from(self.arena.size(clause))
     }
 
     // The clauses that may go, those that are to stay before others first.

@@ -3,7 +3,7 @@
 use crate::equal::merge;
 use crate::ranks::rank_all;
 use crate::sweep::sweep;
-use crate::tries::{given, likely_pairs};
+use crate::candidates::{given, likely_pairs};
 use cnf::{Cnf, Dim};
 use refute_check::Log;
 use sat_arena::constants::{

@@ -16,7 +16,7 @@ const LEARNED_PAIR: Status = Status {
     is_garbage: false,
     is_tried: false,
     used: 0,
-    levels: 1,
+    glue: 1,
 };
 
 /// What became of two literals that were to be refuted together.

@@ -34,7 +34,7 @@ pub fn replace(
     }
     let status = Status {
         is_tried: false,
-        levels: status.levels.min(narrow(literals.len())),
+        glue: status.glue.min(narrow(literals.len())),
         ..status
     };
     let place = engine.arena.add(literals, number, status)?;

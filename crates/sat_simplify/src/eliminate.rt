@@ -5,7 +5,7 @@
 
 use crate::clean::clean;
 use crate::subsume::{settle, subsume_all};
-use crate::uses::Uses;
+use crate::occurrences::Occurrences;
 use sat_arena::arena::FIRST;
 use sat_arena::constants::{LONGEST, MOST_USES, PASSES};
 use sat_arena::trail::{Value, value_of};
@@ -58,10 +58,10 @@ impl Drop for Sides {
 
 impl Sides {
     // Puts the clauses in their places.
-    fn put_back(self, uses: &mut Uses, var: u32) {
+    fn put_back(self, occurrences: &mut Occurrences, var: u32) {
         let Sides { positive, negative } = self;
-        uses.put_back(lit_of(var, true), positive);
-        uses.put_back(lit_of(var, false), negative);
+        occurrences.put_back(lit_of(var, true), positive);
+        occurrences.put_back(lit_of(var, false), negative);
     }
 }
 
@@ -132,25 +132,25 @@ impl Resolvents {
     fn add_all(
         &mut self,
         engine: &Engine,
-        uses: &mut Uses,
+        occurrences: &mut Occurrences,
         var: usize,
         first: u32,
         others: &[u32],
     ) -> Result<bool, AllocError> {
         let mut is_fit = true;
-        uses.mark(engine.arena.literals(first), true);
+        occurrences.mark(engine.arena.literals(first), true);
         for second in others {
             if is_fit {
-                uses.spend(1 + engine.arena.size(*second) as usize / 4);
-                is_fit = self.add(engine, &uses.marks, var, first, *second)?;
+                occurrences.spend(1 + engine.arena.size(*second) as usize / 4);
+                is_fit = self.add(engine, &occurrences.marks, var, first, *second)?;
             }
         }
-        uses.mark(engine.arena.literals(first), false);
+        occurrences.mark(engine.arena.literals(first), false);
         Ok(is_fit)
     }
 
     // Writes the resolvents down and notes them, in the place of their clauses.
-    fn write(&self, engine: &mut Engine, uses: &mut Uses) -> Result<(), AllocError> {
+    fn write(&self, engine: &mut Engine, occurrences: &mut Occurrences) -> Result<(), AllocError> {
         let mut start = 0;
         for resolvent in self.found.iter() {
             if let Some(literals) = self.literals.get(start..resolvent.end) {
@@ -163,7 +163,7 @@ impl Resolvents {
                     .notes
                     .hints
                     .push(engine.arena.number(resolvent.second))?;
-                enter(engine, uses, literals)?;
+                enter(engine, occurrences, literals)?;
             }
             start = resolvent.end;
         }
@@ -172,14 +172,14 @@ impl Resolvents {
 }
 
 // Writes a clause down that follows by the hints that are noted, and notes it.
-fn enter(engine: &mut Engine, uses: &mut Uses, literals: &[Lit]) -> Result<(), AllocError> {
+fn enter(engine: &mut Engine, occurrences: &mut Occurrences, literals: &[Lit]) -> Result<(), AllocError> {
     let number = engine.log.add(literals, &engine.notes.hints)?;
     match literals {
         [] => Ok(()),
         [lit] => engine.add_unit(*lit, number),
         _ => {
             let place = engine.arena.add(literals, number, GIVEN)?;
-            uses.connect(engine, place)
+            occurrences.connect(engine, place)
         }
     }
 }
@@ -201,9 +201,9 @@ fn keep(engine: &mut Engine, lit: Lit, clauses: &[u32]) -> Result<(), AllocError
 }
 
 // Lets clauses go, whose variables are to be tried again.
-fn discard_all(engine: &mut Engine, uses: &mut Uses, clauses: &[u32]) {
+fn discard_all(engine: &mut Engine, occurrences: &mut Occurrences, clauses: &[u32]) {
     for clause in clauses {
-        uses.touch(engine.arena.literals(*clause));
+        occurrences.touch(engine.arena.literals(*clause));
         engine.arena.discard(*clause);
     }
 }
@@ -211,7 +211,7 @@ fn discard_all(engine: &mut Engine, uses: &mut Uses, clauses: &[u32]) {
 // Takes a variable out of the clauses.
 fn take_out(
     engine: &mut Engine,
-    uses: &mut Uses,
+    occurrences: &mut Occurrences,
     var: u32,
     sides: &Sides,
 ) -> Result<(), AllocError> {
@@ -220,8 +220,8 @@ fn take_out(
     } else {
         keep(engine, lit_of(var, false), &sides.negative)?;
     }
-    discard_all(engine, uses, &sides.positive);
-    discard_all(engine, uses, &sides.negative);
+    discard_all(engine, occurrences, &sides.positive);
+    discard_all(engine, occurrences, &sides.negative);
     engine.leave_out(var);
     Ok(())
 }
@@ -229,7 +229,7 @@ fn take_out(
 // Finds the resolvents of the clauses of a variable. Answers whether there is room for them.
 fn resolve_all(
     engine: &Engine,
-    uses: &mut Uses,
+    occurrences: &mut Occurrences,
     resolvents: &mut Resolvents,
     var: u32,
     sides: &Sides,
@@ -239,7 +239,7 @@ fn resolve_all(
     }
     for first in sides.positive.as_slice() {
         let others = &sides.negative;
-        if !resolvents.add_all(engine, uses, var as usize, *first, others)? {
+        if !resolvents.add_all(engine, occurrences, var as usize, *first, others)? {
             return Ok(false);
         }
     }
@@ -249,36 +249,36 @@ fn resolve_all(
 // Takes a variable out of the clauses, if that is fit.
 fn try_variable(
     engine: &mut Engine,
-    uses: &mut Uses,
+    occurrences: &mut Occurrences,
     resolvents: &mut Resolvents,
     var: u32,
     more: usize,
 ) -> Result<(), AllocError> {
     let sides = Sides {
-        positive: uses.take(engine, lit_of(var, true)),
-        negative: uses.take(engine, lit_of(var, false)),
+        positive: occurrences.take(engine, lit_of(var, true)),
+        negative: occurrences.take(engine, lit_of(var, false)),
     };
     resolvents.begin(engine, &sides, more);
-    if resolve_all(engine, uses, resolvents, var, &sides)? {
-        take_out(engine, uses, var, &sides)?;
-        resolvents.write(engine, uses)?;
-        return settle(engine, uses);
+    if resolve_all(engine, occurrences, resolvents, var, &sides)? {
+        take_out(engine, occurrences, var, &sides)?;
+        resolvents.write(engine, occurrences)?;
+        return settle(engine, occurrences);
     }
-    sides.put_back(uses, var);
+    sides.put_back(occurrences, var);
     Ok(())
 }
 
 // The variables that are to be tried, those with the fewest pairs of clauses first.
-fn candidates(engine: &Engine, uses: &mut Uses) -> Result<Vec<(usize, u32)>, AllocError> {
+fn candidates(engine: &Engine, occurrences: &mut Occurrences) -> Result<Vec<(usize, u32)>, AllocError> {
     let mut found = Vec::new(engine.alloc);
-    for var in 0..narrow(uses.touched.len()) {
-        if is_set(&uses.touched, var as usize) && engine.is_open(var) {
-            let positive = uses.count(lit_of(var, true));
-            let negative = uses.count(lit_of(var, false));
+    for var in 0..narrow(occurrences.touched.len()) {
+        if is_set(&occurrences.touched, var as usize) && engine.is_open(var) {
+            let positive = occurrences.count(lit_of(var, true));
+            let negative = occurrences.count(lit_of(var, false));
             found.push((positive.saturating_mul(negative), var))?;
         }
     }
-    for touched in uses.touched.iter_mut() {
+    for touched in occurrences.touched.iter_mut() {
         *touched = false;
     }
     found.sort_unstable();
@@ -286,26 +286,26 @@ fn candidates(engine: &Engine, uses: &mut Uses) -> Result<Vec<(usize, u32)>, All
 }
 
 // Tries each variable whose clauses changed. Answers how many were taken out.
-fn pass(engine: &mut Engine, uses: &mut Uses, more: usize) -> Result<usize, AllocError> {
+fn pass(engine: &mut Engine, occurrences: &mut Occurrences, more: usize) -> Result<usize, AllocError> {
     let before = engine.left_out;
-    let candidates = candidates(engine, uses)?;
+    let candidates = candidates(engine, occurrences)?;
     let mut resolvents = Resolvents::new(engine.alloc);
     for (_, var) in candidates.as_slice() {
-        if uses.work > 0 && engine.log.end == 0 && engine.is_open(*var) {
-            try_variable(engine, uses, &mut resolvents, *var, more)?;
+        if occurrences.work > 0 && engine.log.end == 0 && engine.is_open(*var) {
+            try_variable(engine, occurrences, &mut resolvents, *var, more)?;
         }
     }
-    subsume_all(engine, uses)?;
+    subsume_all(engine, occurrences)?;
     Ok(engine.left_out.saturating_sub(before))
 }
 
 // Notes the given clauses.
-fn connect_all(engine: &mut Engine, uses: &mut Uses) -> Result<(), AllocError> {
+fn connect_all(engine: &mut Engine, occurrences: &mut Occurrences) -> Result<(), AllocError> {
     let clauses = engine.arena.clauses(engine.alloc)?;
     for clause in clauses.as_slice() {
         let status = engine.arena.status(*clause);
         if !status.is_learned {
-            uses.connect(engine, *clause)?;
+            occurrences.connect(engine, *clause)?;
         }
     }
     Ok(())
@@ -335,11 +335,11 @@ fn disconnect(engine: &mut Engine) -> Result<(), AllocError> {
 
 /// Eliminates variables, with so many clauses more for each. Nothing is watched, or decided, and all is clean, before and after.
 pub fn eliminate(engine: &mut Engine, more: usize, work: u64) -> Result<(), AllocError> {
-    let mut uses = Uses::new(engine.alloc, engine.gone.len(), work)?;
-    connect_all(engine, &mut uses)?;
-    subsume_all(engine, &mut uses)?;
+    let mut occurrences = Occurrences::new(engine.alloc, engine.gone.len(), work)?;
+    connect_all(engine, &mut occurrences)?;
+    subsume_all(engine, &mut occurrences)?;
     for _ in 0..PASSES {
-        if engine.log.end > 0 || pass(engine, &mut uses, more)? == 0 {
+        if engine.log.end > 0 || pass(engine, &mut occurrences, more)? == 0 {
             break;
         }
     }

@@ -7,7 +7,7 @@ use std::alloc::{AllocError, Global};
 use std::mem;
 
 /// The clauses of literals, and what is still to be tried.
-pub struct Uses {
+pub struct Occurrences {
     /// Of each literal the clauses in which it stood when they were noted. Some of them may be garbage.
     pub lists: Vec<Vec<u32>>,
     /// The clauses that may subsume others.
@@ -20,9 +20,9 @@ pub struct Uses {
     pub work: u64,
 }
 
-impl Drop for Uses {
+impl Drop for Occurrences {
     fn drop(self) {
-        let Uses {
+        let Occurrences {
             lists: _,
             queue: _,
             marks: _,
@@ -42,15 +42,15 @@ pub fn signature(literals: &[Lit]) -> u32 {
     bits
 }
 
-impl Uses {
+impl Occurrences {
     /// No clauses of so many variables.
-    pub fn new(alloc: Global, vars: usize, work: u64) -> Result<Uses, AllocError> {
+    pub fn new(alloc: Global, vars: usize, work: u64) -> Result<Occurrences, AllocError> {
         let mut lists = Vec::new(alloc);
         for _ in 0..vars.saturating_mul(2) {
             lists.push(Vec::new(alloc))?;
         }
         let marks = vec![in alloc; false; lists.len()]?;
-        Ok(Uses {
+        Ok(Occurrences {
             lists,
             queue: Vec::new(alloc),
             marks,
