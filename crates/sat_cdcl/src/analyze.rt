@@ -3,13 +3,19 @@
 
 use crate::engine::{Engine, is_open};
 use sat_arena::arena::Status;
-use sat_arena::constants::{TIER1_GLUE, LONG_WALK, SHORT_WALK, TIER2_GLUE};
+use sat_arena::constants::{
+    LONG_WALK, OTHER_USES, SHORT_WALK, TIER1_GLUE, TIER2_GLUE, TIER2_USES,
+};
 use sat_arena::words::{Lit, NONE, at, narrow, var_of};
 use std::alloc::AllocError;
 
 // For how many reductions a clause stays that is used.
 fn used(glue: u32) -> u32 {
-    if glue <= TIER2_GLUE { 2 } else { 1 }
+    if glue <= TIER2_GLUE {
+        TIER2_USES
+    } else {
+        OTHER_USES
+    }
 }
 
 impl Engine {

@@ -3,7 +3,7 @@
 
 use crate::engine::Engine;
 use sat_arena::arena::Status;
-use sat_arena::constants::{TIER1_GLUE, LEAST_LOG, SHARE};
+use sat_arena::constants::{LEAST_LOG, LOG_GROWTH, SHARE, TIER1_GLUE};
 use sat_arena::trail::is_true;
 use sat_arena::words::var_of;
 use std::alloc::AllocError;
@@ -102,7 +102,7 @@ impl Engine {
         Ok(needed)
     }
 
-    // Leaves steps out of the log that are of no use any more, if it has doubled since that was done.
+    // Leaves steps out of the log that are of no use any more, if it has grown by as much as it has to since that was done.
     fn trim(&mut self) -> Result<(), AllocError> {
         if self.log.size < self.pace.trim {
             return Ok(());
@@ -117,7 +117,7 @@ impl Engine {
         for unit in self.trail.units.iter_mut() {
             *unit = self.log.new_number(&numbers, *unit);
         }
-        self.pace.trim = self.log.size.saturating_mul(2).max(LEAST_LOG);
+        self.pace.trim = self.log.size.saturating_mul(LOG_GROWTH).max(LEAST_LOG);
         Ok(())
     }
 

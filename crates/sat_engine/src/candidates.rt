@@ -8,7 +8,7 @@
 
 use crate::ranks::Ranks;
 use crate::table::Table;
-use sat_arena::constants::{LEAST_TRIES, MOST_TRIES, TRIED_LITERALS};
+use sat_arena::constants::{FEWEST_TRIES, LEAST_TRIES, MOST_TRIES, TRIED_LITERALS};
 use sat_arena::words::{Lit, at, is_negated, lit_of, narrow, var_of};
 use sat_cdcl::engine::Engine;
 use std::alloc::AllocError;
@@ -282,7 +282,7 @@ pub fn likely_pairs(
 ) -> Result<Vec<(Lit, Lit)>, AllocError> {
     let mut found = Vec::new(engine.alloc);
     let words = words(engine);
-    if words < 3 {
+    if words < FEWEST_TRIES {
         return Ok(found);
     }
     let told = tell(engine, clauses, ranks, words)?;

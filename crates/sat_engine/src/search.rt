@@ -111,7 +111,7 @@ fn simplify(engine: &mut Engine) -> Result<(), AllocError> {
     let _is_any = join(engine)?;
     engine.unwatch();
     if engine.log.end == 0 {
-        eliminate(engine, 0, ELIMINATION)?;
+        eliminate(engine, ELIMINATION)?;
     }
     engine.collect()?;
     engine.queue.rewind();

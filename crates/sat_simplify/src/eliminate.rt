@@ -7,7 +7,7 @@ use crate::clean::clean;
 use crate::subsume::{settle, subsume_all};
 use crate::occurrences::Occurrences;
 use sat_arena::arena::FIRST;
-use sat_arena::constants::{LONGEST, MOST_USES, PASSES};
+use sat_arena::constants::{LITERALS_OF_WORK, LONGEST, MOST_USES, PASSES};
 use sat_arena::trail::{Value, value_of};
 use sat_arena::words::{Lit, is_set, lit_of, narrow, var_of};
 use sat_cdcl::engine::{Engine, GIVEN};
@@ -25,7 +25,7 @@ struct Resolvent {
 struct Resolvents {
     literals: Vec<Lit>,
     found: Vec<Resolvent>,
-    // How many more clauses and literals there may be.
+    // How many clauses and literals there may be.
     clauses: usize,
     room: usize,
 }
@@ -85,14 +85,13 @@ impl Resolvents {
         }
     }
 
-    // None yet, of clauses of two sides, with so many clauses more than there were.
-    fn begin(&mut self, engine: &Engine, sides: &Sides, more: usize) {
-        let clauses = sides.positive.len().saturating_add(sides.negative.len());
+    // None yet, of clauses of two sides.
+    fn begin(&mut self, engine: &Engine, sides: &Sides) {
         let positive = literal_count(engine, &sides.positive);
         let negative = literal_count(engine, &sides.negative);
         self.literals.clear();
         self.found.clear();
-        self.clauses = clauses.saturating_add(more);
+        self.clauses = sides.positive.len().saturating_add(sides.negative.len());
         self.room = positive.saturating_add(negative);
     }
 
@@ -141,7 +140,7 @@ impl Resolvents {
         occurrences.mark(engine.arena.literals(first), true);
         for second in others {
             if is_fit {
-                occurrences.spend(1 + engine.arena.size(*second) as usize / 4);
+                occurrences.spend(1 + engine.arena.size(*second) as usize / LITERALS_OF_WORK);
                 is_fit = self.add(engine, &occurrences.marks, var, first, *second)?;
             }
         }
@@ -234,9 +233,6 @@ fn resolve_all(
     var: u32,
     sides: &Sides,
 ) -> Result<bool, AllocError> {
-    if sides.positive.len() > MOST_USES || sides.negative.len() > MOST_USES {
-        return Ok(false);
-    }
     for first in sides.positive.as_slice() {
         let others = &sides.negative;
         if !resolvents.add_all(engine, occurrences, var as usize, *first, others)? {
@@ -252,17 +248,18 @@ fn try_variable(
     occurrences: &mut Occurrences,
     resolvents: &mut Resolvents,
     var: u32,
-    more: usize,
 ) -> Result<(), AllocError> {
     let sides = Sides {
         positive: occurrences.take(engine, lit_of(var, true)),
         negative: occurrences.take(engine, lit_of(var, false)),
     };
-    resolvents.begin(engine, &sides, more);
-    if resolve_all(engine, occurrences, resolvents, var, &sides)? {
-        take_out(engine, occurrences, var, &sides)?;
-        resolvents.write(engine, occurrences)?;
-        return settle(engine, occurrences);
+    if sides.positive.len() <= MOST_USES && sides.negative.len() <= MOST_USES {
+        resolvents.begin(engine, &sides);
+        if resolve_all(engine, occurrences, resolvents, var, &sides)? {
+            take_out(engine, occurrences, var, &sides)?;
+            resolvents.write(engine, occurrences)?;
+            return settle(engine, occurrences);
+        }
     }
     sides.put_back(occurrences, var);
     Ok(())
@@ -286,13 +283,13 @@ fn candidates(engine: &Engine, occurrences: &mut Occurrences) -> Result<Vec<(usi
 }
 
 // Tries each variable whose clauses changed. Answers how many were taken out.
-fn pass(engine: &mut Engine, occurrences: &mut Occurrences, more: usize) -> Result<usize, AllocError> {
+fn pass(engine: &mut Engine, occurrences: &mut Occurrences) -> Result<usize, AllocError> {
     let before = engine.left_out;
     let candidates = candidates(engine, occurrences)?;
     let mut resolvents = Resolvents::new(engine.alloc);
     for (_, var) in candidates.as_slice() {
         if occurrences.work > 0 && engine.log.end == 0 && engine.is_open(*var) {
-            try_variable(engine, occurrences, &mut resolvents, *var, more)?;
+            try_variable(engine, occurrences, &mut resolvents, *var)?;
         }
     }
     subsume_all(engine, occurrences)?;
@@ -333,13 +330,13 @@ fn disconnect(engine: &mut Engine) -> Result<(), AllocError> {
     Ok(())
 }
 
-/// Eliminates variables, with so many clauses more for each. Nothing is watched, or decided, and all is clean, before and after.
-pub fn eliminate(engine: &mut Engine, more: usize, work: u64) -> Result<(), AllocError> {
+/// Eliminates variables. Nothing is watched, or decided, and all is clean, before and after.
+pub fn eliminate(engine: &mut Engine, work: u64) -> Result<(), AllocError> {
     let mut occurrences = Occurrences::new(engine.alloc, engine.gone.len(), work)?;
     connect_all(engine, &mut occurrences)?;
     subsume_all(engine, &mut occurrences)?;
     for _ in 0..PASSES {
-        if engine.log.end > 0 || pass(engine, &mut occurrences, more)? == 0 {
+        if engine.log.end > 0 || pass(engine, &mut occurrences)? == 0 {
             break;
         }
     }

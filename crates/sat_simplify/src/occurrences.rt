@@ -129,7 +129,7 @@ impl Occurrences {
         }
     }
 
-    /// Whether there is no work left.
+    /// Counts what was looked at, as work that may not be done any more.
     pub fn spend(&mut self, amount: usize) {
         self.work = self.work.saturating_sub(amount as u64);
     }

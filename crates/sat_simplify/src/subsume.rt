@@ -4,7 +4,7 @@
 
 use crate::clean::{replace, shorten};
 use crate::occurrences::Occurrences;
-use sat_arena::constants::{MOST_SUBSUMED, SUBSUMING};
+use sat_arena::constants::{LITERALS_OF_WORK, MOST_SUBSUMED, SUBSUMING};
 use sat_arena::words::{Lit, is_set, var_of};
 use sat_cdcl::engine::Engine;
 use std::alloc::AllocError;
@@ -127,7 +127,7 @@ fn look_through(
     for other in list {
         if *other != clause && may_cover(engine, *other, count, bits) {
             let literals = engine.arena.literals(*other);
-            occurrences.spend(literals.len() / 4);
+            occurrences.spend(literals.len() / LITERALS_OF_WORK);
             match covered(&occurrences.marks, count, literals) {
                 Cover::All => {
                     occurrences.touch(literals);
