@@ -125,6 +125,9 @@ pub const PAIR_SHARE: u64 = 16;
 
 pub const PAIR_WORK: u64 = 300_000;
 
+/// Up to how many literals a new clause has that is made shorter by clauses of two literals (glucose: lbSizeMinimizingClause).
+pub const MOST_SHRUNK: usize = 30;
+
 /// How deep reasons are looked through for one literal of a new clause (cadical has 1,000, as a bound on its stack; here it bounds the
 /// work, and half is enough).
 pub const DEPTH: usize = 500;

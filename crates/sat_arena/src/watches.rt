@@ -231,6 +231,14 @@ pub fn put_list(lists: &mut [Vec<Watch>], lit: Lit, list: Vec<Watch>) {
     }
 }
 
+/// The list of a literal.
+pub fn list_of(lists: &[Vec<Watch>], lit: Lit) -> &[Watch] {
+    match lists.get(lit as usize) {
+        Some(list) => list.as_slice(),
+        None => &[],
+    }
+}
+
 /// Puts a watch into the list of a literal.
 #[inline]
 pub fn push(lists: &mut [Vec<Watch>], lit: Lit, watch: Watch) -> Result<(), AllocError> {

@@ -6,6 +6,7 @@ use sat_arena::arena::Status;
 use sat_arena::constants::{
     LONG_WALK, OTHER_USES, SHORT_WALK, TIER1_GLUE, TIER2_GLUE, TIER2_USES,
 };
+use sat_arena::watches::list_of;
 use sat_arena::words::{Lit, NONE, at, narrow, var_of};
 use std::alloc::AllocError;
 
@@ -64,7 +65,8 @@ impl Engine {
                 open = open.saturating_add(self.trace(fact.reason)?);
             }
         }
-        self.notes.finish(&self.arena, &self.trail, first)
+        let list = list_of(&self.lists, first);
+        self.notes.finish(&self.arena, &self.trail, first, list)
     }
 
     // Begins or ends to decide by scores, where conflicts walk over many variables or no longer do.

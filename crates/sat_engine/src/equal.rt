@@ -3,7 +3,7 @@
 //! one walk with a stack of its own (Tarjan 1972).
 
 use sat_arena::trail::{Value, value_of};
-use sat_arena::watches::{Watch, put_list, take_list};
+use sat_arena::watches::{list_of, put_list, take_list};
 use sat_arena::words::{Lit, NONE, at, is_negated, lit_of, narrow, put};
 use sat_cdcl::engine::Engine;
 use sat_simplify::clean::{clean, holds_always, replace};
@@ -105,10 +105,7 @@ impl Walk {
     // Looks through what follows from a literal, up to one that was not met. Answers that, with how many were looked at. Clauses of two
     // literals stand before others.
     fn look(&mut self, engine: &Engine, call: Call) -> Option<Call> {
-        let list: &[Watch] = match engine.lists.get((call.lit ^ 1) as usize) {
-            Some(list) => list.as_slice(),
-            None => &[],
-        };
+        let list = list_of(&engine.lists, call.lit ^ 1);
         for k in call.looked..list.len() {
             let watch = list[k];
             if !watch.is_pair() {

@@ -6,7 +6,7 @@
 //! negations of all others is said by clauses of two literals. So it is the conjunction of these.
 
 use crate::table::Table;
-use sat_arena::watches::Watch;
+use sat_arena::watches::list_of;
 use sat_arena::words::{Lit, NONE, at, is_set, lit_of, narrow, put, set, var_of};
 use sat_cdcl::engine::Engine;
 use std::alloc::AllocError;
@@ -37,11 +37,7 @@ fn list_places(engine: &Engine, clauses: &[u32]) -> Result<Table, AllocError> {
 
 // Marks the literals that follow from a literal by given clauses of two, which stand before others, or takes their marks back.
 fn mark_implied(engine: &Engine, lit: Lit, marks: &mut [bool], value: bool) {
-    let list: &[Watch] = match engine.lists.get((lit ^ 1) as usize) {
-        Some(list) => list.as_slice(),
-        None => &[],
-    };
-    for watch in list {
+    for watch in list_of(&engine.lists, lit ^ 1) {
         if !watch.is_pair() {
             break;
         }
