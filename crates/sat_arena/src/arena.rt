@@ -1,6 +1,6 @@
-//! The clauses of the search, in one vector of words, one behind the other (as in minisat and cadical): four words of header, and
-//! then the literals, of which the first two are watched. A clause is named by the place of its header. Clauses that are given up
-//! are garbage until all others are moved together.
+//! The clause arena (as in minisat and cadical): the clauses of the search in one vector of words, one behind the other, each with
+//! four words of header before its literals, of which the first two are watched. A clause is named by the place of its header.
+//! Clauses that are given up are garbage until all others are moved together.
 
 use crate::words::{Lit, at, narrow, put};
 use std::alloc::{AllocError, Global};
@@ -32,7 +32,7 @@ pub struct Status {
     pub is_tried: bool,
     /// For how many reductions it stays, up to 3.
     pub used: u32,
-    /// How many levels its literals had, of those of conflicts that it took part in the least (literal block distance, Audemard and
+    /// Its glue: how many levels its literals had, of those of conflicts that it took part in the least (literal block distance, Audemard and
     /// Simon 2009).
     pub glue: u32,
 }
@@ -197,6 +197,12 @@ impl Arena {
         self.words.push(FIRST)?;
         self.words.extend_from_slice(literals)?;
         Ok(clause)
+    }
+
+    /// Lets the room go that no clause takes.
+    pub fn fit(&mut self, alloc: Global) -> Result<(), AllocError> {
+        self.words = Vec::from_slice(alloc, &self.words)?;
+        Ok(())
     }
 
     /// Copies a clause to a place before it, or leaves it at its own.

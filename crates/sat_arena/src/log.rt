@@ -1,7 +1,7 @@
-//! The derivations of a search, in bytes: of each step how many literals its clause has, these, how many hints there are, and how
-//! far each of these is from the one before it, the first from the step (LRAT, Cruz-Filipe and others 2017, without deletions). Numbers
-//! are in groups of seven bits, the least significant first. A search takes most of its memory for this, so nothing else is kept of a step, and steps
-//! are left out that no clause which is still there needs.
+//! The log of derivations (LRAT, Cruz-Filipe and others 2017, without deletions), in bytes: of each step how many literals its
+//! clause has, these, how many hints there are, and how far each of these is from the one before it, the first from the step.
+//! Numbers are in groups of seven bits, the least significant first. A search takes most of its memory for this, so nothing else is
+//! kept of a step, and steps are left out that no clause which is still there needs.
 //!
 //! The bytes stand in blocks, each of whole steps. So where steps are left out, or written out for the judge, a block is let go as
 //! soon as it is read, and no second log stands beside the first.

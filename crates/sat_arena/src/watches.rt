@@ -1,7 +1,7 @@
-//! Propagation. Two literals of each clause are watched (Moskewicz and others 2001): a clause is looked at only where one of them
-//! becomes false, and then another literal is watched, or the clause gives its other watched literal, or it is false. A watch takes
-//! eight bytes, the clause and another of its literals, the blocker (Chu and others 2008): while that is true nothing is to be
-//! done. A clause of two literals is told from its watches alone.
+//! Unit propagation with two watched literals (Moskewicz and others 2001): a clause is looked at only where one of its two watched
+//! literals becomes false, and then another literal is watched, or the clause gives its other watched literal, or it is false. A
+//! watch takes eight bytes, the clause and another of its literals, the blocker (Chu and others 2008): while that is true nothing
+//! is to be done. A clause of two literals is told from its watches alone.
 
 use crate::arena::{FIRST, HEADER, LAST, SIZE};
 use crate::constants::SHORT_CLAUSE;

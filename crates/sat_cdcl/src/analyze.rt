@@ -1,5 +1,5 @@
-//! What is learned from a conflict: the clause of the first cut of its reasons with one literal of the newest level (first unique
-//! implication point, Marques-Silva and Sakallah 1996, Zhang and others 2001), made shorter.
+//! Conflict analysis: what is learned is the clause of the first cut of the reasons with one literal of the newest level (first
+//! unique implication point, first UIP, Marques-Silva and Sakallah 1996, Zhang and others 2001), made shorter.
 
 use crate::engine::{Engine, is_open};
 use sat_arena::arena::Status;

@@ -1,5 +1,5 @@
-//! All that a search has, and its loop: propagation up to a conflict, a clause that is learned from it, and else a decision, or what
-//! is due between two of them.
+//! The CDCL loop (conflict-driven clause learning, Marques-Silva and Sakallah 1996), and all that a search has: propagation up to a
+//! conflict, a clause that is learned from it, and else a decision, or what is due between two of them.
 
 use crate::notes::Notes;
 use sat_arena::arena::{Arena, Status};
@@ -120,6 +120,25 @@ impl Engine {
             satisfied: 0,
             cleaned: 0,
         })
+    }
+
+    /// The given clauses, and those in their place.
+    pub fn given(&self) -> Result<Vec<u32>, AllocError> {
+        let mut found = Vec::new(self.alloc);
+        let mut place: u32 = 0;
+        for _ in 0..self.arena.words.len() {
+            match self.arena.first_from(place) {
+                None => break,
+                Some(clause) => {
+                    let status = self.arena.status(clause);
+                    if !status.is_learned {
+                        found.push(clause)?;
+                    }
+                    place = self.arena.next(clause);
+                }
+            }
+        }
+        Ok(found)
     }
 
     /// Watches the first two literals of a clause.

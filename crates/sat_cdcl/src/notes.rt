@@ -1,6 +1,7 @@
-//! What is noted while one clause is learned from a conflict: which variables were met, which literals the clause gets, and by which
-//! clauses it follows. Literals that the others imply are left out, where reasons of reasons tell so (Soerensson and Biere 2009);
-//! by which clauses they do is noted too. All of this room is used again for the next conflict.
+//! Clause minimisation (Soerensson and Biere 2009), and what else is noted while one clause is learned from a conflict: which
+//! variables were met, which literals the clause gets, and by which clauses it follows. Literals that the others imply are left
+//! out, where reasons of reasons tell so, or a clause of two literals does (as in glucose); by which clauses they are is noted too.
+//! All of this room is used again for the next conflict.
 
 use sat_arena::arena::Arena;
 use sat_arena::constants::{DEPTH, MOST_SHRUNK};

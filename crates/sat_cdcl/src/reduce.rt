@@ -1,5 +1,6 @@
-//! Learned clauses go, those of many levels first (clause-database reduction, as in Glucose, Audemard and Simon 2009, with the tiers
-//! of cadical). Then the clauses that stay are moved together, and all watches are made anew, those of two literals first.
+//! Clause-database reduction by glue (literal block distance, Audemard and Simon 2009, with the tiers of cadical): learned clauses
+//! go, those of many levels first. Then the clauses that stay are moved together, and all watches are made anew, those of two
+//! literals first.
 
 use crate::engine::Engine;
 use sat_arena::arena::Status;

@@ -1,7 +1,7 @@
-//! Which literals are likely to be equal (SAT sweeping, Kuehlmann and others 2002, on clauses). Random values are run through the
-//! clauses, and variables that have the same values in all tries, or opposite ones, are a pair. Where clauses describe gates, each
-//! behind those that it reads, a variable is what the clauses make it in which it is the greatest, and where they leave it free it is
-//! random.
+//! Candidate equivalences by random simulation (SAT sweeping, Kuehlmann and others 2002, on clauses): literals that are likely to
+//! be equal. Random values are run through the clauses, and variables that have the same values in all tries, or opposite ones, are
+//! a pair. Where clauses describe gates, each behind those that it reads, a variable is what the clauses make it in which it is the
+//! greatest, and where they leave it free it is random.
 //!
 //! 64 tries go at once, as the bits of a word. The random bits are 1 more often or more seldom by turns, since a gate of many
 //! inputs hardly ever changes where each input is 1 in half of the tries.
@@ -70,19 +70,6 @@ impl Random {
             _ => one | two | three,
         }
     }
-}
-
-// The given clauses.
-pub fn given(engine: &Engine) -> Result<Vec<u32>, AllocError> {
-    let clauses = engine.arena.clauses(engine.alloc)?;
-    let mut found = Vec::new(engine.alloc);
-    for clause in clauses.as_slice() {
-        let status = engine.arena.status(*clause);
-        if !status.is_learned {
-            found.push(*clause)?;
-        }
-    }
-    Ok(found)
 }
 
 // The greatest rank of a variable in a clause.

@@ -1,5 +1,6 @@
-//! The cone of two variables: what their gates read, what the gates of these read, and so on, the nearest first, up to some number.
-//! Whether two literals are equal is mostly told by what lies near to them, so that nothing else is decided for a pair.
+//! The cone of influence of two variables: what their gates read, what the gates of these read, and so on, the nearest first, up to
+//! some number. Whether two literals are equal is mostly told by what lies near to them, so that nothing else is decided for a
+//! pair.
 
 use sat_arena::constants::PAIR_GATES;
 use sat_arena::words::{Lit, NONE, at, is_set, lit_of, narrow, put, var_of};

@@ -1,6 +1,6 @@
-//! Literals that follow from one another by clauses of two literals are equal, and one of them is put in the place of all (Aspvall and
-//! others 1979; equivalent literal substitution). They are the strongly connected components of the graph of these clauses, found by
-//! one walk with a stack of its own (Tarjan 1972).
+//! Equivalent literal substitution (Aspvall and others 1979): literals that follow from one another by clauses of two literals are
+//! equal, and one of them is put in the place of all. They are the strongly connected components of the graph of these clauses,
+//! found by one walk with a stack of its own (Tarjan 1972).
 
 use sat_arena::trail::{Value, value_of};
 use sat_arena::watches::{list_of, put_list, take_list};
@@ -344,7 +344,7 @@ fn refute(engine: &mut Engine, lit: Lit) -> Result<(), AllocError> {
 }
 
 /// Puts one literal in the place of all that are equal to it. All is clean and watched before, pairs before others. Answers whether
-/// clauses changed, which are not watched then.
+/// clauses changed: then the watches are still those of the clauses before.
 pub fn merge(engine: &mut Engine) -> Result<bool, AllocError> {
     let least = components(engine)?;
     if let Some(lit) = contradiction(&least) {

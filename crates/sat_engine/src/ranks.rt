@@ -1,6 +1,6 @@
-//! In which order variables are made, where clauses describe gates: a variable comes behind those that its gate reads. Where each gate has
-//! a greater number than what it reads, that is the order of the numbers. But clauses of others need not be so, and equal literals
-//! that were made one neither.
+//! Gate extraction (Roy and others 2004, here conjunctions alone): in which order variables are made, where clauses describe gates.
+//! A variable comes behind those that its gate reads. Where each gate has a greater number than what it reads, that is the order of
+//! the numbers. But clauses of others need not be so, and equal literals that were made one neither.
 //!
 //! A gate is a clause of three literals or more one of whose literals has each other one for its opposite: that it implies the
 //! negations of all others is said by clauses of two literals. So it is the conjunction of these.

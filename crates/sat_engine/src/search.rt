@@ -1,9 +1,9 @@
-//! The search over given clauses.
+//! Inprocessing (Jarvisalo and others 2012): the search over given clauses, and between its two parts what makes them simpler.
 
 use crate::equal::merge;
 use crate::ranks::rank_all;
 use crate::sweep::sweep;
-use crate::candidates::{given, likely_pairs};
+use crate::candidates::likely_pairs;
 use cnf::{Cnf, Dim};
 use refute_check::Log;
 use sat_arena::constants::{
@@ -81,7 +81,7 @@ fn load(engine: &mut Engine, cnf: &Cnf) -> Result<(), AllocError> {
 }
 
 // Leaves out what is fixed, and puts one literal in the place of all that are equal to it, while nothing is decided. Answers whether
-// clauses changed, which are not watched then.
+// clauses changed: then the watches are still those of the clauses before.
 fn join(engine: &mut Engine) -> Result<bool, AllocError> {
     engine.backtrack(0);
     clean(engine)?;
@@ -98,7 +98,7 @@ fn pair(engine: &mut Engine) -> Result<(), AllocError> {
         engine.collect()?;
     }
     if engine.log.end == 0 {
-        let clauses = given(engine)?;
+        let clauses = engine.given()?;
         let ranks = rank_all(engine, &clauses)?;
         let pairs = likely_pairs(engine, &ranks, &clauses)?;
         sweep(engine, &ranks.gates, &pairs)?;
@@ -114,6 +114,7 @@ fn simplify(engine: &mut Engine) -> Result<(), AllocError> {
         eliminate(engine, ELIMINATION)?;
     }
     engine.collect()?;
+    engine.arena.fit(engine.alloc)?;
     engine.queue.rewind();
     Ok(())
 }

@@ -1,6 +1,7 @@
-//! Pairs of literals that are likely to be equal are shown to be: it is decided before all else that the one is true and the other is
-//! false, until that is refuted or given up. What is learned by that are short clauses between places inside of two circuits that
-//! are to be the same, without which their ends are out of reach.
+//! SAT sweeping of candidate equivalences (Kuehlmann and others 2002): pairs of literals that are likely to be equal are shown to
+//! be. It is decided before all else that the one is true and the other is false, until that is refuted or given up. What is
+//! learned by that are short clauses between places inside of two circuits that are to be the same, without which their ends are
+//! out of reach.
 
 use crate::cone::Cone;
 use sat_arena::arena::Status;

@@ -1,5 +1,5 @@
-//! Rows of clauses by numbers, one behind the other in one vector, made by counting (as in counting sort): each entry is counted first, and
-//! then put.
+//! Rows of clauses by numbers, one behind the other in one vector, made as in counting sort: each entry is counted first, and then
+//! put.
 
 use sat_arena::words::{NONE, at, put};
 use sat_cdcl::engine::Engine;

@@ -1,6 +1,6 @@
-//! The order in which variables are decided: those of newer conflicts first (variable move to front, Ryan 2004, with stamps as in
-//! Biere and Froehlich 2015). A list in both directions; a variable is moved to its end, and gets a stamp greater than all others.
-//! The variable from which the search for an open one begins is one behind which none is open.
+//! The VMTF queue of decisions (variable move to front, Ryan 2004, with stamps as in Biere and Froehlich 2015): variables of newer
+//! conflicts are decided first. A list in both directions; a variable is moved to its end, and gets a stamp greater than all
+//! others. The variable from which the search for an open one begins is one behind which none is open.
 
 use sat_arena::words::NONE;
 use std::alloc::{AllocError, Global};

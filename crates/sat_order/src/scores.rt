@@ -1,7 +1,6 @@
-//! Variables by scores, of which the one with the greatest is decided first: how often conflicts walked over it, newer ones counting
-//! more (variable state independent decaying sum, Moskewicz and others 2001, as in minisat). Where conflicts walk over hundreds of
-//! variables, the order by the newest conflict alone forgets within one what was learned in the ones before; where they do not, it is
-//! better.
+//! VSIDS scores (variable state independent decaying sum, Moskewicz and others 2001, as in minisat): the variable is decided first
+//! that conflicts walked over the most often, newer ones counting more. Where conflicts walk over hundreds of variables, the order
+//! by the newest conflict alone forgets within one what was learned in the ones before; where they do not, it is better.
 //!
 //! The variables stand in a heap (the one at place k is no less than those at 2k + 1 and 2k + 2).
 

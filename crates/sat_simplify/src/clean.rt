@@ -1,4 +1,5 @@
-//! Clauses that are put in the place of others, while nothing is decided and no clause is watched.
+//! Clauses under what is fixed (top-level simplification, as in minisat): those that hold go, and others lose their false literals,
+//! while nothing is decided. Each clause that is put in the place of another is a step of the log.
 
 use sat_arena::arena::Status;
 use sat_arena::trail::{Value, is_false, value_of};

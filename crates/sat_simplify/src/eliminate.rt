@@ -1,7 +1,7 @@
-//! Bounded elimination of variables (Een and Biere 2005, SatELite): the clauses of a variable go, and all resolvents of those with its
-//! one sign and those with the other come in their place, where they are no more clauses (or only a few more, later on) and no more
-//! literals. (Without the bound on literals sums that are regrouped cost more than twice as much.) The clauses of the rarer sign are
-//! kept for the value that the variable has in a solution.
+//! Bounded variable elimination (SatELite, Een and Biere 2005): the clauses of a variable go, and all resolvents of those with its
+//! one sign and those with the other come in their place, where they are no more clauses and no more literals. (Without the bound
+//! on literals sums that are regrouped cost more than twice as much.) The clauses of the rarer sign are kept for the value that the
+//! variable has in a solution.
 
 use crate::clean::clean;
 use crate::subsume::{settle, subsume_all};
@@ -298,12 +298,10 @@ fn pass(engine: &mut Engine, occurrences: &mut Occurrences) -> Result<usize, All
 
 // Notes the given clauses.
 fn connect_all(engine: &mut Engine, occurrences: &mut Occurrences) -> Result<(), AllocError> {
-    let clauses = engine.arena.clauses(engine.alloc)?;
+    let clauses = engine.given()?;
+    occurrences.make_room(engine, &clauses)?;
     for clause in clauses.as_slice() {
-        let status = engine.arena.status(*clause);
-        if !status.is_learned {
-            occurrences.connect(engine, *clause)?;
-        }
+        occurrences.connect(engine, *clause)?;
     }
     Ok(())
 }

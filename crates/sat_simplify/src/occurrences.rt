@@ -1,7 +1,8 @@
-//! In which given clauses each literal stands, while variables are eliminated.
+//! Occurrence lists (as in SatELite, Een and Biere 2005): in which given clauses each literal stands, while variables are
+//! eliminated.
 
 use sat_arena::arena::Status;
-use sat_arena::words::{Lit, put, set, var_of};
+use sat_arena::words::{Lit, at, put, set, var_of};
 use sat_cdcl::engine::Engine;
 use std::alloc::{AllocError, Global};
 use std::mem;
@@ -79,6 +80,23 @@ impl Occurrences {
             Some(list) => list.len(),
             None => 0,
         }
+    }
+
+    /// Makes room for as many clauses of each literal as these have.
+    pub fn make_room(&mut self, engine: &Engine, clauses: &[u32]) -> Result<(), AllocError> {
+        let mut counts: Vec<u32> = vec![in engine.alloc; 0; self.lists.len()]?;
+        for clause in clauses {
+            for lit in engine.arena.literals(*clause) {
+                let count = at(&counts, *lit as usize);
+                put(&mut counts, *lit as usize, count.wrapping_add(1));
+            }
+        }
+        for (lit, count) in counts.iter().enumerate() {
+            if let Some(list) = self.lists.get_mut(lit) {
+                *list = Vec::with_capacity(engine.alloc, *count as usize)?;
+            }
+        }
+        Ok(())
     }
 
     /// Notes a clause.

@@ -1,6 +1,6 @@
-//! Subsumption: a clause goes of which another is a part, and a literal goes of a clause of which another is a part but for that
-//! literal, which it has negated (self-subsuming resolution, Een and Biere 2005). Each clause is tried once against those of its rarest
-//! literal.
+//! Subsumption and self-subsuming resolution (Een and Biere 2005): a clause goes of which another is a part, and a literal goes of
+//! a clause of which another is a part but for that literal, which it has negated. Each clause is tried once against those of its
+//! rarest literal.
 
 use crate::clean::{replace, shorten};
 use crate::occurrences::Occurrences;
