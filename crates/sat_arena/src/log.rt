@@ -403,7 +403,7 @@ impl Log {
 fn count_of(flags: &[bool]) -> usize {
     let mut count: usize = 0;
     for flag in flags {
-        count = count.wrapping_add(usize::from(*flag));
+        count = count.wrapping_add(u32::from(*flag) as usize);
     }
     count
 }
