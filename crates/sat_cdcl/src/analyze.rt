@@ -3,9 +3,7 @@
 
 use crate::engine::{Engine, is_open};
 use sat_arena::arena::Status;
-use sat_arena::constants::{
-    LONG_WALK, OTHER_USES, SHORT_WALK, TIER1_GLUE, TIER2_GLUE, TIER2_USES,
-};
+use sat_arena::constants::{LONG_WALK, OTHER_USES, SHORT_WALK, TIER1_GLUE, TIER2_GLUE, TIER2_USES};
 use sat_arena::watches::list_of;
 use sat_arena::words::{Lit, NONE, at, narrow, var_of};
 use std::alloc::AllocError;

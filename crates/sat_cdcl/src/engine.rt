@@ -8,9 +8,9 @@ use sat_arena::log::Log;
 use sat_arena::trail::{Trail, Value, value_of};
 use sat_arena::watches::{Watch, empty_lists, push, put_list, take_list, walk_through};
 use sat_arena::words::{Lit, NONE, at, is_negated, is_set, lit_of, narrow, set, var_of};
-use sat_order::restarts::Pace;
 use sat_order::phases::Phases;
 use sat_order::queue::Queue;
+use sat_order::restarts::Pace;
 use sat_order::scores::Scores;
 use std::alloc::{AllocError, Global};
 

@@ -400,12 +400,7 @@ impl Notes {
     }
 
     // Leaves out what is false by the negation of the first literal and a clause of two literals, of those at the front of its list.
-    fn shrink(
-        &mut self,
-        arena: &Arena,
-        trail: &Trail,
-        list: &[Watch],
-    ) -> Result<(), AllocError> {
+    fn shrink(&mut self, arena: &Arena, trail: &Trail, list: &[Watch]) -> Result<(), AllocError> {
         if self.clause.len() > MOST_SHRUNK {
             return Ok(());
         }

@@ -141,13 +141,7 @@ fn noted(t: Told, newest: u64, is_first: bool) -> Told {
 }
 
 // Makes all clauses true by their greatest variables, in the order of these.
-fn mend_all(
-    told: &mut [Told],
-    values: &mut [u64],
-    engine: &Engine,
-    vars: &[u32],
-    table: &Table,
-) {
+fn mend_all(told: &mut [Told], values: &mut [u64], engine: &Engine, vars: &[u32], table: &Table) {
     for (rank, var) in vars.iter().enumerate() {
         if let Some(t) = told.get_mut(*var as usize) {
             for clause in table.row(narrow(rank)) {

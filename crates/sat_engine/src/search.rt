@@ -1,9 +1,9 @@
 //! Inprocessing (Jarvisalo and others 2012): the search over given clauses, and between its two parts what makes them simpler.
 
+use crate::candidates::likely_pairs;
 use crate::equal::merge;
 use crate::ranks::rank_all;
 use crate::sweep::sweep;
-use crate::candidates::likely_pairs;
 use cnf::{Cnf, Dim};
 use refute_check::Log;
 use sat_arena::constants::{

@@ -4,8 +4,8 @@
 //! variable has in a solution.
 
 use crate::clean::clean;
-use crate::subsume::{settle, subsume_all};
 use crate::occurrences::Occurrences;
+use crate::subsume::{settle, subsume_all};
 use sat_arena::arena::FIRST;
 use sat_arena::constants::{LITERALS_OF_WORK, LONGEST, MOST_USES, PASSES};
 use sat_arena::trail::{Value, value_of};
@@ -171,7 +171,11 @@ impl Resolvents {
 }
 
 // Writes a clause down that follows by the hints that are noted, and notes it.
-fn enter(engine: &mut Engine, occurrences: &mut Occurrences, literals: &[Lit]) -> Result<(), AllocError> {
+fn enter(
+    engine: &mut Engine,
+    occurrences: &mut Occurrences,
+    literals: &[Lit],
+) -> Result<(), AllocError> {
     let number = engine.log.add(literals, &engine.notes.hints)?;
     match literals {
         [] => Ok(()),
@@ -266,7 +270,10 @@ fn try_variable(
 }
 
 // The variables that are to be tried, those with the fewest pairs of clauses first.
-fn candidates(engine: &Engine, occurrences: &mut Occurrences) -> Result<Vec<(usize, u32)>, AllocError> {
+fn candidates(
+    engine: &Engine,
+    occurrences: &mut Occurrences,
+) -> Result<Vec<(usize, u32)>, AllocError> {
     let mut found = Vec::new(engine.alloc);
     for var in 0..narrow(occurrences.touched.len()) {
         if is_set(&occurrences.touched, var as usize) && engine.is_open(var) {

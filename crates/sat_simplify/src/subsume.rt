@@ -142,7 +142,12 @@ fn look_through(
 }
 
 // Tries a clause, whose literals are marked, on the clauses of one of its literals or of the negation of that.
-fn try_list(engine: &mut Engine, occurrences: &mut Occurrences, clause: u32, lit: Lit) -> Result<(), AllocError> {
+fn try_list(
+    engine: &mut Engine,
+    occurrences: &mut Occurrences,
+    clause: u32,
+    lit: Lit,
+) -> Result<(), AllocError> {
     let list = occurrences.take(engine, lit);
     let shorter = look_through(engine, occurrences, clause, &list)?;
     occurrences.put_back(lit, list);
@@ -160,7 +165,9 @@ fn rarest(occurrences: &Occurrences, literals: &[Lit]) -> (Lit, usize) {
     let mut found: Lit = 0;
     let mut least = usize::MAX;
     for lit in literals {
-        let count = occurrences.count(*lit).saturating_add(occurrences.count(*lit ^ 1));
+        let count = occurrences
+            .count(*lit)
+            .saturating_add(occurrences.count(*lit ^ 1));
         if count < least {
             found = *lit;
             least = count;
@@ -170,7 +177,11 @@ fn rarest(occurrences: &Occurrences, literals: &[Lit]) -> (Lit, usize) {
 }
 
 // Tries a clause on those that it may subsume or make shorter.
-fn subsume(engine: &mut Engine, occurrences: &mut Occurrences, clause: u32) -> Result<(), AllocError> {
+fn subsume(
+    engine: &mut Engine,
+    occurrences: &mut Occurrences,
+    clause: u32,
+) -> Result<(), AllocError> {
     let literals = engine.arena.literals(clause);
     let (lit, count) = rarest(occurrences, literals);
     if count > MOST_SUBSUMED || literals.len() > SUBSUMING {
