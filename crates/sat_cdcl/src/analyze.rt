@@ -4,7 +4,6 @@
 use crate::engine::{Engine, is_open};
 use sat_arena::arena::Status;
 use sat_arena::constants::{LONG_WALK, OTHER_USES, SHORT_WALK, TIER1_GLUE, TIER2_GLUE, TIER2_USES};
-use sat_arena::watches::list_of;
 use sat_arena::words::{Lit, NONE, at, narrow, var_of};
 use std::alloc::AllocError;
 
@@ -63,8 +62,7 @@ impl Engine {
                 open = open.saturating_add(self.trace(fact.reason)?);
             }
         }
-        let list = list_of(&self.lists, first);
-        self.notes.finish(&self.arena, &self.trail, first, list)
+        self.notes.finish(&self.arena, &self.trail, first)
     }
 
     // Begins or ends to decide by scores, where conflicts walk over many variables or no longer do.

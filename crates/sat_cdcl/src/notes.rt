@@ -1,12 +1,10 @@
 //! Clause minimisation (Soerensson and Biere 2009), and what else is noted while one clause is learned from a conflict: which
 //! variables were met, which literals the clause gets, and by which clauses it follows. Literals that the others imply are left
-//! out, where reasons of reasons tell so, or a clause of two literals does (as in glucose); by which clauses they are is noted too.
-//! All of this room is used again for the next conflict.
+//! out, where reasons of reasons tell so; by which clauses they do is noted too. All of this room is used again for the next conflict.
 
 use sat_arena::arena::Arena;
-use sat_arena::constants::{DEPTH, MOST_SHRUNK};
-use sat_arena::trail::{Fact, Trail, is_true};
-use sat_arena::watches::Watch;
+use sat_arena::constants::DEPTH;
+use sat_arena::trail::{Fact, Trail};
 use sat_arena::words::{Lit, NONE, at, narrow, put, var_of};
 use std::alloc::{AllocError, Global};
 
@@ -370,54 +368,7 @@ impl Notes {
             }
         }
         self.clause.truncate(kept);
-        Ok(())
-    }
-
-    // Whether the negation of a literal is of the clause still, and of an older level.
-    fn is_denied(&self, trail: &Trail, lit: Lit) -> bool {
-        let mark = self.mark(var_of(lit));
-        let is_kept = match mark.verdict {
-            Verdict::Unknown => mark.is_met,
-            Verdict::Free => mark.is_met,
-            _ => false,
-        };
-        let fact = trail.fact(var_of(lit));
-        is_kept && is_true(&trail.values, lit) && 0 < fact.level && fact.level < trail.level()
-    }
-
-    // Leaves out the literals that were explained since the others were.
-    fn drop_explained(&mut self) {
-        let mut kept: usize = 1;
-        for k in 1..self.clause.len() {
-            let lit = at(&self.clause, k);
-            let mark = self.mark(var_of(lit));
-            if !matches!(mark.verdict, Verdict::Explained) {
-                put(&mut self.clause, kept, lit);
-                kept = kept.wrapping_add(1);
-            }
-        }
-        self.clause.truncate(kept);
-    }
-
-    // Leaves out what is false by the negation of the first literal and a clause of two literals, of those at the front of its list.
-    fn shrink(&mut self, arena: &Arena, trail: &Trail, list: &[Watch]) -> Result<(), AllocError> {
-        if self.clause.len() > MOST_SHRUNK {
-            return Ok(());
-        }
-        let before = self.hints.len();
-        for watch in list {
-            if !watch.is_pair() {
-                break;
-            }
-            if self.is_denied(trail, watch.blocker) {
-                self.tell(var_of(watch.blocker), Verdict::Explained)?;
-                self.hints.push(arena.number(watch.clause()))?;
-            }
-        }
-        if self.hints.len() > before {
-            self.drop_explained();
-        }
-        Ok(())
+        self.explain_all(arena, trail)
     }
 
     // Puts a literal of the newest of the older levels behind the first. Answers that level.
@@ -446,18 +397,10 @@ impl Notes {
         Ok(())
     }
 
-    /// Ends the clause with its first literal, which has this list. Answers the level to which to go back.
-    pub fn finish(
-        &mut self,
-        arena: &Arena,
-        trail: &Trail,
-        first: Lit,
-        list: &[Watch],
-    ) -> Result<u32, AllocError> {
+    /// Ends the clause with its first literal. Answers the level to which to go back.
+    pub fn finish(&mut self, arena: &Arena, trail: &Trail, first: Lit) -> Result<u32, AllocError> {
         put(&mut self.clause, 0, first);
         self.minimize(arena, trail)?;
-        self.shrink(arena, trail, list)?;
-        self.explain_all(arena, trail)?;
         self.close()?;
         Ok(self.put_second(trail))
     }

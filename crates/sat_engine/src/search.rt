@@ -137,7 +137,6 @@ fn run(engine: &mut Engine, cnf: &Cnf) -> Result<End, AllocError> {
     if engine.log.end > 0 {
         return Ok(End::Refuted);
     }
-    engine.pace.forget();
     engine.search(MOST_CONFLICTS, u64::MAX)
 }
 

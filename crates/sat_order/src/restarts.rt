@@ -67,12 +67,6 @@ impl Pace {
         }
     }
 
-    /// Lets the means of levels begin anew.
-    pub fn forget(&mut self) {
-        self.quick = NO_MEAN;
-        self.slow = NO_MEAN;
-    }
-
     /// Counts a conflict whose clause has so many levels.
     pub fn count(&mut self, levels: u32) {
         self.conflicts = self.conflicts.saturating_add(1);
