@@ -32,8 +32,8 @@ pub struct Status {
     pub is_tried: bool,
     /// For how many reductions it stays, up to 3.
     pub used: u32,
-    /// Its glue: how many levels its literals had, of those of conflicts that it took part in the least (literal block distance, Audemard and
-    /// Simon 2009).
+    /// Its glue: how many levels its literals had, of those of conflicts that it took part in the least (literal block distance,
+    /// Audemard and Simon 2009).
     pub glue: u32,
 }
 

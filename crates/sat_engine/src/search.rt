@@ -140,8 +140,8 @@ fn run(engine: &mut Engine, cnf: &Cnf) -> Result<End, AllocError> {
     engine.search(MOST_CONFLICTS, u64::MAX)
 }
 
-/// Searches for a solution of the clauses, or for a log that refutes them. Variables behind the greatest that a clause names take no room,
-/// and are false in a solution.
+/// Searches for a solution of the clauses, or for a log that refutes them. Variables behind the greatest that a clause names take no
+/// room, and are false in a solution.
 pub fn search_for(alloc: Global, cnf: &Cnf) -> Result<Found, AllocError> {
     let vars = named(cnf.clauses.as_slice());
     if vars > MOST_VARIABLES || cnf.clauses.len() > MOST_CLAUSES {
