@@ -1,6 +1,6 @@
-//! The clauses of the search, in one vector of words, one behind the other (as in minisat and cadical): four words of header, and
-//! then the literals, of which the first two are watched. A clause is named by the place of its header. Clauses that are given up
-//! are garbage until all others are moved together.
+//! The clause arena (as in minisat and cadical): the clauses of the search in one vector of words, one behind the other, each with
+//! four words of header before its literals, of which the first two are watched. A clause is named by the place of its header.
+//! Clauses that are given up are garbage until all others are moved together.
 
 use crate::words::{Lit, at, narrow, put};
 use std::alloc::{AllocError, Global};
@@ -20,8 +20,8 @@ pub const HEADER: usize = 4;
 /// The first literal that is not watched.
 pub const FIRST: u32 = 2;
 
-/// Up to how many levels are told apart.
-const MOST_LEVELS: u32 = (1 << 24) - 1;
+/// Up to which glue clauses are told apart.
+const MOST_GLUE: u32 = (1 << 24) - 1;
 
 /// What is known of a clause besides its literals.
 #[derive(Clone, Copy)]
@@ -32,9 +32,9 @@ pub struct Status {
     pub is_tried: bool,
     /// For how many reductions it stays, up to 3.
     pub used: u32,
-    /// How many levels its literals had, of those of conflicts that it took part in the least (literal block distance, Audemard and
-    /// Simon 2009).
-    pub levels: u32,
+    /// Its glue: how many levels its literals had, of those of conflicts that it took part in the least (literal block distance,
+    /// Audemard and Simon 2009).
+    pub glue: u32,
 }
 
 // The status in one word.
@@ -43,8 +43,8 @@ fn packed(status: Status) -> u32 {
     let garbage = u32::from(status.is_garbage).wrapping_mul(2);
     let tried = u32::from(status.is_tried).wrapping_mul(4);
     let used = status.used.min(3).wrapping_mul(8);
-    let levels = status.levels.min(MOST_LEVELS).wrapping_mul(32);
-    learned | garbage | tried | used | levels
+    let glue = status.glue.min(MOST_GLUE).wrapping_mul(32);
+    learned | garbage | tried | used | glue
 }
 
 // The status that a word is.
@@ -54,7 +54,7 @@ fn status_of(word: u32) -> Status {
         is_garbage: word / 2 % 2 == 1,
         is_tried: word / 4 % 2 == 1,
         used: word / 8 % 4,
-        levels: word / 32,
+        glue: word / 32,
     }
 }
 
@@ -94,19 +94,34 @@ impl Arena {
             .wrapping_add(self.size(clause))
     }
 
-    /// The clauses that are no garbage.
-    pub fn clauses(&self, alloc: Global) -> Result<Vec<u32>, AllocError> {
-        let mut found = Vec::new(alloc);
-        let mut clause: u32 = 0;
+    /// The first clause that is no garbage, of those from a place on.
+    pub fn first_from(&self, place: u32) -> Option<u32> {
+        let mut clause = place;
         for _ in 0..self.words.len() {
             if clause >= self.end() {
                 break;
             }
             let status = self.status(clause);
             if !status.is_garbage {
-                found.push(clause)?;
+                return Some(clause);
             }
             clause = self.next(clause);
+        }
+        None
+    }
+
+    /// The clauses that are no garbage.
+    pub fn clauses(&self, alloc: Global) -> Result<Vec<u32>, AllocError> {
+        let mut found = Vec::new(alloc);
+        let mut place: u32 = 0;
+        for _ in 0..self.words.len() {
+            match self.first_from(place) {
+                None => break,
+                Some(clause) => {
+                    found.push(clause)?;
+                    place = self.next(clause);
+                }
+            }
         }
         Ok(found)
     }
@@ -184,8 +199,17 @@ impl Arena {
         Ok(clause)
     }
 
-    /// Copies a clause to a place before it.
+    /// Lets the room go that no clause takes.
+    pub fn fit(&mut self, alloc: Global) -> Result<(), AllocError> {
+        self.words = Vec::from_slice(alloc, &self.words)?;
+        Ok(())
+    }
+
+    /// Copies a clause to a place before it, or leaves it at its own.
     pub fn shift(&mut self, from: u32, to: u32) {
+        if from == to {
+            return;
+        }
         let count = HEADER + self.size(from) as usize;
         for i in 0..count {
             let word = at(&self.words, (from as usize).wrapping_add(i));

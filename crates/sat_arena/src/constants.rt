@@ -1,4 +1,5 @@
-//! The numbers that steer the search, and where they are from. What is answered does not depend on them, only how soon.
+//! The parameters of the search, and where they are from. What is answered does not depend on them, only how soon. Those that are
+//! called measured were chosen on the halves of the suites that are for choosing (bench/goal_clauses.py).
 
 /// A clause, a watch and a step of the log are named by four bytes, and a clause by one bit less, so the search gives up beyond
 /// these.
@@ -29,18 +30,27 @@ pub const MARGIN: u64 = 110;
 pub const PAUSE: u64 = 2;
 
 /// Reduction of the learned clauses: after how many conflicts the first one comes, and how many more lie between two each time; how
-/// many hundredths of the clauses that may go do go; up to how many levels a clause stays for ever, and up to how many it stays
-/// for two reductions after it was used (cadical: reduceint, reducetarget, reducetier1glue, reducetier2glue).
+/// many hundredths of the clauses that may go do go; up to which glue a clause stays for ever, and up to which it stays for more than
+/// one reduction after it was used (cadical: reduceint, reducetarget, reducetier1glue, reducetier2glue); and for how many it stays
+/// then, and above that (cadical).
 pub const REDUCE: u64 = 300;
 
 pub const SHARE: usize = 75;
 
-pub const FEW_LEVELS: u32 = 2;
+pub const TIER1_GLUE: u32 = 2;
 
-pub const SOME_LEVELS: u32 = 6;
+pub const TIER2_GLUE: u32 = 6;
 
-/// From how many bytes on the log is trimmed, and with how many a block of it is full.
-pub const LEAST_LOG: usize = 4_000_000;
+pub const TIER2_USES: u32 = 2;
+
+pub const OTHER_USES: u32 = 1;
+
+/// From how many bytes on the log is trimmed, and by how many times it has to grow before that is done again (measured: four in five
+/// of its bytes are still needed then, so to do it sooner spares little); and how many bytes a block of it has (a small part of a log
+/// that is trimmed, since one block is held twice while it is).
+pub const LEAST_LOG: usize = 1_000_000;
+
+pub const LOG_GROWTH: usize = 2;
 
 pub const LOG_BLOCK: usize = 1 << 16;
 
@@ -51,7 +61,8 @@ pub const REPHASE: u64 = 1_000;
 pub const PHASE_TURNS: u64 = 4;
 
 /// Scores in place of the order by the newest conflict: from how many variables on that conflicts walk over in the mean, below how
-/// many they end, over how many conflicts that mean goes, and how many there have to be (the present solver's).
+/// many they end, over how many conflicts that mean goes, and how many there have to be (measured: it
+/// spares the arbiter of 64 a quarter of its conflicts, and changes little elsewhere).
 pub const LONG_WALK: u32 = 250;
 
 pub const SHORT_WALK: u32 = 150;
@@ -77,8 +88,11 @@ pub const LONGEST: usize = 20;
 
 pub const PASSES: usize = 2;
 
-/// How much is looked at while variables are eliminated.
+/// How much is looked at while variables are eliminated (a bound on the time alone: clauses of 57,000 variables take a fortieth of it),
+/// and how many literals count as one clause that is looked at (an estimate).
 pub const ELIMINATION: u64 = 20_000_000;
+
+pub const LITERALS_OF_WORK: usize = 4;
 
 /// Subsumption: how many clauses a clause is tried on, and how many literals it has at most (cadical: subsumeocclim,
 /// subsumeclslim, which is 100).
@@ -86,9 +100,11 @@ pub const MOST_SUBSUMED: usize = 1_000;
 
 pub const SUBSUMING: usize = 100;
 
-/// Likely pairs: how many words of 64 tries there are at most, over how many words of clauses together, and in how many tries a
-/// variable has another value than in most at least (the present solver's; measured on its clauses).
+/// Candidate equivalences: how many words of 64 tries there are at most and at least, over how many words of clauses together, and in
+/// how many tries a variable has another value than in most at least (measured: with 8 words there are no fewer conflicts).
 pub const MOST_TRIES: usize = 16;
+
+pub const FEWEST_TRIES: usize = 3;
 
 pub const TRIED_LITERALS: usize = 20_000_000;
 
@@ -109,5 +125,6 @@ pub const PAIR_SHARE: u64 = 16;
 
 pub const PAIR_WORK: u64 = 300_000;
 
-/// How deep reasons are looked through for one literal of a new clause (cadical has 1,000; half is enough, and spares the stack).
+/// How deep reasons are looked through for one literal of a new clause (cadical has 1,000, as a bound on its stack; here it bounds the
+/// work, and half is enough).
 pub const DEPTH: usize = 500;

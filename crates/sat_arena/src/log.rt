@@ -1,7 +1,7 @@
-//! The derivations of a search, in bytes: of each step how many literals its clause has, these, how many hints there are, and how
-//! far each of these is back from the step (LRAT, Cruz-Filipe and others 2017, without deletions). Numbers are in groups of seven
-//! bits, the least significant first. A search takes most of its memory for this, so nothing else is kept of a step, and steps
-//! are left out that no clause which is still there needs.
+//! The log of derivations (LRAT, Cruz-Filipe and others 2017, without deletions), in bytes: of each step how many literals its
+//! clause has, these, how many hints there are, and how far each of these is from the one before it, the first from the step.
+//! Numbers are in groups of seven bits, the least significant first. A search takes most of its memory for this, so nothing else is
+//! kept of a step, and steps are left out that no clause which is still there needs.
 //!
 //! The bytes stand in blocks, each of whole steps. So where steps are left out, or written out for the judge, a block is let go as
 //! soon as it is read, and no second log stands beside the first.
@@ -92,6 +92,26 @@ fn push(bytes: &mut Vec<u8>, number: u32) -> Result<(), AllocError> {
     Ok(())
 }
 
+// A difference of two numbers as one that is small where they are near to each other.
+#[inline]
+fn folded(difference: u32) -> u32 {
+    if difference < 1 << 31 {
+        difference.wrapping_mul(2)
+    } else {
+        (!difference).wrapping_mul(2).wrapping_add(1)
+    }
+}
+
+// The difference that was folded.
+#[inline]
+fn unfolded(number: u32) -> u32 {
+    if number % 2 == 0 {
+        number / 2
+    } else {
+        !(number / 2)
+    }
+}
+
 /// A place from which numbers are read.
 #[derive(Clone, Copy)]
 struct Cursor {
@@ -143,8 +163,10 @@ impl Block {
             push(&mut self.bytes, *lit)?;
         }
         push(&mut self.bytes, narrow(hints.len()))?;
+        let mut before = number;
         for hint in hints {
-            push(&mut self.bytes, number.wrapping_sub(*hint))?;
+            push(&mut self.bytes, folded(before.wrapping_sub(*hint)))?;
+            before = *hint;
         }
         self.steps = self.steps.saturating_add(1);
         Ok(())
@@ -155,9 +177,10 @@ impl Block {
         let mut cursor = Cursor { place: start };
         let literals = cursor.next(&self.bytes);
         cursor.skip(&self.bytes, literals);
+        let mut hint = narrow(place);
         for _ in 0..cursor.next(&self.bytes) {
-            let distance = cursor.next(&self.bytes);
-            set(needed, place.wrapping_sub(distance as usize), true);
+            hint = hint.wrapping_sub(unfolded(cursor.next(&self.bytes)));
+            set(needed, hint as usize, true);
         }
     }
 
@@ -187,8 +210,10 @@ impl Reading {
         for _ in 0..cursor.next(bytes) {
             self.clause.push(cursor.next(bytes))?;
         }
+        let mut hint = number;
         for _ in 0..cursor.next(bytes) {
-            self.hints.push(number.wrapping_sub(cursor.next(bytes)))?;
+            hint = hint.wrapping_sub(unfolded(cursor.next(bytes)));
+            self.hints.push(hint)?;
         }
         Ok(())
     }
@@ -222,15 +247,17 @@ impl Log {
         }
     }
 
-    // Begins a block, where there is none or the last one is full.
-    fn begin_block(&mut self) -> Result<(), AllocError> {
+    // Begins a block, where there is none or the last one may lack room for a step of so many numbers.
+    fn begin_block(&mut self, numbers: usize) -> Result<(), AllocError> {
+        let most = numbers.saturating_mul(GROUPS as usize);
         let is_full = match self.blocks.last() {
             None => true,
-            Some(block) => block.bytes.len() >= LOG_BLOCK,
+            Some(block) => block.bytes.len().saturating_add(most) > LOG_BLOCK,
         };
         if is_full {
+            let bytes = Vec::with_capacity(self.alloc, LOG_BLOCK.max(most))?;
             self.blocks.push(Block {
-                bytes: Vec::new(self.alloc),
+                bytes,
                 first: self.steps,
                 steps: 0,
             })?;
@@ -240,7 +267,7 @@ impl Log {
 
     /// Puts a step behind the others. Answers its number.
     pub fn add(&mut self, clause: &[Lit], hints: &[u32]) -> Result<u32, AllocError> {
-        self.begin_block()?;
+        self.begin_block(clause.len().saturating_add(hints.len()).saturating_add(2))?;
         let number = self.given.wrapping_add(self.steps);
         if let Some(block) = self.blocks.last_mut() {
             let before = block.bytes.len();
@@ -363,13 +390,22 @@ impl Log {
         set(&mut needed, (self.end as usize).saturating_sub(1), true);
         self.need_all(&mut needed)?;
         let numbers = self.renumbered(&needed)?;
-        let mut steps = Vec::new(self.alloc);
+        let mut steps = Vec::with_capacity(self.alloc, count_of(&needed))?;
         let mut step = new_reading(self.alloc);
         for block in self.take_blocks() {
             self.write_block(&block, &needed, &numbers, &mut step, &mut steps)?;
         }
         Ok(steps)
     }
+}
+
+// How many flags are set.
+fn count_of(flags: &[bool]) -> usize {
+    let mut count: usize = 0;
+    for flag in flags {
+        count = count.wrapping_add(u32::from(*flag) as usize);
+    }
+    count
 }
 
 // Room for a step.

@@ -1,5 +1,6 @@
-//! The values of literals, and the trail: the literals that are true, in the order in which they became so. The trail is the queue
-//! of what is to be propagated, too.
+//! The partial assignment, and its implication graph: the values of literals, the trail of those that are true, in the order in
+//! which they became so, and of each variable the clause that is the reason of its value. The trail is the queue of what is to be
+//! propagated, too.
 
 use crate::words::{Lit, NONE, at, narrow, put, var_of};
 use std::alloc::{AllocError, Global};

@@ -1,7 +1,7 @@
-//! Propagation. Two literals of each clause are watched (Moskewicz and others 2001): a clause is looked at only where one of them
-//! becomes false, and then another literal is watched, or the clause gives its other watched literal, or it is false. A watch takes
-//! eight bytes, the clause and another of its literals, the blocker (Chu and others 2008): while that is true nothing is to be
-//! done. A clause of two literals is told from its watches alone.
+//! Unit propagation with two watched literals (Moskewicz and others 2001): a clause is looked at only where one of its two watched
+//! literals becomes false, and then another literal is watched, or the clause gives its other watched literal, or it is false. A
+//! watch takes eight bytes, the clause and another of its literals, the blocker (Chu and others 2008): while that is true nothing
+//! is to be done. A clause of two literals is told from its watches alone.
 
 use crate::arena::{FIRST, HEADER, LAST, SIZE};
 use crate::constants::SHORT_CLAUSE;
@@ -65,10 +65,12 @@ pub struct Walk {
 // The place among all words, from one up to another, of a literal that is not false.
 #[inline]
 fn free_place(values: &[Value], words: &[u32], from: usize, to: usize) -> Option<usize> {
-    for place in from..to {
-        if !is_false(values, at(words, place)) {
+    let mut place = from;
+    for lit in words.get(from..to)? {
+        if !is_false(values, *lit) {
             return Some(place);
         }
+        place = place.wrapping_add(1);
     }
     None
 }
@@ -226,6 +228,14 @@ pub fn take_list(alloc: Global, lists: &mut [Vec<Watch>], lit: Lit) -> Vec<Watch
 pub fn put_list(lists: &mut [Vec<Watch>], lit: Lit, list: Vec<Watch>) {
     if let Some(place) = lists.get_mut(lit as usize) {
         *place = list;
+    }
+}
+
+/// The list of a literal.
+pub fn list_of(lists: &[Vec<Watch>], lit: Lit) -> &[Watch] {
+    match lists.get(lit as usize) {
+        Some(list) => list.as_slice(),
+        None => &[],
     }
 }
 

@@ -1,15 +1,19 @@
-//! What is learned from a conflict: the clause of the first cut of its reasons with one literal of the newest level (first unique
-//! implication point, Marques-Silva and Sakallah 1996, Zhang and others 2001), made shorter.
+//! Conflict analysis: what is learned is the clause of the first cut of the reasons with one literal of the newest level (first
+//! unique implication point, first UIP, Marques-Silva and Sakallah 1996, Zhang and others 2001), made shorter.
 
-use crate::engine::Engine;
+use crate::engine::{Engine, is_open};
 use sat_arena::arena::Status;
-use sat_arena::constants::{FEW_LEVELS, LONG_WALK, SHORT_WALK, SOME_LEVELS};
+use sat_arena::constants::{LONG_WALK, OTHER_USES, SHORT_WALK, TIER1_GLUE, TIER2_GLUE, TIER2_USES};
 use sat_arena::words::{Lit, NONE, at, narrow, var_of};
 use std::alloc::AllocError;
 
 // For how many reductions a clause stays that is used.
-fn used(levels: u32) -> u32 {
-    if levels <= SOME_LEVELS { 2 } else { 1 }
+fn used(glue: u32) -> u32 {
+    if glue <= TIER2_GLUE {
+        TIER2_USES
+    } else {
+        OTHER_USES
+    }
 }
 
 impl Engine {
@@ -19,17 +23,17 @@ impl Engine {
         if !status.is_learned {
             return;
         }
-        let mut levels = status.levels;
-        if levels > FEW_LEVELS {
+        let mut glue = status.glue;
+        if glue > TIER1_GLUE {
             let literals = self.arena.literals(clause);
-            levels = levels.min(self.notes.count_levels(&self.trail, literals));
+            glue = self.notes.count_levels(&self.trail, literals, glue);
         }
-        let used = used(levels);
+        let used = used(glue);
         self.arena.set_status(
             clause,
             Status {
                 used,
-                levels,
+                glue,
                 ..status
             },
         );
@@ -62,15 +66,16 @@ impl Engine {
     }
 
     // Begins or ends to decide by scores, where conflicts walk over many variables or no longer do.
-    fn choose_order(&mut self) {
+    fn choose_order(&mut self) -> Result<(), AllocError> {
         self.pace.count_walk(narrow(self.notes.met.len()));
         if self.is_scored && !self.pace.is_walk_long(SHORT_WALK) {
             self.is_scored = false;
             self.queue.rewind();
         } else if !self.is_scored && self.pace.is_walk_long(LONG_WALK) {
             self.is_scored = true;
-            self.scores.begin();
+            self.scores.begin(self.gone.len())?;
         }
+        Ok(())
     }
 
     // Lets the variables that were met come first by their scores.
@@ -83,20 +88,21 @@ impl Engine {
 
     // Moves the variables that were met to the front of the order, in the order in which they stand.
     fn bump(&mut self) -> Result<(), AllocError> {
-        let mut ranked: Vec<(u64, u32)> = Vec::with_capacity(self.alloc, self.notes.met.len())?;
+        self.notes.ranked.clear();
         for var in self.notes.met.iter() {
-            ranked.push((self.queue.stamp(*var), *var))?;
+            let rank = self.queue.stamp(*var).wrapping_shl(32) | u64::from(*var);
+            self.notes.ranked.push(rank)?;
         }
-        ranked.sort_unstable();
-        for (_, var) in ranked.as_slice() {
-            let is_open = self.is_open(*var);
-            self.queue.bump(*var, is_open);
+        self.notes.ranked.sort_unstable();
+        for rank in self.notes.ranked.iter() {
+            let var = (*rank % (1 << 32)) as u32;
+            self.queue.bump(var, is_open(&self.trail, &self.gone, var));
         }
         Ok(())
     }
 
     // Adds the clause that was found behind the level to which it goes back, and makes its first literal true.
-    fn take_up(&mut self, number: u32, levels: u32) -> Result<(), AllocError> {
+    fn take_up(&mut self, number: u32, glue: u32) -> Result<(), AllocError> {
         let first = at(&self.notes.clause, 0);
         if self.notes.clause.len() == 1 {
             return self.add_unit(first, number);
@@ -105,8 +111,8 @@ impl Engine {
             is_learned: true,
             is_garbage: false,
             is_tried: false,
-            used: used(levels),
-            levels,
+            used: used(glue),
+            glue,
         };
         let place = self.arena.add(&self.notes.clause, number, status)?;
         self.attach(place)?;
@@ -120,9 +126,9 @@ impl Engine {
         }
         self.phases.calm = self.trail.start(self.trail.level());
         let level = self.analyze(conflict)?;
-        let levels = narrow(self.notes.levels.len());
-        self.pace.count(levels);
-        self.choose_order();
+        let glue = narrow(self.notes.levels.len());
+        self.pace.count(glue);
+        self.choose_order()?;
         if self.is_scored {
             self.bump_scores();
         } else {
@@ -131,6 +137,6 @@ impl Engine {
         self.notes.clear();
         let number = self.log.add(&self.notes.clause, &self.notes.hints)?;
         self.backtrack(level);
-        self.take_up(number, levels)
+        self.take_up(number, glue)
     }
 }

@@ -1,5 +1,5 @@
-//! All that a search has, and its loop: propagation up to a conflict, a clause that is learned from it, and else a decision, or what
-//! is due between two of them.
+//! The CDCL loop (conflict-driven clause learning, Marques-Silva and Sakallah 1996), and all that a search has: propagation up to a
+//! conflict, a clause that is learned from it, and else a decision, or what is due between two of them.
 
 use crate::notes::Notes;
 use sat_arena::arena::{Arena, Status};
@@ -8,9 +8,9 @@ use sat_arena::log::Log;
 use sat_arena::trail::{Trail, Value, value_of};
 use sat_arena::watches::{Watch, empty_lists, push, put_list, take_list, walk_through};
 use sat_arena::words::{Lit, NONE, at, is_negated, is_set, lit_of, narrow, set, var_of};
-use sat_order::pace::Pace;
 use sat_order::phases::Phases;
 use sat_order::queue::Queue;
+use sat_order::restarts::Pace;
 use sat_order::scores::Scores;
 use std::alloc::{AllocError, Global};
 
@@ -36,8 +36,11 @@ pub struct Engine {
     pub kept: Vec<u32>,
     /// How many clauses were looked at.
     pub work: u64,
-    // How many literals of the trail are fixed by steps of the log.
-    fixed: usize,
+    /// How many literals of the trail are fixed by steps of the log, and how many were when clauses that hold by these went last.
+    pub fixed: usize,
+    pub satisfied: usize,
+    /// How many of the literals that are fixed no clause has any more, nor their negations.
+    pub cleaned: usize,
 }
 
 impl Drop for Engine {
@@ -59,6 +62,8 @@ impl Drop for Engine {
             kept: _,
             work: _,
             fixed: _,
+            satisfied: _,
+            cleaned: _,
         } = self;
     }
 }
@@ -82,8 +87,15 @@ pub const GIVEN: Status = Status {
     is_garbage: false,
     is_tried: false,
     used: 0,
-    levels: 0,
+    glue: 0,
 };
+
+/// Whether a variable has no value, and was not taken out.
+#[inline]
+pub fn is_open(trail: &Trail, gone: &[bool], var: u32) -> bool {
+    let is_valued = !matches!(value_of(&trail.values, lit_of(var, true)), Value::Open);
+    !is_valued && !is_set(gone, var as usize)
+}
 
 impl Engine {
     /// So many variables, and a log behind so many given clauses.
@@ -94,7 +106,7 @@ impl Engine {
             lists: empty_lists(alloc, vars.saturating_mul(2))?,
             trail: Trail::new(alloc, vars)?,
             queue: Queue::new(alloc, narrow(vars))?,
-            scores: Scores::new(alloc, vars)?,
+            scores: Scores::new(alloc),
             is_scored: false,
             phases: Phases::new(alloc, vars)?,
             notes: Notes::new(alloc, vars)?,
@@ -105,7 +117,28 @@ impl Engine {
             kept: Vec::new(alloc),
             work: 0,
             fixed: 0,
+            satisfied: 0,
+            cleaned: 0,
         })
+    }
+
+    /// The given clauses, and those in their place.
+    pub fn given(&self) -> Result<Vec<u32>, AllocError> {
+        let mut found = Vec::new(self.alloc);
+        let mut place: u32 = 0;
+        for _ in 0..self.arena.words.len() {
+            match self.arena.first_from(place) {
+                None => break,
+                Some(clause) => {
+                    let status = self.arena.status(clause);
+                    if !status.is_learned {
+                        found.push(clause)?;
+                    }
+                    place = self.arena.next(clause);
+                }
+            }
+        }
+        Ok(found)
     }
 
     /// Watches the first two literals of a clause.
@@ -230,13 +263,13 @@ impl Engine {
 
     /// Whether a variable is to be decided.
     pub fn is_open(&self, var: u32) -> bool {
-        let is_valued = !matches!(value_of(&self.trail.values, lit_of(var, true)), Value::Open);
-        !is_valued && !is_set(&self.gone, var as usize)
+        is_open(&self.trail, &self.gone, var)
     }
 
     /// Notes that a variable is taken out of the clauses.
     pub fn leave_out(&mut self, var: u32) {
         set(&mut self.gone, var as usize, true);
+        self.queue.remove(var);
         self.left_out = self.left_out.saturating_add(1);
     }
 
@@ -390,9 +423,9 @@ impl Engine {
         }
     }
 
-    /// The value of each variable.
-    pub fn solution(&self) -> Result<Vec<bool>, AllocError> {
-        let mut values = vec![in self.alloc; false; self.gone.len()]?;
+    /// The value of each of so many variables, of which those that the search does not have are false.
+    pub fn solution(&self, vars: usize) -> Result<Vec<bool>, AllocError> {
+        let mut values = vec![in self.alloc; false; vars]?;
         for lit in self.trail.lits.iter() {
             set(&mut values, var_of(*lit), !is_negated(*lit));
         }

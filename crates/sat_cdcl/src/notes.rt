@@ -1,6 +1,6 @@
-//! What is noted while one clause is learned from a conflict: which variables were met, which literals the clause gets, and by which
-//! clauses it follows. Literals that the others imply are left out, where reasons of reasons tell so (Soerensson and Biere 2009);
-//! by which clauses they do is noted too. All of this room is used again for the next conflict.
+//! Clause minimisation (Soerensson and Biere 2009), and what else is noted while one clause is learned from a conflict: which
+//! variables were met, which literals the clause gets, and by which clauses it follows. Literals that the others imply are left
+//! out, where reasons of reasons tell so; by which clauses they do is noted too. All of this room is used again for the next conflict.
 
 use sat_arena::arena::Arena;
 use sat_arena::constants::DEPTH;
@@ -76,6 +76,8 @@ pub struct Notes {
     pub clause: Vec<Lit>,
     /// The numbers of the clauses by which it follows.
     pub hints: Vec<u32>,
+    /// The variables that were met, by their places in the order of decisions.
+    pub ranked: Vec<u64>,
 }
 
 impl Drop for Notes {
@@ -94,6 +96,7 @@ impl Drop for Notes {
             chain: _,
             clause: _,
             hints: _,
+            ranked: _,
         } = self;
     }
 }
@@ -116,6 +119,7 @@ impl Notes {
             chain: Vec::new(alloc),
             clause: Vec::new(alloc),
             hints: Vec::new(alloc),
+            ranked: Vec::new(alloc),
         })
     }
 
@@ -204,11 +208,14 @@ impl Notes {
         Ok(count)
     }
 
-    /// How many levels literals have.
-    pub fn count_levels(&mut self, trail: &Trail, literals: &[Lit]) -> u32 {
+    /// How many levels literals have, or `most` if they have no fewer.
+    pub fn count_levels(&mut self, trail: &Trail, literals: &[Lit], most: u32) -> u32 {
         self.stamp = self.stamp.saturating_add(1);
         let mut count: u32 = 0;
         for lit in literals {
+            if count >= most {
+                break;
+            }
             let fact = trail.fact(var_of(*lit));
             if let Some(stamp) = self.stamps.get_mut(fact.level as usize) {
                 if *stamp != self.stamp {
@@ -223,13 +230,13 @@ impl Notes {
     // What can be told of a literal without looking at its reason. An inner one is not of the clause, but of a reason.
     fn known(&self, trail: &Trail, var: usize, is_inner: bool) -> Verdict {
         let mark = self.mark(var);
-        match mark.verdict {
-            Verdict::Unknown => {}
-            told => return told,
-        }
         let fact = trail.fact(var);
         if fact.level == 0 || (is_inner && mark.is_met) {
             return Verdict::Implied;
+        }
+        match mark.verdict {
+            Verdict::Unknown => {}
+            told => return told,
         }
         let part = self.part(fact.level);
         let least = if is_inner { 1 } else { 2 };

@@ -1,9 +1,10 @@
-//! Learned clauses go, those of many levels first (clause-database reduction, as in Glucose, Audemard and Simon 2009, with the tiers
-//! of cadical). Then the clauses that stay are moved together, and all watches are made anew, those of two literals first.
+//! Clause-database reduction by glue (literal block distance, Audemard and Simon 2009, with the tiers of cadical): learned clauses
+//! go, those of many levels first. Then the clauses that stay are moved together, and all watches are made anew, those of two
+//! literals first.
 
 use crate::engine::Engine;
 use sat_arena::arena::Status;
-use sat_arena::constants::{FEW_LEVELS, LEAST_LOG, SHARE};
+use sat_arena::constants::{LEAST_LOG, LOG_GROWTH, SHARE, TIER1_GLUE};
 use sat_arena::trail::is_true;
 use sat_arena::words::var_of;
 use std::alloc::AllocError;
@@ -24,23 +25,34 @@ impl Engine {
     /// Whether a clause holds by what is fixed.
     pub fn is_satisfied(&self, clause: u32) -> bool {
         for lit in self.arena.literals(clause) {
-            let fact = self.trail.fact(var_of(*lit));
-            if fact.level == 0 && is_true(&self.trail.values, *lit) {
-                return true;
+            if is_true(&self.trail.values, *lit) {
+                let fact = self.trail.fact(var_of(*lit));
+                if fact.level == 0 {
+                    return true;
+                }
             }
         }
         false
     }
 
-    // Makes the clauses garbage that hold by what is fixed.
-    fn discard_satisfied(&mut self) -> Result<(), AllocError> {
-        let clauses = self.arena.clauses(self.alloc)?;
-        for clause in clauses.as_slice() {
-            if self.is_satisfied(*clause) {
-                self.arena.discard(*clause);
+    // Makes the clauses garbage that hold by what is fixed, if that is more than when this was done last.
+    fn discard_satisfied(&mut self) {
+        if self.fixed == self.satisfied {
+            return;
+        }
+        self.satisfied = self.fixed;
+        let mut place: u32 = 0;
+        for _ in 0..self.arena.words.len() {
+            match self.arena.first_from(place) {
+                None => break,
+                Some(clause) => {
+                    if self.is_satisfied(clause) {
+                        self.arena.discard(clause);
+                    }
+                    place = self.arena.next(clause);
+                }
             }
         }
-        Ok(())
     }
 
     // Whether a learned clause may go. It is used up by one reduction.
@@ -51,18 +63,28 @@ impl Engine {
         }
         let used = status.used.saturating_sub(1);
         self.arena.set_status(clause, Status { used, ..status });
-        status.levels > FEW_LEVELS && status.used == 0 && self.given_by(clause).is_none()
+        status.glue > TIER1_GLUE && status.used == 0 && self.given_by(clause).is_none()
+    }
+
+    // A number that is greater for a clause that is to go before others: its levels, and then its size.
+    fn worth(&self, clause: u32) -> u64 {
+        let status = self.arena.status(clause);
+        u64::from(status.glue) << 32 | u64::from(self.arena.size(clause))
     }
 
     // The clauses that may go, those that are to stay before others first.
     fn candidates(&mut self) -> Result<Vec<(u64, u32)>, AllocError> {
-        let clauses = self.arena.clauses(self.alloc)?;
         let mut found = Vec::new(self.alloc);
-        for clause in clauses.as_slice() {
-            if self.may_go(*clause) {
-                let status = self.arena.status(*clause);
-                let rank = u64::from(status.levels) << 32 | u64::from(self.arena.size(*clause));
-                found.push((rank, *clause))?;
+        let mut place: u32 = 0;
+        for _ in 0..self.arena.words.len() {
+            match self.arena.first_from(place) {
+                None => break,
+                Some(clause) => {
+                    if self.may_go(clause) {
+                        found.push((self.worth(clause), clause))?;
+                    }
+                    place = self.arena.next(clause);
+                }
             }
         }
         found.sort_unstable();
@@ -81,7 +103,7 @@ impl Engine {
         Ok(needed)
     }
 
-    // Leaves steps out of the log that are of no use any more, if it has doubled since that was done.
+    // Leaves steps out of the log that are of no use any more, if it has grown by as much as it has to since that was done.
     fn trim(&mut self) -> Result<(), AllocError> {
         if self.log.size < self.pace.trim {
             return Ok(());
@@ -96,14 +118,14 @@ impl Engine {
         for unit in self.trail.units.iter_mut() {
             *unit = self.log.new_number(&numbers, *unit);
         }
-        self.pace.trim = self.log.size.saturating_mul(2).max(LEAST_LOG);
+        self.pace.trim = self.log.size.saturating_mul(LOG_GROWTH).max(LEAST_LOG);
         Ok(())
     }
 
     /// Lets learned clauses go.
     pub fn reduce(&mut self) -> Result<(), AllocError> {
         self.pace.note_reduction();
-        self.discard_satisfied()?;
+        self.discard_satisfied();
         let candidates = self.candidates()?;
         let going = candidates.len().saturating_mul(SHARE) / 100;
         for k in candidates.len().saturating_sub(going)..candidates.len() {
@@ -115,10 +137,17 @@ impl Engine {
     }
 
     // Watches the clauses of two literals, or the others.
-    fn attach_all(&mut self, clauses: &[u32], is_pair: bool) -> Result<(), AllocError> {
-        for clause in clauses {
-            if (self.arena.size(*clause) == 2) == is_pair {
-                self.attach(*clause)?;
+    fn attach_all(&mut self, is_pair: bool) -> Result<(), AllocError> {
+        let mut place: u32 = 0;
+        for _ in 0..self.arena.words.len() {
+            match self.arena.first_from(place) {
+                None => break,
+                Some(clause) => {
+                    if (self.arena.size(clause) == 2) == is_pair {
+                        self.attach(clause)?;
+                    }
+                    place = self.arena.next(clause);
+                }
             }
         }
         Ok(())
@@ -136,9 +165,8 @@ impl Engine {
         for list in self.lists.iter_mut() {
             list.clear();
         }
-        let clauses = self.arena.clauses(self.alloc)?;
-        self.attach_all(&clauses, true)?;
-        self.attach_all(&clauses, false)
+        self.attach_all(true)?;
+        self.attach_all(false)
     }
 
     /// Moves the clauses together that are no garbage, or gave some variable its value.

@@ -5,15 +5,15 @@
 //! numbers from 1 to V, a negation with a sign, and a 0 at its end. Anything else is no such text.
 #![tactic(auto)]
 
-ghost use Rattle.std.specs.Prelude.{◌<◌, IsTrue, map};
+ghost use Rattle.std.specs.Prelude.{◌<◌, ◌≤◌, IsTrue, length, map};
 ghost use Rattle.std.specs.List.{All};
 ghost use Rattle.cnf.specs.Clauses.{AllBelow};
 
 use cnf::{Cnf, Dim};
 use sat_core::{SatEnd, solve};
 use std::alloc::{AllocError, Global};
+use std::io;
 use std::io::Read;
-use std::{io, str};
 
 fn is_below(vars: usize, clause: &[Dim]) -> bool
     ensures { IsTrue result → All (λ d. d.var < vars) clause.now }
@@ -65,30 +65,110 @@ struct Reader {
     clause: Vec<Dim>,
 }
 
+/// Whether a byte stands between words.
+fn is_blank(byte: u8) -> bool {
+    byte == b' ' || (9 <= byte && byte <= 13)
+}
+
+/// How many blanks stand at the front.
+fn blanks(text: &[u8]) -> usize
+    ensures within { result ≤ length text.now }
+{
+    text.iter().take_while(|b| is_blank(**b)).count()
+}
+
+/// How many bytes stand before the first blank.
+fn letters(text: &[u8]) -> usize
+    ensures within { result ≤ length text.now }
+{
+    text.iter().take_while(|b| !is_blank(**b)).count()
+}
+
+/// How many line feeds stand at the front.
+fn feeds(text: &[u8]) -> usize
+    ensures within { result ≤ length text.now }
+{
+    text.iter().take_while(|b| **b == b'\n').count()
+}
+
+/// How many bytes stand before the first line feed.
+fn inside(text: &[u8]) -> usize
+    ensures within { result ≤ length text.now }
+{
+    text.iter().take_while(|b| **b != b'\n').count()
+}
+
+/// The first word, and what stands behind it. Where no word is left, it is empty.
+fn split_word(text: &[u8]) -> (&[u8], &[u8]) {
+    let (_, words) = text.split_at(blanks(text));
+    words.split_at(letters(words))
+}
+
+/// The first line that is not empty, and what stands behind it. Where no such line is left, it is empty.
+fn split_line(text: &[u8]) -> (&[u8], &[u8]) {
+    let (_, lines) = text.split_at(feeds(text));
+    lines.split_at(inside(lines))
+}
+
+/// Whether a line begins with `c`.
+fn is_comment(line: &[u8]) -> bool {
+    !line.is_empty() && line[0] == b'c'
+}
+
+/// A number with one digit more.
+fn with_digit(number: usize, byte: u8) -> Result<usize, ReadError> {
+    if byte < b'0' || b'9' < byte {
+        return Err(ReadError::Form);
+    }
+    let digit = usize::from(byte.wrapping_sub(b'0'));
+    match number.checked_mul(10) {
+        Some(tens) => tens.checked_add(digit).ok_or(ReadError::Form),
+        None => Err(ReadError::Form),
+    }
+}
+
 /// A number of literals or variables, which has a sign where it is negative.
-fn number(word: &str) -> Result<(bool, usize), ReadError> {
-    let (negative, digits) = match word.strip_prefix('-') {
-        Some(digits) => (true, digits),
-        None => (false, word),
-    };
-    match digits.parse::<usize>() {
-        Ok(n) => Ok((negative, n)),
-        Err(_) => Err(ReadError::Form),
+fn number(word: &[u8]) -> Result<(bool, usize), ReadError> {
+    let mut negative = false;
+    let mut is_any = false;
+    let mut number: usize = 0;
+    for (place, byte) in word.iter().enumerate() {
+        if place == 0 && *byte == b'-' {
+            negative = true;
+        } else {
+            number = with_digit(number, *byte)?;
+            is_any = true;
+        }
+    }
+    if is_any {
+        Ok((negative, number))
+    } else {
+        Err(ReadError::Form)
+    }
+}
+
+/// A number that has no sign.
+fn count(word: &[u8]) -> Result<usize, ReadError> {
+    match number(word)? {
+        (false, n) => Ok(n),
+        (true, _) => Err(ReadError::Form),
     }
 }
 
 /// The numbers of variables and of clauses of the line `p cnf V C`.
-fn header(line: &str) -> Result<(usize, usize), ReadError> {
-    let mut words = line.split_whitespace();
-    if words.next() != Some("p") || words.next() != Some("cnf") {
+fn header(line: &[u8]) -> Result<(usize, usize), ReadError> {
+    let (problem, rest) = split_word(line);
+    let (form, rest) = split_word(rest);
+    if problem != b"p".as_slice() || form != b"cnf".as_slice() {
         return Err(ReadError::Form);
     }
-    let (_, vars) = number(words.next().unwrap_or(""))?;
-    let (_, count) = number(words.next().unwrap_or(""))?;
-    if words.next().is_some() {
+    let (vars, rest) = split_word(rest);
+    let (clauses, rest) = split_word(rest);
+    let (more, _) = split_word(rest);
+    if !more.is_empty() {
         return Err(ReadError::Form);
     }
-    Ok((vars, count))
+    Ok((count(vars)?, count(clauses)?))
 }
 
 impl Reader {
@@ -106,7 +186,7 @@ impl Reader {
     }
 
     /// Takes one number of a clause among `vars` variables.
-    fn take(&mut self, word: &str, vars: usize) -> Result<(), ReadError> {
+    fn take(&mut self, word: &[u8], vars: usize) -> Result<(), ReadError> {
         let (negated, n) = number(word)?;
         if n > vars {
             return Err(ReadError::Form);
@@ -115,24 +195,35 @@ impl Reader {
         Ok(())
     }
 
+    /// Takes the numbers of a line among `vars` variables.
+    fn take_all(&mut self, line: &[u8], vars: usize) -> Result<(), ReadError> {
+        let mut rest = line;
+        for _ in 0..line.len() {
+            let (word, behind) = split_word(rest);
+            if word.is_empty() {
+                break;
+            }
+            self.take(word, vars)?;
+            rest = behind;
+        }
+        Ok(())
+    }
+
     /// Takes one line.
-    fn line(&mut self, line: &str) -> Result<(), ReadError> {
-        if line.starts_with('c') {
+    fn line(&mut self, line: &[u8]) -> Result<(), ReadError> {
+        if is_comment(line) {
             return Ok(());
         }
         match self.header {
+            Some((vars, _)) => self.take_all(line, vars),
             None => {
-                if !line.trim().is_empty() {
+                let (word, _) = split_word(line);
+                if !word.is_empty() {
                     self.header = Some(header(line)?);
                 }
-            }
-            Some((vars, _)) => {
-                for word in line.split_whitespace() {
-                    self.take(word, vars)?;
-                }
+                Ok(())
             }
         }
-        Ok(())
     }
 
     /// The clauses, at the end of the text.
@@ -154,18 +245,20 @@ impl Reader {
 
 /// The clauses of a text.
 fn parse(alloc: Global, text: &[u8]) -> Result<Cnf, ReadError> {
-    let text = match str::from_utf8(text) {
-        Ok(text) => text,
-        Err(_) => return Err(ReadError::Form),
-    };
     let mut reader = Reader {
         alloc,
         header: None,
         clauses: Vec::new(alloc),
         clause: Vec::new(alloc),
     };
-    for line in text.lines() {
+    let mut rest = text;
+    for _ in 0..text.len() {
+        let (line, behind) = split_line(rest);
+        if line.is_empty() {
+            break;
+        }
         reader.line(line)?;
+        rest = behind;
     }
     reader.finish()
 }

@@ -1,7 +1,7 @@
-//! The cone of two variables: what their gates read, what the gates of these read, and so on, the nearest first, up to some number.
-//! Whether two literals are equal is mostly told by what lies near to them, so that nothing else is decided for a pair.
+//! The cone of influence of two variables: what their gates read, what the gates of these read, and so on, the nearest first, up to
+//! some number. Whether two literals are equal is mostly told by what lies near to them, so that nothing else is decided for a
+//! pair.
 
-use crate::ranks::Ranks;
 use sat_arena::constants::PAIR_GATES;
 use sat_arena::words::{Lit, NONE, at, is_set, lit_of, narrow, put, var_of};
 use sat_cdcl::engine::Engine;
@@ -15,6 +15,10 @@ pub struct Cone {
     stamp: u32,
     // Before this place no variable is open.
     next: usize,
+    // The two literals, and whether their cone is made.
+    one: Lit,
+    other: Lit,
+    is_made: bool,
 }
 
 impl Drop for Cone {
@@ -24,6 +28,9 @@ impl Drop for Cone {
             stamps: _,
             stamp: _,
             next: _,
+            one: _,
+            other: _,
+            is_made: _,
         } = self;
     }
 }
@@ -36,6 +43,9 @@ impl Cone {
             stamps: vec![in engine.alloc; 0; engine.gone.len()]?,
             stamp: 0,
             next: 0,
+            one: 0,
+            other: 0,
+            is_made: false,
         })
     }
 
@@ -48,24 +58,27 @@ impl Cone {
         Ok(())
     }
 
-    /// Makes it that of two literals.
-    pub fn make(
-        &mut self,
-        engine: &Engine,
-        ranks: &Ranks,
-        one: Lit,
-        other: Lit,
-    ) -> Result<(), AllocError> {
+    /// Lets it be that of two literals. It is made when it is asked for.
+    pub fn begin(&mut self, one: Lit, other: Lit) {
+        self.one = one;
+        self.other = other;
+        self.is_made = false;
         self.vars.clear();
+    }
+
+    // Makes it, where each variable has this gate. What is looked at for that counts as work.
+    fn make(&mut self, engine: &mut Engine, gates: &[u32]) -> Result<(), AllocError> {
+        self.is_made = true;
         self.stamp = self.stamp.wrapping_add(1);
-        self.add(var_of(one))?;
-        self.add(var_of(other))?;
+        self.add(var_of(self.one))?;
+        self.add(var_of(self.other))?;
         for k in 0..PAIR_GATES {
             if k >= self.vars.len() {
                 break;
             }
-            let gate = at(&ranks.gates, at(&self.vars, k) as usize);
+            let gate = at(gates, at(&self.vars, k) as usize);
             if gate != NONE {
+                engine.work = engine.work.saturating_add(1);
                 for lit in engine.arena.literals(gate) {
                     self.add(var_of(*lit))?;
                 }
@@ -79,8 +92,11 @@ impl Cone {
         self.next = 0;
     }
 
-    /// Decides a variable. Answers whether some was open.
-    pub fn decide(&mut self, engine: &mut Engine) -> Result<bool, AllocError> {
+    /// Decides a variable, where each has this gate. Answers whether some was open.
+    pub fn decide(&mut self, engine: &mut Engine, gates: &[u32]) -> Result<bool, AllocError> {
+        if !self.is_made {
+            self.make(engine, gates)?;
+        }
         for k in self.next..self.vars.len() {
             let var = at(&self.vars, k);
             if engine.is_open(var) {

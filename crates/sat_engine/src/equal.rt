@@ -1,9 +1,9 @@
-//! Literals that follow from one another by clauses of two literals are equal, and one of them is put in the place of all (Aspvall and
-//! others 1979; equivalent literal substitution). They are the strongly connected components of the graph of these clauses, found by
-//! one walk with a stack of its own (Tarjan 1972).
+//! Equivalent literal substitution (Aspvall and others 1979): literals that follow from one another by clauses of two literals are
+//! equal, and one of them is put in the place of all. They are the strongly connected components of the graph of these clauses,
+//! found by one walk with a stack of its own (Tarjan 1972).
 
 use sat_arena::trail::{Value, value_of};
-use sat_arena::watches::{Watch, put_list, take_list};
+use sat_arena::watches::{list_of, put_list, take_list};
 use sat_arena::words::{Lit, NONE, at, is_negated, lit_of, narrow, put};
 use sat_cdcl::engine::Engine;
 use sat_simplify::clean::{clean, holds_always, replace};
@@ -102,16 +102,16 @@ impl Walk {
         self.open.truncate(start);
     }
 
-    // Looks through what follows from a literal, up to one that was not met. Answers that, with how many were looked at.
+    // Looks through what follows from a literal, up to one that was not met. Answers that, with how many were looked at. Clauses of two
+    // literals stand before others.
     fn look(&mut self, engine: &Engine, call: Call) -> Option<Call> {
-        let list: &[Watch] = match engine.lists.get((call.lit ^ 1) as usize) {
-            Some(list) => list.as_slice(),
-            None => &[],
-        };
+        let list = list_of(&engine.lists, call.lit ^ 1);
         for k in call.looked..list.len() {
             let watch = list[k];
-            let is_open = matches!(value_of(&engine.trail.values, watch.blocker), Value::Open);
-            if watch.is_pair() && is_open {
+            if !watch.is_pair() {
+                break;
+            }
+            if matches!(value_of(&engine.trail.values, watch.blocker), Value::Open) {
                 let met = at(&self.met, watch.blocker as usize);
                 if met == 0 {
                     return Some(Call {
@@ -322,31 +322,45 @@ impl Merging {
     }
 }
 
-// Whether some literal is equal to its negation, so that the clauses have no solution. The search finds that at once.
-fn has_contradiction(least: &[Lit]) -> bool {
+// A literal that is equal to its negation, if there is one, so that the clauses have no solution.
+fn contradiction(least: &[Lit]) -> Option<Lit> {
     for lit in 0..narrow(least.len()) {
         if at(least, lit as usize) == at(least, (lit ^ 1) as usize) {
-            return true;
+            return Some(lit);
         }
     }
-    false
+    None
 }
 
-/// Puts one literal in the place of all that are equal to it. All is clean and watched before, and nothing is watched behind it.
-pub fn merge(engine: &mut Engine) -> Result<(), AllocError> {
+// Refutes the clauses, where a literal is equal to its negation: that it is decided is a conflict, and what is learned is another.
+fn refute(engine: &mut Engine, lit: Lit) -> Result<(), AllocError> {
+    engine.trail.decide(lit)?;
+    for _ in 0..2 {
+        if let Some(conflict) = engine.propagate()? {
+            engine.learn(conflict)?;
+        }
+    }
+    Ok(())
+}
+
+/// Puts one literal in the place of all that are equal to it. All is clean and watched before, pairs before others. Answers whether
+/// clauses changed: then the watches are still those of the clauses before.
+pub fn merge(engine: &mut Engine) -> Result<bool, AllocError> {
     let least = components(engine)?;
-    if has_contradiction(&least) {
-        return Ok(());
+    if let Some(lit) = contradiction(&least) {
+        refute(engine, lit)?;
+        return Ok(false);
     }
     let mut merging = Merging {
         numbers: vec![in engine.alloc; NONE; least.len()]?,
         least,
         open: Vec::new(engine.alloc),
     };
-    if merging.justify_all(engine)? {
+    let is_any = merging.justify_all(engine)?;
+    if is_any {
         merging.substitute(engine)?;
         merging.leave_out(engine)?;
         clean(engine)?;
     }
-    Ok(())
+    Ok(is_any)
 }

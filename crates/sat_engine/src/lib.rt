@@ -3,11 +3,12 @@
 //! in it costs an answer, which then has to be found otherwise, but is never told.
 #![tactic(auto)]
 
+mod candidates;
 mod cone;
 mod equal;
 mod ranks;
 mod search;
 mod sweep;
-mod tries;
+mod table;
 
 pub use search::{Found, search_for};

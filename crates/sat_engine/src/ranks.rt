@@ -1,11 +1,12 @@
-//! In which order variables are made, where clauses describe gates: a variable comes behind those that its gate reads. Where each gate has
-//! a greater number than what it reads, that is the order of the numbers. But clauses of others need not be so, and equal literals
-//! that were made one neither.
+//! Gate extraction (Roy and others 2004, here conjunctions alone): in which order variables are made, where clauses describe gates.
+//! A variable comes behind those that its gate reads. Where each gate has a greater number than what it reads, that is the order of
+//! the numbers. But clauses of others need not be so, and equal literals that were made one neither.
 //!
 //! A gate is a clause of three literals or more one of whose literals has each other one for its opposite: that it implies the
 //! negations of all others is said by clauses of two literals. So it is the conjunction of these.
 
-use sat_arena::watches::Watch;
+use crate::table::Table;
+use sat_arena::watches::list_of;
 use sat_arena::words::{Lit, NONE, at, is_set, lit_of, narrow, put, set, var_of};
 use sat_cdcl::engine::Engine;
 use std::alloc::AllocError;
@@ -13,102 +14,36 @@ use std::alloc::AllocError;
 /// Of a variable that is on the way.
 const MARKED: u32 = NONE - 1;
 
-/// In which longer given clauses each literal stands: the places of the clauses, one literal behind the other, and where those of
-/// each literal begin.
-struct Places {
-    clauses: Vec<u32>,
-    starts: Vec<u32>,
-}
-
-impl Drop for Places {
-    fn drop(self) {
-        let Places {
-            clauses: _,
-            starts: _,
-        } = self;
-    }
-}
-
-impl Places {
-    // None yet, of so many literals.
-    fn new(engine: &Engine) -> Result<Places, AllocError> {
-        let count = engine.lists.len().saturating_add(2);
-        Ok(Places {
-            clauses: Vec::new(engine.alloc),
-            starts: vec![in engine.alloc; 0; count]?,
-        })
-    }
-
-    // Counts a literal, two places behind its own.
-    fn count(&mut self, lit: Lit) {
-        let place = (lit as usize).saturating_add(2);
-        let before = at(&self.starts, place);
-        put(&mut self.starts, place, before.wrapping_add(1));
-    }
-
-    // Makes beginnings of the counts: that of a literal one place behind its own.
-    fn sum(&mut self) -> usize {
-        let mut sum: u32 = 0;
-        for start in self.starts.iter_mut() {
-            sum = sum.wrapping_add(*start);
-            *start = sum;
-        }
-        sum as usize
-    }
-
-    // Puts a clause behind those of a literal. When all are put, the beginnings stand at their own places.
-    fn put(&mut self, lit: Lit, clause: u32) {
-        let place = (lit as usize).saturating_add(1);
-        let next = at(&self.starts, place);
-        put(&mut self.clauses, next as usize, clause);
-        put(&mut self.starts, place, next.wrapping_add(1));
-    }
-
-    // The clauses of a literal.
-    fn of(&self, lit: Lit) -> &[u32] {
-        let from = at(&self.starts, lit as usize) as usize;
-        let to = at(&self.starts, (lit as usize).saturating_add(1)) as usize;
-        match self.clauses.get(from..to) {
-            Some(clauses) => clauses,
-            None => &[],
-        }
-    }
-}
-
 // In which longer given clauses each literal stands.
-fn list_places(engine: &Engine, clauses: &[u32]) -> Result<Places, AllocError> {
-    let mut places = Places::new(engine)?;
+fn list_places(engine: &Engine, clauses: &[u32]) -> Result<Table, AllocError> {
+    let mut table = Table::new(engine, engine.lists.len())?;
     for clause in clauses {
         if engine.arena.size(*clause) > 2 {
             for lit in engine.arena.literals(*clause) {
-                places.count(*lit);
+                table.count(*lit);
             }
         }
     }
-    let sum = places.sum();
-    places.clauses = vec![in engine.alloc; NONE; sum]?;
+    table.make_room(engine)?;
     for clause in clauses {
         if engine.arena.size(*clause) > 2 {
             for lit in engine.arena.literals(*clause) {
-                places.put(*lit, *clause);
+                table.put(*lit, *clause);
             }
         }
     }
-    Ok(places)
+    Ok(table)
 }
 
-// Marks the literals that follow from a literal by given clauses of two, or takes their marks back.
+// Marks the literals that follow from a literal by given clauses of two, which stand before others, or takes their marks back.
 fn mark_implied(engine: &Engine, lit: Lit, marks: &mut [bool], value: bool) {
-    let list: &[Watch] = match engine.lists.get((lit ^ 1) as usize) {
-        Some(list) => list.as_slice(),
-        None => &[],
-    };
-    for watch in list {
-        if watch.is_pair() {
-            let status = engine.arena.status(watch.clause());
-            if !status.is_learned {
-                set(marks, watch.blocker as usize, value);
-            }
+    for watch in list_of(&engine.lists, lit ^ 1) {
+        if !watch.is_pair() {
+            break;
+        }
+        let status = engine.arena.status(watch.clause());
+        if !status.is_learned {
+            set(marks, watch.blocker as usize, value);
         }
     }
 }
@@ -125,8 +60,8 @@ fn is_gate(engine: &Engine, clause: u32, lit: Lit, marks: &[bool], gates: &[u32]
 }
 
 // The clause that is the gate of a literal, if there is one.
-fn gate_of(engine: &Engine, places: &Places, lit: Lit, marks: &[bool], gates: &[u32]) -> u32 {
-    for clause in places.of(lit) {
+fn gate_of(engine: &Engine, places: &Table, lit: Lit, marks: &[bool], gates: &[u32]) -> u32 {
+    for clause in places.row(lit) {
         if is_gate(engine, *clause, lit, marks, gates) {
             return *clause;
         }
@@ -140,7 +75,7 @@ fn gates(engine: &Engine, clauses: &[u32]) -> Result<Vec<u32>, AllocError> {
     let mut marks = vec![in engine.alloc; false; engine.lists.len()]?;
     let mut gates = vec![in engine.alloc; NONE; engine.gone.len()]?;
     for lit in (0..narrow(engine.lists.len())).rev() {
-        if at(&gates, var_of(lit)) == NONE && !places.of(lit).is_empty() {
+        if at(&gates, var_of(lit)) == NONE && !places.row(lit).is_empty() {
             mark_implied(engine, lit, &mut marks, true);
             let gate = gate_of(engine, &places, lit, &marks, &gates);
             put(&mut gates, var_of(lit), gate);

@@ -1,9 +1,9 @@
-//! The search over given clauses.
+//! Inprocessing (Jarvisalo and others 2012): the search over given clauses, and between its two parts what makes them simpler.
 
+use crate::candidates::likely_pairs;
 use crate::equal::merge;
 use crate::ranks::rank_all;
 use crate::sweep::sweep;
-use crate::tries::{given, likely_pairs};
 use cnf::{Cnf, Dim};
 use refute_check::Log;
 use sat_arena::constants::{
@@ -28,18 +28,26 @@ pub enum Found {
     GivenUp,
 }
 
-// Reads a clause as literals in their order, each once. Answers whether its variables are below the bound.
-fn read(clause: &[Dim], vars: usize, literals: &mut Vec<Lit>) -> Result<bool, AllocError> {
+// One more than the greatest variable that clauses name.
+fn named(clauses: &[Vec<Dim>]) -> usize {
+    let mut count: usize = 0;
+    for clause in clauses {
+        for d in clause.as_slice() {
+            count = count.max(d.var.saturating_add(1));
+        }
+    }
+    count
+}
+
+// Reads a clause as literals in their order, each once.
+fn read(clause: &[Dim], literals: &mut Vec<Lit>) -> Result<(), AllocError> {
     literals.clear();
     for d in clause {
-        if d.var >= vars {
-            return Ok(false);
-        }
         literals.push(lit_of(narrow(d.var), !d.negated))?;
     }
     literals.sort_unstable();
     literals.dedup();
-    Ok(true)
+    Ok(())
 }
 
 // Takes a given clause, as it was read.
@@ -59,62 +67,61 @@ fn take_given(engine: &mut Engine, literals: &[Lit], number: u32) -> Result<(), 
     Ok(())
 }
 
-// Takes the given clauses, up to one by which they are refuted. Answers whether they could be read.
-fn load(engine: &mut Engine, cnf: &Cnf) -> Result<bool, AllocError> {
+// Takes the given clauses, up to one by which they are refuted.
+fn load(engine: &mut Engine, cnf: &Cnf) -> Result<(), AllocError> {
     let mut literals: Vec<Lit> = Vec::new(engine.alloc);
     for (number, clause) in cnf.clauses.iter().enumerate() {
         if engine.log.end > 0 {
             break;
         }
-        if !read(clause.as_slice(), cnf.vars, &mut literals)? {
-            return Ok(false);
-        }
+        read(clause.as_slice(), &mut literals)?;
         take_given(engine, &literals, narrow(number))?;
-    }
-    Ok(true)
-}
-
-// Leaves out what is fixed, and puts one literal in the place of all that are equal to it, while nothing is decided.
-fn join(engine: &mut Engine) -> Result<(), AllocError> {
-    engine.backtrack(0);
-    clean(engine)?;
-    engine.collect()?;
-    if engine.log.end == 0 {
-        merge(engine)?;
     }
     Ok(())
 }
 
+// Leaves out what is fixed, and puts one literal in the place of all that are equal to it, while nothing is decided. Answers whether
+// clauses changed: then the watches are still those of the clauses before.
+fn join(engine: &mut Engine) -> Result<bool, AllocError> {
+    engine.backtrack(0);
+    clean(engine)?;
+    engine.collect()?;
+    if engine.log.end > 0 {
+        return Ok(false);
+    }
+    merge(engine)
+}
+
 // Shows pairs of literals to be equal that are likely to be.
 fn pair(engine: &mut Engine) -> Result<(), AllocError> {
-    join(engine)?;
-    engine.collect()?;
+    if join(engine)? {
+        engine.collect()?;
+    }
     if engine.log.end == 0 {
-        let clauses = given(engine)?;
+        let clauses = engine.given()?;
         let ranks = rank_all(engine, &clauses)?;
         let pairs = likely_pairs(engine, &ranks, &clauses)?;
-        sweep(engine, &ranks, &pairs)?;
+        sweep(engine, &ranks.gates, &pairs)?;
     }
     Ok(())
 }
 
 // Simplifies the clauses, while nothing is decided.
 fn simplify(engine: &mut Engine) -> Result<(), AllocError> {
-    join(engine)?;
+    let _is_any = join(engine)?;
     engine.unwatch();
     if engine.log.end == 0 {
-        eliminate(engine, 0, ELIMINATION)?;
+        eliminate(engine, ELIMINATION)?;
     }
     engine.collect()?;
+    engine.arena.fit(engine.alloc)?;
     engine.queue.rewind();
     Ok(())
 }
 
 // Loads the clauses and searches: shortly at first, and then in simpler clauses.
 fn run(engine: &mut Engine, cnf: &Cnf) -> Result<End, AllocError> {
-    if !load(engine, cnf)? {
-        return Ok(End::GivenUp);
-    }
+    load(engine, cnf)?;
     if engine.log.end > 0 {
         return Ok(End::Refuted);
     }
@@ -123,6 +130,9 @@ fn run(engine: &mut Engine, cnf: &Cnf) -> Result<End, AllocError> {
         end => return Ok(end),
     }
     pair(engine)?;
+    if engine.log.end > 0 {
+        return Ok(End::Refuted);
+    }
     simplify(engine)?;
     if engine.log.end > 0 {
         return Ok(End::Refuted);
@@ -130,14 +140,16 @@ fn run(engine: &mut Engine, cnf: &Cnf) -> Result<End, AllocError> {
     engine.search(MOST_CONFLICTS, u64::MAX)
 }
 
-/// Searches for a solution of the clauses, or for a log that refutes them.
+/// Searches for a solution of the clauses, or for a log that refutes them. Variables behind the greatest that a clause names take no
+/// room, and are false in a solution.
 pub fn search_for(alloc: Global, cnf: &Cnf) -> Result<Found, AllocError> {
-    if cnf.vars > MOST_VARIABLES || cnf.clauses.len() > MOST_CLAUSES {
+    let vars = named(cnf.clauses.as_slice());
+    if vars > MOST_VARIABLES || cnf.clauses.len() > MOST_CLAUSES {
         return Ok(Found::GivenUp);
     }
-    let mut engine = Engine::new(alloc, cnf.vars, cnf.clauses.len())?;
+    let mut engine = Engine::new(alloc, vars, cnf.clauses.len())?;
     match run(&mut engine, cnf)? {
-        End::Solved => Ok(Found::Solution(engine.solution()?)),
+        End::Solved => Ok(Found::Solution(engine.solution(cnf.vars)?)),
         End::Refuted => {
             let mut log = mem::replace(&mut engine.log, log::Log::new(alloc, 0));
             drop(engine);

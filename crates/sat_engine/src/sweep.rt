@@ -1,9 +1,9 @@
-//! Pairs of literals that are likely to be equal are shown to be: it is decided before all else that the one is true and the other is
-//! false, until that is refuted or given up. What is learned by that are short clauses between places inside of two circuits that
-//! are to be the same, without which their ends are out of reach.
+//! SAT sweeping of candidate equivalences (Kuehlmann and others 2002): pairs of literals that are likely to be equal are shown to
+//! be. It is decided before all else that the one is true and the other is false, until that is refuted or given up. What is
+//! learned by that are short clauses between places inside of two circuits that are to be the same, without which their ends are
+//! out of reach.
 
 use crate::cone::Cone;
-use crate::ranks::Ranks;
 use sat_arena::arena::Status;
 use sat_arena::constants::{PAIR_CONFLICTS, PAIR_FAILURES, PAIR_SHARE, PAIR_WORK};
 use sat_arena::trail::{Value, is_false, is_true, value_of};
@@ -17,7 +17,7 @@ const LEARNED_PAIR: Status = Status {
     is_garbage: false,
     is_tried: false,
     used: 0,
-    levels: 1,
+    glue: 1,
 };
 
 /// What became of two literals that were to be refuted together.
@@ -113,6 +113,7 @@ fn learn_pair(engine: &mut Engine, first: Lit, second: Lit) -> Result<(), AllocE
 fn go_on(
     engine: &mut Engine,
     cone: &mut Cone,
+    gates: &[u32],
     first: Lit,
     second: Lit,
     most: u64,
@@ -126,7 +127,7 @@ fn go_on(
         Standing::Again => engine.backtrack(0),
         Standing::Decide(lit) => engine.trail.decide(lit)?,
         Standing::Open => {
-            if !cone.decide(engine)? {
+            if !cone.decide(engine, gates)? {
                 return Ok(Some(Outcome::Met));
             }
         }
@@ -141,6 +142,7 @@ fn go_on(
 fn refute(
     engine: &mut Engine,
     cone: &mut Cone,
+    gates: &[u32],
     first: Lit,
     second: Lit,
 ) -> Result<Outcome, AllocError> {
@@ -156,7 +158,7 @@ fn refute(
                     return Ok(Outcome::Refuted);
                 }
             }
-            None => match go_on(engine, cone, first, second, most)? {
+            None => match go_on(engine, cone, gates, first, second, most)? {
                 Some(outcome) => return Ok(outcome),
                 None => {}
             },
@@ -169,17 +171,19 @@ fn refute(
 fn try_pair(
     engine: &mut Engine,
     cone: &mut Cone,
+    gates: &[u32],
     one: Lit,
     other: Lit,
 ) -> Result<Outcome, AllocError> {
-    match refute(engine, cone, one, other ^ 1)? {
+    cone.begin(one, other);
+    match refute(engine, cone, gates, one, other ^ 1)? {
         Outcome::Refuted => {}
         outcome => return Ok(outcome),
     }
     if engine.log.end > 0 {
         return Ok(Outcome::Refuted);
     }
-    refute(engine, cone, one ^ 1, other)
+    refute(engine, cone, gates, one ^ 1, other)
 }
 
 // Propagates what is fixed.
@@ -193,8 +197,8 @@ fn settle(engine: &mut Engine) -> Result<(), AllocError> {
     Ok(())
 }
 
-/// Tries the pairs in their order, until too many of them are given up or enough was looked at.
-pub fn sweep(engine: &mut Engine, ranks: &Ranks, pairs: &[(Lit, Lit)]) -> Result<(), AllocError> {
+/// Tries the pairs in their order, where each variable has this gate, until too many of them are given up or enough was looked at.
+pub fn sweep(engine: &mut Engine, gates: &[u32], pairs: &[(Lit, Lit)]) -> Result<(), AllocError> {
     let work = engine.work.saturating_add(PAIR_WORK);
     let mut cone = Cone::new(engine)?;
     let mut failures: u64 = 0;
@@ -206,8 +210,7 @@ pub fn sweep(engine: &mut Engine, ranks: &Ranks, pairs: &[(Lit, Lit)]) -> Result
         if failures > successes / PAIR_SHARE + PAIR_FAILURES {
             break;
         }
-        cone.make(engine, ranks, *one, *other)?;
-        match try_pair(engine, &mut cone, *one, *other)? {
+        match try_pair(engine, &mut cone, gates, *one, *other)? {
             Outcome::Refuted => successes = successes.saturating_add(2),
             Outcome::Met => {}
             Outcome::GivenUp => failures = failures.saturating_add(1),

@@ -1,5 +1,6 @@
-//! Which value a variable is decided to have: the one that it had last. By turns all of them are set to one value, or to those of the
-//! longest trail that had no conflict (as in cadical, without its local search and its second mode).
+//! Phase saving (Pipatsrisawat and Darwiche 2007) and rephasing (as in cadical, without its local search and its second mode): a
+//! variable is decided to have the value that it had last, and by turns all of them are set to one value, or to those of the
+//! longest trail that had no conflict.
 
 use sat_arena::constants::{PHASE_TURNS, REPHASE};
 use sat_arena::words::{Lit, at, is_negated, is_set, set, var_of};

@@ -1,6 +1,6 @@
-//! The order in which variables are decided: those of newer conflicts first (variable move to front, Ryan 2004, with stamps as in
-//! Biere and Froehlich 2015). A list in both directions; a variable is moved to its end, and gets a stamp greater than all others.
-//! The variable from which the search for an open one begins is one behind which none is open.
+//! The VMTF queue of decisions (variable move to front, Ryan 2004, with stamps as in Biere and Froehlich 2015): variables of newer
+//! conflicts are decided first. A list in both directions; a variable is moved to its end, and gets a stamp greater than all
+//! others. The variable from which the search for an open one begins is one behind which none is open.
 
 use sat_arena::words::NONE;
 use std::alloc::{AllocError, Global};
@@ -73,7 +73,7 @@ impl Queue {
         link.stamp
     }
 
-    // Takes a variable out of the list that is not its last.
+    // Joins the neighbours of a variable.
     fn unlink(&mut self, link: Link) {
         let before = self.link(link.previous);
         self.set_link(
@@ -124,6 +124,19 @@ impl Queue {
         if is_open {
             self.search = var;
         }
+    }
+
+    /// Takes a variable out for ever.
+    pub fn remove(&mut self, var: u32) {
+        let link = self.link(var);
+        if self.search == var {
+            self.search = link.previous;
+        }
+        if self.last == var {
+            self.last = link.previous;
+        }
+        self.unlink(link);
+        self.set_link(var, NO_LINK);
     }
 
     /// Notes that a variable is open again.

@@ -1,7 +1,6 @@
-//! Variables by scores, of which the one with the greatest is decided first: how often conflicts walked over it, newer ones counting
-//! more (variable state independent decaying sum, Moskewicz and others 2001, as in minisat). Where conflicts walk over hundreds of
-//! variables, the order by the newest conflict alone forgets within one what was learned in the ones before; where they do not, it is
-//! better.
+//! VSIDS scores (variable state independent decaying sum, Moskewicz and others 2001, as in minisat): the variable is decided first
+//! that conflicts walked over the most often, newer ones counting more. Where conflicts walk over hundreds of variables, the order
+//! by the newest conflict alone forgets within one what was learned in the ones before; where they do not, it is better.
 //!
 //! The variables stand in a heap (the one at place k is no less than those at 2k + 1 and 2k + 2).
 
@@ -21,6 +20,7 @@ const LEVELS: usize = 64;
 
 /// Scores of variables, and those of them that may be open, in a heap.
 pub struct Scores {
+    alloc: Global,
     scores: Vec<u64>,
     // What the next conflict counts.
     step: u64,
@@ -32,6 +32,7 @@ pub struct Scores {
 impl Drop for Scores {
     fn drop(self) {
         let Scores {
+            alloc: _,
             scores: _,
             step: _,
             heap: _,
@@ -41,21 +42,28 @@ impl Drop for Scores {
 }
 
 impl Scores {
-    /// So many variables, of which none is in the heap.
-    pub fn new(alloc: Global, vars: usize) -> Result<Scores, AllocError> {
-        Ok(Scores {
-            scores: vec![in alloc; 0; vars]?,
+    /// No variables. They take room once they are decided by their scores.
+    pub fn new(alloc: Global) -> Scores {
+        Scores {
+            alloc,
+            scores: Vec::new(alloc),
             step: FIRST,
-            heap: Vec::with_capacity(alloc, vars)?,
-            places: vec![in alloc; NONE; vars]?,
-        })
+            heap: Vec::new(alloc),
+            places: Vec::new(alloc),
+        }
     }
 
-    /// Puts all variables into the heap, the greatest first.
-    pub fn begin(&mut self) {
+    /// Puts so many variables into the heap, the greatest first. When that is done first, they all have one score.
+    pub fn begin(&mut self, vars: usize) -> Result<(), AllocError> {
+        if self.places.is_empty() {
+            self.scores = vec![in self.alloc; 0; vars]?;
+            self.heap = Vec::with_capacity(self.alloc, vars)?;
+            self.places = vec![in self.alloc; NONE; vars]?;
+        }
         for var in (0..narrow(self.places.len())).rev() {
             self.insert(var);
         }
+        Ok(())
     }
 
     /// The score of a variable.
@@ -142,10 +150,12 @@ impl Scores {
     pub fn pop(&mut self) {
         let first = at(&self.heap, 0);
         if let Some(last) = self.heap.pop() {
-            put(&mut self.heap, 0, last);
-            self.sink(0);
+            put(&mut self.places, first as usize, NONE);
+            if !self.heap.is_empty() {
+                put(&mut self.heap, 0, last);
+                self.sink(0);
+            }
         }
-        put(&mut self.places, first as usize, NONE);
     }
 
     /// Counts a variable of a conflict.

@@ -1,7 +1,8 @@
-//! Clauses that are put in the place of others, while nothing is decided and no clause is watched.
+//! Clauses under what is fixed (top-level simplification, as in minisat): those that hold go, and others lose their false literals,
+//! while nothing is decided. Each clause that is put in the place of another is a step of the log.
 
 use sat_arena::arena::Status;
-use sat_arena::trail::is_false;
+use sat_arena::trail::{Value, is_false, value_of};
 use sat_arena::words::{Lit, at, narrow, var_of};
 use sat_cdcl::engine::Engine;
 use std::alloc::AllocError;
@@ -34,11 +35,21 @@ pub fn replace(
     }
     let status = Status {
         is_tried: false,
-        levels: status.levels.min(narrow(literals.len())),
+        glue: status.glue.min(narrow(literals.len())),
         ..status
     };
     let place = engine.arena.add(literals, number, status)?;
     Ok(Some(place))
+}
+
+// Whether some literal of a clause has a value.
+fn is_touched(engine: &Engine, clause: u32) -> bool {
+    for lit in engine.arena.literals(clause) {
+        if !matches!(value_of(&engine.trail.values, *lit), Value::Open) {
+            return true;
+        }
+    }
+    false
 }
 
 // Takes the literals of a clause that are not false. Notes by which clauses the others are, and its own number.
@@ -57,33 +68,59 @@ fn split(engine: &mut Engine, clause: u32, rest: &mut Vec<Lit>) -> Result<(), Al
     Ok(())
 }
 
+/// Puts a clause without its false literals in its place, which has some. Answers that place, if two literals or more are left.
+pub fn shorten(
+    engine: &mut Engine,
+    clause: u32,
+    rest: &mut Vec<Lit>,
+) -> Result<Option<u32>, AllocError> {
+    split(engine, clause, rest)?;
+    replace(engine, clause, rest)
+}
+
 // Leaves a clause out that holds, or its false literals.
 fn clean_clause(engine: &mut Engine, clause: u32, rest: &mut Vec<Lit>) -> Result<(), AllocError> {
+    if !is_touched(engine, clause) {
+        return Ok(());
+    }
     if engine.is_satisfied(clause) {
         engine.arena.discard(clause);
         return Ok(());
     }
-    split(engine, clause, rest)?;
-    if rest.len() < engine.arena.size(clause) as usize {
-        let _place = replace(engine, clause, rest)?;
+    let _place = shorten(engine, clause, rest)?;
+    Ok(())
+}
+
+// Leaves out once what holds or is false by what is fixed.
+fn clean_once(engine: &mut Engine, rest: &mut Vec<Lit>) -> Result<(), AllocError> {
+    let end = engine.arena.end();
+    let mut place: u32 = 0;
+    for _ in 0..engine.arena.words.len() {
+        match engine.arena.first_from(place) {
+            None => break,
+            Some(clause) => {
+                if clause >= end || engine.log.end > 0 {
+                    break;
+                }
+                clean_clause(engine, clause, rest)?;
+                place = engine.arena.next(clause);
+            }
+        }
     }
     Ok(())
 }
 
-/// Leaves out what holds or is false by what is fixed, until nothing more is fixed by that.
+/// Leaves out what holds or is false by what is fixed, until nothing more is fixed by that. Where no more is fixed than when this was
+/// done last, there is nothing to do.
 pub fn clean(engine: &mut Engine) -> Result<(), AllocError> {
     let mut rest: Vec<Lit> = Vec::new(engine.alloc);
     for _ in 0..u64::MAX {
-        let before = engine.trail.lits.len();
-        let clauses = engine.arena.clauses(engine.alloc)?;
-        for clause in clauses.as_slice() {
-            if engine.log.end == 0 {
-                clean_clause(engine, *clause, &mut rest)?;
-            }
-        }
-        if engine.trail.lits.len() == before {
+        let fixed = engine.trail.lits.len();
+        if fixed == engine.cleaned || engine.log.end > 0 {
             break;
         }
+        clean_once(engine, &mut rest)?;
+        engine.cleaned = fixed;
     }
     engine.trail.head = engine.trail.lits.len();
     Ok(())

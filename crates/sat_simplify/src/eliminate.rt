@@ -1,13 +1,13 @@
-//! Bounded elimination of variables (Een and Biere 2005, SatELite): the clauses of a variable go, and all resolvents of those with its
-//! one sign and those with the other come in their place, where they are no more clauses (or only a few more, later on) and no more
-//! literals. (Without the bound on literals sums that are regrouped cost more than twice as much.) The clauses of the rarer sign are
-//! kept for the value that the variable has in a solution.
+//! Bounded variable elimination (SatELite, Een and Biere 2005): the clauses of a variable go, and all resolvents of those with its
+//! one sign and those with the other come in their place, where they are no more clauses and no more literals. (Without the bound
+//! on literals sums that are regrouped cost more than twice as much.) The clauses of the rarer sign are kept for the value that the
+//! variable has in a solution.
 
 use crate::clean::clean;
+use crate::occurrences::Occurrences;
 use crate::subsume::{settle, subsume_all};
-use crate::uses::Uses;
 use sat_arena::arena::FIRST;
-use sat_arena::constants::{LONGEST, MOST_USES, PASSES};
+use sat_arena::constants::{LITERALS_OF_WORK, LONGEST, MOST_USES, PASSES};
 use sat_arena::trail::{Value, value_of};
 use sat_arena::words::{Lit, is_set, lit_of, narrow, var_of};
 use sat_cdcl::engine::{Engine, GIVEN};
@@ -25,7 +25,7 @@ struct Resolvent {
 struct Resolvents {
     literals: Vec<Lit>,
     found: Vec<Resolvent>,
-    // How many more clauses and literals there may be.
+    // How many clauses and literals there may be.
     clauses: usize,
     room: usize,
 }
@@ -58,10 +58,10 @@ impl Drop for Sides {
 
 impl Sides {
     // Puts the clauses in their places.
-    fn put_back(self, uses: &mut Uses, var: u32) {
+    fn put_back(self, occurrences: &mut Occurrences, var: u32) {
         let Sides { positive, negative } = self;
-        uses.put_back(lit_of(var, true), positive);
-        uses.put_back(lit_of(var, false), negative);
+        occurrences.put_back(lit_of(var, true), positive);
+        occurrences.put_back(lit_of(var, false), negative);
     }
 }
 
@@ -85,14 +85,13 @@ impl Resolvents {
         }
     }
 
-    // None yet, of clauses of two sides, with so many clauses more than there were.
-    fn begin(&mut self, engine: &Engine, sides: &Sides, more: usize) {
-        let clauses = sides.positive.len().saturating_add(sides.negative.len());
+    // None yet, of clauses of two sides.
+    fn begin(&mut self, engine: &Engine, sides: &Sides) {
         let positive = literal_count(engine, &sides.positive);
         let negative = literal_count(engine, &sides.negative);
         self.literals.clear();
         self.found.clear();
-        self.clauses = clauses.saturating_add(more);
+        self.clauses = sides.positive.len().saturating_add(sides.negative.len());
         self.room = positive.saturating_add(negative);
     }
 
@@ -132,25 +131,25 @@ impl Resolvents {
     fn add_all(
         &mut self,
         engine: &Engine,
-        uses: &mut Uses,
+        occurrences: &mut Occurrences,
         var: usize,
         first: u32,
         others: &[u32],
     ) -> Result<bool, AllocError> {
         let mut is_fit = true;
-        uses.mark(engine.arena.literals(first), true);
+        occurrences.mark(engine.arena.literals(first), true);
         for second in others {
             if is_fit {
-                uses.spend(1 + engine.arena.size(*second) as usize / 4);
-                is_fit = self.add(engine, &uses.marks, var, first, *second)?;
+                occurrences.spend(1 + engine.arena.size(*second) as usize / LITERALS_OF_WORK);
+                is_fit = self.add(engine, &occurrences.marks, var, first, *second)?;
             }
         }
-        uses.mark(engine.arena.literals(first), false);
+        occurrences.mark(engine.arena.literals(first), false);
         Ok(is_fit)
     }
 
     // Writes the resolvents down and notes them, in the place of their clauses.
-    fn write(&self, engine: &mut Engine, uses: &mut Uses) -> Result<(), AllocError> {
+    fn write(&self, engine: &mut Engine, occurrences: &mut Occurrences) -> Result<(), AllocError> {
         let mut start = 0;
         for resolvent in self.found.iter() {
             if let Some(literals) = self.literals.get(start..resolvent.end) {
@@ -163,7 +162,7 @@ impl Resolvents {
                     .notes
                     .hints
                     .push(engine.arena.number(resolvent.second))?;
-                enter(engine, uses, literals)?;
+                enter(engine, occurrences, literals)?;
             }
             start = resolvent.end;
         }
@@ -172,14 +171,18 @@ impl Resolvents {
 }
 
 // Writes a clause down that follows by the hints that are noted, and notes it.
-fn enter(engine: &mut Engine, uses: &mut Uses, literals: &[Lit]) -> Result<(), AllocError> {
+fn enter(
+    engine: &mut Engine,
+    occurrences: &mut Occurrences,
+    literals: &[Lit],
+) -> Result<(), AllocError> {
     let number = engine.log.add(literals, &engine.notes.hints)?;
     match literals {
         [] => Ok(()),
         [lit] => engine.add_unit(*lit, number),
         _ => {
             let place = engine.arena.add(literals, number, GIVEN)?;
-            uses.connect(engine, place)
+            occurrences.connect(engine, place)
         }
     }
 }
@@ -201,9 +204,9 @@ fn keep(engine: &mut Engine, lit: Lit, clauses: &[u32]) -> Result<(), AllocError
 }
 
 // Lets clauses go, whose variables are to be tried again.
-fn discard_all(engine: &mut Engine, uses: &mut Uses, clauses: &[u32]) {
+fn discard_all(engine: &mut Engine, occurrences: &mut Occurrences, clauses: &[u32]) {
     for clause in clauses {
-        uses.touch(engine.arena.literals(*clause));
+        occurrences.touch(engine.arena.literals(*clause));
         engine.arena.discard(*clause);
     }
 }
@@ -211,7 +214,7 @@ fn discard_all(engine: &mut Engine, uses: &mut Uses, clauses: &[u32]) {
 // Takes a variable out of the clauses.
 fn take_out(
     engine: &mut Engine,
-    uses: &mut Uses,
+    occurrences: &mut Occurrences,
     var: u32,
     sides: &Sides,
 ) -> Result<(), AllocError> {
@@ -220,8 +223,8 @@ fn take_out(
     } else {
         keep(engine, lit_of(var, false), &sides.negative)?;
     }
-    discard_all(engine, uses, &sides.positive);
-    discard_all(engine, uses, &sides.negative);
+    discard_all(engine, occurrences, &sides.positive);
+    discard_all(engine, occurrences, &sides.negative);
     engine.leave_out(var);
     Ok(())
 }
@@ -229,17 +232,14 @@ fn take_out(
 // Finds the resolvents of the clauses of a variable. Answers whether there is room for them.
 fn resolve_all(
     engine: &Engine,
-    uses: &mut Uses,
+    occurrences: &mut Occurrences,
     resolvents: &mut Resolvents,
     var: u32,
     sides: &Sides,
 ) -> Result<bool, AllocError> {
-    if sides.positive.len() > MOST_USES || sides.negative.len() > MOST_USES {
-        return Ok(false);
-    }
     for first in sides.positive.as_slice() {
         let others = &sides.negative;
-        if !resolvents.add_all(engine, uses, var as usize, *first, others)? {
+        if !resolvents.add_all(engine, occurrences, var as usize, *first, others)? {
             return Ok(false);
         }
     }
@@ -249,36 +249,40 @@ fn resolve_all(
 // Takes a variable out of the clauses, if that is fit.
 fn try_variable(
     engine: &mut Engine,
-    uses: &mut Uses,
+    occurrences: &mut Occurrences,
     resolvents: &mut Resolvents,
     var: u32,
-    more: usize,
 ) -> Result<(), AllocError> {
     let sides = Sides {
-        positive: uses.take(engine, lit_of(var, true)),
-        negative: uses.take(engine, lit_of(var, false)),
+        positive: occurrences.take(engine, lit_of(var, true)),
+        negative: occurrences.take(engine, lit_of(var, false)),
     };
-    resolvents.begin(engine, &sides, more);
-    if resolve_all(engine, uses, resolvents, var, &sides)? {
-        take_out(engine, uses, var, &sides)?;
-        resolvents.write(engine, uses)?;
-        return settle(engine, uses);
+    if sides.positive.len() <= MOST_USES && sides.negative.len() <= MOST_USES {
+        resolvents.begin(engine, &sides);
+        if resolve_all(engine, occurrences, resolvents, var, &sides)? {
+            take_out(engine, occurrences, var, &sides)?;
+            resolvents.write(engine, occurrences)?;
+            return settle(engine, occurrences);
+        }
     }
-    sides.put_back(uses, var);
+    sides.put_back(occurrences, var);
     Ok(())
 }
 
 // The variables that are to be tried, those with the fewest pairs of clauses first.
-fn candidates(engine: &Engine, uses: &mut Uses) -> Result<Vec<(usize, u32)>, AllocError> {
+fn candidates(
+    engine: &Engine,
+    occurrences: &mut Occurrences,
+) -> Result<Vec<(usize, u32)>, AllocError> {
     let mut found = Vec::new(engine.alloc);
-    for var in 0..narrow(uses.touched.len()) {
-        if is_set(&uses.touched, var as usize) && engine.is_open(var) {
-            let positive = uses.count(lit_of(var, true));
-            let negative = uses.count(lit_of(var, false));
+    for var in 0..narrow(occurrences.touched.len()) {
+        if is_set(&occurrences.touched, var as usize) && engine.is_open(var) {
+            let positive = occurrences.count(lit_of(var, true));
+            let negative = occurrences.count(lit_of(var, false));
             found.push((positive.saturating_mul(negative), var))?;
         }
     }
-    for touched in uses.touched.iter_mut() {
+    for touched in occurrences.touched.iter_mut() {
         *touched = false;
     }
     found.sort_unstable();
@@ -286,27 +290,25 @@ fn candidates(engine: &Engine, uses: &mut Uses) -> Result<Vec<(usize, u32)>, All
 }
 
 // Tries each variable whose clauses changed. Answers how many were taken out.
-fn pass(engine: &mut Engine, uses: &mut Uses, more: usize) -> Result<usize, AllocError> {
+fn pass(engine: &mut Engine, occurrences: &mut Occurrences) -> Result<usize, AllocError> {
     let before = engine.left_out;
-    let candidates = candidates(engine, uses)?;
+    let candidates = candidates(engine, occurrences)?;
     let mut resolvents = Resolvents::new(engine.alloc);
     for (_, var) in candidates.as_slice() {
-        if uses.work > 0 && engine.log.end == 0 && engine.is_open(*var) {
-            try_variable(engine, uses, &mut resolvents, *var, more)?;
+        if occurrences.work > 0 && engine.log.end == 0 && engine.is_open(*var) {
+            try_variable(engine, occurrences, &mut resolvents, *var)?;
         }
     }
-    subsume_all(engine, uses)?;
+    subsume_all(engine, occurrences)?;
     Ok(engine.left_out.saturating_sub(before))
 }
 
 // Notes the given clauses.
-fn connect_all(engine: &mut Engine, uses: &mut Uses) -> Result<(), AllocError> {
-    let clauses = engine.arena.clauses(engine.alloc)?;
+fn connect_all(engine: &mut Engine, occurrences: &mut Occurrences) -> Result<(), AllocError> {
+    let clauses = engine.given()?;
+    occurrences.make_room(engine, &clauses)?;
     for clause in clauses.as_slice() {
-        let status = engine.arena.status(*clause);
-        if !status.is_learned {
-            uses.connect(engine, *clause)?;
-        }
+        occurrences.connect(engine, *clause)?;
     }
     Ok(())
 }
@@ -333,13 +335,13 @@ fn disconnect(engine: &mut Engine) -> Result<(), AllocError> {
     Ok(())
 }
 
-/// Eliminates variables, with so many clauses more for each. Nothing is watched, or decided, and all is clean, before and after.
-pub fn eliminate(engine: &mut Engine, more: usize, work: u64) -> Result<(), AllocError> {
-    let mut uses = Uses::new(engine.alloc, engine.gone.len(), work)?;
-    connect_all(engine, &mut uses)?;
-    subsume_all(engine, &mut uses)?;
+/// Eliminates variables. Nothing is watched, or decided, and all is clean, before and after.
+pub fn eliminate(engine: &mut Engine, work: u64) -> Result<(), AllocError> {
+    let mut occurrences = Occurrences::new(engine.alloc, engine.gone.len(), work)?;
+    connect_all(engine, &mut occurrences)?;
+    subsume_all(engine, &mut occurrences)?;
     for _ in 0..PASSES {
-        if engine.log.end > 0 || pass(engine, &mut uses, more)? == 0 {
+        if engine.log.end > 0 || pass(engine, &mut occurrences)? == 0 {
             break;
         }
     }

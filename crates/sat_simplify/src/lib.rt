@@ -5,5 +5,5 @@
 
 pub mod clean;
 pub mod eliminate;
+mod occurrences;
 mod subsume;
-mod uses;

@@ -1,10 +1,10 @@
-//! Subsumption: a clause goes of which another is a part, and a literal goes of a clause of which another is a part but for that
-//! literal, which it has negated (self-subsuming resolution, Een and Biere 2005). Each clause is tried once against those of its rarest
-//! literal.
+//! Subsumption and self-subsuming resolution (Een and Biere 2005): a clause goes of which another is a part, and a literal goes of
+//! a clause of which another is a part but for that literal, which it has negated. Each clause is tried once against those of its
+//! rarest literal.
 
-use crate::clean::replace;
-use crate::uses::Uses;
-use sat_arena::constants::{MOST_SUBSUMED, SUBSUMING};
+use crate::clean::{replace, shorten};
+use crate::occurrences::Occurrences;
+use sat_arena::constants::{LITERALS_OF_WORK, MOST_SUBSUMED, SUBSUMING};
 use sat_arena::words::{Lit, is_set, var_of};
 use sat_cdcl::engine::Engine;
 use std::alloc::AllocError;
@@ -50,7 +50,7 @@ fn covered(marks: &[bool], count: usize, literals: &[Lit]) -> Cover {
 /// Puts a clause without a literal in its place, where the hints that are noted make the literal false.
 pub fn strengthen(
     engine: &mut Engine,
-    uses: &mut Uses,
+    occurrences: &mut Occurrences,
     clause: u32,
     lit: Lit,
 ) -> Result<(), AllocError> {
@@ -60,37 +60,46 @@ pub fn strengthen(
             rest.push(*other)?;
         }
     }
-    uses.touch(engine.arena.literals(clause));
+    occurrences.touch(engine.arena.literals(clause));
     engine.notes.hints.push(engine.arena.number(clause))?;
     match replace(engine, clause, &rest)? {
-        Some(place) => uses.connect(engine, place),
+        Some(place) => occurrences.connect(engine, place),
         None => Ok(()),
     }
 }
 
-// Leaves out a literal that is fixed: clauses in which it stands hold, and its negation goes of others.
-fn settle_one(engine: &mut Engine, uses: &mut Uses, lit: Lit) -> Result<(), AllocError> {
-    for clause in uses.take(engine, lit) {
+// Leaves out a literal that is fixed: clauses in which it stands hold, and others lose what is false in them.
+fn settle_one(
+    engine: &mut Engine,
+    occurrences: &mut Occurrences,
+    lit: Lit,
+    rest: &mut Vec<Lit>,
+) -> Result<(), AllocError> {
+    for clause in occurrences.take(engine, lit) {
+        occurrences.touch(engine.arena.literals(clause));
         engine.arena.discard(clause);
     }
-    let shorter = uses.take(engine, lit ^ 1);
+    let shorter = occurrences.take(engine, lit ^ 1);
     for clause in shorter.as_slice() {
-        if engine.log.end == 0 {
-            let unit = engine.trail.unit(var_of(lit));
-            engine.notes.hints.clear();
-            engine.notes.hints.push(unit)?;
-            strengthen(engine, uses, *clause, lit ^ 1)?;
+        occurrences.touch(engine.arena.literals(*clause));
+        if engine.is_satisfied(*clause) {
+            engine.arena.discard(*clause);
+        } else if engine.log.end == 0 {
+            if let Some(place) = shorten(engine, *clause, rest)? {
+                occurrences.connect(engine, place)?;
+            }
         }
     }
     Ok(())
 }
 
 /// Leaves out what is fixed from the clauses that are noted.
-pub fn settle(engine: &mut Engine, uses: &mut Uses) -> Result<(), AllocError> {
+pub fn settle(engine: &mut Engine, occurrences: &mut Occurrences) -> Result<(), AllocError> {
+    let mut rest: Vec<Lit> = Vec::new(engine.alloc);
     for _ in 0..u64::MAX {
         match engine.trail.next() {
             None => break,
-            Some(lit) => settle_one(engine, uses, lit)?,
+            Some(lit) => settle_one(engine, occurrences, lit, &mut rest)?,
         }
     }
     Ok(())
@@ -107,20 +116,23 @@ fn may_cover(engine: &Engine, clause: u32, count: usize, bits: u32) -> bool {
 // Lets the clauses in a list go that the marked clause subsumes. Answers those that it makes shorter, with the literals that go.
 fn look_through(
     engine: &mut Engine,
-    uses: &mut Uses,
+    occurrences: &mut Occurrences,
     clause: u32,
     list: &[u32],
 ) -> Result<Vec<(u32, Lit)>, AllocError> {
     let count = engine.arena.size(clause) as usize;
     let bits = engine.arena.last(clause);
     let mut shorter: Vec<(u32, Lit)> = Vec::new(engine.alloc);
-    uses.spend(list.len());
+    occurrences.spend(list.len());
     for other in list {
         if *other != clause && may_cover(engine, *other, count, bits) {
             let literals = engine.arena.literals(*other);
-            uses.spend(literals.len() / 4);
-            match covered(&uses.marks, count, literals) {
-                Cover::All => engine.arena.discard(*other),
+            occurrences.spend(literals.len() / LITERALS_OF_WORK);
+            match covered(&occurrences.marks, count, literals) {
+                Cover::All => {
+                    occurrences.touch(literals);
+                    engine.arena.discard(*other);
+                }
                 Cover::But(lit) => shorter.push((*other, lit))?,
                 Cover::No => {}
             }
@@ -130,25 +142,32 @@ fn look_through(
 }
 
 // Tries a clause, whose literals are marked, on the clauses of one of its literals or of the negation of that.
-fn try_list(engine: &mut Engine, uses: &mut Uses, clause: u32, lit: Lit) -> Result<(), AllocError> {
-    let list = uses.take(engine, lit);
-    let shorter = look_through(engine, uses, clause, &list)?;
-    uses.put_back(lit, list);
+fn try_list(
+    engine: &mut Engine,
+    occurrences: &mut Occurrences,
+    clause: u32,
+    lit: Lit,
+) -> Result<(), AllocError> {
+    let list = occurrences.take(engine, lit);
+    let shorter = look_through(engine, occurrences, clause, &list)?;
+    occurrences.put_back(lit, list);
     for k in 0..shorter.len() {
         let (other, flipped) = shorter[k];
         engine.notes.hints.clear();
         engine.notes.hints.push(engine.arena.number(clause))?;
-        strengthen(engine, uses, other, flipped)?;
+        strengthen(engine, occurrences, other, flipped)?;
     }
     Ok(())
 }
 
 // The literal whose variable stands in the fewest clauses, and how many these are.
-fn rarest(uses: &Uses, literals: &[Lit]) -> (Lit, usize) {
+fn rarest(occurrences: &Occurrences, literals: &[Lit]) -> (Lit, usize) {
     let mut found: Lit = 0;
     let mut least = usize::MAX;
     for lit in literals {
-        let count = uses.count(*lit).saturating_add(uses.count(*lit ^ 1));
+        let count = occurrences
+            .count(*lit)
+            .saturating_add(occurrences.count(*lit ^ 1));
         if count < least {
             found = *lit;
             least = count;
@@ -158,41 +177,45 @@ fn rarest(uses: &Uses, literals: &[Lit]) -> (Lit, usize) {
 }
 
 // Tries a clause on those that it may subsume or make shorter.
-fn subsume(engine: &mut Engine, uses: &mut Uses, clause: u32) -> Result<(), AllocError> {
+fn subsume(
+    engine: &mut Engine,
+    occurrences: &mut Occurrences,
+    clause: u32,
+) -> Result<(), AllocError> {
     let literals = engine.arena.literals(clause);
-    let (lit, count) = rarest(uses, literals);
+    let (lit, count) = rarest(occurrences, literals);
     if count > MOST_SUBSUMED || literals.len() > SUBSUMING {
         return Ok(());
     }
-    uses.mark(literals, true);
-    try_list(engine, uses, clause, lit)?;
-    try_list(engine, uses, clause, lit ^ 1)?;
-    uses.mark(engine.arena.literals(clause), false);
-    settle(engine, uses)
+    occurrences.mark(literals, true);
+    try_list(engine, occurrences, clause, lit)?;
+    try_list(engine, occurrences, clause, lit ^ 1)?;
+    occurrences.mark(engine.arena.literals(clause), false);
+    settle(engine, occurrences)
 }
 
 // The clauses that are to be tried, the shortest first.
-fn waiting(engine: &Engine, uses: &mut Uses) -> Result<Vec<(u32, u32)>, AllocError> {
+fn waiting(engine: &Engine, occurrences: &mut Occurrences) -> Result<Vec<(u32, u32)>, AllocError> {
     let mut found = Vec::new(engine.alloc);
-    for clause in uses.queue.iter() {
+    for clause in occurrences.queue.iter() {
         found.push((engine.arena.size(*clause), *clause))?;
     }
-    uses.queue.clear();
+    occurrences.queue.clear();
     found.sort_unstable();
     Ok(found)
 }
 
 /// Tries all clauses that wait for it, and those that come to them by that.
-pub fn subsume_all(engine: &mut Engine, uses: &mut Uses) -> Result<(), AllocError> {
+pub fn subsume_all(engine: &mut Engine, occurrences: &mut Occurrences) -> Result<(), AllocError> {
     for _ in 0..u64::MAX {
-        let waiting = waiting(engine, uses)?;
+        let waiting = waiting(engine, occurrences)?;
         if waiting.is_empty() {
             break;
         }
         for (_, clause) in waiting.as_slice() {
             let status = engine.arena.status(*clause);
-            if !status.is_garbage && engine.log.end == 0 && uses.work > 0 {
-                subsume(engine, uses, *clause)?;
+            if !status.is_garbage && engine.log.end == 0 && occurrences.work > 0 {
+                subsume(engine, occurrences, *clause)?;
             }
         }
     }

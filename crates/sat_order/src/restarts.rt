@@ -1,5 +1,6 @@
-//! When the search begins anew, and when learned clauses go. It begins anew where new clauses have more levels, in a quick mean, than
-//! they had in a slow one (Biere and Froehlich 2015): then much is decided, and little follows.
+//! Restarts by exponential moving averages of the glue (Biere and Froehlich 2015), and when clause-database reduction is due. The
+//! search begins anew where new clauses have more levels, in a quick mean, than they had in a slow one: then much is decided, and
+//! little follows.
 
 use sat_arena::constants::{FEWEST_WALKS, LEAST_LOG, MARGIN, PAUSE, QUICK, REDUCE, SLOW, WALKS};
 

@@ -1,13 +1,14 @@
-//! Which literals are likely to be equal (SAT sweeping, Kuehlmann and others 2002, on clauses). Random values are run through the
-//! clauses, and variables that have the same values in all tries, or opposite ones, are a pair. Where clauses describe gates, each
-//! behind those that it reads, a variable is what the clauses make it in which it is the greatest, and where they leave it free it is
-//! random.
+//! Candidate equivalences by random simulation (SAT sweeping, Kuehlmann and others 2002, on clauses): literals that are likely to
+//! be equal. Random values are run through the clauses, and variables that have the same values in all tries, or opposite ones, are
+//! a pair. Where clauses describe gates, each behind those that it reads, a variable is what the clauses make it in which it is the
+//! greatest, and where they leave it free it is random.
 //!
 //! 64 tries go at once, as the bits of a word. The random bits are 1 more often or more seldom by turns, since a gate of many
 //! inputs hardly ever changes where each input is 1 in half of the tries.
 
 use crate::ranks::Ranks;
-use sat_arena::constants::{LEAST_TRIES, MOST_TRIES, TRIED_LITERALS};
+use crate::table::Table;
+use sat_arena::constants::{FEWEST_TRIES, LEAST_TRIES, MOST_TRIES, TRIED_LITERALS};
 use sat_arena::words::{Lit, at, is_negated, lit_of, narrow, var_of};
 use sat_cdcl::engine::Engine;
 use std::alloc::AllocError;
@@ -29,8 +30,6 @@ struct Random {
 /// What is known of a variable.
 #[derive(Clone, Copy)]
 struct Told {
-    // Its values in the newest 64 tries.
-    values: u64,
     // Whether the first value of all was true. Then the values are turned round for what follows.
     is_turned: bool,
     // A number that comes of all values, and in how many tries the value was not the first one.
@@ -42,7 +41,6 @@ struct Told {
 }
 
 const NOTHING: Told = Told {
-    values: 0,
     is_turned: false,
     sum: 0,
     count: 0,
@@ -74,19 +72,6 @@ impl Random {
     }
 }
 
-// The given clauses.
-pub fn given(engine: &Engine) -> Result<Vec<u32>, AllocError> {
-    let clauses = engine.arena.clauses(engine.alloc)?;
-    let mut found = Vec::new(engine.alloc);
-    for clause in clauses.as_slice() {
-        let status = engine.arena.status(*clause);
-        if !status.is_learned {
-            found.push(*clause)?;
-        }
-    }
-    Ok(found)
-}
-
 // The greatest rank of a variable in a clause.
 fn greatest(ranks: &Ranks, literals: &[Lit]) -> u32 {
     let mut greatest: u32 = 0;
@@ -97,59 +82,55 @@ fn greatest(ranks: &Ranks, literals: &[Lit]) -> u32 {
 }
 
 // Clauses, by the greatest rank of a variable in each.
-fn by_greatest(
-    engine: &Engine,
-    clauses: &[u32],
-    ranks: &Ranks,
-) -> Result<Vec<(u32, u32)>, AllocError> {
-    let mut found = Vec::new(engine.alloc);
+fn by_greatest(engine: &Engine, clauses: &[u32], ranks: &Ranks) -> Result<Table, AllocError> {
+    let mut table = Table::new(engine, ranks.vars.len())?;
+    for clause in clauses {
+        table.count(greatest(ranks, engine.arena.literals(*clause)));
+    }
+    table.make_room(engine)?;
     for clause in clauses {
         let rank = greatest(ranks, engine.arena.literals(*clause));
-        found.push((rank, *clause))?;
+        table.put(rank, *clause);
     }
-    found.sort_unstable();
-    Ok(found)
+    Ok(table)
 }
 
-// The newest values of a literal.
-fn values_of(told: &[Told], lit: Lit) -> u64 {
-    let values = match told.get(var_of(lit)) {
-        Some(t) => t.values,
-        None => 0,
-    };
+// The values of a literal, of those of variables.
+fn values_of(values: &[u64], lit: Lit) -> u64 {
+    let values = values.get(var_of(lit)).copied().unwrap_or(0);
     if is_negated(lit) { !values } else { values }
 }
 
 // Makes the clause true by the variable, where it is false.
-fn mend(told: &mut [Told], literals: &[Lit], var: u32) {
+fn mend(values: &mut [u64], t: &mut Told, literals: &[Lit], var: u32) {
     let mut open = u64::MAX;
     let mut is_false_wanted = false;
     for lit in literals {
         if *lit / 2 == var {
             is_false_wanted = is_negated(*lit);
         } else {
-            open = open & !values_of(told, *lit);
+            open = open & !values_of(values, *lit);
         }
     }
-    if let Some(t) = told.get_mut(var as usize) {
+    if let Some(old) = values.get_mut(var as usize) {
         if is_false_wanted {
-            t.values = t.values & !open;
+            *old = *old & !open;
             t.is_made_false = t.is_made_false || open != 0;
         } else {
-            t.values = t.values | open;
+            *old = *old | open;
             t.is_made_true = t.is_made_true || open != 0;
         }
     }
 }
 
 // What is known of a variable behind its newest values.
-fn noted(t: Told, is_first: bool) -> Told {
+fn noted(t: Told, newest: u64, is_first: bool) -> Told {
     let is_turned = if is_first {
-        t.values % 2 == 1
+        newest % 2 == 1
     } else {
         t.is_turned
     };
-    let values = if is_turned { !t.values } else { t.values };
+    let values = if is_turned { !newest } else { newest };
     let sum = (t.sum ^ values).wrapping_mul(MULTIPLIER);
     Told {
         is_turned,
@@ -159,24 +140,35 @@ fn noted(t: Told, is_first: bool) -> Told {
     }
 }
 
+// Makes all clauses true by their greatest variables, in the order of these.
+fn mend_all(told: &mut [Told], values: &mut [u64], engine: &Engine, vars: &[u32], table: &Table) {
+    for (rank, var) in vars.iter().enumerate() {
+        if let Some(t) = told.get_mut(*var as usize) {
+            for clause in table.row(narrow(rank)) {
+                mend(values, t, engine.arena.literals(*clause), *var);
+            }
+        }
+    }
+}
+
 // Tries 64 random values of each variable.
 fn try_word(
     told: &mut [Told],
+    values: &mut [u64],
     engine: &Engine,
     vars: &[u32],
-    order: &[(u32, u32)],
+    table: &Table,
     random: &mut Random,
     k: usize,
 ) {
-    for t in told.iter_mut() {
-        t.values = random.word(k % KINDS);
+    for word in values.iter_mut() {
+        *word = random.word(k % KINDS);
     }
-    for (rank, clause) in order {
-        let var = at(vars, *rank as usize);
-        mend(told, engine.arena.literals(*clause), var);
-    }
-    for t in told.iter_mut() {
-        *t = noted(*t, k == 0);
+    mend_all(told, values, engine, vars, table);
+    for (var, newest) in values.iter().enumerate() {
+        if let Some(t) = told.get_mut(var) {
+            *t = noted(*t, *newest, k == 0);
+        }
     }
 }
 
@@ -195,11 +187,13 @@ fn tell(
     ranks: &Ranks,
     words: usize,
 ) -> Result<Vec<Told>, AllocError> {
-    let order = by_greatest(engine, clauses, ranks)?;
+    let table = by_greatest(engine, clauses, ranks)?;
     let mut told = vec![in engine.alloc; NOTHING; engine.gone.len()]?;
+    let mut values: Vec<u64> = vec![in engine.alloc; 0; engine.gone.len()]?;
     let mut random = Random { state: SEED };
     for k in 0..words {
-        try_word(&mut told, engine, &ranks.vars, &order, &mut random, k);
+        let vars = ranks.vars.as_slice();
+        try_word(&mut told, &mut values, engine, vars, &table, &mut random, k);
     }
     Ok(told)
 }
@@ -269,7 +263,7 @@ pub fn likely_pairs(
 ) -> Result<Vec<(Lit, Lit)>, AllocError> {
     let mut found = Vec::new(engine.alloc);
     let words = words(engine);
-    if words < 3 {
+    if words < FEWEST_TRIES {
         return Ok(found);
     }
     let told = tell(engine, clauses, ranks, words)?;

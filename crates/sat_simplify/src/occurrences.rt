@@ -1,13 +1,14 @@
-//! In which given clauses each literal stands, while variables are eliminated.
+//! Occurrence lists (as in SatELite, Een and Biere 2005): in which given clauses each literal stands, while variables are
+//! eliminated.
 
 use sat_arena::arena::Status;
-use sat_arena::words::{Lit, put, set, var_of};
+use sat_arena::words::{Lit, at, put, set, var_of};
 use sat_cdcl::engine::Engine;
 use std::alloc::{AllocError, Global};
 use std::mem;
 
 /// The clauses of literals, and what is still to be tried.
-pub struct Uses {
+pub struct Occurrences {
     /// Of each literal the clauses in which it stood when they were noted. Some of them may be garbage.
     pub lists: Vec<Vec<u32>>,
     /// The clauses that may subsume others.
@@ -20,9 +21,9 @@ pub struct Uses {
     pub work: u64,
 }
 
-impl Drop for Uses {
+impl Drop for Occurrences {
     fn drop(self) {
-        let Uses {
+        let Occurrences {
             lists: _,
             queue: _,
             marks: _,
@@ -42,15 +43,15 @@ pub fn signature(literals: &[Lit]) -> u32 {
     bits
 }
 
-impl Uses {
+impl Occurrences {
     /// No clauses of so many variables.
-    pub fn new(alloc: Global, vars: usize, work: u64) -> Result<Uses, AllocError> {
+    pub fn new(alloc: Global, vars: usize, work: u64) -> Result<Occurrences, AllocError> {
         let mut lists = Vec::new(alloc);
         for _ in 0..vars.saturating_mul(2) {
             lists.push(Vec::new(alloc))?;
         }
         let marks = vec![in alloc; false; lists.len()]?;
-        Ok(Uses {
+        Ok(Occurrences {
             lists,
             queue: Vec::new(alloc),
             marks,
@@ -79,6 +80,23 @@ impl Uses {
             Some(list) => list.len(),
             None => 0,
         }
+    }
+
+    /// Makes room for as many clauses of each literal as these have.
+    pub fn make_room(&mut self, engine: &Engine, clauses: &[u32]) -> Result<(), AllocError> {
+        let mut counts: Vec<u32> = vec![in engine.alloc; 0; self.lists.len()]?;
+        for clause in clauses {
+            for lit in engine.arena.literals(*clause) {
+                let count = at(&counts, *lit as usize);
+                put(&mut counts, *lit as usize, count.wrapping_add(1));
+            }
+        }
+        for (lit, count) in counts.iter().enumerate() {
+            if let Some(list) = self.lists.get_mut(lit) {
+                *list = Vec::with_capacity(engine.alloc, *count as usize)?;
+            }
+        }
+        Ok(())
     }
 
     /// Notes a clause.
@@ -129,7 +147,7 @@ impl Uses {
         }
     }
 
-    /// Whether there is no work left.
+    /// Counts what was looked at, as work that may not be done any more.
     pub fn spend(&mut self, amount: usize) {
         self.work = self.work.saturating_sub(amount as u64);
     }
