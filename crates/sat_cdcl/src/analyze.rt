@@ -90,13 +90,12 @@ impl Engine {
     fn bump(&mut self) -> Result<(), AllocError> {
         self.notes.ranked.clear();
         for var in self.notes.met.iter() {
-            let rank = self.queue.stamp(*var).wrapping_shl(32) | u64::from(*var);
-            self.notes.ranked.push(rank)?;
+            self.notes.ranked.push((self.queue.stamp(*var), *var))?;
         }
         self.notes.ranked.sort_unstable();
-        for rank in self.notes.ranked.iter() {
-            let var = (*rank % (1 << 32)) as u32;
-            self.queue.bump(var, is_open(&self.trail, &self.gone, var));
+        for (_, var) in self.notes.ranked.iter() {
+            self.queue
+                .bump(*var, is_open(&self.trail, &self.gone, *var));
         }
         Ok(())
     }

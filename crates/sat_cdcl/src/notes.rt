@@ -76,8 +76,8 @@ pub struct Notes {
     pub clause: Vec<Lit>,
     /// The numbers of the clauses by which it follows.
     pub hints: Vec<u32>,
-    /// The variables that were met, by their places in the order of decisions.
-    pub ranked: Vec<u64>,
+    /// The variables that were met, behind their stamps in the order of decisions.
+    pub ranked: Vec<(u64, u32)>,
 }
 
 impl Drop for Notes {

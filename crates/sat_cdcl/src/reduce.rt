@@ -66,14 +66,8 @@ impl Engine {
         status.glue > TIER1_GLUE && status.used == 0 && self.given_by(clause).is_none()
     }
 
-    // A number that is greater for a clause that is to go before others: its levels, and then its size.
-    fn worth(&self, clause: u32) -> u64 {
-        let status = self.arena.status(clause);
-        u64::from(status.glue) << 32 | u64::from(self.arena.size(clause))
-    }
-
-    // The clauses that may go, those that are to stay before others first.
-    fn candidates(&mut self) -> Result<Vec<(u64, u32)>, AllocError> {
+    // The clauses that may go, behind their glue and their size: those of less glue stay before others, and then shorter ones.
+    fn candidates(&mut self) -> Result<Vec<(u32, u32, u32)>, AllocError> {
         let mut found = Vec::new(self.alloc);
         let mut place: u32 = 0;
         for _ in 0..self.arena.words.len() {
@@ -81,7 +75,8 @@ impl Engine {
                 None => break,
                 Some(clause) => {
                     if self.may_go(clause) {
-                        found.push((self.worth(clause), clause))?;
+                        let status = self.arena.status(clause);
+                        found.push((status.glue, self.arena.size(clause), clause))?;
                     }
                     place = self.arena.next(clause);
                 }
@@ -129,7 +124,7 @@ impl Engine {
         let candidates = self.candidates()?;
         let going = candidates.len().saturating_mul(SHARE) / 100;
         for k in candidates.len().saturating_sub(going)..candidates.len() {
-            let (_, clause) = candidates[k];
+            let (_, _, clause) = candidates[k];
             self.arena.discard(clause);
         }
         self.collect()?;
