@@ -3,7 +3,7 @@
 Each design computes something in two ways, and the goals say that both agree, or tell a mistake that shows (the verdict `failed`).
 """
 
-from prove_designs import Goal, Run, at_once, clock, each_edge, log2, ports, words
+from prove_designs import Goal, Run, at_once, clock, each_edge, log2, ports, regrouped, words
 
 
 def both(name, size, inputs, width, body, more=()):
@@ -25,10 +25,10 @@ def saturating(width):
     return both("saturating sum", width, words(width, "ab"), width, body, [Goal("grows", ["s > a"], ["b != 0"], "failed")])
 
 
-def least(count, width):
-    """The least of some numbers, one after the other and by a tree."""
+def extreme(count, width, kind="least", order="<"):
+    """The least or the greatest of some numbers, one after the other and by a tree."""
     names = ["x[%d:%d]" % (width * place + width - 1, width * place) for place in range(count)]
-    chain = ["y = %s;" % names[0]] + ["if (%s < y) y = %s;" % (name, name) for name in names[1:]]
+    chain = ["y = %s;" % names[0]] + ["if (%s %s y) y = %s;" % (name, order, name) for name in names[1:]]
     wires, lines = [], []
     level = names
     while len(level) > 1:
@@ -36,11 +36,12 @@ def least(count, width):
         for place in range(0, len(level) - 1, 2):
             wire = "n%d" % len(wires)
             wires.append("  logic [%d:0] %s;" % (width - 1, wire))
-            lines.append("  assign %s = %s < %s ? %s : %s;" % (wire, level[place], level[place + 1], level[place], level[place + 1]))
+            one, other = level[place], level[place + 1]
+            lines.append("  assign %s = %s %s %s ? %s : %s;" % (wire, one, order, other, one, other))
             above.append(wire)
         level = above + level[len(level) // 2 * 2 :]
     body = "\n".join(wires + lines + ["  assign w = %s;" % level[0], block(chain)])
-    return both("least", "%d of %d" % (count, width), {"x": count * width}, width, body)
+    return both(kind, "%d of %d" % (count, width), {"x": count * width}, width, body)
 
 
 def sorter(count, width):
@@ -295,13 +296,15 @@ def stages(width, more):
 def runs():
     """All runs of the suite, the smaller sizes of each kind first."""
     made = [saturating(width) for width in (24, 96)]
-    made += [least(count, width) for count, width in ((4, 12), (6, 10), (8, 8))]
+    made += [extreme(count, width) for count, width in ((4, 12), (6, 10), (8, 8))]
+    made += [extreme(5, 9, "greatest", ">")]
+    made += [regrouped(128)]
     made += [sorter(count, width) for count, width in ((3, 8), (4, 4), (4, 6))]
     made += [rotator(width) for width in (16, 32, 64)]
     made += [leading(width) for width in (32, 64, 128)]
     made += [ones(width) for width in (10, 14, 18)]
     made += [redundancy(width, polynomial, bits) for width, polynomial, bits in ((8, 0x07, 24), (16, 0x1021, 24), (16, 0x1021, 40), (32, 0x04C11DB7, 32))]
-    made += [divider(width) for width in (4, 6, 7)]
+    made += [divider(width) for width in (4, 5, 7)]
     made += [below(width) for width in (32, 128)]
     made += [selected_carry(width, group) for width, group in ((32, 4), (96, 8))]
     made += [difference(width) for width in (24, 64)]

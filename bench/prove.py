@@ -9,9 +9,10 @@ Words choose the runs whose name begins with one of them; none: all. From the en
 seconds of one run (60), RUNS how often each is run (3), MEMORY the bytes that one may take (8 GiB), CLAUSES the program that clauses.sh
 makes, which writes svtv's own clauses of a goal: minisat and cadical are then run on those of its question too. SOLVER, beside
 CLAUSES, is the solver alone (sat_dimacs): it is run on the clauses of all questions that are asked of a goal, and what a whole run
-takes beside it is told of the goals that take over 0.05 seconds.
+takes beside it is told of the goals that take over 0.05 seconds. SUITE is the module that has the runs (prove_designs).
 """
 
+import importlib
 import math
 import os
 import pathlib
@@ -24,8 +25,9 @@ import sys
 import tempfile
 
 import goal_clauses
-import prove_designs
 import prove_others
+
+SUITE = importlib.import_module(os.environ.get("SUITE", "prove_designs"))
 
 LIMIT = int(os.environ.get("LIMIT", "60"))
 RUNS = int(os.environ.get("RUNS", "3"))
@@ -209,7 +211,7 @@ def summary(times):
 
 
 def main(words):
-    chosen = [run for run in prove_designs.runs() if not words or any(run.name.startswith(word) for word in words)]
+    chosen = [run for run in SUITE.runs() if not words or any(run.name.startswith(word) for word in words)]
     columns("run", "size", "goal", "verdict", ["svtv", *OTHERS, "ratio"] + (["minisat*", "cadical*"] if CLAUSES else []) + (["alone"] if CLAUSES and SOLVER else []))
     times = {}
     with tempfile.TemporaryDirectory() as room:
