@@ -1,9 +1,9 @@
 //! What the engine answers, where it stands its check: a solution that solves each given clause, or a log that the judge accepts.
-//! Nothing is proved of the engine, so what it says is worth nothing before that.
+//! Nothing is proved of the engine, so what it says is worth nothing before that. Whoever asks the judge anyway takes the log as it is.
 
 ghost use Rattle.std.specs.Prelude.{◌≡◌, ◌<◌, None, false, length, map, not, slice_index_or, IfOk, IfSome, IsTrue};
 ghost use Rattle.cnf.specs.Clauses.{ClauseHolds, Solves};
-ghost use Rattle.sat_core.specs.End.{IsRightEnd};
+ghost use Rattle.sat_core.specs.End.{IsRightEnd, IsRightProposal};
 
 use crate::SatEnd;
 use cnf::{Cnf, Dim};
@@ -42,14 +42,35 @@ fn all_clauses_hold(values: &[bool], clauses: &[Vec<Dim>]) -> bool
     true
 }
 
+/// What the engine proposes.
+#[derive(Drop)]
+pub enum Proposal {
+    /// A value for each variable, by its number. Each clause holds.
+    Solution(Vec<bool>),
+    /// A log of which nothing is known before it is judged.
+    Refutation(Log),
+    Nothing,
+}
+
 /// The values, if they are a full solution.
-fn tried(cnf: &Cnf, values: Vec<bool>) -> Option<SatEnd>
-    ensures { IfSome result (IsRightEnd cnf.now None) }
+fn tried(cnf: &Cnf, values: Vec<bool>) -> Proposal
+    ensures { IsRightProposal cnf.now result }
 {
     if values.len() == cnf.vars && all_clauses_hold(values.as_slice(), cnf.clauses.as_slice()) {
-        Some(SatEnd::Sat(values))
+        Proposal::Solution(values)
     } else {
-        None
+        Proposal::Nothing
+    }
+}
+
+/// What the engine proposes: a solution, or a log that is still to be judged.
+pub fn propose(alloc: Global, cnf: &Cnf) -> Result<Proposal, AllocError>
+    ensures { IfOk result (IsRightProposal cnf.now) }
+{
+    match search_for(alloc, cnf)? {
+        Found::Solution(values) => Ok(tried(cnf, values)),
+        Found::Refutation(log) => Ok(Proposal::Refutation(log)),
+        Found::GivenUp => Ok(Proposal::Nothing),
     }
 }
 
@@ -68,9 +89,9 @@ fn judged(alloc: Global, cnf: &Cnf, log: Log) -> Result<Option<SatEnd>, AllocErr
 pub fn solve_by_engine(alloc: Global, cnf: &Cnf) -> Result<Option<SatEnd>, AllocError>
     ensures { IfOk result (λ end. IfSome end (IsRightEnd cnf.now None)) }
 {
-    match search_for(alloc, cnf)? {
-        Found::Solution(values) => Ok(tried(cnf, values)),
-        Found::Refutation(log) => judged(alloc, cnf, log),
-        Found::GivenUp => Ok(None),
+    match propose(alloc, cnf)? {
+        Proposal::Solution(values) => Ok(Some(SatEnd::Sat(values))),
+        Proposal::Refutation(log) => judged(alloc, cnf, log),
+        Proposal::Nothing => Ok(None),
     }
 }

@@ -5,5 +5,6 @@ mod answers;
 mod solver;
 mod whole;
 
+pub use answers::{Proposal, propose};
 pub use solver::{SatEnd, solve};
 pub use whole::{Stop, search_whole};
