@@ -18,8 +18,6 @@ use Rattle.refute_check.specs.Accepted.{IsAccepted}
 use Rattle.refute_check.proofs.Refutes.{accepted_refutes}
 use Rattle.refute_check.specs.Certs.{Certificate}
 use Rattle.refute_check.specs.Fresh.{IsFresh}
-use Rattle.sat_core.specs.End.{IsRightEnd}
-use Rattle.sat_core.specs.declared.solver.SatEnd.{SatEnd}
 use Rattle.svex_arena.specs.Arenas.{Extends}
 use Rattle.svex_shape.specs.declared.shape.Shape.{Shape}
 use Rattle.svex_shape.specs.declared.shape.Shape.TheVariants.{Const}
@@ -59,9 +57,9 @@ never_by_log vars gates root cert g within n e a =
       accepted = a;
     }
 
-pub solved_by : (gates : List Gate) (root : Lit) (cnf : Formula) (budget : Option ℕ) (end : SatEnd) (xs ys : List Bool) → cnf ≡ asking gates root → IsRightEnd cnf budget end → ((length ys ≡ cnf.vars) × Solves (λ v. slice_index_or ys v false) cnf.clauses)
+pub solved_by : (gates : List Gate) (root : Lit) (cnf : Formula) (xs ys : List Bool) → cnf ≡ asking gates root → ((length ys ≡ cnf.vars) × Solves (λ v. slice_index_or ys v false) cnf.clauses)
     → xs ≡ ys → Solves (λ v. slice_index_or xs v false) (asking gates root).clauses
-solved_by gates root cnf budget end xs ys e right s same =
+solved_by gates root cnf xs ys e s same =
     subst (λ zs. Solves (λ v. slice_index_or zs v false) (asking gates root).clauses) (sym same) (subst (λ f. Solves (λ v. slice_index_or ys v false) f.clauses) e s.1)
 
 -- ---- the two questions
