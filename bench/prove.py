@@ -7,9 +7,9 @@ three times the least of the others where that is over 0.2 seconds.
 
 Words choose the runs whose name begins with one of them; none: all. From the environment: SVTV is the program, LIMIT the processor
 seconds of one run (60), RUNS how often each is run (3), MEMORY the bytes that one may take (8 GiB), CLAUSES the program that clauses.sh
-makes, which writes svtv's own clauses of a goal: minisat and cadical are then run on those of its question too. SOLVER, beside
-CLAUSES, is the solver alone (sat_dimacs): it is run on the clauses of all questions that are asked of a goal, and what a whole run
-takes beside it is told of the goals that take over 0.05 seconds. SUITE is the module that has the runs (prove_designs).
+makes, which writes svtv's own clauses of a goal: minisat and cadical are then run on those of its question too. With SOLVER, the
+solver alone (sat_dimacs), and ROOM, a folder in which goal_clauses.py kept svtv's clauses, the solver is run on those of all questions
+that are asked of a goal, and what a whole run takes beside it is told of the goals that take over 0.05 seconds. SUITE is the module that has the runs (prove_designs).
 """
 
 import importlib
@@ -34,6 +34,7 @@ RUNS = int(os.environ.get("RUNS", "3"))
 MEMORY = int(os.environ.get("MEMORY", str(8 << 30)))
 PROGRAM = os.environ.get("SVTV", "./svtv")
 CLAUSES = os.environ.get("CLAUSES")
+ROOM = os.environ.get("ROOM")
 SOLVER = os.environ.get("SOLVER")
 
 NAMES = {"abc": ("berkeley-abc", "abc", "yosys-abc")}
@@ -142,15 +143,13 @@ def ask_ours(folder, goal):
     return {name: ask_solver(name, "ours.cnf")(folder) if tool(name) else (None, "-") for name in ("minisat", "cadical")}
 
 
-def ask_alone(folder, goal):
+def ask_alone(run, goal):
     """The seconds of the solver alone on the clauses of the questions that are asked of a goal."""
-    told = subprocess.run([CLAUSES, "d.sv", "t.csv", "g.txt"], cwd=folder, stdout=subprocess.PIPE, check=False).stdout.decode()
+    name = re.sub(r"\W+", "_", "%s %s" % (run.name, run.size))
     seconds = 0
-    for _, asked, text in goal_clauses.questions(told):
-        if asked not in goal_clauses.asked(goal):
-            continue
-        (folder / "asked.cnf").write_text(text)
-        took, _ = measure(["sh", "-c", "%s <asked.cnf" % SOLVER], folder, lambda _, printed: re.search(r"^s (UN)?SATISFIABLE", printed, re.MULTILINE))
+    for kind in goal_clauses.asked(goal):
+        words = ["sh", "-c", "%s <%s/%s-%s-%s.cnf" % (SOLVER, ROOM, name, goal.name, kind)]
+        took, _ = measure(words, ".", lambda _, printed: re.search(r"^s (UN)?SATISFIABLE", printed, re.MULTILINE))
         if took is None:
             return None
         seconds += took
@@ -185,9 +184,9 @@ def judge(folder, run, goal):
     cells = [shown(ours, [verdict])] + [shown(others[name], wanted) for name in OTHERS] + [ratio]
     if CLAUSES:
         cells += [shown(measured, wanted) for measured in ask_ours(folder, goal).values()]
-    alone = ask_alone(folder, goal) if CLAUSES and SOLVER else None
-    if alone is not None:
-        cells.append("%.3f" % alone)
+    alone = ask_alone(run, goal) if ROOM and SOLVER else None
+    if ROOM and SOLVER:
+        cells.append("-" if alone is None else "%.3f" % alone)
     columns(run.name, run.size, goal.name, verdict, cells)
     return ours[0], best, alone
 
@@ -212,7 +211,7 @@ def summary(times):
 
 def main(words):
     chosen = [run for run in SUITE.runs() if not words or any(run.name.startswith(word) for word in words)]
-    columns("run", "size", "goal", "verdict", ["svtv", *OTHERS, "ratio"] + (["minisat*", "cadical*"] if CLAUSES else []) + (["alone"] if CLAUSES and SOLVER else []))
+    columns("run", "size", "goal", "verdict", ["svtv", *OTHERS, "ratio"] + (["minisat*", "cadical*"] if CLAUSES else []) + (["alone"] if ROOM and SOLVER else []))
     times = {}
     with tempfile.TemporaryDirectory() as room:
         for number, run in enumerate(chosen):
