@@ -9,7 +9,8 @@ Words choose the runs whose name begins with one of them; none: all. From the en
 seconds of one run (60), RUNS how often each is run (3), MEMORY the bytes that one may take (8 GiB), CLAUSES the program that clauses.sh
 makes, which writes svtv's own clauses of a goal: minisat and cadical are then run on those of its question too. With SOLVER, the
 solver alone (sat_dimacs), and ROOM, a folder in which goal_clauses.py kept svtv's clauses, the solver is run on those of all questions
-that are asked of a goal, and what a whole run takes beside it is told of the goals that take over 0.05 seconds. SUITE is the module that has the runs (prove_designs).
+that are asked of a goal, and what a whole run takes beside it is told of the goals that take over 0.05 seconds. SUITE is the module that
+has the runs (prove_designs).
 """
 
 import importlib
