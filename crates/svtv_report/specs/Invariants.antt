@@ -1,5 +1,5 @@
 -- What is printed of invariants (this project's rules).
-use Rattle.std.specs.Prelude.{ℕ, Bool, true, false, List, [], ◌∷◌, ◌++◌, codes, decimal}
+use Rattle.std.specs.Prelude.{Bool, true, false, List, [], ◌∷◌, ◌++◌, codes, decimal}
 use Rattle.fourvec.specs.declared.Bit.{Bit}
 use Rattle.svtv_report.specs.Texts.{Text, line_feed, value_lines}
 use Rattle.svtv_report.specs.declared.held.Held.{Held}

@@ -1,5 +1,5 @@
 -- What is printed of values and verdicts (this project's rules).
-use Rattle.std.specs.Prelude.{ℕ, List, [], ◌∷◌, ◌++◌, length, map, reverse, codes, decimal, Option, Some, None}
+use Rattle.std.specs.Prelude.{ℕ, List, [], ◌∷◌, ◌++◌, codes, decimal, Option, Some, None}
 use Rattle.std.specs.List.{flat_map}
 use Rattle.fourvec.specs.declared.Bit.{Bit}
 pub use Rattle.flat_text.specs.Lines.{value_text}
