@@ -150,11 +150,22 @@ impl Scanning {
     }
 }
 
+// One more than the greatest variable that clauses name.
+fn named(clauses: &[Vec<Dim>]) -> usize {
+    let mut count: usize = 0;
+    for clause in clauses {
+        for d in clause.as_slice() {
+            count = count.max(d.var.saturating_add(1));
+        }
+    }
+    count
+}
+
 /// Whether the clauses have a solution. None where that takes too long.
 pub fn scanned(alloc: Global, cnf: &Cnf) -> Result<Option<bool>, AllocError> {
     let open: Option<bool> = None;
     let mut scanning = Scanning {
-        values: vec![in alloc; open; cnf.vars]?,
+        values: vec![in alloc; open; named(&cnf.clauses)]?,
         trials: Vec::new(alloc),
     };
     scanning.run(&cnf.clauses)
