@@ -17,18 +17,14 @@ use crate::known::{Frame, Known};
 use crate::macros::MOST_COUNTED;
 use crate::stepping::{Step, read_item, refusal};
 use std::alloc::Global;
-use sv_outside::{FileErr, Files, Name, Place, TextErr, Token, refusals};
+use sv_outside::{FILE_START, FileErr, Files, Name, Place, TextErr, Token, refusals};
 use sv_token::{Lined, end_of, lex_lines};
 
 /// Where a file begins.
 pub fn start_of(file: usize) -> Place
     ensures { result ≡ cut.start file }
 {
-    Place {
-        file,
-        line: 1,
-        column: 1,
-    }
+    Place { file, ..FILE_START }
 }
 
 // Why a file's bytes are not answered: it was not read for the directive at a place of another file, or is too long.

@@ -13,7 +13,7 @@ use crate::Front;
 use crate::bytes::may_stand;
 use crate::front::front_of;
 use std::alloc::{AllocError, Global};
-use sv_outside::{Kind, MOST_BYTES, Name, Place, Refusal, TextErr, Token, refusals};
+use sv_outside::{FILE_START, Kind, MOST_BYTES, Name, Place, Refusal, TextErr, Token, refusals};
 
 const MOST_TOKENS: usize = 4_000_000;
 
@@ -76,11 +76,7 @@ pub fn end_of(file: usize, text: &[u8]) -> Place
     requires { length text.now ≤ cut.most_bytes }
     ensures { result ≡ cut.past (cut.start file) text.now }
 {
-    let start = Place {
-        file,
-        line: 1,
-        column: 1,
-    };
+    let start = Place { file, ..FILE_START };
     past(start, text)
 }
 
@@ -134,11 +130,7 @@ pub fn lex_lines(alloc: Global, file: usize, text: &[u8]) -> Result<Vec<Lined>, 
     // No other text is refused, and there are no other tokens.
     ensures only { (lines : List Lined) → cut.LexesLines file text.now lines → cut.IsWithin text.now lines → GivesOnly (λ v. v.items) result lines }
 {
-    let mut place = Place {
-        file,
-        line: 1,
-        column: 1,
-    };
+    let mut place = Place { file, ..FILE_START };
     if text.len() > MOST_BYTES {
         return Err(no(refusals::TOO_LONG, place));
     }
