@@ -1,7 +1,7 @@
 //! Circuits on single literals: disjunctions, differences (xor), choices (multiplexers), and the columns of sums (full adders)
 //! and comparisons. Words are made of these from the least significant place up. A sum of two literals is made of its carry, so
 //! that the difference and the carry share a node; two operands that are swapped give the same literals, since the graph finds
-//! conjunctions again in either order, and exclusive ors in any.
+//! conjunctions again in either order, and most exclusive ors in any.
 
 ghost use Rattle.std.specs.Prelude.{◌≡◌, ℕ, Bool, ◌+◌, ◌*◌, ◌<◌, ◌≤◌, IfOk, ◌&&◌, ◌||◌, if◌then◌else◌, length};
 ghost use Rattle.aig.specs.Graph.{holds, Always, IsIn};
@@ -29,7 +29,7 @@ pub fn or(aig: &mut Aig, a: Lit, b: Lit) -> Result<Lit, AllocError>
     Ok(!neither)
 }
 
-/// Whether the two differ. The operands may be swapped, and what they share cancels: sums of the same nodes are one literal.
+/// Whether the two differ. The operands may be swapped: the same nodes serve.
 pub fn xor(aig: &mut Aig, a: Lit, b: Lit) -> Result<Lit, AllocError>
     requires a_in { IsIn aig.old a }
     requires b_in { IsIn aig.old b }

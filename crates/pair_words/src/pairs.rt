@@ -1,7 +1,7 @@
 //! Circuits for single four-valued bits. An operator of an expression takes Z for X, so its operands go through `unfloat` first, and
 //! then each rail is a gate or two of the rails: the upper one tells where the bit may be 1, the lower one where it must be. Of a bit that
 //! is known both rails are one literal, and `Aig` finds each gate again, so that a circuit of known bits has one gate for both rails.
-//! Of two bits that are known an exclusive or is made, which `Aig` finds again by all that is added up.
+//! Of two bits that are known an exclusive or is made, which `Aig` may find again by all that is added up.
 
 ghost use Rattle.std.specs.Prelude.{◌≡◌, ◌<◌, IfOk, IsTrue, ◌↔◌, ◌&&◌, ◌||◌, not, if◌then◌else◌};
 ghost use Rattle.aig.specs.Graph.{holds, IsIn};
