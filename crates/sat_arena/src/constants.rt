@@ -19,21 +19,23 @@ pub const MOST_CONFLICTS: u64 = 1 << 40;
 pub const SHORT_CLAUSE: u32 = 16;
 
 /// Restarts: over how many conflicts a quick and a slow mean of the levels of new clauses go, by how many hundredths the quick one
-/// has to be of the slow one, and how many conflicts lie between two restarts at least (cadical: emagluefast, emaglueslow,
-/// restartmargin, restartint).
+/// has to be of the slow one (measured; cadical has 110), and how many conflicts lie between two restarts at least (cadical:
+/// emagluefast, emaglueslow, restartint).
 pub const QUICK: u64 = 33;
 
 pub const SLOW: u64 = 100_000;
 
-pub const MARGIN: u64 = 110;
+pub const MARGIN: u64 = 115;
 
 pub const PAUSE: u64 = 2;
 
-/// Reduction of the learned clauses: after how many conflicts the first one comes, and how many more lie between two each time; how
-/// many hundredths of the clauses that may go do go; up to which glue a clause stays for ever, and up to which it stays for more than
-/// one reduction after it was used (cadical: reduceint, reducetarget, reducetier1glue, reducetier2glue); and for how many it stays
-/// then, and above that (cadical).
+/// Reduction of the learned clauses: after how many conflicts the first one comes (cadical: reduceint), and how many more lie between
+/// two each time (measured; cadical has 300); how many hundredths of the clauses that may go do go; up to which glue a clause stays
+/// for ever, and up to which it stays for more than one reduction after it was used (cadical: reducetarget, reducetier1glue,
+/// reducetier2glue); and for how many it stays then, and above that (cadical).
 pub const REDUCE: u64 = 300;
+
+pub const REDUCE_MORE: u64 = 100;
 
 pub const SHARE: usize = 75;
 
@@ -74,11 +76,16 @@ pub const FEWEST_WALKS: u64 = 200;
 /// By which share each conflict counts more in the scores than the one before it (minisat: var-decay 0.95).
 pub const SCORE_SHARE: u64 = 20;
 
-/// The first search, before anything is simplified: how many conflicts it has, and how many clauses it looks at. (Measured: a
-/// search in clauses of which nothing was taken out is dear.)
+/// The first search, before anything is simplified: how many conflicts it has, how many clauses it looks at for each that is given,
+/// and how many at least and at most. (Measured: a search in clauses of which nothing was taken out is dear, but large clauses that
+/// are easy have many to look at.)
 pub const FIRST_CONFLICTS: u64 = 500;
 
-pub const FIRST_WORK: u64 = 100_000;
+pub const FIRST_SHARE: u64 = 2;
+
+pub const FIRST_LEAST: u64 = 30_000;
+
+pub const FIRST_MOST: u64 = 100_000;
 
 /// Elimination: in how many clauses of one sign a variable stands that is taken out, how many literals a resolvent has at most,
 /// and how often all variables are tried (cadical: elimocclim, elimrounds; minisat: clause-lim).
@@ -115,15 +122,15 @@ pub const LEAST_TRIES: u64 = 16;
 pub const PAIR_GATES: usize = 1_000;
 
 /// How many conflicts each way of a pair takes at most, how many pairs may be given up, and one more for how many ways that were
-/// refuted, and how many clauses are looked at for all of them (measured: fewer are too few for Gray counters and products by rows,
-/// more cost seconds on large clauses).
+/// refuted, and how many clauses are looked at for all of them (measured: with fewer there is more to search, and more are spent on
+/// pairs that serve nothing).
 pub const PAIR_CONFLICTS: u64 = 100;
 
 pub const PAIR_FAILURES: u64 = 2;
 
 pub const PAIR_SHARE: u64 = 16;
 
-pub const PAIR_WORK: u64 = 300_000;
+pub const PAIR_WORK: u64 = 80_000;
 
 /// How deep reasons are looked through for one literal of a new clause (cadical has 1,000, as a bound on its stack; here it bounds the
 /// work, and half is enough).

@@ -1,7 +1,7 @@
 //! The log of derivations (LRAT, Cruz-Filipe and others 2017, without deletions), in bytes: of each step how many literals its
 //! clause has, these, how many hints there are, and how far each of these is from the one before it, the first from the step.
-//! Numbers are in groups of seven bits, the least significant first. A search takes most of its memory for this, so nothing else is
-//! kept of a step, and steps are left out that no clause which is still there needs.
+//! Numbers are in groups of seven bits, the least significant first. A search takes most of its memory for this, so of a step nothing
+//! else is kept but where it begins, and steps are left out that no clause which is still there needs.
 //!
 //! The bytes stand in blocks, each of whole steps. So where steps are left out, or written out for the judge, a block is let go as
 //! soon as it is read, and no second log stands beside the first.
@@ -16,19 +16,19 @@ use std::mem;
 /// In how many groups of seven bits a word stands at most.
 const GROUPS: u32 = 5;
 
-/// Steps one behind the other, the first of which has this place in the log.
+/// Steps one behind the other, where each begins, and the place in the log that the first of them has.
 struct Block {
     bytes: Vec<u8>,
+    starts: Vec<u32>,
     first: u32,
-    steps: u32,
 }
 
 impl Drop for Block {
     fn drop(self) {
         let Block {
             bytes: _,
+            starts: _,
             first: _,
-            steps: _,
         } = self;
     }
 }
@@ -145,19 +145,25 @@ impl Cursor {
             self.place = place.wrapping_add(1);
         }
     }
+}
 
-    // Goes behind a step.
-    fn skip_step(&mut self, bytes: &[u8]) {
-        let literals = self.next(bytes);
-        self.skip(bytes, literals);
-        let hints = self.next(bytes);
-        self.skip(bytes, hints);
+// The new number of a clause, where so many are given and `numbers` has those of the steps.
+fn renumbered(given: u32, numbers: &[u32], number: u32) -> u32 {
+    if number < given {
+        return number;
     }
+    at(numbers, (number - given) as usize)
 }
 
 impl Block {
+    // The place in the log of a step.
+    fn place(&self, k: usize) -> usize {
+        (self.first as usize).wrapping_add(k)
+    }
+
     // Puts a step of this number behind the others.
     fn add(&mut self, number: u32, clause: &[Lit], hints: &[u32]) -> Result<(), AllocError> {
+        self.starts.push(narrow(self.bytes.len()))?;
         push(&mut self.bytes, narrow(clause.len()))?;
         for lit in clause {
             push(&mut self.bytes, *lit)?;
@@ -168,7 +174,6 @@ impl Block {
             push(&mut self.bytes, folded(before.wrapping_sub(*hint)))?;
             before = *hint;
         }
-        self.steps = self.steps.saturating_add(1);
         Ok(())
     }
 
@@ -185,37 +190,41 @@ impl Block {
     }
 
     // Marks the steps that the marked steps of this block cite, the last one first.
-    fn need_all(&self, starts: &mut Vec<usize>, needed: &mut [bool]) -> Result<(), AllocError> {
-        starts.clear();
-        let mut cursor = Cursor { place: 0 };
-        for _ in 0..self.steps {
-            starts.push(cursor.place)?;
-            cursor.skip_step(&self.bytes);
-        }
-        for k in (0..starts.len()).rev() {
-            let place = (self.first as usize).wrapping_add(k);
+    fn need_all(&self, needed: &mut [bool]) {
+        for k in (0..self.starts.len()).rev() {
+            let place = self.place(k);
             if is_set(needed, place) {
-                self.need_hints(starts[k], place, needed);
+                self.need_hints(self.starts[k] as usize, place, needed);
             }
         }
-        Ok(())
     }
 }
 
 impl Reading {
-    // Reads a step of this number.
-    fn read(&mut self, bytes: &[u8], cursor: &mut Cursor, number: u32) -> Result<(), AllocError> {
+    // Reads a step of a block, where so many clauses are given.
+    fn read(&mut self, block: &Block, k: usize, given: u32) -> Result<(), AllocError> {
+        let bytes = block.bytes.as_slice();
+        let mut cursor = Cursor {
+            place: at(&block.starts, k) as usize,
+        };
         self.clause.clear();
         self.hints.clear();
         for _ in 0..cursor.next(bytes) {
             self.clause.push(cursor.next(bytes))?;
         }
-        let mut hint = number;
+        let mut hint = given.wrapping_add(narrow(block.place(k)));
         for _ in 0..cursor.next(bytes) {
             hint = hint.wrapping_sub(unfolded(cursor.next(bytes)));
             self.hints.push(hint)?;
         }
         Ok(())
+    }
+
+    // Gives the hints their new numbers, where so many clauses are given.
+    fn renumber(&mut self, given: u32, numbers: &[u32]) {
+        for hint in self.hints.iter_mut() {
+            *hint = renumbered(given, numbers, *hint);
+        }
     }
 
     // The step as the judge takes it.
@@ -256,10 +265,12 @@ impl Log {
         };
         if is_full {
             let bytes = Vec::with_capacity(self.alloc, LOG_BLOCK.max(most))?;
+            let starts = Vec::new(self.alloc);
+            let first = self.steps;
             self.blocks.push(Block {
                 bytes,
-                first: self.steps,
-                steps: 0,
+                starts,
+                first,
             })?;
         }
         Ok(())
@@ -288,7 +299,7 @@ impl Log {
     }
 
     // The new number of each step.
-    fn renumbered(&self, needed: &[bool]) -> Result<Vec<u32>, AllocError> {
+    fn new_numbers(&self, needed: &[bool]) -> Result<Vec<u32>, AllocError> {
         let mut numbers = Vec::with_capacity(self.alloc, needed.len())?;
         let mut next = self.given;
         for is_needed in needed {
@@ -300,10 +311,7 @@ impl Log {
 
     /// The new number of a clause, where `numbers` has those of the steps.
     pub fn new_number(&self, numbers: &[u32], number: u32) -> u32 {
-        if number < self.given {
-            return number;
-        }
-        at(numbers, (number - self.given) as usize)
+        renumbered(self.given, numbers, number)
     }
 
     // Takes the steps of a block over that are needed, with their new numbers.
@@ -314,17 +322,11 @@ impl Log {
         numbers: &[u32],
         step: &mut Reading,
     ) -> Result<(), AllocError> {
-        let mut cursor = Cursor { place: 0 };
-        for k in 0..block.steps {
-            let place = block.first.wrapping_add(k);
-            if is_set(needed, place as usize) {
-                step.read(&block.bytes, &mut cursor, self.given.wrapping_add(place))?;
-                for hint in step.hints.iter_mut() {
-                    *hint = self.new_number(numbers, *hint);
-                }
+        for k in 0..block.starts.len() {
+            if is_set(needed, block.place(k)) {
+                step.read(block, k, self.given)?;
+                step.renumber(self.given, numbers);
                 let _number = self.add(&step.clause, &step.hints)?;
-            } else {
-                cursor.skip_step(&block.bytes);
             }
         }
         Ok(())
@@ -339,18 +341,16 @@ impl Log {
     }
 
     // Marks the steps that the marked ones need.
-    fn need_all(&self, needed: &mut [bool]) -> Result<(), AllocError> {
-        let mut starts: Vec<usize> = Vec::new(self.alloc);
+    fn need_all(&self, needed: &mut [bool]) {
         for block in self.blocks.iter().rev() {
-            block.need_all(&mut starts, needed)?;
+            block.need_all(needed);
         }
-        Ok(())
     }
 
     /// Leaves out what no marked step needs. Answers the new numbers of the steps.
     pub fn trim(&mut self, needed: &mut [bool]) -> Result<Vec<u32>, AllocError> {
-        self.need_all(needed)?;
-        let numbers = self.renumbered(needed)?;
+        self.need_all(needed);
+        let numbers = self.new_numbers(needed)?;
         let mut step = new_reading(self.alloc);
         for block in self.take_blocks() {
             self.take_over(&block, needed, &numbers, &mut step)?;
@@ -367,18 +367,11 @@ impl Log {
         step: &mut Reading,
         steps: &mut Vec<Step>,
     ) -> Result<(), AllocError> {
-        let mut cursor = Cursor { place: 0 };
-        for k in 0..block.steps {
-            let place = block.first.wrapping_add(k);
-            if is_set(needed, place as usize) {
-                step.read(&block.bytes, &mut cursor, self.given.wrapping_add(place))?;
-                for hint in step.hints.iter_mut() {
-                    *hint = self.new_number(numbers, *hint);
-                }
-                let written = step.written(self.alloc)?;
-                steps.push(written)?;
-            } else {
-                cursor.skip_step(&block.bytes);
+        for k in 0..block.starts.len() {
+            if is_set(needed, block.place(k)) {
+                step.read(block, k, self.given)?;
+                step.renumber(self.given, numbers);
+                steps.push(step.written(self.alloc)?)?;
             }
         }
         Ok(())
@@ -388,8 +381,8 @@ impl Log {
     pub fn written(&mut self) -> Result<Vec<Step>, AllocError> {
         let mut needed = vec![in self.alloc; false; self.steps as usize]?;
         set(&mut needed, (self.end as usize).saturating_sub(1), true);
-        self.need_all(&mut needed)?;
-        let numbers = self.renumbered(&needed)?;
+        self.need_all(&mut needed);
+        let numbers = self.new_numbers(&needed)?;
         let mut steps = Vec::with_capacity(self.alloc, count_of(&needed))?;
         let mut step = new_reading(self.alloc);
         for block in self.take_blocks() {

@@ -51,6 +51,13 @@ struct Visit {
     looked: u32,
 }
 
+/// What is still to be done to note why a variable has its value: all of it, or, behind what its reason rests on, the reason itself.
+#[derive(Clone, Copy)]
+enum Task {
+    Explain(u32),
+    Cite(u32),
+}
+
 /// The notes on one conflict.
 pub struct Notes {
     // Of each variable.
@@ -66,10 +73,9 @@ pub struct Notes {
     // For each level the newest count of levels that came to it.
     stamps: Vec<u64>,
     stamp: u64,
-    // The way along reasons, the variables whose reasons are still to be noted, and those that are, by their places.
+    // The way along reasons, and whose reasons are still to be noted.
     path: Vec<Visit>,
-    open: Vec<u32>,
-    reasons: Vec<(u32, u32)>,
+    open: Vec<Task>,
     // The numbers of the clauses that were gone through, the newest first.
     chain: Vec<u32>,
     /// The literals of the clause, of which the first is that of the newest level.
@@ -92,7 +98,6 @@ impl Drop for Notes {
             stamp: _,
             path: _,
             open: _,
-            reasons: _,
             chain: _,
             clause: _,
             hints: _,
@@ -115,7 +120,6 @@ impl Notes {
             stamp: 0,
             path: Vec::new(alloc),
             open: Vec::new(alloc),
-            reasons: Vec::new(alloc),
             chain: Vec::new(alloc),
             clause: Vec::new(alloc),
             hints: Vec::new(alloc),
@@ -230,13 +234,16 @@ impl Notes {
     // What can be told of a literal without looking at its reason. An inner one is not of the clause, but of a reason.
     fn known(&self, trail: &Trail, var: usize, is_inner: bool) -> Verdict {
         let mark = self.mark(var);
-        let fact = trail.fact(var);
-        if fact.level == 0 || (is_inner && mark.is_met) {
+        if is_inner && mark.is_met {
             return Verdict::Implied;
         }
         match mark.verdict {
             Verdict::Unknown => {}
             told => return told,
+        }
+        let fact = trail.fact(var);
+        if fact.level == 0 {
+            return Verdict::Implied;
         }
         let part = self.part(fact.level);
         let least = if is_inner { 1 } else { 2 };
@@ -321,37 +328,35 @@ impl Notes {
         }
     }
 
-    // Notes why a variable has its value, where that is to be done.
-    fn explain(&mut self, arena: &Arena, trail: &Trail, var: usize) -> Result<(), AllocError> {
-        if !self.is_unexplained(trail, var) {
+    // Notes why a variable has its value, where that is to be done: its reason stands behind what that rests on.
+    fn explain(&mut self, arena: &Arena, trail: &Trail, var: u32) -> Result<(), AllocError> {
+        if !self.is_unexplained(trail, var as usize) {
             return Ok(());
         }
-        self.tell(var, Verdict::Explained)?;
-        let fact = trail.fact(var);
+        self.tell(var as usize, Verdict::Explained)?;
+        let fact = trail.fact(var as usize);
         if fact.level == 0 {
-            self.hints.push(trail.unit(var))?;
+            self.hints.push(trail.unit(var as usize))?;
             return Ok(());
         }
-        self.reasons.push((fact.place, arena.number(fact.reason)))?;
+        self.open.push(Task::Cite(fact.reason))?;
         for lit in arena.literals(fact.reason) {
-            self.open.push(*lit / 2)?;
+            if self.is_unexplained(trail, var_of(*lit)) {
+                self.open.push(Task::Explain(*lit / 2))?;
+            }
         }
         Ok(())
     }
 
-    // Notes why the open variables have their values, the oldest first.
+    // Notes why the open variables have their values.
     fn explain_all(&mut self, arena: &Arena, trail: &Trail) -> Result<(), AllocError> {
         for _ in 0..u64::MAX {
             match self.open.pop() {
                 None => break,
-                Some(var) => self.explain(arena, trail, var as usize)?,
+                Some(Task::Explain(var)) => self.explain(arena, trail, var)?,
+                Some(Task::Cite(reason)) => self.hints.push(arena.number(reason))?,
             }
         }
-        self.reasons.sort_unstable();
-        for (_, number) in self.reasons.iter() {
-            self.hints.push(*number)?;
-        }
-        self.reasons.clear();
         Ok(())
     }
 
@@ -361,7 +366,7 @@ impl Notes {
         for k in 1..self.clause.len() {
             let lit = at(&self.clause, k);
             if self.is_implied(arena, trail, var_of(lit))? {
-                self.open.push(lit / 2)?;
+                self.open.push(Task::Explain(lit / 2))?;
             } else {
                 put(&mut self.clause, kept, lit);
                 kept = kept.wrapping_add(1);

@@ -7,7 +7,8 @@ use crate::sweep::sweep;
 use cnf::{Cnf, Dim};
 use refute_check::Log;
 use sat_arena::constants::{
-    ELIMINATION, FIRST_CONFLICTS, FIRST_WORK, MOST_CLAUSES, MOST_CONFLICTS, MOST_VARIABLES,
+    ELIMINATION, FIRST_CONFLICTS, FIRST_LEAST, FIRST_MOST, FIRST_SHARE, MOST_CLAUSES,
+    MOST_CONFLICTS, MOST_VARIABLES,
 };
 use sat_arena::log;
 use sat_arena::words::{Lit, at, lit_of, narrow};
@@ -119,13 +120,21 @@ fn simplify(engine: &mut Engine) -> Result<(), AllocError> {
     Ok(())
 }
 
+// How many clauses the first search looks at, where so many are given.
+fn first_work(clauses: usize) -> u64 {
+    (clauses as u64)
+        .saturating_mul(FIRST_SHARE)
+        .max(FIRST_LEAST)
+        .min(FIRST_MOST)
+}
+
 // Loads the clauses and searches: shortly at first, and then in simpler clauses.
 fn run(engine: &mut Engine, cnf: &Cnf) -> Result<End, AllocError> {
     load(engine, cnf)?;
     if engine.log.end > 0 {
         return Ok(End::Refuted);
     }
-    match engine.search(FIRST_CONFLICTS, FIRST_WORK)? {
+    match engine.search(FIRST_CONFLICTS, first_work(cnf.clauses.len()))? {
         End::Paused => {}
         end => return Ok(end),
     }

@@ -2,7 +2,9 @@
 //! search begins anew where new clauses have more levels, in a quick mean, than they had in a slow one: then much is decided, and
 //! little follows.
 
-use sat_arena::constants::{FEWEST_WALKS, LEAST_LOG, MARGIN, PAUSE, QUICK, REDUCE, SLOW, WALKS};
+use sat_arena::constants::{
+    FEWEST_WALKS, LEAST_LOG, MARGIN, PAUSE, QUICK, REDUCE, REDUCE_MORE, SLOW, WALKS,
+};
 
 /// Means are kept times this.
 const SCALE: u64 = 1 << 32;
@@ -99,7 +101,8 @@ impl Pace {
     /// Notes that learned clauses go.
     pub fn note_reduction(&mut self) {
         self.reductions = self.reductions.saturating_add(1);
-        let pause = self.reductions.saturating_add(1).saturating_mul(REDUCE);
+        let more = self.reductions.saturating_mul(REDUCE_MORE);
+        let pause = more.saturating_add(REDUCE);
         self.reduce = self.conflicts.saturating_add(pause);
     }
 }
