@@ -325,6 +325,7 @@ impl Aig {
         ensures second { IfSome result (λ h. IsIn self.now h.second) }
         ensures value { IfSome result (λ h. IsDifference self.now h.first h.second c) }
     {
+        // For the proof: recalls what the type promises of it.
         let _ = &self.gates;
         let top = self.conjunction(c.node)?;
         if !top.first.negated || !top.second.negated {
@@ -462,6 +463,7 @@ impl Aig {
         ensures nodes { length self.new ≤ length self.old + 3 }
         ensures flat { length self.old ≤ 1 → length self.new ≤ 1 }
     {
+        // For the proof: recalls what the type promises of it.
         let _ = &self.gates;
         if let Some(c) = plain_difference(a, b) {
             return Ok(c);
