@@ -4,8 +4,8 @@ use Rattle.std.proofs.lemmas.List.{length_push, get_or_append_left}
 use Rattle.std.proofs.lemmas.List.Elements.{All-nil, All-push, All-weaker}
 use Rattle.aig.specs.declared.gate.Lit.{Lit}
 use Rattle.aig.specs.declared.gate.Gate.{Gate}
-use Rattle.aig.specs.declared.gate.Gate.TheVariants.{False}
-use Rattle.aig.specs.Graph.{holds, negation, constant_lit, Says, Obeys, Grows}
+use Rattle.aig.specs.declared.gate.Gate.TheVariants.{False, And}
+use Rattle.aig.specs.Graph.{gate_at, holds, negation, constant_lit, Says, Obeys, Grows}
 use Rattle.aig.specs.Sums.{AreSummed, differ, value_of}
 use Rattle.aig.proofs.Growth.{Obeys-older}
 use Rattle.xor_forms.specs.Forms.{Entry, IsPut, sum_of}
@@ -112,4 +112,54 @@ difference_by v a b na nb carry neither nc nn c ea eb ec en hc hn h =
 
     table : (x y nx ny both neither nb nn one : Bool) → nx ≡ not x → ny ≡ not y → nb ≡ not both → nn ≡ not neither → both ≡ (x && y) → neither ≡ (nx && ny) → one ≡ (nb && nn) → one ≡ differ x y
     table x y nx ny both neither nb nn one e1 e2 e3 e4 e5 e6 e7 =
+        let h : one ≡ (not (x && y) && not (not x && not y)) = cc in h ∙ plain x y
+
+-- ---- halves
+
+-- what values that obey a graph give a node that is a conjunction
+pub node_is : (v : ℕ → Bool) (gates : List Gate) (k : ℕ) (p q : Lit) → Obeys v gates → k < length gates → gate_at gates k ≡ And p q → v k ≡ (holds v p && holds v q)
+node_is v gates k p q o lt e = subst (Says v k) e (o.each k lt)
+
+-- a literal whose node has the gates of an exclusive or: top, of the negations of both and neither
+pub halves_by : (v : ℕ → Bool) (c p q x y z w first : Lit) → p.negated ≡ true → q.negated ≡ true →
+    v c.node ≡ (holds v p && holds v q) → v p.node ≡ (holds v x && holds v y) → v q.node ≡ (holds v z && holds v w) → z ≡ negation x → w ≡ negation y →
+    first.node ≡ x.node → first.negated ≡ differ x.negated c.negated → holds v c ≡ differ (holds v first) (holds v y)
+halves_by v c p q x y z w first np nq top both neither ez ew node turned =
+    let pl : holds v p ≡ not (v p.node) = ap (λ (n : Bool). cond n (not (v p.node)) (v p.node)) np in
+    let ql : holds v q ≡ not (v q.node) = ap (λ (n : Bool). cond n (not (v q.node)) (v q.node)) nq in
+    let zl : holds v z ≡ not (holds v x) = flips v x z ez in
+    let wl : holds v w ≡ not (holds v y) = flips v y w ew in
+    let fl : holds v first ≡ differ c.negated (holds v x) = ap (λ (k : ℕ). cond first.negated (not (v k)) (v k)) node ∙ ap (λ (n : Bool). cond n (not (v x.node)) (v x.node)) turned ∙ round x.negated c.negated (v x.node) in
+    holds_differ v c ∙ ap (λ (t : Bool). differ c.negated t) (gates_by (holds v x) (holds v y) (v p.node) (v q.node) _ _ _ _ _ pl ql zl wl top both neither) ∙ turn c.negated (holds v x) (holds v y) ∙ ap (λ (t : Bool). differ t (holds v y)) (sym fl)
+  where
+    not_twice : (n x : Bool) → cond (not n) (not x) x ≡ not (cond n (not x) x)
+    not_twice true true = refl
+    not_twice true false = refl
+    not_twice false true = refl
+    not_twice false false = refl
+
+    flips : (v : ℕ → Bool) (l m : Lit) → m ≡ negation l → holds v m ≡ not (holds v l)
+    flips v l m e = ap (λ (k : Lit). holds v k) e ∙ not_twice l.negated (v l.node)
+
+    round : (n c x : Bool) → cond (differ n c) (not x) x ≡ differ c (cond n (not x) x)
+    round true true true = refl
+    round true true false = refl
+    round true false x = refl
+    round false true x = refl
+    round false false x = refl
+
+    turn : (c x y : Bool) → differ c (differ x y) ≡ differ (differ c x) y
+    turn true true true = refl
+    turn true true false = refl
+    turn true false y = refl
+    turn false x y = refl
+
+    plain : (x y : Bool) → (not (x && y) && not (not x && not y)) ≡ differ x y
+    plain true true = refl
+    plain true false = refl
+    plain false true = refl
+    plain false false = refl
+
+    gates_by : (x y both neither hp hq hz hw one : Bool) → hp ≡ not both → hq ≡ not neither → hz ≡ not x → hw ≡ not y → one ≡ (hp && hq) → both ≡ (x && y) → neither ≡ (hz && hw) → one ≡ differ x y
+    gates_by x y both neither hp hq hz hw one e1 e2 e3 e4 e5 e6 e7 =
         let h : one ≡ (not (x && y) && not (not x && not y)) = cc in h ∙ plain x y

@@ -2,10 +2,10 @@
 //! two operands is found again and not made twice; the operand with the lower node comes first, so that both orders are one.
 //! Operands that decide the value make no gate. Where memory runs out the graph is as before.
 
-ghost use Rattle.std.specs.Prelude.{◌≡◌, ℕ, ◌+◌, ◌<◌, ◌≤◌, IfOk, IfErr, IfSome, Bool, false, [], ◌∷◌, ◌++◌, length, List, slice_index_or};
-ghost use Rattle.aig.specs.declared.gate.Gate.TheVariants.{False, Input};
+ghost use Rattle.std.specs.Prelude.{◌≡◌, ℕ, ◌+◌, ◌<◌, ◌≤◌, IfOk, IfErr, IfSome, IsTrue, ◌↔◌, Bool, false, [], ◌∷◌, ◌++◌, length, List, slice_index_or};
+ghost use Rattle.aig.specs.declared.gate.Gate.TheVariants.{False, Input, And};
 ghost use Rattle.aig.specs.declared.gate.Lit.{Lit};
-ghost use Rattle.aig.specs.Graph.{gate_at, count_inputs, holds, IsGraph, Grows, KeepsValues, IsIn, Obeys, value};
+ghost use Rattle.aig.specs.Graph.{gate_at, count_inputs, negation, holds, IsGraph, Grows, KeepsValues, IsIn, Obeys, value};
 ghost use Rattle.aig.specs.Conjunction.{IsBoth, NeedsNoGate, IsSimplified, IsGateOf};
 ghost use Rattle.aig.specs.Sums.{IsDifference, differ, value_of};
 ghost use Rattle.aig.specs.Table.{IsHashed, IsNodeOf};
@@ -28,6 +28,45 @@ const FIRST_FORM_NODES: usize = 1 << 16;
 pub struct HalfSum {
     pub sum: Lit,
     pub carry: Lit,
+}
+
+/// Two literals of which another is the exclusive or.
+#[derive(Clone, Copy)]
+pub struct Halves {
+    pub first: Lit,
+    pub second: Lit,
+}
+
+// The operands of a conjunction.
+fn operands(gate: Gate) -> Option<Halves>
+    ensures { IfSome result (λ h. gate ≡ And h.first h.second) }
+{
+    match gate {
+        Gate::And(first, second) => Some(Halves { first, second }),
+        _ => None,
+    }
+}
+
+// Whether a literal is the negation of another.
+fn is_negation(a: Lit, b: Lit) -> bool
+    ensures { IsTrue result ↔ (a ≡ negation b) }
+{
+    a == !b
+}
+
+// Whether the literals are the negations of two others.
+fn are_negations(a: Halves, b: Halves) -> bool
+    ensures first { IsTrue result → a.first ≡ negation b.first }
+    ensures second { IsTrue result → a.second ≡ negation b.second }
+{
+    is_negation(a.first, b.first) && is_negation(a.second, b.second)
+}
+
+// The exclusive or of two literals as a form, and whether their own forms share nodes, which cancel.
+#[derive(Drop)]
+struct Joined {
+    form: Form,
+    cancels: bool,
 }
 
 /// An and-inverter graph. Contracts see the list of its gates, by the numbers of the nodes.
@@ -119,6 +158,11 @@ impl Aig {
             index,
             sums: Table::new(alloc),
         })
+    }
+
+    /// The allocator that the graph takes its memory from.
+    pub fn allocator(&self) -> Global {
+        *self.gates.allocator()
     }
 
     /// The number of nodes.
@@ -219,13 +263,24 @@ impl Aig {
         }
     }
 
+    // The exclusive or of two literals as a form, and whether nodes cancel in it.
+    fn joined(&self, alloc: Global, a: Lit, b: Lit) -> Result<Joined, AllocError>
+        ensures { IfOk result (λ joined. (v : ℕ → Bool) → Obeys v self.now → value_of v joined.form.odd joined.form.nodes.items ≡ differ (holds v a) (holds v b)) }
+    {
+        let one = self.sums.form_of(alloc, a.node, a.negated)?;
+        let other = self.sums.form_of(alloc, b.node, b.negated)?;
+        let form = sum(alloc, &one, &other)?;
+        let count = one.nodes.len().saturating_add(other.nodes.len());
+        let cancels = form.nodes.len() < count;
+        Ok(Joined { form, cancels })
+    }
+
     // The exclusive or of two literals as a form.
     fn form_of(&self, alloc: Global, a: Lit, b: Lit) -> Result<Form, AllocError>
         ensures { IfOk result (λ form. (v : ℕ → Bool) → Obeys v self.now → value_of v form.odd form.nodes.items ≡ differ (holds v a) (holds v b)) }
     {
-        let one = self.sums.form_of(alloc, a.node, a.negated)?;
-        let other = self.sums.form_of(alloc, b.node, b.negated)?;
-        sum(alloc, &one, &other)
+        let Joined { form, cancels: _ } = self.joined(alloc, a, b)?;
+        Ok(form)
     }
 
     // The literal that is known to be a form, if there is one.
@@ -240,6 +295,104 @@ impl Aig {
         Some(Lit {
             node: known.node,
             negated: known.odd,
+        })
+    }
+
+    // The literal that is known to be the exclusive or of two, if there is one.
+    fn known_difference(&self, alloc: Global, a: Lit, b: Lit) -> Result<Option<Lit>, AllocError>
+        ensures within { IfOk result (λ o. IfSome o (λ c. IsIn self.now c)) }
+        ensures value { IfOk result (λ o. IfSome o (λ c. (v : ℕ → Bool) → Obeys v self.now → holds v c ≡ differ (holds v a) (holds v b))) }
+    {
+        let form = self.form_of(alloc, a, b)?;
+        Ok(self.known(&form))
+    }
+
+    // The operands of a node that is a conjunction.
+    fn conjunction(&self, node: usize) -> Option<Halves>
+        requires { node < length self.now }
+        ensures is { IfSome result (λ h. gate_at self.now node ≡ And h.first h.second) }
+        ensures first { IfSome result (λ h. IsIn self.now h.first) }
+        ensures second { IfSome result (λ h. IsIn self.now h.second) }
+    {
+        operands(self.gate(node))
+    }
+
+    /// The two literals of which one is the exclusive or, where its gates are those that `xor` makes of them: the conjunction of two
+    /// negated conjunctions that have the same operands, in the one of them negated.
+    pub fn halves(&self, c: Lit) -> Option<Halves>
+        requires { IsIn self.now c }
+        ensures first { IfSome result (λ h. IsIn self.now h.first) }
+        ensures second { IfSome result (λ h. IsIn self.now h.second) }
+        ensures value { IfSome result (λ h. IsDifference self.now h.first h.second c) }
+    {
+        // For the proof: recalls what the type promises of it.
+        let _ = &self.gates;
+        let top = self.conjunction(c.node)?;
+        if !top.first.negated || !top.second.negated {
+            return None;
+        }
+        let both = self.conjunction(top.first.node)?;
+        let neither = self.conjunction(top.second.node)?;
+        if !are_negations(neither, both) {
+            return None;
+        }
+        let first = Lit {
+            node: both.first.node,
+            negated: both.first.negated != c.negated,
+        };
+        let second = both.second;
+        Some(Halves { first, second })
+    }
+
+    // Two literals whose exclusive or is that of the two given ones: one half of the first, and what the other half and the second are
+    // known to differ by.
+    fn moved(&self, alloc: Global, a: Lit, b: Lit) -> Result<Option<Halves>, AllocError>
+        requires a_in { IsIn self.now a }
+        requires b_in { IsIn self.now b }
+        ensures first { IfOk result (λ o. IfSome o (λ h. IsIn self.now h.first)) }
+        ensures second { IfOk result (λ o. IfSome o (λ h. IsIn self.now h.second)) }
+        ensures value { IfOk result (λ o. IfSome o (λ h. (v : ℕ → Bool) → Obeys v self.now → differ (holds v h.first) (holds v h.second) ≡ differ (holds v a) (holds v b))) }
+    {
+        let Some(h) = self.halves(a) else {
+            return Ok(None);
+        };
+        if let Some(first) = self.known_difference(alloc, h.first, b)? {
+            let second = h.second;
+            return Ok(Some(Halves { first, second }));
+        }
+        if let Some(first) = self.known_difference(alloc, h.second, b)? {
+            let second = h.first;
+            return Ok(Some(Halves { first, second }));
+        }
+        Ok(None)
+    }
+
+    // The two literals of which the exclusive or of two others is made: where their forms share nodes it is moved onto the half of one
+    // that is left, if that is known, and else it is made of the two themselves.
+    fn operands_of(
+        &self,
+        alloc: Global,
+        a: Lit,
+        b: Lit,
+        cancels: bool,
+    ) -> Result<Halves, AllocError>
+        requires a_in { IsIn self.now a }
+        requires b_in { IsIn self.now b }
+        ensures first { IfOk result (λ h. IsIn self.now h.first) }
+        ensures second { IfOk result (λ h. IsIn self.now h.second) }
+        ensures value { IfOk result (λ h. (v : ℕ → Bool) → Obeys v self.now → differ (holds v h.first) (holds v h.second) ≡ differ (holds v a) (holds v b)) }
+    {
+        if cancels {
+            if let Some(h) = self.moved(alloc, a, b)? {
+                return Ok(h);
+            }
+            if let Some(h) = self.moved(alloc, b, a)? {
+                return Ok(h);
+            }
+        }
+        Ok(Halves {
+            first: a,
+            second: b,
         })
     }
 
@@ -299,7 +452,28 @@ impl Aig {
         Ok(c)
     }
 
+    // The exclusive or of two literals, by gates where it needs some, and their form.
+    fn xor_by(&mut self, alloc: Global, a: Lit, b: Lit, form: Form) -> Result<Lit, AllocError>
+        requires a_in { IsIn self.old a }
+        requires b_in { IsIn self.old b }
+        requires form { (v : ℕ → Bool) → Obeys v self.old → value_of v form.odd form.nodes.items ≡ differ (holds v a) (holds v b) }
+        ensures within { IfOk result (λ c. IsIn self.new c) }
+        ensures value { IfOk result (λ c. IsDifference self.new a b c) }
+        ensures grows { Grows self.old self.new }
+        ensures nodes { length self.new ≤ length self.old + 3 }
+        ensures flat { length self.old ≤ 1 → length self.new ≤ 1 }
+    {
+        // For the proof: recalls what the type promises of it.
+        let _ = &self.gates;
+        if let Some(c) = plain_difference(a, b) {
+            return Ok(c);
+        }
+        let carry = self.and(a, b)?;
+        self.made(alloc, a, b, carry, form)
+    }
+
     /// Whether two literals differ (exclusive or): the literal of the same nodes, as far as these are known, or three gates at most.
+    /// Where nodes cancel these are the gates of one half of an operand, and of what the rest is known to be, if it is.
     pub fn xor(&mut self, a: Lit, b: Lit) -> Result<Lit, AllocError>
         requires a_in { IsIn self.old a }
         requires b_in { IsIn self.old b }
@@ -313,12 +487,12 @@ impl Aig {
         if let Some(c) = plain_difference(a, b) {
             return Ok(c);
         }
-        let form = self.form_of(alloc, a, b)?;
+        let Joined { form, cancels } = self.joined(alloc, a, b)?;
         if let Some(c) = self.known(&form) {
             return Ok(c);
         }
-        let carry = self.and(a, b)?;
-        self.made(alloc, a, b, carry, form)
+        let parts = self.operands_of(alloc, a, b, cancels)?;
+        self.xor_by(alloc, parts.first, parts.second, form)
     }
 
     /// The sum of two literals: their conjunction, and whether they differ, by three gates at most.

@@ -11,4 +11,4 @@ mod graph;
 mod table;
 
 pub use gate::{Gate, Lit};
-pub use graph::{Aig, HalfSum};
+pub use graph::{Aig, HalfSum, Halves};

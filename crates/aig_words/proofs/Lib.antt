@@ -3,3 +3,4 @@ pub mod Steps
 pub mod Grown
 pub mod Numbers
 pub mod Moves
+pub mod Parities

@@ -34,6 +34,11 @@ pub record Grew (most : ℕ) (old : List Gate) (new : List Gate) : Type 0 where
 abbrev pub Obeyed : List Gate → ((ℕ → Bool) → Type 0) → Type 0
 Obeyed gates P = (v : ℕ → Bool) → Obeys v gates → P v
 
+-- whether an odd number of literals is true (parity)
+unfoldable pub parity_of : (ℕ → Bool) → List Lit → Bool
+parity_of v [] = false
+parity_of v (l ∷ word) = differ (holds v l) (parity_of v word)
+
 -- ---- two's complement
 
 -- the number that two's complement of this width reads

@@ -3,9 +3,10 @@
 //! that the difference and the carry share a node; two operands that are swapped give the same literals, since the graph finds
 //! conjunctions again in either order, and most exclusive ors in any.
 
-ghost use Rattle.std.specs.Prelude.{◌≡◌, ℕ, Bool, ◌+◌, ◌*◌, ◌<◌, ◌≤◌, IfOk, ◌&&◌, ◌||◌, if◌then◌else◌, length};
+ghost use Rattle.std.specs.Prelude.{◌≡◌, ℕ, Bool, ◌+◌, ◌*◌, ◌<◌, ◌≤◌, ◌-◌, IfOk, ◌&&◌, ◌||◌, if◌then◌else◌, length};
+ghost use Rattle.std.specs.List.{All};
 ghost use Rattle.aig.specs.Graph.{holds, Always, IsIn};
-ghost use Rattle.aig_words.specs.Words.{Grew, IsColumn, weight, differ, same_column, less_column};
+ghost use Rattle.aig_words.specs.Words.{Grew, Obeyed, IsColumn, parity_of, weight, differ, same_column, less_column};
 
 use aig::{Aig, Lit};
 use std::alloc::AllocError;
@@ -38,6 +39,23 @@ pub fn xor(aig: &mut Aig, a: Lit, b: Lit) -> Result<Lit, AllocError>
     ensures value { IfOk result (λ c. Always aig.new (λ v. holds v c ≡ differ (holds v a) (holds v b))) }
 {
     aig.xor(a, b)
+}
+
+/// Whether an odd number of literals is true. It is made of halves, so that it is a tree of few levels.
+pub fn parity(aig: &mut Aig, a: &[Lit]) -> Result<Lit, AllocError>
+    requires some { 0 < length a.now }
+    requires a_in { All (IsIn aig.old) a.now }
+    ensures grew { Grew (3 * (length a.now - 1)) aig.old aig.new }
+    ensures within { IfOk result (λ c. IsIn aig.new c) }
+    ensures value { IfOk result (λ c. Obeyed aig.new (λ v. holds v c ≡ parity_of v a.now)) }
+{
+    if a.len() == 1 {
+        return Ok(a[0]);
+    }
+    let half = a.len() / 2;
+    let first = parity(aig, &a[..half])?;
+    let second = parity(aig, &a[half..])?;
+    xor(aig, first, second)
 }
 
 /// The first literal where the condition is true, else the second.

@@ -13,7 +13,7 @@ mod products;
 mod shifts;
 mod sums;
 
-pub use cells::{or, pick, xor};
+pub use cells::{or, parity, pick, xor};
 pub use divides::{div, rem};
 pub use orders::{eq, lt, slt};
 pub use picks::mux;

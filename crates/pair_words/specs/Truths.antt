@@ -1,7 +1,9 @@
 -- Vectors of known bits as words of literals, and the operators on numbers.
-use Rattle.std.specs.Prelude.{ℕ, Bool, true, List, map, nat_lt}
+use Rattle.std.specs.Prelude.{◌≡◌, ℕ, Bool, true, List, length, map, nat_lt}
 use Rattle.aig.specs.declared.gate.Lit.{Lit}
-use Rattle.aig.specs.Graph.{holds}
+use Rattle.aig.specs.declared.gate.Gate.{Gate}
+use Rattle.aig.specs.Graph.{holds, Obeys}
+use Rattle.aig_words.specs.Words.{IsWord, differ, parity_of}
 use Rattle.fourvec.specs.declared.Bit.{Bit}
 use Rattle.fourvec.specs.Bits.{truth_bit, add_of, sub_of, mul_of, div_of, rem_of, sdiv_of, srem_of, lt_of, slt_of}
 use Rattle.pair_words.specs.declared.pairs.Pair.{Pair}
@@ -41,3 +43,9 @@ is_defined Rem b = nat_lt 0 b
 is_defined Sdiv b = nat_lt 0 b
 is_defined Srem b = nat_lt 0 b
 is_defined op b = true
+
+-- two words of the same length as some pairs, in which an odd number of literals is true where that is so of the pairs' upper ones
+pub record AreParts (gates : List Gate) (a : List Pair) (first second : List Lit) : Type 0 where
+  pub first_word : IsWord gates (length a) first
+  pub second_word : IsWord gates (length a) second
+  pub value : (v : ℕ → Bool) → Obeys v gates → differ (parity_of v first) (parity_of v second) ≡ parity_of v (map (λ p. p.up) a)

@@ -135,8 +135,8 @@ fn either(aig: &mut Aig, a: Pair, b: Pair) -> Result<Pair, AllocError>
     })
 }
 
-// Whether two literals are one.
-fn is_same(a: Lit, b: Lit) -> bool
+/// Whether two literals are one.
+pub fn is_same(a: Lit, b: Lit) -> bool
     ensures { IsTrue result ↔ (a ≡ b) }
 {
     a == b

@@ -1,19 +1,21 @@
 //! Circuits for vectors, bit by bit: an operator on each bit or on the two bits of each place, an operator over all bits, and
 //! whether all bits are known. Over all bits an operator goes from the last bit to the first; `xor` alone goes by halves, since a
-//! solver does better with that.
+//! solver does better with that. Where most of the bits are exclusive ors themselves it goes over each of their two parts, so that
+//! parts which two reductions share are one literal in both.
 
-ghost use Rattle.std.specs.Prelude.{◌≡◌, ◌*◌, ◌-◌, ◌<◌, IfOk, ◌&&◌, length};
+ghost use Rattle.std.specs.Prelude.{◌≡◌, ◌*◌, ◌-◌, ◌<◌, IfOk, IfSome, IsTrue, ◌↔◌, ◌&&◌, [], length};
 ghost use Rattle.std.specs.List.{All};
 ghost use Rattle.aig.specs.Graph.{holds, IsIn};
-ghost use Rattle.aig_words.specs.Words.{Grew, Obeyed};
+ghost use Rattle.aig_words.specs.Words.{Grew, Obeyed, differ, parity_of};
 ghost use Rattle.fourvec.specs.declared.Bit.{Bit};
-ghost use Rattle.fourvec.specs.Bits.{each, each_pair, over, is_known, is_known_bit, xor_bit};
+ghost use Rattle.fourvec.specs.Bits.{each, each_pair, over, is_known, is_known_bit, truth_bit, xor_bit};
 ghost use Rattle.pair_words.specs.Rails.{bit_at, bits, IsWired, IsVector, one_value, two_value, two_nodes};
+ghost use Rattle.pair_words.specs.Truths.{AreParts};
 
-use crate::pairs::{One, Pair, Two, two_bits};
+use crate::pairs::{One, Pair, Two, is_same, two_bits};
 use crate::steps::{Step, each_place};
-use aig::{Aig, Lit};
-use aig_words::xor;
+use aig::{Aig, Halves, Lit};
+use aig_words::{parity, xor};
 use std::alloc::{AllocError, Global};
 
 /// An operator on each bit.
@@ -61,7 +63,7 @@ fn over_in_turn(aig: &mut Aig, op: Two, start: Pair, a: &[Pair]) -> Result<Pair,
 
 // One bit that does for some bits what these do one after another. It is made of halves, so that it is a tree of few levels: a
 // solver finds sums of the same bits in other orders sooner where no chain of them is long.
-fn parity(aig: &mut Aig, a: &[Pair]) -> Result<Pair, AllocError>
+fn pair_parity(aig: &mut Aig, a: &[Pair]) -> Result<Pair, AllocError>
     requires some { 0 < length a.now }
     requires a_in { All (IsWired aig.old) a.now }
     ensures grew { Grew (10 * (length a.now - 1)) aig.old aig.new }
@@ -72,9 +74,138 @@ fn parity(aig: &mut Aig, a: &[Pair]) -> Result<Pair, AllocError>
         return Ok(a[0]);
     }
     let half = a.len() / 2;
-    let first = parity(aig, &a[..half])?;
-    let second = parity(aig, &a[half..])?;
+    let first = pair_parity(aig, &a[..half])?;
+    let second = pair_parity(aig, &a[half..])?;
     two_bits(aig, Two::Xor, first, second)
+}
+
+// Whether the bit is known: both of its literals are one.
+fn is_plain(p: &Pair) -> bool
+    ensures { IsTrue result ↔ (p.now.up ≡ p.now.low) }
+{
+    is_same(p.up, p.low)
+}
+
+// Whether each bit is known.
+fn are_plain(a: &[Pair]) -> bool
+    ensures { IsTrue result ↔ All (λ p. p.up ≡ p.low) a.now }
+{
+    a.iter().all(|p| is_plain(p))
+}
+
+// Whether more of the bits that are no constants are exclusive ors than are none.
+fn are_sums(aig: &Aig, a: &[Pair]) -> bool
+    requires a_in { All (IsWired aig.now) a.now }
+{
+    let mut sums: usize = 0;
+    let mut others: usize = 0;
+    for i in 0..a.len() {
+        let bit = a[i].up;
+        if aig.halves(bit).is_some() {
+            sums = sums.saturating_add(1);
+        } else if bit.node != 0 {
+            others = others.saturating_add(1);
+        }
+    }
+    others < sums
+}
+
+// Two literals whose exclusive or is the given one: its halves, or itself and the constant false.
+fn split(aig: &Aig, a: Lit) -> Halves
+    requires { IsIn aig.now a }
+    ensures first { IsIn aig.now result.first }
+    ensures second { IsIn aig.now result.second }
+    ensures value { Obeyed aig.now (λ v. holds v a ≡ differ (holds v result.first) (holds v result.second)) }
+{
+    match aig.halves(a) {
+        Some(h) => h,
+        None => Halves {
+            first: a,
+            second: Lit::constant(false),
+        },
+    }
+}
+
+// Two words, at each place of which stand literals whose exclusive or is a bit.
+struct Parts {
+    first: Vec<Lit>,
+    second: Vec<Lit>,
+}
+
+impl Drop for Parts {
+    fn drop(self) {
+        let Parts {
+            first: _,
+            second: _,
+        } = self;
+    }
+}
+
+// Puts the parts of each bit to two words.
+fn split_all(
+    aig: &Aig,
+    a: &[Pair],
+    first: &mut Vec<Lit>,
+    second: &mut Vec<Lit>,
+) -> Result<(), AllocError>
+    requires a_in { All (IsWired aig.now) a.now }
+    requires no_first { first.old.items ≡ [] }
+    requires no_second { second.old.items ≡ [] }
+    ensures { IfOk result (λ _. AreParts aig.now a.now first.new.items second.new.items) }
+{
+    for i in 0..a.len() {
+        let halves = split(aig, a[i].up);
+        first.push(halves.first)?;
+        second.push(halves.second)?;
+    }
+    Ok(())
+}
+
+// The parts of known bits, where most of them are exclusive ors.
+fn parts_of(alloc: Global, aig: &Aig, a: &[Pair]) -> Result<Option<Parts>, AllocError>
+    requires a_in { All (IsWired aig.now) a.now }
+    ensures several { IfOk result (λ o. IfSome o (λ p. 1 < length a.now)) }
+    ensures parts { IfOk result (λ o. IfSome o (λ p. AreParts aig.now a.now p.first.items p.second.items)) }
+    ensures value { IfOk result (λ o. IfSome o (λ p. Obeyed aig.now (λ v. (rest : Bit) → xor_bit (truth_bit (differ (parity_of v p.first.items) (parity_of v p.second.items))) rest ≡ over xor_bit rest (bits v a.now)))) }
+{
+    if a.len() < 2 || !are_plain(a) || !are_sums(aig, a) {
+        return Ok(None);
+    }
+    let mut first = Vec::new(alloc);
+    let mut second = Vec::new(alloc);
+    split_all(aig, a, &mut first, &mut second)?;
+    Ok(Some(Parts { first, second }))
+}
+
+// The exclusive or of all literals of two words, as a known bit.
+fn parity_of_both(aig: &mut Aig, first: &[Lit], second: &[Lit]) -> Result<Pair, AllocError>
+    requires some { 0 < length first.now }
+    requires same { length first.now ≡ length second.now }
+    requires first_in { All (IsIn aig.old) first.now }
+    requires second_in { All (IsIn aig.old) second.now }
+    ensures grew { Grew (6 * length first.now - 3) aig.old aig.new }
+    ensures within { IfOk result (λ r. IsWired aig.new r) }
+    ensures value { IfOk result (λ r. Obeyed aig.new (λ v. bit_at v r ≡ truth_bit (differ (parity_of v first.now) (parity_of v second.now)))) }
+{
+    let one = parity(aig, first)?;
+    let other = parity(aig, second)?;
+    let all = xor(aig, one, other)?;
+    Ok(Pair { up: all, low: all })
+}
+
+// The same as `pair_parity`, by the parts of the bits where these have some.
+fn sum_of(aig: &mut Aig, a: &[Pair]) -> Result<Pair, AllocError>
+    requires some { 0 < length a.now }
+    requires a_in { All (IsWired aig.old) a.now }
+    ensures grew { Grew (10 * (length a.now - 1)) aig.old aig.new }
+    ensures within { IfOk result (λ r. IsWired aig.new r) }
+    ensures value { IfOk result (λ r. Obeyed aig.new (λ v. (rest : Bit) → xor_bit (bit_at v r) rest ≡ over xor_bit rest (bits v a.now))) }
+{
+    let alloc = aig.allocator();
+    match parts_of(alloc, aig, a)? {
+        Some(parts) => parity_of_both(aig, &parts.first, &parts.second),
+        None => pair_parity(aig, a),
+    }
 }
 
 // The operator `xor` over all bits, from a bit on.
@@ -88,7 +219,7 @@ fn xor_all(aig: &mut Aig, start: Pair, a: &[Pair]) -> Result<Pair, AllocError>
     if a.is_empty() {
         return Ok(start);
     }
-    let all = parity(aig, a)?;
+    let all = sum_of(aig, a)?;
     two_bits(aig, Two::Xor, all, start)
 }
 

@@ -1,5 +1,5 @@
 use Rattle.std.proofs.Common.{length}
-use Rattle.pair_words.proofs.vectors.+parity.Given as goal
+use Rattle.aig_words.proofs.cells.+parity.Given as goal
 
 abbrev pub decreases-parity : goal.decreases-parity
 decreases-parity l = length l.a.now
