@@ -7,7 +7,8 @@ import re
 
 USAGE = b"usage: svtv prove DESIGN TABLE GOALS [--top M] [--budget N]\n" + b"".join(
     b"       svtv " + line for line in (b"sim DESIGN TABLE VALUES [--top M] [--vcd]\n", b"dump DESIGN [--top M]\n", b"selftest N\n",
-    b"cert DESIGN TABLE GOALS GOAL [--top M] [--budget N]\n", b"check CERT\n", b"wave VCD PATH\n"))
+    b"cert DESIGN TABLE GOALS GOAL [--top M] [--budget N]\n", b"check CERT\n",
+    b"induct DESIGN RESET PERIOD INVS [--top M] [--budget N]\n", b"wave VCD PATH\n"))
 
 # The refusals by number, each with its word; those of tables and values, of goals, of the design as a whole, of certificates, and of value change dumps.
 WORDS = dict(enumerate(
@@ -21,6 +22,7 @@ REFUSAL = re.compile(rb"(.*):([1-9][0-9]*):([1-9][0-9]*): E([1-9][0-9]*) ([A-Za-
 UNREAD = re.compile(rb"(.*):([1-9][0-9]*):([1-9][0-9]*): read fault\n", re.DOTALL)
 NAME = rb"[A-Za-z_][A-Za-z0-9_$]*"
 VERDICTS = re.compile(rb"(?:%s: (?:proved|vacuous|undecided after [1-9][0-9]*|failed\n(?:  (?:var|sample) %s = [1-9][0-9]*'b[01xz]+\n)*)\n?)*" % (NAME, NAME))
+INVARIANTS = re.compile(rb"(?:%s: (?:invariant|undecided after [1-9][0-9]*|(?:base|step) fails\n(?:  (?:var|before|sample) %s = [1-9][0-9]*'b[01xz]+\n)*)\n?)*" % (NAME, NAME))
 SAMPLES = re.compile(rb"(?:%s = [1-9][0-9]*'b[01xz]+\n)*" % NAME)
 CERTIFIED = re.compile(rb"c %s (?:proved|vacuous)\np cnf [0-9]+ [0-9]+\n(?:-?[0-9]+ )*0\n(?:(?:-?[0-9]+ )*0\n)*" % NAME)
 CHECKED = re.compile(rb"verified\n|not verified: step [0-9]+\n")
@@ -53,8 +55,12 @@ def printed_fault(words, status, out):
         return None if whole else "no certificate, or no report, or one of another status"
     if verb == "check":
         return None if CHECKED.fullmatch(out) and out.startswith(b"verified") == (status == 0) else "not what is said of a certificate"
+    if verb == "induct":
+        whole = INVARIANTS.fullmatch(out)
+        held = all(line.endswith(b": invariant") for line in out.splitlines())
+        return None if whole and out and held == (status == 0) else "no report of invariants, or one of another status"
     if status != 0:
-        return "status 1 of another command than prove, cert and check"
+        return "status 1 of another command than prove, cert, check and induct"
     if verb == "sim" and "--vcd" in words[: words.index("--") if "--" in words else None]:
         return None if DUMP.fullmatch(out) else "no value change dump"
     form = {"sim": SAMPLES, "dump": FLAT, "wave": CHANGES}.get(verb)

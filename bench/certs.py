@@ -94,7 +94,8 @@ class Outcomes:
         self.svtv, self.compared, self.differences = svtv, 0, 0
 
     def run(self, *words):
-        return subprocess.run([self.svtv, *map(str, words)], capture_output=True, text=True)
+        # (designs of examples name the files that they include from the top of the repository)
+        return subprocess.run([self.svtv, *map(str, words)], cwd=BENCH.parent, capture_output=True, text=True)
 
     def same(self, name, ours, theirs):
         self.compared += 1
