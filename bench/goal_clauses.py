@@ -6,7 +6,7 @@ other work disturbs all alike; memory is the peak of what is resident. A file co
 and cadical takes 0.02 to 10 seconds, and in the worst ratio where that takes over 0.2.
 
 Numbers that steer the solver are chosen on the goals in even places of the sorted names, and reported on the others: the means are
-printed for both halves. (A suite on which nothing was chosen is read as a whole.)
+printed for both halves. (The second suite is read as a whole.)
 
 From the environment: CLAUSES is the program that clauses.sh makes, SOLVER the solver with its words (it reads standard input, as
 sat_dimacs does), SUITE the module that has the runs (prove_designs), BY whose clauses these are, svtv's or those that yosys makes of the

@@ -1,4 +1,4 @@
-"""A second suite of designs and goals, in the form of prove_designs.py: kinds and sizes on which no number of the solver was chosen.
+"""A second suite of designs and goals, in the form of prove_designs.py, of other kinds and sizes.
 
 Each design computes something in two ways, and the goals say that both agree, or tell a mistake that shows (the verdict `failed`).
 """
