@@ -41,7 +41,8 @@ pub fn xor(aig: &mut Aig, a: Lit, b: Lit) -> Result<Lit, AllocError>
     aig.xor(a, b)
 }
 
-/// Whether an odd number of literals is true. It is made of halves, so that it is a tree of few levels.
+/// Whether an odd number of literals is true. It is made of halves, so that it is a tree of few levels. (Known bits in pairs are cut at
+/// the same places, so that equal bits make equal nodes.)
 pub fn parity(aig: &mut Aig, a: &[Lit]) -> Result<Lit, AllocError>
     requires some { 0 < length a.now }
     requires a_in { All (IsIn aig.old) a.now }

@@ -44,7 +44,8 @@ is_defined Sdiv b = nat_lt 0 b
 is_defined Srem b = nat_lt 0 b
 is_defined op b = true
 
--- two words of the same length as some pairs, in which an odd number of literals is true where that is so of the pairs' upper ones
+-- two words, each of as many literals as there are pairs: the sum modulo 2 of both words is that of the pairs' upper literals, whatever the
+-- inputs are
 pub record AreParts (gates : List Gate) (a : List Pair) (first second : List Lit) : Type 0 where
   pub first_word : IsWord gates (length a) first
   pub second_word : IsWord gates (length a) second

@@ -2,8 +2,8 @@
 //! four words of header before its literals, of which the first two are watched. A clause is named by the place of its header.
 //! Clauses that are given up are garbage until all others are moved together.
 
-use crate::words::{Lit, at, narrow, put};
-use std::alloc::{AllocError, Global};
+use crate::words::{Lit, at, narrow, push, push_all, put};
+use std::alloc::Global;
 
 /// The words of a header: how many literals there are, the packed status, the number of the clause in the log, and the place, among
 /// the literals, at which a literal to be watched was found last. (While nothing is watched, the last word may be used otherwise.)
@@ -61,11 +61,16 @@ fn status_of(word: u32) -> Status {
 /// Clauses by the places of their headers.
 pub struct Arena {
     pub words: Vec<u32>,
+    /// Whether there was no room for a clause.
+    pub is_short: bool,
 }
 
 impl Drop for Arena {
     fn drop(self) {
-        let Arena { words: _ } = self;
+        let Arena {
+            words: _,
+            is_short: _,
+        } = self;
     }
 }
 
@@ -74,6 +79,7 @@ impl Arena {
     pub fn new(alloc: Global) -> Arena {
         Arena {
             words: Vec::new(alloc),
+            is_short: false,
         }
     }
 
@@ -94,36 +100,36 @@ impl Arena {
             .wrapping_add(self.size(clause))
     }
 
-    /// The first clause that is no garbage, of those from a place on.
-    pub fn first_from(&self, place: u32) -> Option<u32> {
-        let mut clause = place;
+    // Whether a clause is no garbage, and given, if it has to be.
+    fn is_among(&self, clause: u32, is_given: bool) -> bool {
+        let status = self.status(clause);
+        !status.is_garbage && !(is_given && status.is_learned)
+    }
+
+    // The clauses that are no garbage, or the given ones of them.
+    fn gather(&mut self, alloc: Global, is_given: bool) -> Vec<u32> {
+        let mut found = Vec::new(alloc);
+        let mut clause: u32 = 0;
         for _ in 0..self.words.len() {
             if clause >= self.end() {
                 break;
             }
-            let status = self.status(clause);
-            if !status.is_garbage {
-                return Some(clause);
+            if self.is_among(clause, is_given) {
+                push(&mut found, clause, &mut self.is_short);
             }
             clause = self.next(clause);
         }
-        None
+        found
     }
 
     /// The clauses that are no garbage.
-    pub fn clauses(&self, alloc: Global) -> Result<Vec<u32>, AllocError> {
-        let mut found = Vec::new(alloc);
-        let mut place: u32 = 0;
-        for _ in 0..self.words.len() {
-            match self.first_from(place) {
-                None => break,
-                Some(clause) => {
-                    found.push(clause)?;
-                    place = self.next(clause);
-                }
-            }
-        }
-        Ok(found)
+    pub fn clauses(&mut self, alloc: Global) -> Vec<u32> {
+        self.gather(alloc, false)
+    }
+
+    /// The given clauses that are no garbage, and those in the place of such.
+    pub fn given(&mut self, alloc: Global) -> Vec<u32> {
+        self.gather(alloc, true)
     }
 
     /// The literals of a clause.
@@ -184,25 +190,19 @@ impl Arena {
     }
 
     /// Puts a clause behind the others. Answers its place.
-    pub fn add(
-        &mut self,
-        literals: &[Lit],
-        number: u32,
-        status: Status,
-    ) -> Result<u32, AllocError> {
+    pub fn add(&mut self, literals: &[Lit], number: u32, status: Status) -> u32 {
         let clause = self.end();
-        self.words.push(narrow(literals.len()))?;
-        self.words.push(packed(status))?;
-        self.words.push(number)?;
-        self.words.push(FIRST)?;
-        self.words.extend_from_slice(literals)?;
-        Ok(clause)
+        let header = [narrow(literals.len()), packed(status), number, FIRST];
+        push_all(&mut self.words, &header, &mut self.is_short);
+        push_all(&mut self.words, literals, &mut self.is_short);
+        clause
     }
 
-    /// Lets the room go that no clause takes.
-    pub fn fit(&mut self, alloc: Global) -> Result<(), AllocError> {
-        self.words = Vec::from_slice(alloc, &self.words)?;
-        Ok(())
+    /// Lets the room go that no clause takes, where the clauses can be copied.
+    pub fn fit(&mut self, alloc: Global) {
+        if let Ok(words) = Vec::from_slice(alloc, &self.words) {
+            self.words = words;
+        }
     }
 
     /// Copies a clause to a place before it, or leaves it at its own.

@@ -7,10 +7,10 @@
 //! soon as it is read, and no second log stands beside the first.
 
 use crate::constants::LOG_BLOCK;
-use crate::words::{Lit, at, is_negated, is_set, narrow, set, var_of};
+use crate::words::{Lit, at, filled, is_negated, is_set, narrow, push, put, room_for, var_of};
 use cnf::Dim;
 use refute_check::Step;
-use std::alloc::{AllocError, Global};
+use std::alloc::Global;
 use std::mem;
 
 /// In how many groups of seven bits a word stands at most.
@@ -62,6 +62,8 @@ pub struct Log {
     pub end: u32,
     /// How many bytes they take.
     pub size: usize,
+    /// Whether there was no room for a step.
+    pub is_short: bool,
 }
 
 impl Drop for Log {
@@ -73,23 +75,41 @@ impl Drop for Log {
             steps: _,
             end: _,
             size: _,
+            is_short: _,
         } = self;
     }
 }
 
 // Puts a number behind the bytes.
 #[inline]
-fn push(bytes: &mut Vec<u8>, number: u32) -> Result<(), AllocError> {
+fn push_number(bytes: &mut Vec<u8>, number: u32, is_short: &mut bool) {
     let mut rest = number;
     for _ in 1..GROUPS {
         if rest < 128 {
             break;
         }
-        bytes.push(128 + (rest % 128) as u8)?;
+        push(bytes, 128 + (rest % 128) as u8, is_short);
         rest /= 128;
     }
-    bytes.push((rest % 128) as u8)?;
-    Ok(())
+    push(bytes, (rest % 128) as u8, is_short);
+}
+
+// Puts a clause behind the bytes.
+fn push_clause(bytes: &mut Vec<u8>, clause: &[Lit], is_short: &mut bool) {
+    push_number(bytes, narrow(clause.len()), is_short);
+    for lit in clause {
+        push_number(bytes, *lit, is_short);
+    }
+}
+
+// Puts the hints of a step of this number behind the bytes.
+fn push_hints(bytes: &mut Vec<u8>, number: u32, hints: &[u32], is_short: &mut bool) {
+    push_number(bytes, narrow(hints.len()), is_short);
+    let mut before = number;
+    for hint in hints {
+        push_number(bytes, folded(before.wrapping_sub(*hint)), is_short);
+        before = *hint;
+    }
 }
 
 // A difference of two numbers as one that is small where they are near to each other.
@@ -134,6 +154,24 @@ impl Cursor {
         number
     }
 
+    // Reads a clause.
+    fn read_clause(&mut self, bytes: &[u8], clause: &mut Vec<Lit>, is_short: &mut bool) {
+        clause.clear();
+        for _ in 0..self.next(bytes) {
+            push(clause, self.next(bytes), is_short);
+        }
+    }
+
+    // Reads the hints of a step of this number.
+    fn read_hints(&mut self, bytes: &[u8], number: u32, hints: &mut Vec<u32>, is_short: &mut bool) {
+        hints.clear();
+        let mut hint = number;
+        for _ in 0..self.next(bytes) {
+            hint = hint.wrapping_sub(unfolded(self.next(bytes)));
+            push(hints, hint, is_short);
+        }
+    }
+
     // Goes behind so many numbers, each of which ends with a byte below 128.
     fn skip(&mut self, bytes: &[u8], count: u32) {
         let mut left = count;
@@ -162,19 +200,10 @@ impl Block {
     }
 
     // Puts a step of this number behind the others.
-    fn add(&mut self, number: u32, clause: &[Lit], hints: &[u32]) -> Result<(), AllocError> {
-        self.starts.push(narrow(self.bytes.len()))?;
-        push(&mut self.bytes, narrow(clause.len()))?;
-        for lit in clause {
-            push(&mut self.bytes, *lit)?;
-        }
-        push(&mut self.bytes, narrow(hints.len()))?;
-        let mut before = number;
-        for hint in hints {
-            push(&mut self.bytes, folded(before.wrapping_sub(*hint)))?;
-            before = *hint;
-        }
-        Ok(())
+    fn add(&mut self, number: u32, clause: &[Lit], hints: &[u32], is_short: &mut bool) {
+        push(&mut self.starts, narrow(self.bytes.len()), is_short);
+        push_clause(&mut self.bytes, clause, is_short);
+        push_hints(&mut self.bytes, number, hints, is_short);
     }
 
     // Marks the steps that a step cites.
@@ -185,7 +214,7 @@ impl Block {
         let mut hint = narrow(place);
         for _ in 0..cursor.next(&self.bytes) {
             hint = hint.wrapping_sub(unfolded(cursor.next(&self.bytes)));
-            set(needed, hint as usize, true);
+            put(needed, hint as usize, true);
         }
     }
 
@@ -202,22 +231,14 @@ impl Block {
 
 impl Reading {
     // Reads a step of a block, where so many clauses are given.
-    fn read(&mut self, block: &Block, k: usize, given: u32) -> Result<(), AllocError> {
+    fn read(&mut self, block: &Block, k: usize, given: u32, is_short: &mut bool) {
         let bytes = block.bytes.as_slice();
         let mut cursor = Cursor {
             place: at(&block.starts, k) as usize,
         };
-        self.clause.clear();
-        self.hints.clear();
-        for _ in 0..cursor.next(bytes) {
-            self.clause.push(cursor.next(bytes))?;
-        }
-        let mut hint = given.wrapping_add(narrow(block.place(k)));
-        for _ in 0..cursor.next(bytes) {
-            hint = hint.wrapping_sub(unfolded(cursor.next(bytes)));
-            self.hints.push(hint)?;
-        }
-        Ok(())
+        cursor.read_clause(bytes, &mut self.clause, is_short);
+        let number = given.wrapping_add(narrow(block.place(k)));
+        cursor.read_hints(bytes, number, &mut self.hints, is_short);
     }
 
     // Gives the hints their new numbers, where so many clauses are given.
@@ -227,19 +248,39 @@ impl Reading {
         }
     }
 
-    // The step as the judge takes it.
-    fn written(&mut self, alloc: Global) -> Result<Step, AllocError> {
-        self.dims.clear();
-        self.places.clear();
-        for lit in self.clause.iter() {
-            let var = var_of(*lit);
-            let negated = is_negated(*lit);
-            self.dims.push(Dim { var, negated })?;
+    // Puts the step as the judge takes it behind others.
+    fn write(&mut self, alloc: Global, steps: &mut Vec<Step>, is_short: &mut bool) {
+        dims_of(&self.clause, &mut self.dims, is_short);
+        places_of(&self.hints, &mut self.places, is_short);
+        match Step::of(alloc, self.dims.as_slice(), self.places.as_slice()) {
+            Ok(step) => push_step(steps, step, is_short),
+            Err(_) => *is_short = true,
         }
-        for hint in self.hints.iter() {
-            self.places.push(*hint as usize)?;
-        }
-        Step::of(alloc, self.dims.as_slice(), self.places.as_slice())
+    }
+}
+
+// The literals of a clause as the judge takes them.
+fn dims_of(clause: &[Lit], dims: &mut Vec<Dim>, is_short: &mut bool) {
+    dims.clear();
+    for lit in clause {
+        let var = var_of(*lit);
+        let negated = is_negated(*lit);
+        push(dims, Dim { var, negated }, is_short);
+    }
+}
+
+// The hints of a step as the judge takes them.
+fn places_of(hints: &[u32], places: &mut Vec<usize>, is_short: &mut bool) {
+    places.clear();
+    for hint in hints {
+        push(places, *hint as usize, is_short);
+    }
+}
+
+// Puts a step behind others, or notes that there is no room for it.
+fn push_step(steps: &mut Vec<Step>, step: Step, is_short: &mut bool) {
+    if steps.push(step).is_err() {
+        *is_short = true;
     }
 }
 
@@ -253,36 +294,33 @@ impl Log {
             steps: 0,
             end: 0,
             size: 0,
+            is_short: false,
         }
     }
 
     // Begins a block, where there is none or the last one may lack room for a step of so many numbers.
-    fn begin_block(&mut self, numbers: usize) -> Result<(), AllocError> {
+    fn begin_block(&mut self, numbers: usize) {
         let most = numbers.saturating_mul(GROUPS as usize);
         let is_full = match self.blocks.last() {
             None => true,
             Some(block) => block.bytes.len().saturating_add(most) > LOG_BLOCK,
         };
         if is_full {
-            let bytes = Vec::with_capacity(self.alloc, LOG_BLOCK.max(most))?;
-            let starts = Vec::new(self.alloc);
-            let first = self.steps;
-            self.blocks.push(Block {
-                bytes,
-                starts,
-                first,
-            })?;
+            let room = LOG_BLOCK.max(most);
+            let block = new_block(self.alloc, self.steps, room, &mut self.is_short);
+            if self.blocks.push(block).is_err() {
+                self.is_short = true;
+            }
         }
-        Ok(())
     }
 
     /// Puts a step behind the others. Answers its number.
-    pub fn add(&mut self, clause: &[Lit], hints: &[u32]) -> Result<u32, AllocError> {
-        self.begin_block(clause.len().saturating_add(hints.len()).saturating_add(2))?;
+    pub fn add(&mut self, clause: &[Lit], hints: &[u32]) -> u32 {
+        self.begin_block(clause.len().saturating_add(hints.len()).saturating_add(2));
         let number = self.given.wrapping_add(self.steps);
         if let Some(block) = self.blocks.last_mut() {
             let before = block.bytes.len();
-            block.add(number, clause, hints)?;
+            block.add(number, clause, hints, &mut self.is_short);
             let more = block.bytes.len().saturating_sub(before);
             self.size = self.size.saturating_add(more);
         }
@@ -290,23 +328,24 @@ impl Log {
         if clause.is_empty() && self.end == 0 {
             self.end = self.steps;
         }
-        Ok(number)
+        number
+    }
+
+    /// No marks of the steps.
+    pub fn no_marks(&mut self) -> Vec<bool> {
+        filled(self.alloc, false, self.steps as usize, &mut self.is_short)
     }
 
     /// Marks the step whose clause has this number, if it is none of the given ones.
     pub fn need(&self, number: u32, needed: &mut [bool]) {
-        set(needed, number.wrapping_sub(self.given) as usize, true);
+        put(needed, number.wrapping_sub(self.given) as usize, true);
     }
 
     // The new number of each step.
-    fn new_numbers(&self, needed: &[bool]) -> Result<Vec<u32>, AllocError> {
-        let mut numbers = Vec::with_capacity(self.alloc, needed.len())?;
-        let mut next = self.given;
-        for is_needed in needed {
-            numbers.push(next)?;
-            next = next.saturating_add(u32::from(*is_needed));
-        }
-        Ok(numbers)
+    fn new_numbers(&mut self, needed: &[bool]) -> Vec<u32> {
+        let mut numbers = filled(self.alloc, 0, needed.len(), &mut self.is_short);
+        number_all(&mut numbers, needed, self.given);
+        numbers
     }
 
     /// The new number of a clause, where `numbers` has those of the steps.
@@ -315,21 +354,14 @@ impl Log {
     }
 
     // Takes the steps of a block over that are needed, with their new numbers.
-    fn take_over(
-        &mut self,
-        block: &Block,
-        needed: &[bool],
-        numbers: &[u32],
-        step: &mut Reading,
-    ) -> Result<(), AllocError> {
+    fn take_over(&mut self, block: &Block, needed: &[bool], numbers: &[u32], step: &mut Reading) {
         for k in 0..block.starts.len() {
             if is_set(needed, block.place(k)) {
-                step.read(block, k, self.given)?;
+                step.read(block, k, self.given, &mut self.is_short);
                 step.renumber(self.given, numbers);
-                let _number = self.add(&step.clause, &step.hints)?;
+                let _number = self.add(&step.clause, &step.hints);
             }
         }
-        Ok(())
     }
 
     // Takes all blocks out.
@@ -340,65 +372,67 @@ impl Log {
         mem::replace(&mut self.blocks, Vec::new(self.alloc))
     }
 
-    // Marks the steps that the marked ones need.
-    fn need_all(&self, needed: &mut [bool]) {
-        for block in self.blocks.iter().rev() {
-            block.need_all(needed);
-        }
-    }
-
     /// Leaves out what no marked step needs. Answers the new numbers of the steps.
-    pub fn trim(&mut self, needed: &mut [bool]) -> Result<Vec<u32>, AllocError> {
-        self.need_all(needed);
-        let numbers = self.new_numbers(needed)?;
+    pub fn trim(&mut self, needed: &mut [bool]) -> Vec<u32> {
+        need_blocks(&self.blocks, needed);
+        let numbers = self.new_numbers(needed);
         let mut step = new_reading(self.alloc);
         for block in self.take_blocks() {
-            self.take_over(&block, needed, &numbers, &mut step)?;
+            self.take_over(&block, needed, &numbers, &mut step);
         }
-        Ok(numbers)
+        numbers
     }
 
-    // Writes the steps of a block that are needed behind others, with their new numbers, as the judge takes them.
-    fn write_block(
-        &self,
-        block: &Block,
-        needed: &[bool],
-        numbers: &[u32],
-        step: &mut Reading,
-        steps: &mut Vec<Step>,
-    ) -> Result<(), AllocError> {
-        for k in 0..block.starts.len() {
-            if is_set(needed, block.place(k)) {
-                step.read(block, k, self.given)?;
-                step.renumber(self.given, numbers);
-                steps.push(step.written(self.alloc)?)?;
+    // Leaves out what the first empty clause does not need.
+    fn trim_to_end(&mut self) {
+        let mut needed = self.no_marks();
+        put(&mut needed, (self.end as usize).saturating_sub(1), true);
+        let _numbers = self.trim(&mut needed);
+    }
+
+    // Puts the steps as the judge takes them behind others. The log is empty then.
+    fn write_all(&mut self, steps: &mut Vec<Step>) {
+        let mut step = new_reading(self.alloc);
+        for block in self.take_blocks() {
+            for k in 0..block.starts.len() {
+                step.read(&block, k, self.given, &mut self.is_short);
+                step.write(self.alloc, steps, &mut self.is_short);
             }
         }
-        Ok(())
     }
 
     /// The steps that the first empty clause needs, and it. The log is empty then.
-    pub fn written(&mut self) -> Result<Vec<Step>, AllocError> {
-        let mut needed = vec![in self.alloc; false; self.steps as usize]?;
-        set(&mut needed, (self.end as usize).saturating_sub(1), true);
-        self.need_all(&mut needed);
-        let numbers = self.new_numbers(&needed)?;
-        let mut steps = Vec::with_capacity(self.alloc, count_of(&needed))?;
-        let mut step = new_reading(self.alloc);
-        for block in self.take_blocks() {
-            self.write_block(&block, &needed, &numbers, &mut step, &mut steps)?;
-        }
-        Ok(steps)
+    pub fn written(&mut self) -> Vec<Step> {
+        self.trim_to_end();
+        let mut steps = room_for(self.alloc, self.steps as usize, &mut self.is_short);
+        self.write_all(&mut steps);
+        steps
     }
 }
 
-// How many flags are set.
-fn count_of(flags: &[bool]) -> usize {
-    let mut count: usize = 0;
-    for flag in flags {
-        count = count.wrapping_add(u32::from(*flag) as usize);
+// Marks the steps that the marked ones need, the last block first.
+fn need_blocks(blocks: &[Block], needed: &mut [bool]) {
+    for block in blocks.iter().rev() {
+        block.need_all(needed);
     }
-    count
+}
+
+// A block without steps that begins behind so many, with room for so many bytes.
+fn new_block(alloc: Global, first: u32, room: usize, is_short: &mut bool) -> Block {
+    Block {
+        bytes: room_for(alloc, room, is_short),
+        starts: Vec::new(alloc),
+        first,
+    }
+}
+
+// Counts the steps that are needed, from a number on: each of these gets its number.
+fn number_all(numbers: &mut [u32], needed: &[bool], from: u32) {
+    let mut next = from;
+    for (place, is_needed) in needed.iter().enumerate() {
+        put(numbers, place, next);
+        next = next.saturating_add(u32::from(*is_needed));
+    }
 }
 
 // Room for a step.

@@ -2,8 +2,8 @@
 //! which they became so, and of each variable the clause that is the reason of its value. The trail is the queue of what is to be
 //! propagated, too.
 
-use crate::words::{Lit, NONE, at, narrow, put, var_of};
-use std::alloc::{AllocError, Global};
+use crate::words::{Lit, NONE, at, filled, is_set, lit_of, narrow, push, put, room_for, var_of};
+use std::alloc::Global;
 
 /// The value of a literal.
 #[derive(Clone, Copy)]
@@ -46,12 +46,11 @@ pub fn is_false(values: &[Value], lit: Lit) -> bool {
     matches!(value_of(values, lit), Value::False)
 }
 
-// Sets the value of a literal.
+/// Whether a variable has no value, and was not taken out.
 #[inline]
-fn set_value(values: &mut [Value], lit: Lit, value: Value) {
-    if let Some(old) = values.get_mut(lit as usize) {
-        *old = value;
-    }
+pub fn is_open(values: &[Value], gone: &[bool], var: u32) -> bool {
+    let is_valued = !matches!(value_of(values, lit_of(var, true)), Value::Open);
+    !is_valued && !is_set(gone, var as usize)
 }
 
 /// Values and trail.
@@ -68,6 +67,8 @@ pub struct Trail {
     pub head: usize,
     // Where each level begins, but the one of what is fixed.
     starts: Vec<u32>,
+    /// Whether there was no room for a literal, or for a watch of one.
+    pub is_short: bool,
 }
 
 impl Drop for Trail {
@@ -79,27 +80,47 @@ impl Drop for Trail {
             lits: _,
             head: _,
             starts: _,
+            is_short: _,
         } = self;
     }
 }
 
 impl Trail {
     /// So many variables, of which none has a value.
-    pub fn new(alloc: Global, vars: usize) -> Result<Trail, AllocError> {
-        Ok(Trail {
-            values: vec![in alloc; Value::Open; vars.saturating_mul(2)]?,
-            facts: vec![in alloc; NO_FACT; vars]?,
-            units: vec![in alloc; NONE; vars]?,
-            lits: Vec::with_capacity(alloc, vars)?,
+    pub fn new(alloc: Global, vars: usize) -> Trail {
+        let mut is_short = false;
+        let values = filled(alloc, Value::Open, vars.saturating_mul(2), &mut is_short);
+        let facts = filled(alloc, NO_FACT, vars, &mut is_short);
+        let units = filled(alloc, NONE, vars, &mut is_short);
+        let lits = room_for(alloc, vars, &mut is_short);
+        Trail {
+            values,
+            facts,
+            units,
+            lits,
             head: 0,
             starts: Vec::new(alloc),
-        })
+            is_short,
+        }
     }
 
     /// The newest level, from 0.
     #[inline]
     pub fn level(&self) -> u32 {
         narrow(self.starts.len())
+    }
+
+    /// Whether one of these literals is true for ever.
+    pub fn satisfies(&self, literals: &[Lit]) -> bool {
+        for lit in literals {
+            if is_true(&self.values, *lit) {
+                let fact = self.fact(var_of(*lit));
+                if fact.level == 0 {
+                    return true;
+                }
+            }
+        }
+        false
     }
 
     /// What is known of a variable that has a value.
@@ -121,9 +142,8 @@ impl Trail {
 
     /// Notes which clause gave a variable its value.
     pub fn set_reason(&mut self, var: usize, reason: u32) {
-        if let Some(fact) = self.facts.get_mut(var) {
-            fact.reason = reason;
-        }
+        let fact = self.fact(var);
+        put(&mut self.facts, var, Fact { reason, ..fact });
     }
 
     /// Where a level begins on the trail.
@@ -136,25 +156,23 @@ impl Trail {
 
     /// Makes a literal true.
     #[inline]
-    pub fn assign(&mut self, lit: Lit, reason: u32) -> Result<(), AllocError> {
+    pub fn assign(&mut self, lit: Lit, reason: u32) {
         let fact = Fact {
             level: self.level(),
             reason,
             place: narrow(self.lits.len()),
         };
-        set_value(&mut self.values, lit, Value::True);
-        set_value(&mut self.values, lit ^ 1, Value::False);
-        if let Some(old) = self.facts.get_mut(var_of(lit)) {
-            *old = fact;
-        }
-        self.lits.push(lit)?;
-        Ok(())
+        put(&mut self.values, lit as usize, Value::True);
+        put(&mut self.values, (lit ^ 1) as usize, Value::False);
+        put(&mut self.facts, var_of(lit), fact);
+        push(&mut self.lits, lit, &mut self.is_short);
     }
 
     /// Begins a level with a literal.
-    pub fn decide(&mut self, lit: Lit) -> Result<(), AllocError> {
-        self.starts.push(narrow(self.lits.len()))?;
-        self.assign(lit, NONE)
+    pub fn decide(&mut self, lit: Lit) {
+        let start = narrow(self.lits.len());
+        push(&mut self.starts, start, &mut self.is_short);
+        self.assign(lit, NONE);
     }
 
     /// The next literal that is to be propagated.
@@ -167,8 +185,8 @@ impl Trail {
     /// Takes the newest literal off.
     pub fn pop(&mut self) -> Option<Lit> {
         let lit = self.lits.pop()?;
-        set_value(&mut self.values, lit, Value::Open);
-        set_value(&mut self.values, lit ^ 1, Value::Open);
+        put(&mut self.values, lit as usize, Value::Open);
+        put(&mut self.values, (lit ^ 1) as usize, Value::Open);
         Some(lit)
     }
 

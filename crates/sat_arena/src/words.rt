@@ -1,5 +1,10 @@
 //! Words of four bytes, and how they are read and written at places of which nothing is known: a word that is not there is 0, and
 //! is not written. So no index needs a proof. A wrong place would make the answer wrong, which the caller finds, and no more.
+//!
+//! Nor do vectors that grow: where there is no room for an item it is not there, and a flag says so, at which the search gives up.
+//! (With `?` in place of that the proof of each function is nearly twice as long.)
+
+use std::alloc::{AllocError, Global};
 
 /// A literal: twice its variable, and one more where it is negated.
 pub type Lit = u32;
@@ -31,11 +36,11 @@ pub fn at(words: &[u32], place: usize) -> u32 {
     words.get(place).copied().unwrap_or(0)
 }
 
-/// Sets the word at a place, if there is one.
+/// Puts an item in a place, if there is one.
 #[inline]
-pub fn put(words: &mut [u32], place: usize, word: u32) {
-    if let Some(old) = words.get_mut(place) {
-        *old = word;
+pub fn put<T: Copy>(items: &mut [T], place: usize, item: T) {
+    if let Some(old) = items.get_mut(place) {
+        *old = item;
     }
 }
 
@@ -45,12 +50,58 @@ pub fn is_set(flags: &[bool], place: usize) -> bool {
     flags.get(place).copied().unwrap_or(false)
 }
 
-/// Sets the flag at a place, if there is one.
+/// Puts an item behind others, or notes that there is no room for it.
 #[inline]
-pub fn set(flags: &mut [bool], place: usize, value: bool) {
-    if let Some(flag) = flags.get_mut(place) {
-        *flag = value;
+pub fn push<T: Copy>(items: &mut Vec<T>, item: T, is_short: &mut bool) {
+    if items.push(item).is_err() {
+        *is_short = true;
     }
+}
+
+/// Puts words behind others, or notes that there is no room for them.
+#[inline]
+pub fn push_all(words: &mut Vec<u32>, more: &[u32], is_short: &mut bool) {
+    if words.extend_from_slice(more).is_err() {
+        *is_short = true;
+    }
+}
+
+/// So many times an item, or none, where it notes that there is no room.
+pub fn filled<T: Copy>(alloc: Global, item: T, count: usize, is_short: &mut bool) -> Vec<T> {
+    match repeated(alloc, item, count) {
+        Ok(items) => items,
+        Err(_) => {
+            *is_short = true;
+            Vec::new(alloc)
+        }
+    }
+}
+
+/// Room for so many items, or none, where it notes that there is no room.
+pub fn room_for<T>(alloc: Global, count: usize, is_short: &mut bool) -> Vec<T> {
+    match Vec::with_capacity(alloc, count) {
+        Ok(items) => items,
+        Err(_) => {
+            *is_short = true;
+            Vec::new(alloc)
+        }
+    }
+}
+
+/// So many empty lists, or fewer, where it notes that there is no room for them.
+pub fn empty_lists<T: Copy>(alloc: Global, count: usize, is_short: &mut bool) -> Vec<Vec<T>> {
+    let mut lists = room_for(alloc, count, is_short);
+    for _ in 0..count {
+        if lists.push(Vec::new(alloc)).is_err() {
+            *is_short = true;
+        }
+    }
+    lists
+}
+
+// So many times an item.
+fn repeated<T: Copy>(alloc: Global, item: T, count: usize) -> Result<Vec<T>, AllocError> {
+    Ok(vec![in alloc; item; count]?)
 }
 
 /// The number as a word, or the greatest word.

@@ -2,7 +2,8 @@
 //! steers. No proof says anything of it but that it is safe and returns, since what it answers is tried by who asks it.
 #![tactic(auto)]
 
-mod analyze;
+pub mod database;
 pub mod engine;
-mod notes;
+pub mod notes;
 mod reduce;
+pub mod watches;

@@ -1,12 +1,13 @@
-//! Clause minimisation (Soerensson and Biere 2009), and what else is noted while one clause is learned from a conflict: which
-//! variables were met, which literals the clause gets, and by which clauses it follows. Literals that the others imply are left
-//! out, where reasons of reasons tell so; by which clauses they do is noted too. All of this room is used again for the next conflict.
+//! Conflict analysis: what is learned is the clause of the first cut of the reasons with one literal of the newest level (first
+//! unique implication point, first UIP, Marques-Silva and Sakallah 1996, Zhang and others 2001), without literals that the others
+//! imply, where reasons of reasons tell so (clause minimisation, Soerensson and Biere 2009). Here is noted which variables were met,
+//! which literals the clause gets, and by which clauses it follows. All of this room is used again for the next conflict.
 
-use sat_arena::arena::Arena;
-use sat_arena::constants::DEPTH;
+use sat_arena::arena::{Arena, Status};
+use sat_arena::constants::{DEPTH, OTHER_USES, TIER1_GLUE, TIER2_GLUE, TIER2_USES};
 use sat_arena::trail::{Fact, Trail};
-use sat_arena::words::{Lit, NONE, at, narrow, put, var_of};
-use std::alloc::{AllocError, Global};
+use sat_arena::words::{Lit, NONE, at, filled, narrow, push, put, var_of};
+use std::alloc::Global;
 
 /// What is known of a literal that may be left out of the clause.
 #[derive(Clone, Copy)]
@@ -82,8 +83,8 @@ pub struct Notes {
     pub clause: Vec<Lit>,
     /// The numbers of the clauses by which it follows.
     pub hints: Vec<u32>,
-    /// The variables that were met, behind their stamps in the order of decisions.
-    pub ranked: Vec<(u64, u32)>,
+    /// Whether there was no room for something.
+    pub is_short: bool,
 }
 
 impl Drop for Notes {
@@ -101,38 +102,41 @@ impl Drop for Notes {
             chain: _,
             clause: _,
             hints: _,
-            ranked: _,
+            is_short: _,
         } = self;
     }
 }
 
 impl Notes {
     /// For so many variables.
-    pub fn new(alloc: Global, vars: usize) -> Result<Notes, AllocError> {
+    pub fn new(alloc: Global, vars: usize) -> Notes {
         let levels = vars.saturating_add(1);
-        Ok(Notes {
-            marks: vec![in alloc; NO_MARK; vars]?,
+        let mut is_short = false;
+        let marks = filled(alloc, NO_MARK, vars, &mut is_short);
+        let parts = filled(alloc, NO_PART, levels, &mut is_short);
+        let stamps = filled(alloc, 0, levels, &mut is_short);
+        Notes {
+            marks,
             met: Vec::new(alloc),
             told: Vec::new(alloc),
-            parts: vec![in alloc; NO_PART; levels]?,
+            parts,
             levels: Vec::new(alloc),
-            stamps: vec![in alloc; 0; levels]?,
+            stamps,
             stamp: 0,
             path: Vec::new(alloc),
             open: Vec::new(alloc),
             chain: Vec::new(alloc),
             clause: Vec::new(alloc),
             hints: Vec::new(alloc),
-            ranked: Vec::new(alloc),
-        })
+            is_short,
+        }
     }
 
     /// Begins with a clause that has a place for its first literal.
-    pub fn begin(&mut self) -> Result<(), AllocError> {
+    pub fn begin(&mut self) {
         self.clause.clear();
         self.hints.clear();
-        self.clause.push(NONE)?;
-        Ok(())
+        push(&mut self.clause, NONE, &mut self.is_short);
     }
 
     // The mark of a variable.
@@ -149,12 +153,11 @@ impl Notes {
     }
 
     // Notes what is known of a variable.
-    fn tell(&mut self, var: usize, verdict: Verdict) -> Result<(), AllocError> {
+    fn tell(&mut self, var: usize, verdict: Verdict) {
         if let Some(mark) = self.marks.get_mut(var) {
             mark.verdict = verdict;
         }
-        self.told.push(narrow(var))?;
-        Ok(())
+        push(&mut self.told, narrow(var), &mut self.is_short);
     }
 
     // The part of a level.
@@ -163,57 +166,78 @@ impl Notes {
     }
 
     // Puts a literal of an older level into the clause.
-    fn put_older(&mut self, lit: Lit, fact: Fact) -> Result<(), AllocError> {
+    fn put_older(&mut self, lit: Lit, fact: Fact) {
         let part = self.part(fact.level);
         if part.count == 0 {
-            self.levels.push(fact.level)?;
+            push(&mut self.levels, fact.level, &mut self.is_short);
         }
         if let Some(old) = self.parts.get_mut(fact.level as usize) {
             old.count = part.count.saturating_add(1);
             old.first = part.first.min(fact.place);
         }
-        self.clause.push(lit)?;
-        Ok(())
+        push(&mut self.clause, lit, &mut self.is_short);
     }
 
     // Takes a literal of a clause that is gone through. Answers whether it is of the newest level and was not met before.
     #[inline]
-    fn take(&mut self, trail: &Trail, lit: Lit) -> Result<bool, AllocError> {
+    fn take(&mut self, trail: &Trail, lit: Lit) -> bool {
         let var = var_of(lit);
         if self.is_met(var) {
-            return Ok(false);
+            return false;
         }
         if let Some(mark) = self.marks.get_mut(var) {
             mark.is_met = true;
         }
-        self.met.push(lit / 2)?;
+        push(&mut self.met, lit / 2, &mut self.is_short);
         let fact = trail.fact(var);
         if fact.level == trail.level() {
-            return Ok(true);
+            return true;
         }
         if fact.level == 0 {
-            self.hints.push(trail.unit(var))?;
+            push(&mut self.hints, trail.unit(var), &mut self.is_short);
         } else {
-            self.put_older(lit, fact)?;
+            self.put_older(lit, fact);
         }
-        Ok(false)
+        false
     }
 
     /// Goes through a clause whose literals are false, but for one that was met. Answers how many literals of the newest level it has
     /// that were not.
-    pub fn trace(&mut self, arena: &Arena, trail: &Trail, clause: u32) -> Result<u32, AllocError> {
-        self.chain.push(arena.number(clause))?;
+    pub fn trace(&mut self, arena: &mut Arena, trail: &Trail, clause: u32) -> u32 {
+        self.use_clause(arena, trail, clause);
+        push(&mut self.chain, arena.number(clause), &mut self.is_short);
         let mut count: u32 = 0;
         for lit in arena.literals(clause) {
-            if self.take(trail, *lit)? {
+            if self.take(trail, *lit) {
                 count = count.saturating_add(1);
             }
         }
-        Ok(count)
+        count
     }
 
-    /// How many levels literals have, or `most` if they have no fewer.
-    pub fn count_levels(&mut self, trail: &Trail, literals: &[Lit], most: u32) -> u32 {
+    // Notes that a clause is of use. Its levels are counted anew, as they may be fewer by now.
+    fn use_clause(&mut self, arena: &mut Arena, trail: &Trail, clause: u32) {
+        let status = arena.status(clause);
+        if !status.is_learned {
+            return;
+        }
+        let mut glue = status.glue;
+        if glue > TIER1_GLUE {
+            glue = self.count_levels(trail, arena.literals(clause), glue);
+        }
+        let used = uses(glue);
+        arena.set_status(
+            clause,
+            Status {
+                used,
+                glue,
+                ..status
+            },
+        );
+    }
+
+    // How many levels literals have, or `most` if they have no fewer.
+    fn count_levels(&mut self, trail: &Trail, literals: &[Lit], most: u32) -> u32 {
         self.stamp = self.stamp.saturating_add(1);
         let mut count: u32 = 0;
         for lit in literals {
@@ -255,7 +279,7 @@ impl Notes {
 
     // Looks through the reason of a variable, up to a literal that is to be looked up first, or does not follow. Answers whether
     // the way goes on.
-    fn look(&mut self, arena: &Arena, trail: &Trail, visit: Visit) -> Result<bool, AllocError> {
+    fn look(&mut self, arena: &Arena, trail: &Trail, visit: Visit) -> bool {
         let fact = trail.fact(visit.var);
         for k in visit.looked..arena.size(fact.reason) {
             let other = var_of(arena.literal(fact.reason, k));
@@ -263,56 +287,60 @@ impl Notes {
                 match self.known(trail, other, true) {
                     Verdict::Implied => {}
                     Verdict::Explained => {}
-                    Verdict::Free => return Ok(false),
+                    Verdict::Free => return false,
                     Verdict::Unknown => {
-                        let var = visit.var;
-                        let looked = k.wrapping_add(1);
-                        self.path.push(Visit { var, looked })?;
-                        self.path.push(Visit {
-                            var: other,
-                            looked: 0,
-                        })?;
-                        return Ok(self.path.len() < DEPTH);
+                        self.go_to(visit.var, k.wrapping_add(1));
+                        self.go_to(other, 0);
+                        return self.path.len() < DEPTH;
                     }
                 }
             }
         }
-        self.tell(visit.var, Verdict::Implied)?;
-        Ok(true)
+        self.tell(visit.var, Verdict::Implied);
+        true
+    }
+
+    // Puts a variable behind the others on the way.
+    fn go_to(&mut self, var: usize, looked: u32) {
+        push(&mut self.path, Visit { var, looked }, &mut self.is_short);
     }
 
     // Takes a variable for one that does not follow, and all from which the way led to it.
-    fn give_up(&mut self, var: usize) -> Result<bool, AllocError> {
-        self.tell(var, Verdict::Free)?;
+    fn give_up(&mut self, var: usize) {
+        self.tell(var, Verdict::Free);
         for _ in 0..self.path.len() {
             if let Some(visit) = self.path.pop() {
-                self.tell(visit.var, Verdict::Free)?;
+                self.tell(visit.var, Verdict::Free);
             }
         }
-        Ok(false)
     }
 
     // Whether a literal of the clause follows from the others.
-    fn is_implied(&mut self, arena: &Arena, trail: &Trail, var: usize) -> Result<bool, AllocError> {
+    fn is_implied(&mut self, arena: &Arena, trail: &Trail, var: usize) -> bool {
         match self.known(trail, var, false) {
-            Verdict::Implied => return Ok(true),
-            Verdict::Explained => return Ok(true),
-            Verdict::Free => return Ok(false),
-            Verdict::Unknown => {}
+            Verdict::Implied => true,
+            Verdict::Explained => true,
+            Verdict::Free => false,
+            Verdict::Unknown => self.is_reached(arena, trail, var),
         }
+    }
+
+    // Whether a literal of the clause follows from the others, by reasons that are to be looked through.
+    fn is_reached(&mut self, arena: &Arena, trail: &Trail, var: usize) -> bool {
         self.path.clear();
-        self.path.push(Visit { var, looked: 0 })?;
+        self.go_to(var, 0);
         for _ in 0..u64::MAX {
             match self.path.pop() {
-                None => return Ok(true),
+                None => break,
                 Some(visit) => {
-                    if !self.look(arena, trail, visit)? {
-                        return self.give_up(visit.var);
+                    if !self.look(arena, trail, visit) {
+                        self.give_up(visit.var);
+                        return false;
                     }
                 }
             }
         }
-        Ok(false)
+        true
     }
 
     // Whether it is still to be noted why a variable has its value: it was left out of the clause, or others were by its value.
@@ -329,106 +357,149 @@ impl Notes {
     }
 
     // Notes why a variable has its value, where that is to be done: its reason stands behind what that rests on.
-    fn explain(&mut self, arena: &Arena, trail: &Trail, var: u32) -> Result<(), AllocError> {
+    fn explain(&mut self, arena: &Arena, trail: &Trail, var: u32) {
         if !self.is_unexplained(trail, var as usize) {
-            return Ok(());
+            return;
         }
-        self.tell(var as usize, Verdict::Explained)?;
+        self.tell(var as usize, Verdict::Explained);
         let fact = trail.fact(var as usize);
         if fact.level == 0 {
-            self.hints.push(trail.unit(var as usize))?;
-            return Ok(());
+            push(
+                &mut self.hints,
+                trail.unit(var as usize),
+                &mut self.is_short,
+            );
+        } else {
+            self.open_reason(arena, trail, fact.reason);
         }
-        self.open.push(Task::Cite(fact.reason))?;
-        for lit in arena.literals(fact.reason) {
+    }
+
+    // Opens what a reason rests on, before the reason itself.
+    fn open_reason(&mut self, arena: &Arena, trail: &Trail, reason: u32) {
+        push(&mut self.open, Task::Cite(reason), &mut self.is_short);
+        for lit in arena.literals(reason) {
             if self.is_unexplained(trail, var_of(*lit)) {
-                self.open.push(Task::Explain(*lit / 2))?;
+                push(&mut self.open, Task::Explain(*lit / 2), &mut self.is_short);
             }
         }
-        Ok(())
     }
 
     // Notes why the open variables have their values.
-    fn explain_all(&mut self, arena: &Arena, trail: &Trail) -> Result<(), AllocError> {
+    fn explain_all(&mut self, arena: &Arena, trail: &Trail) {
         for _ in 0..u64::MAX {
             match self.open.pop() {
                 None => break,
-                Some(Task::Explain(var)) => self.explain(arena, trail, var)?,
-                Some(Task::Cite(reason)) => self.hints.push(arena.number(reason))?,
+                Some(Task::Explain(var)) => self.explain(arena, trail, var),
+                Some(Task::Cite(reason)) => {
+                    push(&mut self.hints, arena.number(reason), &mut self.is_short);
+                }
             }
         }
-        Ok(())
     }
 
     // Leaves out what the clause implies.
-    fn minimize(&mut self, arena: &Arena, trail: &Trail) -> Result<(), AllocError> {
+    fn minimize(&mut self, arena: &Arena, trail: &Trail) {
         let mut kept: usize = 1;
         for k in 1..self.clause.len() {
             let lit = at(&self.clause, k);
-            if self.is_implied(arena, trail, var_of(lit))? {
-                self.open.push(Task::Explain(lit / 2))?;
+            if self.is_implied(arena, trail, var_of(lit)) {
+                push(&mut self.open, Task::Explain(lit / 2), &mut self.is_short);
             } else {
                 put(&mut self.clause, kept, lit);
                 kept = kept.wrapping_add(1);
             }
         }
         self.clause.truncate(kept);
-        self.explain_all(arena, trail)
-    }
-
-    // Puts a literal of the newest of the older levels behind the first. Answers that level.
-    fn put_second(&mut self, trail: &Trail) -> u32 {
-        let mut newest: u32 = 0;
-        for k in 1..self.clause.len() {
-            let lit = at(&self.clause, k);
-            let fact = trail.fact(var_of(lit));
-            if fact.level > newest {
-                newest = fact.level;
-                let second = at(&self.clause, 1);
-                put(&mut self.clause, k, second);
-                put(&mut self.clause, 1, lit);
-            }
-        }
-        newest
+        self.explain_all(arena, trail);
     }
 
     /// Puts the clauses that were gone through behind the hints, the last one first.
-    pub fn close(&mut self) -> Result<(), AllocError> {
+    pub fn close(&mut self) {
         for _ in 0..self.chain.len() {
             if let Some(number) = self.chain.pop() {
-                self.hints.push(number)?;
+                push(&mut self.hints, number, &mut self.is_short);
             }
         }
-        Ok(())
     }
 
-    /// Ends the clause with its first literal. Answers the level to which to go back.
-    pub fn finish(&mut self, arena: &Arena, trail: &Trail, first: Lit) -> Result<u32, AllocError> {
+    // Goes through reasons from a clause that is false, up to the first literal of the newest level on which all others of it rest. Answers
+    // its negation.
+    fn find_first(&mut self, arena: &mut Arena, trail: &Trail, conflict: u32) -> Lit {
+        let mut open = self.trace(arena, trail, conflict);
+        for place in (0..trail.lits.len()).rev() {
+            let lit = at(&trail.lits, place);
+            if self.is_met(var_of(lit)) {
+                open = open.saturating_sub(1);
+                if open == 0 {
+                    return lit ^ 1;
+                }
+                let fact = trail.fact(var_of(lit));
+                open = open.saturating_add(self.trace(arena, trail, fact.reason));
+            }
+        }
+        NONE
+    }
+
+    /// Finds the clause that a conflict teaches, and its hints. Answers the level to which to go back.
+    pub fn analyze(&mut self, arena: &mut Arena, trail: &Trail, conflict: u32) -> u32 {
+        self.begin();
+        let first = self.find_first(arena, trail, conflict);
         put(&mut self.clause, 0, first);
-        self.minimize(arena, trail)?;
-        self.close()?;
-        Ok(self.put_second(trail))
+        self.minimize(arena, trail);
+        self.close();
+        put_second(&mut self.clause, trail)
     }
 
     /// Takes all marks back.
     pub fn clear(&mut self) {
-        for var in self.told.iter() {
-            if let Some(mark) = self.marks.get_mut(*var as usize) {
-                mark.verdict = Verdict::Unknown;
-            }
-        }
-        for var in self.met.iter() {
-            if let Some(mark) = self.marks.get_mut(*var as usize) {
-                mark.is_met = false;
-            }
-        }
-        for level in self.levels.iter() {
-            if let Some(part) = self.parts.get_mut(*level as usize) {
-                *part = NO_PART;
-            }
-        }
+        unmark(&mut self.marks, &self.told);
+        unmark(&mut self.marks, &self.met);
+        clear_parts(&mut self.parts, &self.levels);
         self.told.clear();
         self.met.clear();
         self.levels.clear();
+    }
+}
+
+/// For how many reductions a clause of this glue stays that is used.
+pub fn uses(glue: u32) -> u32 {
+    if glue <= TIER2_GLUE {
+        TIER2_USES
+    } else {
+        OTHER_USES
+    }
+}
+
+// Puts a literal of the newest of the older levels behind the first. Answers that level.
+fn put_second(clause: &mut [Lit], trail: &Trail) -> u32 {
+    let mut newest: u32 = 0;
+    for k in 1..clause.len() {
+        let lit = at(clause, k);
+        let fact = trail.fact(var_of(lit));
+        if fact.level > newest {
+            newest = fact.level;
+            let second = at(clause, 1);
+            put(clause, k, second);
+            put(clause, 1, lit);
+        }
+    }
+    newest
+}
+
+// Takes the marks of variables back.
+fn unmark(marks: &mut [Mark], vars: &[u32]) {
+    for var in vars {
+        if let Some(mark) = marks.get_mut(*var as usize) {
+            *mark = NO_MARK;
+        }
+    }
+}
+
+// Forgets what is noted of levels.
+fn clear_parts(parts: &mut [Part], levels: &[u32]) {
+    for level in levels {
+        if let Some(part) = parts.get_mut(*level as usize) {
+            *part = NO_PART;
+        }
     }
 }

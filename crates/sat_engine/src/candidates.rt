@@ -6,12 +6,14 @@
 //! 64 tries go at once, as the bits of a word. The random bits are 1 more often or more seldom by turns, since a gate of many
 //! inputs hardly ever changes where each input is 1 in half of the tries.
 
-use crate::ranks::Ranks;
-use crate::table::Table;
+use sat_arena::arena::Arena;
 use sat_arena::constants::{FEWEST_TRIES, LEAST_TRIES, MOST_TRIES, TRIED_LITERALS};
-use sat_arena::words::{Lit, at, is_negated, lit_of, narrow, var_of};
-use sat_cdcl::engine::Engine;
-use std::alloc::AllocError;
+use sat_arena::trail::is_open;
+use sat_arena::words::{Lit, at, filled, is_negated, lit_of, narrow, push, room_for, var_of};
+use sat_cdcl::database::Database;
+use sat_simplify::ranks::Ranks;
+use sat_simplify::table::Table;
+use std::alloc::Global;
 
 /// So many kinds of random words come by turns.
 const KINDS: usize = 5;
@@ -82,17 +84,23 @@ fn greatest(ranks: &Ranks, literals: &[Lit]) -> u32 {
 }
 
 // Clauses, by the greatest rank of a variable in each.
-fn by_greatest(engine: &Engine, clauses: &[u32], ranks: &Ranks) -> Result<Table, AllocError> {
-    let mut table = Table::new(engine, ranks.vars.len())?;
+fn by_greatest(
+    alloc: Global,
+    arena: &Arena,
+    clauses: &[u32],
+    ranks: &Ranks,
+    is_short: &mut bool,
+) -> Table {
+    let mut table = Table::new(alloc, ranks.vars.len(), is_short);
     for clause in clauses {
-        table.count(greatest(ranks, engine.arena.literals(*clause)));
+        table.count(greatest(ranks, arena.literals(*clause)));
     }
-    table.make_room(engine)?;
+    table.make_room(alloc, is_short);
     for clause in clauses {
-        let rank = greatest(ranks, engine.arena.literals(*clause));
+        let rank = greatest(ranks, arena.literals(*clause));
         table.put(rank, *clause);
     }
-    Ok(table)
+    table
 }
 
 // The values of a literal, of those of variables.
@@ -141,81 +149,108 @@ fn noted(t: Told, newest: u64, is_first: bool) -> Told {
 }
 
 // Makes all clauses true by their greatest variables, in the order of these.
-fn mend_all(told: &mut [Told], values: &mut [u64], engine: &Engine, vars: &[u32], table: &Table) {
+fn mend_all(told: &mut [Told], values: &mut [u64], arena: &Arena, vars: &[u32], table: &Table) {
     for (rank, var) in vars.iter().enumerate() {
         if let Some(t) = told.get_mut(*var as usize) {
             for clause in table.row(narrow(rank)) {
-                mend(values, t, engine.arena.literals(*clause), *var);
+                mend(values, t, arena.literals(*clause), *var);
             }
         }
     }
 }
 
-// Tries 64 random values of each variable.
-fn try_word(
+// Makes words of random bits, of one kind.
+fn draw(values: &mut [u64], random: &mut Random, kind: usize) {
+    for word in values.iter_mut() {
+        *word = random.word(kind);
+    }
+}
+
+// Notes the newest values.
+fn note_all(told: &mut [Told], values: &[u64], is_first: bool) {
+    for (var, t) in told.iter_mut().enumerate() {
+        let newest = values.get(var).copied().unwrap_or(0);
+        *t = noted(*t, newest, is_first);
+    }
+}
+
+// Tries so many words of 64 random values of each variable.
+fn try_words(
     told: &mut [Told],
     values: &mut [u64],
-    engine: &Engine,
+    arena: &Arena,
     vars: &[u32],
     table: &Table,
-    random: &mut Random,
-    k: usize,
+    words: usize,
 ) {
-    for word in values.iter_mut() {
-        *word = random.word(k % KINDS);
-    }
-    mend_all(told, values, engine, vars, table);
-    for (var, newest) in values.iter().enumerate() {
-        if let Some(t) = told.get_mut(var) {
-            *t = noted(*t, *newest, k == 0);
-        }
+    let mut random = Random { state: SEED };
+    for k in 0..words {
+        draw(values, &mut random, k % KINDS);
+        mend_all(told, values, arena, vars, table);
+        note_all(told, values, k == 0);
     }
 }
 
 // How many words of tries there are: as many as look at so many literals together.
-fn words(engine: &Engine) -> usize {
+fn words(arena: &Arena) -> usize {
     TRIED_LITERALS
-        .checked_div(engine.arena.words.len())
+        .checked_div(arena.words.len())
         .unwrap_or(MOST_TRIES)
         .min(MOST_TRIES)
 }
 
 // What comes of all tries.
 fn tell(
-    engine: &Engine,
+    alloc: Global,
+    arena: &Arena,
     clauses: &[u32],
     ranks: &Ranks,
     words: usize,
-) -> Result<Vec<Told>, AllocError> {
-    let table = by_greatest(engine, clauses, ranks)?;
-    let mut told = vec![in engine.alloc; NOTHING; engine.gone.len()]?;
-    let mut values: Vec<u64> = vec![in engine.alloc; 0; engine.gone.len()]?;
-    let mut random = Random { state: SEED };
-    for k in 0..words {
-        let vars = ranks.vars.as_slice();
-        try_word(&mut told, &mut values, engine, vars, &table, &mut random, k);
-    }
-    Ok(told)
+    is_short: &mut bool,
+) -> Vec<Told> {
+    let table = by_greatest(alloc, arena, clauses, ranks, is_short);
+    let mut told = filled(alloc, NOTHING, ranks.ranks.len(), is_short);
+    let mut values: Vec<u64> = filled(alloc, 0, ranks.ranks.len(), is_short);
+    try_words(&mut told, &mut values, arena, &ranks.vars, &table, words);
+    told
 }
 
-// The ranks of the variables that may be paired, with their sums, so that those of one sum stand beside one another.
-fn ranked(
-    engine: &Engine,
-    told: &[Told],
-    ranks: &Ranks,
-    words: usize,
-) -> Result<Vec<(u64, u32)>, AllocError> {
+// Whether a variable may be paired, after so many words of tries.
+fn is_fit(told: &[Told], var: usize, words: usize) -> bool {
     let most = (words as u64)
         .saturating_mul(64)
         .saturating_sub(LEAST_TRIES);
-    let mut found = Vec::new(engine.alloc);
-    for (var, t) in told.iter().enumerate() {
-        if LEAST_TRIES <= t.count && t.count <= most && engine.is_open(narrow(var)) {
-            found.push((t.sum, at(&ranks.ranks, var)))?;
+    match told.get(var) {
+        Some(t) => LEAST_TRIES <= t.count && t.count <= most,
+        None => false,
+    }
+}
+
+// A number that comes of all values of a variable.
+fn sum_of(told: &[Told], var: usize) -> u64 {
+    match told.get(var) {
+        Some(t) => t.sum,
+        None => 0,
+    }
+}
+
+// The ranks of the open variables that may be paired, with their sums, so that those of one sum stand beside one another.
+fn ranked(
+    data: &mut Database,
+    gone: &[bool],
+    told: &[Told],
+    ranks: &Ranks,
+    words: usize,
+) -> Vec<(u64, u32)> {
+    let mut found = Vec::new(data.alloc);
+    for var in 0..told.len() {
+        if is_fit(told, var, words) && is_open(&data.trail.values, gone, narrow(var)) {
+            let candidate = (sum_of(told, var), at(&ranks.ranks, var));
+            push(&mut found, candidate, &mut data.is_short);
         }
     }
     found.sort_unstable();
-    Ok(found)
+    found
 }
 
 // Whether clauses make a variable what it is.
@@ -236,42 +271,62 @@ fn first_literal(told: &[Told], var: u32) -> Lit {
 
 // The ranks of variables that are likely to be equal, the greater one first, in the order of these.
 fn rank_pairs(
-    engine: &Engine,
+    alloc: Global,
+    ranked: &[(u64, u32)],
     told: &[Told],
-    ranks: &Ranks,
-    words: usize,
-) -> Result<Vec<(u32, u32)>, AllocError> {
-    let ranked = ranked(engine, told, ranks, words)?;
-    let mut found = Vec::new(engine.alloc);
+    vars: &[u32],
+    is_short: &mut bool,
+) -> Vec<(u32, u32)> {
+    let mut found = Vec::new(alloc);
     for k in 1..ranked.len() {
         let (sum, first) = ranked[k - 1];
         let (other, second) = ranked[k];
-        if sum == other && is_made(told, at(&ranks.vars, second as usize)) {
-            found.push((second, first))?;
+        if sum == other && is_made(told, at(vars, second as usize)) {
+            push(&mut found, (second, first), is_short);
         }
     }
     found.sort_unstable();
-    Ok(found)
+    found
+}
+
+// The literals of pairs of ranks.
+fn literals_of(
+    alloc: Global,
+    pairs: &[(u32, u32)],
+    told: &[Told],
+    vars: &[u32],
+    is_short: &mut bool,
+) -> Vec<(Lit, Lit)> {
+    let mut found = room_for(alloc, pairs.len(), is_short);
+    for (later, earlier) in pairs {
+        let one = first_literal(told, at(vars, *later as usize));
+        let other = first_literal(told, at(vars, *earlier as usize));
+        push(&mut found, (one, other), is_short);
+    }
+    found
 }
 
 /// Pairs of literals that are likely to be equal, of which the first is of the variable that is made later, and the pair with the
 /// earliest such variable comes first.
 pub fn likely_pairs(
-    engine: &Engine,
+    data: &mut Database,
+    gone: &[bool],
     ranks: &Ranks,
     clauses: &[u32],
-) -> Result<Vec<(Lit, Lit)>, AllocError> {
-    let mut found = Vec::new(engine.alloc);
-    let words = words(engine);
+) -> Vec<(Lit, Lit)> {
+    let words = words(&data.arena);
     if words < FEWEST_TRIES {
-        return Ok(found);
+        return Vec::new(data.alloc);
     }
-    let told = tell(engine, clauses, ranks, words)?;
-    let pairs = rank_pairs(engine, &told, ranks, words)?;
-    for (later, earlier) in pairs.as_slice() {
-        let one = at(&ranks.vars, *later as usize);
-        let other = at(&ranks.vars, *earlier as usize);
-        found.push((first_literal(&told, one), first_literal(&told, other)))?;
-    }
-    Ok(found)
+    let told = tell(
+        data.alloc,
+        &data.arena,
+        clauses,
+        ranks,
+        words,
+        &mut data.is_short,
+    );
+    let ranked = ranked(data, gone, &told, ranks, words);
+    let pairs = rank_pairs(data.alloc, &ranked, &told, &ranks.vars, &mut data.is_short);
+    literals_of(data.alloc, &pairs, &told, &ranks.vars, &mut data.is_short)
 }

@@ -2,10 +2,13 @@
 //! some number. Whether two literals are equal is mostly told by what lies near to them, so that nothing else is decided for a
 //! pair.
 
+use sat_arena::arena::Arena;
 use sat_arena::constants::PAIR_GATES;
-use sat_arena::words::{Lit, NONE, at, is_set, lit_of, narrow, put, var_of};
-use sat_cdcl::engine::Engine;
-use std::alloc::AllocError;
+use sat_arena::trail::{Value, is_open};
+use sat_arena::words::{Lit, NONE, at, filled, is_set, lit_of, narrow, push, put, var_of};
+use sat_cdcl::database::Database;
+use sat_order::order::Order;
+use std::alloc::Global;
 
 /// Variables in the order in which they are decided.
 pub struct Cone {
@@ -19,6 +22,8 @@ pub struct Cone {
     one: Lit,
     other: Lit,
     is_made: bool,
+    /// Whether there was no room for something.
+    pub is_short: bool,
 }
 
 impl Drop for Cone {
@@ -31,31 +36,34 @@ impl Drop for Cone {
             one: _,
             other: _,
             is_made: _,
+            is_short: _,
         } = self;
     }
 }
 
 impl Cone {
-    /// An empty one.
-    pub fn new(engine: &Engine) -> Result<Cone, AllocError> {
-        Ok(Cone {
-            vars: Vec::new(engine.alloc),
-            stamps: vec![in engine.alloc; 0; engine.gone.len()]?,
+    /// An empty one, of so many variables.
+    pub fn new(alloc: Global, vars: usize) -> Cone {
+        let mut is_short = false;
+        let stamps = filled(alloc, 0, vars, &mut is_short);
+        Cone {
+            vars: Vec::new(alloc),
+            stamps,
             stamp: 0,
             next: 0,
             one: 0,
             other: 0,
             is_made: false,
-        })
+            is_short,
+        }
     }
 
     // Adds a variable, if it is not in the cone.
-    fn add(&mut self, var: usize) -> Result<(), AllocError> {
+    fn add(&mut self, var: usize) {
         if at(&self.stamps, var) != self.stamp {
             put(&mut self.stamps, var, self.stamp);
-            self.vars.push(narrow(var))?;
+            push(&mut self.vars, narrow(var), &mut self.is_short);
         }
-        Ok(())
     }
 
     /// Lets it be that of two literals. It is made when it is asked for.
@@ -66,25 +74,29 @@ impl Cone {
         self.vars.clear();
     }
 
+    // Adds what a gate reads.
+    fn add_gate(&mut self, literals: &[Lit]) {
+        for lit in literals {
+            self.add(var_of(*lit));
+        }
+    }
+
     // Makes it, where each variable has this gate. What is looked at for that counts as work.
-    fn make(&mut self, engine: &mut Engine, gates: &[u32]) -> Result<(), AllocError> {
+    fn make(&mut self, arena: &Arena, gates: &[u32], work: &mut u64) {
         self.is_made = true;
         self.stamp = self.stamp.wrapping_add(1);
-        self.add(var_of(self.one))?;
-        self.add(var_of(self.other))?;
+        self.add(var_of(self.one));
+        self.add(var_of(self.other));
         for k in 0..PAIR_GATES {
             if k >= self.vars.len() {
                 break;
             }
             let gate = at(gates, at(&self.vars, k) as usize);
             if gate != NONE {
-                engine.work = engine.work.saturating_add(1);
-                for lit in engine.arena.literals(gate) {
-                    self.add(var_of(*lit))?;
-                }
+                *work = work.saturating_add(1);
+                self.add_gate(arena.literals(gate));
             }
         }
-        Ok(())
     }
 
     /// Begins at the front again.
@@ -92,20 +104,36 @@ impl Cone {
         self.next = 0;
     }
 
-    /// Decides a variable, where each has this gate. Answers whether some was open.
-    pub fn decide(&mut self, engine: &mut Engine, gates: &[u32]) -> Result<bool, AllocError> {
-        if !self.is_made {
-            self.make(engine, gates)?;
-        }
+    // The next open variable, if there is one.
+    fn open_variable(&mut self, values: &[Value], gone: &[bool]) -> Option<u32> {
         for k in self.next..self.vars.len() {
             let var = at(&self.vars, k);
-            if engine.is_open(var) {
+            if is_open(values, gone, var) {
                 self.next = k;
-                let value = is_set(&engine.phases.saved, var as usize);
-                engine.trail.decide(lit_of(var, value))?;
-                return Ok(true);
+                return Some(var);
             }
         }
-        Ok(false)
+        None
+    }
+
+    /// Decides a variable, where each has this gate. Answers whether some was open.
+    pub fn decide(
+        &mut self,
+        data: &mut Database,
+        order: &Order,
+        gates: &[u32],
+        work: &mut u64,
+    ) -> bool {
+        if !self.is_made {
+            self.make(&data.arena, gates, work);
+        }
+        match self.open_variable(&data.trail.values, &order.gone) {
+            None => false,
+            Some(var) => {
+                let value = is_set(&order.phases.saved, var as usize);
+                data.trail.decide(lit_of(var, value));
+                true
+            }
+        }
     }
 }

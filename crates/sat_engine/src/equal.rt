@@ -3,11 +3,13 @@
 //! found by one walk with a stack of its own (Tarjan 1972).
 
 use sat_arena::trail::{Value, value_of};
-use sat_arena::watches::{list_of, put_list, take_list};
-use sat_arena::words::{Lit, NONE, at, is_negated, lit_of, narrow, put};
+use sat_arena::words::{Lit, NONE, at, filled, is_negated, lit_of, narrow, push, put, room_for};
+use sat_cdcl::database::Database;
 use sat_cdcl::engine::Engine;
+use sat_cdcl::watches::{Watch, list_of};
+use sat_order::order::Order;
 use sat_simplify::clean::{clean, holds_always, replace};
-use std::alloc::AllocError;
+use std::alloc::Global;
 use std::mem;
 
 /// A literal on the way, and how many watches of its negation were looked at.
@@ -28,6 +30,8 @@ struct Walk {
     open: Vec<Lit>,
     calls: Vec<Call>,
     count: u32,
+    // Whether there was no room for something.
+    is_short: bool,
 }
 
 impl Drop for Walk {
@@ -39,36 +43,76 @@ impl Drop for Walk {
             open: _,
             calls: _,
             count: _,
+            is_short: _,
         } = self;
     }
 }
 
-impl Walk {
-    // Before the walk, where each literal is alone.
-    fn new(engine: &Engine) -> Result<Walk, AllocError> {
-        let count = engine.lists.len();
-        let mut least = Vec::with_capacity(engine.alloc, count)?;
-        for lit in 0..narrow(count) {
-            least.push(lit)?;
+// Each literal alone.
+fn alone(alloc: Global, count: usize, is_short: &mut bool) -> Vec<Lit> {
+    let mut least = room_for(alloc, count, is_short);
+    for lit in 0..narrow(count) {
+        push(&mut least, lit, is_short);
+    }
+    least
+}
+
+// The least of some literals and another.
+fn least_of(lits: &[Lit], lit: Lit) -> Lit {
+    let mut least = lit;
+    for other in lits {
+        least = least.min(*other);
+    }
+    least
+}
+
+// Puts a word in the places of some literals.
+fn put_all(words: &mut [u32], lits: &[Lit], word: u32) {
+    for lit in lits {
+        put(words, *lit as usize, word);
+    }
+}
+
+// Where a literal stands, as the last one of these.
+fn place_of(lits: &[Lit], lit: Lit) -> usize {
+    for k in (0..lits.len()).rev() {
+        if at(lits, k) == lit {
+            return k;
         }
-        Ok(Walk {
-            met: vec![in engine.alloc; 0; count]?,
-            low: vec![in engine.alloc; 0; count]?,
+    }
+    0
+}
+
+impl Walk {
+    // Before the walk, where each of so many literals is alone.
+    fn new(alloc: Global, count: usize) -> Walk {
+        let mut is_short = false;
+        let met = filled(alloc, 0, count, &mut is_short);
+        let low = filled(alloc, 0, count, &mut is_short);
+        let least = alone(alloc, count, &mut is_short);
+        Walk {
+            met,
+            low,
             least,
-            open: Vec::new(engine.alloc),
-            calls: Vec::new(engine.alloc),
+            open: Vec::new(alloc),
+            calls: Vec::new(alloc),
             count: 0,
-        })
+            is_short,
+        }
+    }
+
+    // Puts a call behind those on the way.
+    fn call(&mut self, call: Call) {
+        push(&mut self.calls, call, &mut self.is_short);
     }
 
     // Meets a literal.
-    fn enter(&mut self, lit: Lit) -> Result<(), AllocError> {
+    fn enter(&mut self, lit: Lit) {
         self.count = self.count.saturating_add(1);
         put(&mut self.met, lit as usize, self.count);
         put(&mut self.low, lit as usize, self.count);
-        self.open.push(lit)?;
-        self.calls.push(Call { lit, looked: 0 })?;
-        Ok(())
+        push(&mut self.open, lit, &mut self.is_short);
+        self.call(Call { lit, looked: 0 });
     }
 
     // Notes that a literal leads to one that was met so early.
@@ -77,41 +121,26 @@ impl Walk {
         put(&mut self.low, lit as usize, low);
     }
 
-    // Where a literal stands among those whose components are not complete.
-    fn place_of(&self, lit: Lit) -> usize {
-        for k in (0..self.open.len()).rev() {
-            if at(&self.open, k) == lit {
-                return k;
-            }
-        }
-        0
-    }
-
     // Takes the component out that is complete with a literal.
     fn complete(&mut self, lit: Lit) {
-        let start = self.place_of(lit);
-        let mut least = lit;
-        for k in start..self.open.len() {
-            least = least.min(at(&self.open, k));
-        }
-        for k in start..self.open.len() {
-            let other = at(&self.open, k);
-            put(&mut self.least, other as usize, least);
-            put(&mut self.met, other as usize, NONE);
+        let start = place_of(&self.open, lit);
+        if let Some(component) = self.open.get(start..) {
+            let least = least_of(component, lit);
+            put_all(&mut self.least, component, least);
+            put_all(&mut self.met, component, NONE);
         }
         self.open.truncate(start);
     }
 
     // Looks through what follows from a literal, up to one that was not met. Answers that, with how many were looked at. Clauses of two
     // literals stand before others.
-    fn look(&mut self, engine: &Engine, call: Call) -> Option<Call> {
-        let list = list_of(&engine.lists, call.lit ^ 1);
+    fn look(&mut self, values: &[Value], list: &[Watch], call: Call) -> Option<Call> {
         for k in call.looked..list.len() {
             let watch = list[k];
             if !watch.is_pair() {
                 break;
             }
-            if matches!(value_of(&engine.trail.values, watch.blocker), Value::Open) {
+            if matches!(value_of(values, watch.blocker), Value::Open) {
                 let met = at(&self.met, watch.blocker as usize);
                 if met == 0 {
                     return Some(Call {
@@ -125,50 +154,64 @@ impl Walk {
         None
     }
 
+    // Goes back from a literal from which nothing more follows.
+    fn leave(&mut self, lit: Lit) {
+        let low = at(&self.low, lit as usize);
+        if low == at(&self.met, lit as usize) {
+            self.complete(lit);
+        }
+        if let Some(before) = self.calls.last().copied() {
+            self.lower(before.lit, low);
+        }
+    }
+
     // Goes on from the last literal on the way, down to one that was not met, or back to the one before it.
-    fn step(&mut self, engine: &Engine, call: Call) -> Result<(), AllocError> {
-        match self.look(engine, call) {
+    fn step(&mut self, values: &[Value], lists: &[Vec<Watch>], call: Call) {
+        match self.look(values, list_of(lists, call.lit ^ 1), call) {
             Some(next) => {
                 let looked = next.looked;
-                self.calls.push(Call { looked, ..call })?;
-                self.enter(next.lit)
+                self.call(Call { looked, ..call });
+                self.enter(next.lit);
             }
-            None => {
-                let low = at(&self.low, call.lit as usize);
-                if low == at(&self.met, call.lit as usize) {
-                    self.complete(call.lit);
-                }
-                if let Some(before) = self.calls.last().copied() {
-                    self.lower(before.lit, low);
-                }
-                Ok(())
-            }
+            None => self.leave(call.lit),
         }
     }
 
     // Walks from a literal on.
-    fn walk_from(&mut self, engine: &Engine, root: Lit) -> Result<(), AllocError> {
-        self.enter(root)?;
+    fn walk_from(&mut self, values: &[Value], lists: &[Vec<Watch>], root: Lit) {
+        self.enter(root);
         for _ in 0..u64::MAX {
             match self.calls.pop() {
                 None => break,
-                Some(call) => self.step(engine, call)?,
+                Some(call) => self.step(values, lists, call),
             }
         }
-        Ok(())
+    }
+
+    // Walks from each literal that has no value and was not met.
+    fn walk_all(&mut self, values: &[Value], lists: &[Vec<Watch>]) {
+        for root in 0..narrow(lists.len()) {
+            let is_open = matches!(value_of(values, root), Value::Open);
+            if is_open && at(&self.met, root as usize) == 0 {
+                self.walk_from(values, lists, root);
+            }
+        }
     }
 }
 
 // The least literal of the component of each literal.
-fn components(engine: &Engine) -> Result<Vec<Lit>, AllocError> {
-    let mut walk = Walk::new(engine)?;
-    for root in 0..narrow(engine.lists.len()) {
-        let is_open = matches!(value_of(&engine.trail.values, root), Value::Open);
-        if is_open && at(&walk.met, root as usize) == 0 {
-            walk.walk_from(engine, root)?;
-        }
+fn components(
+    alloc: Global,
+    values: &[Value],
+    lists: &[Vec<Watch>],
+    is_short: &mut bool,
+) -> Vec<Lit> {
+    let mut walk = Walk::new(alloc, lists.len());
+    walk.walk_all(values, lists);
+    if walk.is_short {
+        *is_short = true;
     }
-    Ok(mem::replace(&mut walk.least, Vec::new(engine.alloc)))
+    mem::replace(&mut walk.least, Vec::new(alloc))
 }
 
 // The literal that is put in the place of another: of each component and that of the negated literals only one has a literal that is
@@ -192,6 +235,8 @@ struct Merging {
     numbers: Vec<u32>,
     // The literals from which others are still to be reached.
     open: Vec<Lit>,
+    // The literals of a clause, with those that are put for them.
+    renamed: Vec<Lit>,
 }
 
 impl Drop for Merging {
@@ -200,125 +245,121 @@ impl Drop for Merging {
             least: _,
             numbers: _,
             open: _,
+            renamed: _,
         } = self;
     }
 }
 
 impl Merging {
     // Writes down that a literal follows from `root`, as it follows from `lit` by the clause of this number.
-    fn reach(
-        &mut self,
-        engine: &mut Engine,
-        root: Lit,
-        lit: Lit,
-        next: Lit,
-        number: u32,
-    ) -> Result<(), AllocError> {
+    fn reach(&mut self, data: &mut Database, root: Lit, lit: Lit, next: Lit, number: u32) {
         let mut known = number;
         if lit != root {
             let before = at(&self.numbers, lit as usize);
-            known = engine.log.add(&[root ^ 1, next], &[before, number])?;
+            known = data.log.add(&[root ^ 1, next], &[before, number]);
         }
         put(&mut self.numbers, next as usize, known);
-        self.open.push(next)?;
-        Ok(())
+        push(&mut self.open, next, &mut data.is_short);
+    }
+
+    // Whether a literal is one for which `root` is put, and it is not known why.
+    fn is_unknown(&self, root: Lit, lit: Lit) -> bool {
+        let is_inside = put_for(&self.least, lit) == root && lit != root;
+        is_inside && at(&self.numbers, lit as usize) == NONE
     }
 
     // Goes on from a literal that follows from `root` to those of the component that follow from it.
-    fn spread(&mut self, engine: &mut Engine, root: Lit, lit: Lit) -> Result<(), AllocError> {
-        let list = take_list(engine.alloc, &mut engine.lists, lit ^ 1);
-        for watch in list.as_slice() {
+    fn spread(&mut self, data: &mut Database, list: &[Watch], root: Lit, lit: Lit) {
+        for watch in list {
             let next = watch.blocker;
-            let is_inside = put_for(&self.least, next) == root && next != root;
-            if watch.is_pair() && is_inside && at(&self.numbers, next as usize) == NONE {
-                let number = engine.arena.number(watch.clause());
-                self.reach(engine, root, lit, next, number)?;
+            if watch.is_pair() && self.is_unknown(root, next) {
+                let number = data.arena.number(watch.clause());
+                self.reach(data, root, lit, next, number);
             }
         }
-        put_list(&mut engine.lists, lit ^ 1, list);
-        Ok(())
     }
 
     // Writes down that each literal follows for which `root` is put.
-    fn justify(&mut self, engine: &mut Engine, root: Lit) -> Result<(), AllocError> {
+    fn justify(&mut self, data: &mut Database, lists: &[Vec<Watch>], root: Lit) {
         self.open.clear();
-        self.open.push(root)?;
+        push(&mut self.open, root, &mut data.is_short);
         for _ in 0..u64::MAX {
             match self.open.pop() {
                 None => break,
-                Some(lit) => self.spread(engine, root, lit)?,
+                Some(lit) => self.spread(data, list_of(lists, lit ^ 1), root, lit),
             }
         }
-        Ok(())
-    }
-
-    // The literals of a clause with those that are put for them, in their order and each once. Notes the hints. Answers whether some
-    // literal is changed.
-    fn rename(
-        &self,
-        engine: &mut Engine,
-        clause: u32,
-        renamed: &mut Vec<Lit>,
-    ) -> Result<bool, AllocError> {
-        renamed.clear();
-        engine.notes.hints.clear();
-        for lit in engine.arena.literals(clause) {
-            let to = put_for(&self.least, *lit);
-            renamed.push(to)?;
-            if to != *lit {
-                let number = at(&self.numbers, (*lit ^ 1) as usize);
-                engine.notes.hints.push(number)?;
-            }
-        }
-        let is_changed = !engine.notes.hints.is_empty();
-        engine.notes.hints.push(engine.arena.number(clause))?;
-        renamed.sort_unstable();
-        renamed.dedup();
-        Ok(is_changed)
-    }
-
-    // Puts literals for others in all clauses.
-    fn substitute(&self, engine: &mut Engine) -> Result<(), AllocError> {
-        let mut renamed: Vec<Lit> = Vec::new(engine.alloc);
-        let clauses = engine.arena.clauses(engine.alloc)?;
-        for clause in clauses.as_slice() {
-            if engine.log.end == 0 && self.rename(engine, *clause, &mut renamed)? {
-                if holds_always(&renamed) {
-                    engine.arena.discard(*clause);
-                } else {
-                    let _place = replace(engine, *clause, &renamed)?;
-                }
-            }
-        }
-        Ok(())
-    }
-
-    // Takes the variables out for which others are put. Their values in a solution are those of these.
-    fn leave_out(&self, engine: &mut Engine) -> Result<(), AllocError> {
-        for var in 0..narrow(engine.gone.len()) {
-            let lit = lit_of(var, true);
-            let to = put_for(&self.least, lit);
-            if to != lit {
-                let clauses = [lit, to ^ 1, 2, lit ^ 1, to, 2];
-                engine.kept.extend_from_slice(&clauses)?;
-                engine.leave_out(var);
-            }
-        }
-        Ok(())
     }
 
     // Writes down why all these literals are equal. Answers whether there are any.
-    fn justify_all(&mut self, engine: &mut Engine) -> Result<bool, AllocError> {
+    fn justify_all(&mut self, data: &mut Database, lists: &[Vec<Watch>]) -> bool {
         let mut is_any = false;
         for lit in 0..narrow(self.least.len()) {
             let root = at(&self.least, lit as usize);
             if !is_negated(root) && root != lit && at(&self.numbers, lit as usize) == NONE {
                 is_any = true;
-                self.justify(engine, root)?;
-                self.justify(engine, root ^ 1)?;
+                self.justify(data, lists, root);
+                self.justify(data, lists, root ^ 1);
             }
         }
-        Ok(is_any)
+        is_any
+    }
+
+    // The literals of a clause with those that are put for them, in their order and each once. Answers whether some literal is changed:
+    // then the hints say why.
+    fn rename(&mut self, literals: &[Lit], hints: &mut Vec<u32>, is_short: &mut bool) -> bool {
+        self.renamed.clear();
+        hints.clear();
+        for lit in literals {
+            let to = put_for(&self.least, *lit);
+            push(&mut self.renamed, to, is_short);
+            if to != *lit {
+                push(hints, at(&self.numbers, (*lit ^ 1) as usize), is_short);
+            }
+        }
+        self.renamed.sort_unstable();
+        self.renamed.dedup();
+        !hints.is_empty()
+    }
+
+    // Puts literals for others in a clause.
+    fn substitute_in(&mut self, data: &mut Database, clause: u32) {
+        let literals = data.arena.literals(clause);
+        if !self.rename(literals, &mut data.hints, &mut data.is_short) {
+            return;
+        }
+        if holds_always(&self.renamed) {
+            data.arena.discard(clause);
+        } else {
+            push(
+                &mut data.hints,
+                data.arena.number(clause),
+                &mut data.is_short,
+            );
+            let _place = replace(data, clause, &self.renamed);
+        }
+    }
+
+    // Puts literals for others in all clauses.
+    fn substitute(&mut self, data: &mut Database) {
+        let clauses = data.arena.clauses(data.alloc);
+        for clause in clauses.as_slice() {
+            if !data.is_refuted() {
+                self.substitute_in(data, *clause);
+            }
+        }
+    }
+
+    // Takes the variables out for which others are put. Their values in a solution are those of these.
+    fn leave_out(&self, data: &mut Database, order: &mut Order) {
+        for var in 0..narrow(order.gone.len()) {
+            let lit = lit_of(var, true);
+            let to = put_for(&self.least, lit);
+            if to != lit {
+                data.keep(&[lit, to ^ 1, 2, lit ^ 1, to, 2]);
+                order.leave_out(var);
+            }
+        }
     }
 }
 
@@ -333,34 +374,53 @@ fn contradiction(least: &[Lit]) -> Option<Lit> {
 }
 
 // Refutes the clauses, where a literal is equal to its negation: that it is decided is a conflict, and what is learned is another.
-fn refute(engine: &mut Engine, lit: Lit) -> Result<(), AllocError> {
-    engine.trail.decide(lit)?;
+fn refute(engine: &mut Engine, lit: Lit) {
+    engine.data.trail.decide(lit);
     for _ in 0..2 {
-        if let Some(conflict) = engine.propagate()? {
-            engine.learn(conflict)?;
+        if let Some(conflict) = engine.propagate() {
+            engine.learn(conflict);
         }
     }
-    Ok(())
+}
+
+// Puts one literal in the place of all that are equal to it, of which these are the least. Answers whether there are any.
+fn put_least(
+    data: &mut Database,
+    order: &mut Order,
+    lists: &[Vec<Watch>],
+    least: Vec<Lit>,
+) -> bool {
+    let numbers = filled(data.alloc, NONE, least.len(), &mut data.is_short);
+    let mut merging = Merging {
+        least,
+        numbers,
+        open: Vec::new(data.alloc),
+        renamed: Vec::new(data.alloc),
+    };
+    let is_any = merging.justify_all(data, lists);
+    if is_any {
+        merging.substitute(data);
+        merging.leave_out(data, order);
+        clean(data);
+    }
+    is_any
 }
 
 /// Puts one literal in the place of all that are equal to it. All is clean and watched before, pairs before others. Answers whether
 /// clauses changed: then the watches are still those of the clauses before.
-pub fn merge(engine: &mut Engine) -> Result<bool, AllocError> {
-    let least = components(engine)?;
-    if let Some(lit) = contradiction(&least) {
-        refute(engine, lit)?;
-        return Ok(false);
+pub fn merge(engine: &mut Engine) -> bool {
+    let values = &engine.data.trail.values;
+    let least = components(
+        engine.data.alloc,
+        values,
+        &engine.lists,
+        &mut engine.data.is_short,
+    );
+    match contradiction(&least) {
+        Some(lit) => {
+            refute(engine, lit);
+            false
+        }
+        None => put_least(&mut engine.data, &mut engine.order, &engine.lists, least),
     }
-    let mut merging = Merging {
-        numbers: vec![in engine.alloc; NONE; least.len()]?,
-        least,
-        open: Vec::new(engine.alloc),
-    };
-    let is_any = merging.justify_all(engine)?;
-    if is_any {
-        merging.substitute(engine)?;
-        merging.leave_out(engine)?;
-        clean(engine)?;
-    }
-    Ok(is_any)
 }

@@ -6,9 +6,7 @@
 mod candidates;
 mod cone;
 mod equal;
-mod ranks;
 mod search;
 mod sweep;
-mod table;
 
 pub use search::{Found, search_for};

@@ -2,7 +2,6 @@
 
 use crate::candidates::likely_pairs;
 use crate::equal::merge;
-use crate::ranks::rank_all;
 use crate::sweep::sweep;
 use cnf::{Cnf, Dim};
 use refute_check::Log;
@@ -11,10 +10,11 @@ use sat_arena::constants::{
     MOST_CONFLICTS, MOST_VARIABLES,
 };
 use sat_arena::log;
-use sat_arena::words::{Lit, at, lit_of, narrow};
+use sat_arena::words::{Lit, lit_of, narrow, push};
 use sat_cdcl::engine::{End, Engine, GIVEN};
 use sat_simplify::clean::{clean, holds_always};
 use sat_simplify::eliminate::eliminate;
+use sat_simplify::ranks::rank_all;
 use std::alloc::{AllocError, Global};
 use std::mem;
 
@@ -25,99 +25,109 @@ pub enum Found {
     Solution(Vec<bool>),
     /// Steps.
     Refutation(Log),
-    /// Nothing.
+    /// Nothing: there are too many clauses, variables or steps to be named by four bytes, or there was no room for something.
     GivenUp,
+}
+
+// One more than the greatest variable of a clause, or this number, if that is greater.
+fn named_by(clause: &[Dim], least: usize) -> usize {
+    let mut count = least;
+    for d in clause {
+        count = count.max(d.var.saturating_add(1));
+    }
+    count
 }
 
 // One more than the greatest variable that clauses name.
 fn named(clauses: &[Vec<Dim>]) -> usize {
     let mut count: usize = 0;
     for clause in clauses {
-        for d in clause.as_slice() {
-            count = count.max(d.var.saturating_add(1));
-        }
+        count = named_by(clause.as_slice(), count);
     }
     count
 }
 
 // Reads a clause as literals in their order, each once.
-fn read(clause: &[Dim], literals: &mut Vec<Lit>) -> Result<(), AllocError> {
+fn read(clause: &[Dim], literals: &mut Vec<Lit>, is_short: &mut bool) {
     literals.clear();
     for d in clause {
-        literals.push(lit_of(narrow(d.var), !d.negated))?;
+        push(literals, lit_of(narrow(d.var), !d.negated), is_short);
     }
     literals.sort_unstable();
     literals.dedup();
-    Ok(())
 }
 
 // Takes a given clause, as it was read.
-fn take_given(engine: &mut Engine, literals: &[Lit], number: u32) -> Result<(), AllocError> {
+fn take_given(engine: &mut Engine, literals: &[Lit], number: u32) {
     if holds_always(literals) {
-        return Ok(());
+        return;
     }
-    match literals.len() {
-        0 => {
-            let _number = engine.log.add(&[], &[number])?;
+    match literals {
+        [] => {
+            let _number = engine.data.log.add(&[], &[number]);
         }
-        1 => engine.add_unit(at(literals, 0), number)?,
+        [lit] => engine.data.add_unit(*lit, number),
         _ => {
-            let _place = engine.add(literals, number, GIVEN)?;
+            let _place = engine.add(literals, number, GIVEN);
         }
     }
-    Ok(())
 }
 
 // Takes the given clauses, up to one by which they are refuted.
-fn load(engine: &mut Engine, cnf: &Cnf) -> Result<(), AllocError> {
-    let mut literals: Vec<Lit> = Vec::new(engine.alloc);
-    for (number, clause) in cnf.clauses.iter().enumerate() {
-        if engine.log.end > 0 {
+fn load(engine: &mut Engine, clauses: &[Vec<Dim>]) {
+    let mut literals: Vec<Lit> = Vec::new(engine.data.alloc);
+    for (number, clause) in clauses.iter().enumerate() {
+        if engine.data.is_refuted() {
             break;
         }
-        read(clause.as_slice(), &mut literals)?;
-        take_given(engine, &literals, narrow(number))?;
+        read(clause.as_slice(), &mut literals, &mut engine.data.is_short);
+        take_given(engine, &literals, narrow(number));
     }
-    Ok(())
 }
 
 // Leaves out what is fixed, and puts one literal in the place of all that are equal to it, while nothing is decided. Answers whether
 // clauses changed: then the watches are still those of the clauses before.
-fn join(engine: &mut Engine) -> Result<bool, AllocError> {
+fn join(engine: &mut Engine) -> bool {
     engine.backtrack(0);
-    clean(engine)?;
-    engine.collect()?;
-    if engine.log.end > 0 {
-        return Ok(false);
-    }
-    merge(engine)
+    clean(&mut engine.data);
+    engine.collect();
+    !engine.data.is_refuted() && merge(engine)
 }
 
 // Shows pairs of literals to be equal that are likely to be.
-fn pair(engine: &mut Engine) -> Result<(), AllocError> {
-    if join(engine)? {
-        engine.collect()?;
+fn try_pairs(engine: &mut Engine) {
+    let clauses = engine.data.arena.given(engine.data.alloc);
+    let ranks = rank_all(
+        engine.data.alloc,
+        &engine.data.arena,
+        &engine.lists,
+        &clauses,
+        &mut engine.data.is_short,
+    );
+    let pairs = likely_pairs(&mut engine.data, &engine.order.gone, &ranks, &clauses);
+    sweep(engine, &ranks.gates, &pairs);
+}
+
+// Shows pairs of literals to be equal that are likely to be, where one literal stands for all that are known to be equal.
+fn pair(engine: &mut Engine) {
+    if join(engine) {
+        engine.collect();
     }
-    if engine.log.end == 0 {
-        let clauses = engine.given()?;
-        let ranks = rank_all(engine, &clauses)?;
-        let pairs = likely_pairs(engine, &ranks, &clauses)?;
-        sweep(engine, &ranks.gates, &pairs)?;
+    if !engine.data.is_refuted() {
+        try_pairs(engine);
     }
-    Ok(())
 }
 
 // Simplifies the clauses, while nothing is decided.
-fn simplify(engine: &mut Engine) -> Result<(), AllocError> {
-    let _is_any = join(engine)?;
+fn simplify(engine: &mut Engine) {
+    let _is_any = join(engine);
     engine.unwatch();
-    if engine.log.end == 0 {
-        eliminate(engine, ELIMINATION)?;
+    if !engine.data.is_refuted() {
+        eliminate(&mut engine.data, &mut engine.order, ELIMINATION);
     }
-    engine.collect()?;
-    engine.arena.fit(engine.alloc)?;
-    engine.queue.rewind();
-    Ok(())
+    engine.collect();
+    engine.data.arena.fit(engine.data.alloc);
+    engine.order.queue.rewind();
 }
 
 // How many clauses the first search looks at, where so many are given.
@@ -128,43 +138,67 @@ fn first_work(clauses: usize) -> u64 {
         .min(FIRST_MOST)
 }
 
-// Loads the clauses and searches: shortly at first, and then in simpler clauses.
-fn run(engine: &mut Engine, cnf: &Cnf) -> Result<End, AllocError> {
-    load(engine, cnf)?;
-    if engine.log.end > 0 {
-        return Ok(End::Refuted);
+// How it ends behind what simplifies the clauses, if it does.
+fn end_of(engine: &Engine) -> Option<End> {
+    if engine.data.is_refuted() {
+        Some(End::Refuted)
+    } else if engine.lacks_room() {
+        Some(End::GivenUp)
+    } else {
+        None
     }
-    match engine.search(FIRST_CONFLICTS, first_work(cnf.clauses.len()))? {
-        End::Paused => {}
-        end => return Ok(end),
+}
+
+// Searches in simpler clauses.
+fn search_on(engine: &mut Engine) -> End {
+    pair(engine);
+    if let Some(end) = end_of(engine) {
+        return end;
     }
-    pair(engine)?;
-    if engine.log.end > 0 {
-        return Ok(End::Refuted);
-    }
-    simplify(engine)?;
-    if engine.log.end > 0 {
-        return Ok(End::Refuted);
+    simplify(engine);
+    if let Some(end) = end_of(engine) {
+        return end;
     }
     engine.search(MOST_CONFLICTS, u64::MAX)
+}
+
+// Loads the clauses and searches: shortly at first, and then in simpler clauses.
+fn run(engine: &mut Engine, clauses: &[Vec<Dim>]) -> End {
+    load(engine, clauses);
+    if let Some(end) = end_of(engine) {
+        return end;
+    }
+    match engine.search(FIRST_CONFLICTS, first_work(clauses.len())) {
+        End::Paused => search_on(engine),
+        end => end,
+    }
+}
+
+// The log by which a search refuted the clauses. All else is let go before it is written.
+fn log_of(alloc: Global, engine: Engine) -> Found {
+    let mut engine = engine;
+    let mut log = mem::replace(&mut engine.data.log, log::Log::new(alloc, 0));
+    drop(engine);
+    let steps = log.written();
+    if log.is_short {
+        Found::GivenUp
+    } else {
+        Found::Refutation(Log { steps })
+    }
 }
 
 /// Searches for a solution of the clauses, or for a log that refutes them. Variables behind the greatest that a clause names take no
 /// room, and are false in a solution.
 pub fn search_for(alloc: Global, cnf: &Cnf) -> Result<Found, AllocError> {
-    let vars = named(cnf.clauses.as_slice());
-    if vars > MOST_VARIABLES || cnf.clauses.len() > MOST_CLAUSES {
+    let clauses = cnf.clauses.as_slice();
+    let vars = named(clauses);
+    if vars > MOST_VARIABLES || clauses.len() > MOST_CLAUSES {
         return Ok(Found::GivenUp);
     }
-    let mut engine = Engine::new(alloc, vars, cnf.clauses.len())?;
-    match run(&mut engine, cnf)? {
+    let mut engine = Engine::new(alloc, vars, clauses.len());
+    match run(&mut engine, clauses) {
         End::Solved => Ok(Found::Solution(engine.solution(cnf.vars)?)),
-        End::Refuted => {
-            let mut log = mem::replace(&mut engine.log, log::Log::new(alloc, 0));
-            drop(engine);
-            let steps = log.written()?;
-            Ok(Found::Refutation(Log { steps }))
-        }
+        End::Refuted => Ok(log_of(alloc, engine)),
         End::Paused => Ok(Found::GivenUp),
         End::GivenUp => Ok(Found::GivenUp),
     }

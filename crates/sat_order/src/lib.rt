@@ -2,6 +2,7 @@
 //! when the search begins anew (restarts), and when learned clauses go. No proof says anything of it but that it is safe and returns.
 #![tactic(auto)]
 
+pub mod order;
 pub mod phases;
 pub mod queue;
 pub mod restarts;

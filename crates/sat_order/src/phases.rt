@@ -3,8 +3,8 @@
 //! longest trail that had no conflict.
 
 use sat_arena::constants::{PHASE_TURNS, REPHASE};
-use sat_arena::words::{Lit, at, is_negated, is_set, set, var_of};
-use std::alloc::{AllocError, Global};
+use sat_arena::words::{Lit, at, filled, is_negated, is_set, put, var_of};
+use std::alloc::Global;
 
 /// The values that variables are decided to have.
 pub struct Phases {
@@ -34,21 +34,21 @@ impl Drop for Phases {
 }
 
 impl Phases {
-    /// All true at first.
-    pub fn new(alloc: Global, vars: usize) -> Result<Phases, AllocError> {
-        Ok(Phases {
-            saved: vec![in alloc; true; vars]?,
-            best: vec![in alloc; true; vars]?,
+    /// All true at first. Where there is no room for them, that is noted.
+    pub fn new(alloc: Global, vars: usize, is_short: &mut bool) -> Phases {
+        Phases {
+            saved: filled(alloc, true, vars, is_short),
+            best: filled(alloc, true, vars, is_short),
             longest: 0,
             calm: 0,
             turns: 0,
             due: REPHASE,
-        })
+        }
     }
 
     /// Keeps the value of a variable that loses it.
     pub fn save(&mut self, lit: Lit) {
-        set(&mut self.saved, var_of(lit), !is_negated(lit));
+        put(&mut self.saved, var_of(lit), !is_negated(lit));
     }
 
     /// Keeps the values of the trail, if so much of it was never without a conflict.
@@ -59,7 +59,7 @@ impl Phases {
         self.longest = self.calm;
         for place in 0..self.calm {
             let lit = at(trail, place);
-            set(&mut self.best, var_of(lit), !is_negated(lit));
+            put(&mut self.best, var_of(lit), !is_negated(lit));
         }
     }
 
@@ -74,7 +74,7 @@ impl Phases {
     fn take_best(&mut self) {
         for var in 0..self.best.len() {
             let value = is_set(&self.best, var);
-            set(&mut self.saved, var, value);
+            put(&mut self.saved, var, value);
         }
     }
 

@@ -2,8 +2,9 @@
 //! conflicts are decided first. A list in both directions; a variable is moved to its end, and gets a stamp greater than all
 //! others. The variable from which the search for an open one begins is one behind which none is open.
 
-use sat_arena::words::NONE;
-use std::alloc::{AllocError, Global};
+use sat_arena::trail::{Value, is_open};
+use sat_arena::words::{NONE, filled, push};
+use std::alloc::Global;
 
 /// The neighbours of a variable, and its stamp.
 #[derive(Clone, Copy)]
@@ -40,10 +41,10 @@ impl Drop for Queue {
 }
 
 impl Queue {
-    /// So many variables, the greatest first.
-    pub fn new(alloc: Global, vars: u32) -> Result<Queue, AllocError> {
+    /// So many variables, the greatest first, or none, where it notes that there is no room.
+    pub fn new(alloc: Global, vars: u32, is_short: &mut bool) -> Queue {
         let mut queue = Queue {
-            links: vec![in alloc; NO_LINK; vars as usize]?,
+            links: filled(alloc, NO_LINK, vars as usize, is_short),
             last: NONE,
             search: NONE,
             stamp: 0,
@@ -52,7 +53,7 @@ impl Queue {
             queue.append(var);
         }
         queue.rewind();
-        Ok(queue)
+        queue
     }
 
     // The link of a variable.
@@ -151,9 +152,40 @@ impl Queue {
         self.search = self.last;
     }
 
-    /// Goes on from a variable that is not open.
-    pub fn advance(&mut self) {
+    // Goes on from a variable that is not open.
+    fn advance(&mut self) {
         let link = self.link(self.search);
         self.search = link.previous;
+    }
+
+    /// The open variable that comes first, if there is one.
+    pub fn open_variable(&mut self, values: &[Value], gone: &[bool]) -> Option<u32> {
+        for _ in 0..values.len() {
+            let var = self.search;
+            if var == NONE {
+                return None;
+            }
+            if is_open(values, gone, var) {
+                return Some(var);
+            }
+            self.advance();
+        }
+        None
+    }
+
+    /// Moves variables to the end, in the order in which they stand.
+    pub fn bump_all(&mut self, ranked: &[(u64, u32)], values: &[Value], gone: &[bool]) {
+        for (_, var) in ranked {
+            self.bump(*var, is_open(values, gone, *var));
+        }
+    }
+
+    /// Variables behind their stamps, the oldest first. Where there is no room for them, that is noted.
+    pub fn rank_all(&self, vars: &[u32], ranked: &mut Vec<(u64, u32)>, is_short: &mut bool) {
+        ranked.clear();
+        for var in vars {
+            push(ranked, (self.stamp(*var), *var), is_short);
+        }
+        ranked.sort_unstable();
     }
 }

@@ -5,8 +5,9 @@
 //! The variables stand in a heap (the one at place k is no less than those at 2k + 1 and 2k + 2).
 
 use sat_arena::constants::SCORE_SHARE;
-use sat_arena::words::{NONE, at, narrow, put};
-use std::alloc::{AllocError, Global};
+use sat_arena::trail::{Value, is_open};
+use sat_arena::words::{NONE, at, filled, narrow, put, room_for};
+use std::alloc::Global;
 
 /// What the first conflict counts, and where all scores are made smaller, by how much.
 const FIRST: u64 = 1 << 20;
@@ -53,17 +54,21 @@ impl Scores {
         }
     }
 
-    /// Puts so many variables into the heap, the greatest first. When that is done first, they all have one score.
-    pub fn begin(&mut self, vars: usize) -> Result<(), AllocError> {
+    // Makes room for so many variables, or notes that there is none. They all have one score.
+    fn make_room(&mut self, vars: usize, is_short: &mut bool) {
+        self.scores = filled(self.alloc, 0, vars, is_short);
+        self.heap = room_for(self.alloc, vars, is_short);
+        self.places = filled(self.alloc, NONE, vars, is_short);
+    }
+
+    /// Puts so many variables into the heap, the greatest first, or notes that there is no room for them.
+    pub fn begin(&mut self, vars: usize, is_short: &mut bool) {
         if self.places.is_empty() {
-            self.scores = vec![in self.alloc; 0; vars]?;
-            self.heap = Vec::with_capacity(self.alloc, vars)?;
-            self.places = vec![in self.alloc; NONE; vars]?;
+            self.make_room(vars, is_short);
         }
         for var in (0..narrow(self.places.len())).rev() {
             self.insert(var);
         }
-        Ok(())
     }
 
     /// The score of a variable.
@@ -141,13 +146,20 @@ impl Scores {
         }
     }
 
-    /// The variable with the greatest score in the heap, if there is one.
-    pub fn first(&self) -> Option<u32> {
-        self.heap.first().copied()
+    /// The open variable with the greatest score, if there is one. Those before it are taken out of the heap.
+    pub fn open_variable(&mut self, values: &[Value], gone: &[bool]) -> Option<u32> {
+        for _ in 0..gone.len() {
+            let var = self.heap.first().copied()?;
+            if is_open(values, gone, var) {
+                return Some(var);
+            }
+            self.pop();
+        }
+        None
     }
 
-    /// Takes the variable with the greatest score out of the heap.
-    pub fn pop(&mut self) {
+    // Takes the variable with the greatest score out of the heap.
+    fn pop(&mut self) {
         let first = at(&self.heap, 0);
         if let Some(last) = self.heap.pop() {
             put(&mut self.places, first as usize, NONE);
@@ -158,8 +170,8 @@ impl Scores {
         }
     }
 
-    /// Counts a variable of a conflict.
-    pub fn bump(&mut self, var: u32) {
+    // Counts a variable of a conflict.
+    fn bump(&mut self, var: u32) {
         if let Some(score) = self.scores.get_mut(var as usize) {
             *score = score.saturating_add(self.step);
         }
@@ -169,8 +181,16 @@ impl Scores {
         }
     }
 
-    /// Lets the next conflict count more.
-    pub fn decay(&mut self) {
+    /// Counts the variables of a conflict.
+    pub fn bump_all(&mut self, vars: &[u32]) {
+        for var in vars {
+            self.bump(*var);
+        }
+        self.decay();
+    }
+
+    // Lets the next conflict count more.
+    fn decay(&mut self) {
         self.step = self.step.saturating_add(self.step / SCORE_SHARE);
         if self.step > MOST {
             self.step /= SHRINK;

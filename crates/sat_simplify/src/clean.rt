@@ -2,10 +2,9 @@
 //! while nothing is decided. Each clause that is put in the place of another is a step of the log.
 
 use sat_arena::arena::Status;
-use sat_arena::trail::{Value, is_false, value_of};
-use sat_arena::words::{Lit, at, narrow, var_of};
-use sat_cdcl::engine::Engine;
-use std::alloc::AllocError;
+use sat_arena::trail::{Trail, Value, is_false, value_of};
+use sat_arena::words::{Lit, at, narrow, push, var_of};
+use sat_cdcl::database::Database;
 
 /// Whether some literal stands beside its negation, where they stand in their order.
 pub fn holds_always(literals: &[Lit]) -> bool {
@@ -19,109 +18,108 @@ pub fn holds_always(literals: &[Lit]) -> bool {
 
 /// Puts a clause in the place of another, from which it follows by the hints that are noted. Answers its place, if it has two literals
 /// or more.
-pub fn replace(
-    engine: &mut Engine,
-    clause: u32,
-    literals: &[Lit],
-) -> Result<Option<u32>, AllocError> {
-    let number = engine.log.add(literals, &engine.notes.hints)?;
-    let status = engine.arena.status(clause);
-    engine.arena.discard(clause);
-    if literals.len() < 2 {
-        if !literals.is_empty() {
-            engine.add_unit(at(literals, 0), number)?;
+pub fn replace(data: &mut Database, clause: u32, literals: &[Lit]) -> Option<u32> {
+    let number = data.log.add(literals, &data.hints);
+    let status = data.arena.status(clause);
+    data.arena.discard(clause);
+    match literals {
+        [] => None,
+        [lit] => {
+            data.add_unit(*lit, number);
+            None
         }
-        return Ok(None);
+        _ => {
+            let status = Status {
+                is_tried: false,
+                glue: status.glue.min(narrow(literals.len())),
+                ..status
+            };
+            Some(data.arena.add(literals, number, status))
+        }
     }
-    let status = Status {
-        is_tried: false,
-        glue: status.glue.min(narrow(literals.len())),
-        ..status
-    };
-    let place = engine.arena.add(literals, number, status)?;
-    Ok(Some(place))
 }
 
-// Whether some literal of a clause has a value.
-fn is_touched(engine: &Engine, clause: u32) -> bool {
-    for lit in engine.arena.literals(clause) {
-        if !matches!(value_of(&engine.trail.values, *lit), Value::Open) {
+// Whether some literal has a value.
+fn is_touched(trail: &Trail, literals: &[Lit]) -> bool {
+    for lit in literals {
+        if !matches!(value_of(&trail.values, *lit), Value::Open) {
             return true;
         }
     }
     false
 }
 
-// Takes the literals of a clause that are not false. Notes by which clauses the others are, and its own number.
-fn split(engine: &mut Engine, clause: u32, rest: &mut Vec<Lit>) -> Result<(), AllocError> {
+// Takes the literals that are not false. Notes by which clauses the others are.
+fn split(
+    trail: &Trail,
+    literals: &[Lit],
+    rest: &mut Vec<Lit>,
+    hints: &mut Vec<u32>,
+    is_short: &mut bool,
+) {
     rest.clear();
-    engine.notes.hints.clear();
-    for lit in engine.arena.literals(clause) {
-        if is_false(&engine.trail.values, *lit) {
-            let unit = engine.trail.unit(var_of(*lit));
-            engine.notes.hints.push(unit)?;
+    hints.clear();
+    for lit in literals {
+        if is_false(&trail.values, *lit) {
+            push(hints, trail.unit(var_of(*lit)), is_short);
         } else {
-            rest.push(*lit)?;
+            push(rest, *lit, is_short);
         }
     }
-    engine.notes.hints.push(engine.arena.number(clause))?;
-    Ok(())
 }
 
 /// Puts a clause without its false literals in its place, which has some. Answers that place, if two literals or more are left.
-pub fn shorten(
-    engine: &mut Engine,
-    clause: u32,
-    rest: &mut Vec<Lit>,
-) -> Result<Option<u32>, AllocError> {
-    split(engine, clause, rest)?;
-    replace(engine, clause, rest)
+pub fn shorten(data: &mut Database, clause: u32, rest: &mut Vec<Lit>) -> Option<u32> {
+    let literals = data.arena.literals(clause);
+    split(
+        &data.trail,
+        literals,
+        rest,
+        &mut data.hints,
+        &mut data.is_short,
+    );
+    push(
+        &mut data.hints,
+        data.arena.number(clause),
+        &mut data.is_short,
+    );
+    replace(data, clause, rest)
 }
 
 // Leaves a clause out that holds, or its false literals.
-fn clean_clause(engine: &mut Engine, clause: u32, rest: &mut Vec<Lit>) -> Result<(), AllocError> {
-    if !is_touched(engine, clause) {
-        return Ok(());
+fn clean_clause(data: &mut Database, clause: u32, rest: &mut Vec<Lit>) {
+    let literals = data.arena.literals(clause);
+    if !is_touched(&data.trail, literals) {
+        return;
     }
-    if engine.is_satisfied(clause) {
-        engine.arena.discard(clause);
-        return Ok(());
+    if data.trail.satisfies(literals) {
+        data.arena.discard(clause);
+    } else {
+        let _place = shorten(data, clause, rest);
     }
-    let _place = shorten(engine, clause, rest)?;
-    Ok(())
 }
 
 // Leaves out once what holds or is false by what is fixed.
-fn clean_once(engine: &mut Engine, rest: &mut Vec<Lit>) -> Result<(), AllocError> {
-    let end = engine.arena.end();
-    let mut place: u32 = 0;
-    for _ in 0..engine.arena.words.len() {
-        match engine.arena.first_from(place) {
-            None => break,
-            Some(clause) => {
-                if clause >= end || engine.log.end > 0 {
-                    break;
-                }
-                clean_clause(engine, clause, rest)?;
-                place = engine.arena.next(clause);
-            }
+fn clean_once(data: &mut Database, rest: &mut Vec<Lit>) {
+    let clauses = data.arena.clauses(data.alloc);
+    for clause in clauses.as_slice() {
+        if !data.is_refuted() {
+            clean_clause(data, *clause, rest);
         }
     }
-    Ok(())
 }
 
 /// Leaves out what holds or is false by what is fixed, until nothing more is fixed by that. Where no more is fixed than when this was
 /// done last, there is nothing to do.
-pub fn clean(engine: &mut Engine) -> Result<(), AllocError> {
-    let mut rest: Vec<Lit> = Vec::new(engine.alloc);
+pub fn clean(data: &mut Database) {
+    let mut rest: Vec<Lit> = Vec::new(data.alloc);
     for _ in 0..u64::MAX {
-        let fixed = engine.trail.lits.len();
-        if fixed == engine.cleaned || engine.log.end > 0 {
+        let fixed = data.trail.lits.len();
+        if fixed == data.cleaned || data.is_refuted() {
             break;
         }
-        clean_once(engine, &mut rest)?;
-        engine.cleaned = fixed;
+        clean_once(data, &mut rest);
+        data.cleaned = fixed;
     }
-    engine.trail.head = engine.trail.lits.len();
-    Ok(())
+    data.trail.head = data.trail.lits.len();
 }

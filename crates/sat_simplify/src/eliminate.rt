@@ -5,13 +5,15 @@
 
 use crate::clean::clean;
 use crate::occurrences::Occurrences;
-use crate::subsume::{settle, subsume_all};
-use sat_arena::arena::FIRST;
+use crate::subsume::{discard_all, settle, subsume_all};
+use sat_arena::arena::{Arena, FIRST};
 use sat_arena::constants::{LITERALS_OF_WORK, LONGEST, MOST_USES, PASSES};
-use sat_arena::trail::{Value, value_of};
-use sat_arena::words::{Lit, is_set, lit_of, narrow, var_of};
-use sat_cdcl::engine::{Engine, GIVEN};
-use std::alloc::{AllocError, Global};
+use sat_arena::trail::is_open;
+use sat_arena::words::{Lit, is_set, lit_of, narrow, push, var_of};
+use sat_cdcl::database::Database;
+use sat_cdcl::engine::GIVEN;
+use sat_order::order::Order;
+use std::alloc::Global;
 
 /// A resolvent: where its literals end, and its two clauses.
 #[derive(Clone, Copy)]
@@ -28,6 +30,8 @@ struct Resolvents {
     // How many clauses and literals there may be.
     clauses: usize,
     room: usize,
+    // Whether there was no room for something.
+    is_short: bool,
 }
 
 impl Drop for Resolvents {
@@ -37,6 +41,7 @@ impl Drop for Resolvents {
             found: _,
             clauses: _,
             room: _,
+            is_short: _,
         } = self;
     }
 }
@@ -66,12 +71,22 @@ impl Sides {
 }
 
 // How many literals clauses have together.
-fn literal_count(engine: &Engine, clauses: &[u32]) -> usize {
+fn literal_count(arena: &Arena, clauses: &[u32]) -> usize {
     let mut count: usize = 0;
     for clause in clauses {
-        count = count.saturating_add(engine.arena.size(*clause) as usize);
+        count = count.saturating_add(arena.size(*clause) as usize);
     }
     count
+}
+
+// Whether the resolvent of a clause, whose literals are marked, and another holds always.
+fn is_blocked(marks: &[bool], var: usize, other: &[Lit]) -> bool {
+    for lit in other {
+        if var_of(*lit) != var && is_set(marks, (*lit ^ 1) as usize) {
+            return true;
+        }
+    }
+    false
 }
 
 impl Resolvents {
@@ -82,241 +97,239 @@ impl Resolvents {
             found: Vec::new(alloc),
             clauses: 0,
             room: 0,
+            is_short: false,
         }
     }
 
     // None yet, of clauses of two sides.
-    fn begin(&mut self, engine: &Engine, sides: &Sides) {
-        let positive = literal_count(engine, &sides.positive);
-        let negative = literal_count(engine, &sides.negative);
+    fn begin(&mut self, arena: &Arena, sides: &Sides) {
+        let positive = literal_count(arena, &sides.positive);
+        let negative = literal_count(arena, &sides.negative);
         self.literals.clear();
         self.found.clear();
         self.clauses = sides.positive.len().saturating_add(sides.negative.len());
         self.room = positive.saturating_add(negative);
     }
 
+    // Puts the literals of a clause behind the others, but that of the variable, and those that are marked, if they are.
+    fn put(&mut self, literals: &[Lit], var: usize, marks: &[bool]) {
+        for lit in literals {
+            if var_of(*lit) != var && !is_set(marks, *lit as usize) {
+                push(&mut self.literals, *lit, &mut self.is_short);
+            }
+        }
+    }
+
     // Puts the resolvent of a clause, whose literals are marked, and another behind the others, if it does not hold always. Answers
     // whether there is room for it.
-    fn add(
-        &mut self,
-        engine: &Engine,
-        marks: &[bool],
-        var: usize,
-        first: u32,
-        second: u32,
-    ) -> Result<bool, AllocError> {
-        for lit in engine.arena.literals(second) {
-            if var_of(*lit) != var && is_set(marks, (*lit ^ 1) as usize) {
-                return Ok(true);
-            }
+    fn add(&mut self, arena: &Arena, marks: &[bool], var: usize, first: u32, second: u32) -> bool {
+        let other = arena.literals(second);
+        if is_blocked(marks, var, other) {
+            return true;
         }
         let start = self.literals.len();
-        for lit in engine.arena.literals(first) {
-            if var_of(*lit) != var {
-                self.literals.push(*lit)?;
-            }
-        }
-        for lit in engine.arena.literals(second) {
-            if var_of(*lit) != var && !is_set(marks, *lit as usize) {
-                self.literals.push(*lit)?;
-            }
-        }
+        self.put(arena.literals(first), var, &[]);
+        self.put(other, var, marks);
         let end = self.literals.len();
-        self.found.push(Resolvent { end, first, second })?;
-        let is_short = end.saturating_sub(start) <= LONGEST;
-        Ok(is_short && self.found.len() <= self.clauses && end <= self.room)
+        let resolvent = Resolvent { end, first, second };
+        push(&mut self.found, resolvent, &mut self.is_short);
+        let is_fit = end.saturating_sub(start) <= LONGEST;
+        is_fit && self.found.len() <= self.clauses && end <= self.room
     }
 
     // Finds all resolvents of one clause. Answers whether there is room for them.
     fn add_all(
         &mut self,
-        engine: &Engine,
+        arena: &Arena,
         occurrences: &mut Occurrences,
         var: usize,
         first: u32,
         others: &[u32],
-    ) -> Result<bool, AllocError> {
+    ) -> bool {
         let mut is_fit = true;
-        occurrences.mark(engine.arena.literals(first), true);
+        occurrences.mark(arena.literals(first), true);
         for second in others {
             if is_fit {
-                occurrences.spend(1 + engine.arena.size(*second) as usize / LITERALS_OF_WORK);
-                is_fit = self.add(engine, &occurrences.marks, var, first, *second)?;
+                occurrences.spend(1 + arena.size(*second) as usize / LITERALS_OF_WORK);
+                is_fit = self.add(arena, &occurrences.marks, var, first, *second);
             }
         }
-        occurrences.mark(engine.arena.literals(first), false);
-        Ok(is_fit)
+        occurrences.mark(arena.literals(first), false);
+        is_fit
+    }
+
+    // Finds the resolvents of the clauses of a variable. Answers whether there is room for them.
+    fn resolve_all(
+        &mut self,
+        arena: &Arena,
+        occurrences: &mut Occurrences,
+        var: usize,
+        sides: &Sides,
+    ) -> bool {
+        for first in sides.positive.as_slice() {
+            if !self.add_all(arena, occurrences, var, *first, &sides.negative) {
+                return false;
+            }
+        }
+        true
     }
 
     // Writes the resolvents down and notes them, in the place of their clauses.
-    fn write(&self, engine: &mut Engine, occurrences: &mut Occurrences) -> Result<(), AllocError> {
+    fn write(&self, data: &mut Database, occurrences: &mut Occurrences) {
         let mut start = 0;
         for resolvent in self.found.iter() {
             if let Some(literals) = self.literals.get(start..resolvent.end) {
-                engine.notes.hints.clear();
-                engine
-                    .notes
-                    .hints
-                    .push(engine.arena.number(resolvent.first))?;
-                engine
-                    .notes
-                    .hints
-                    .push(engine.arena.number(resolvent.second))?;
-                enter(engine, occurrences, literals)?;
+                enter(data, occurrences, *resolvent, literals);
             }
             start = resolvent.end;
         }
-        Ok(())
     }
 }
 
-// Writes a clause down that follows by the hints that are noted, and notes it.
-fn enter(
-    engine: &mut Engine,
-    occurrences: &mut Occurrences,
-    literals: &[Lit],
-) -> Result<(), AllocError> {
-    let number = engine.log.add(literals, &engine.notes.hints)?;
+// Writes a resolvent down, and notes it.
+fn enter(data: &mut Database, occurrences: &mut Occurrences, by: Resolvent, literals: &[Lit]) {
+    let hints = [data.arena.number(by.first), data.arena.number(by.second)];
+    let number = data.log.add(literals, &hints);
     match literals {
-        [] => Ok(()),
-        [lit] => engine.add_unit(*lit, number),
+        [] => {}
+        [lit] => data.add_unit(*lit, number),
         _ => {
-            let place = engine.arena.add(literals, number, GIVEN)?;
-            occurrences.connect(engine, place)
+            let place = data.arena.add(literals, number, GIVEN);
+            occurrences.connect(&mut data.arena, place);
         }
     }
 }
 
-// Keeps clauses for the value of a variable: the literal that may have to be true first, and the count of the literals last.
-fn keep(engine: &mut Engine, lit: Lit, clauses: &[u32]) -> Result<(), AllocError> {
-    for clause in clauses {
-        engine.kept.push(lit)?;
-        for other in engine.arena.literals(*clause) {
-            if *other != lit {
-                engine.kept.push(*other)?;
-            }
+// Keeps a clause for the value of a variable: the literal that may have to be true first, and the count of the literals last.
+fn keep_clause(kept: &mut Vec<u32>, lit: Lit, literals: &[Lit], is_short: &mut bool) {
+    push(kept, lit, is_short);
+    for other in literals {
+        if *other != lit {
+            push(kept, *other, is_short);
         }
-        engine.kept.push(engine.arena.size(*clause))?;
     }
-    engine.kept.push(lit ^ 1)?;
-    engine.kept.push(1)?;
-    Ok(())
+    push(kept, narrow(literals.len()), is_short);
 }
 
-// Lets clauses go, whose variables are to be tried again.
-fn discard_all(engine: &mut Engine, occurrences: &mut Occurrences, clauses: &[u32]) {
+// Keeps clauses for the value of a variable, which is the other one where they hold by others.
+fn keep(data: &mut Database, lit: Lit, clauses: &[u32]) {
     for clause in clauses {
-        occurrences.touch(engine.arena.literals(*clause));
-        engine.arena.discard(*clause);
+        let literals = data.arena.literals(*clause);
+        keep_clause(&mut data.kept, lit, literals, &mut data.is_short);
     }
+    data.keep(&[lit ^ 1, 1]);
 }
 
 // Takes a variable out of the clauses.
 fn take_out(
-    engine: &mut Engine,
+    data: &mut Database,
+    order: &mut Order,
     occurrences: &mut Occurrences,
     var: u32,
     sides: &Sides,
-) -> Result<(), AllocError> {
+) {
     if sides.positive.len() <= sides.negative.len() {
-        keep(engine, lit_of(var, true), &sides.positive)?;
+        keep(data, lit_of(var, true), &sides.positive);
     } else {
-        keep(engine, lit_of(var, false), &sides.negative)?;
+        keep(data, lit_of(var, false), &sides.negative);
     }
-    discard_all(engine, occurrences, &sides.positive);
-    discard_all(engine, occurrences, &sides.negative);
-    engine.leave_out(var);
-    Ok(())
+    discard_all(&mut data.arena, occurrences, &sides.positive);
+    discard_all(&mut data.arena, occurrences, &sides.negative);
+    order.leave_out(var);
 }
 
-// Finds the resolvents of the clauses of a variable. Answers whether there is room for them.
-fn resolve_all(
-    engine: &Engine,
+// Finds the resolvents of the clauses of a variable, if it is fit to be taken out.
+fn is_fit(
+    arena: &Arena,
     occurrences: &mut Occurrences,
     resolvents: &mut Resolvents,
     var: u32,
     sides: &Sides,
-) -> Result<bool, AllocError> {
-    for first in sides.positive.as_slice() {
-        let others = &sides.negative;
-        if !resolvents.add_all(engine, occurrences, var as usize, *first, others)? {
-            return Ok(false);
-        }
+) -> bool {
+    if sides.positive.len() > MOST_USES || sides.negative.len() > MOST_USES {
+        return false;
     }
-    Ok(true)
+    resolvents.begin(arena, sides);
+    resolvents.resolve_all(arena, occurrences, var as usize, sides)
 }
 
 // Takes a variable out of the clauses, if that is fit.
 fn try_variable(
-    engine: &mut Engine,
+    data: &mut Database,
+    order: &mut Order,
     occurrences: &mut Occurrences,
     resolvents: &mut Resolvents,
     var: u32,
-) -> Result<(), AllocError> {
+) {
     let sides = Sides {
-        positive: occurrences.take(engine, lit_of(var, true)),
-        negative: occurrences.take(engine, lit_of(var, false)),
+        positive: occurrences.take(&data.arena, lit_of(var, true)),
+        negative: occurrences.take(&data.arena, lit_of(var, false)),
     };
-    if sides.positive.len() <= MOST_USES && sides.negative.len() <= MOST_USES {
-        resolvents.begin(engine, &sides);
-        if resolve_all(engine, occurrences, resolvents, var, &sides)? {
-            take_out(engine, occurrences, var, &sides)?;
-            resolvents.write(engine, occurrences)?;
-            return settle(engine, occurrences);
-        }
+    if is_fit(&data.arena, occurrences, resolvents, var, &sides) {
+        take_out(data, order, occurrences, var, &sides);
+        resolvents.write(data, occurrences);
+        settle(data, occurrences);
+    } else {
+        sides.put_back(occurrences, var);
     }
-    sides.put_back(occurrences, var);
-    Ok(())
 }
 
 // The variables that are to be tried, those with the fewest pairs of clauses first.
-fn candidates(
-    engine: &Engine,
-    occurrences: &mut Occurrences,
-) -> Result<Vec<(usize, u32)>, AllocError> {
-    let mut found = Vec::new(engine.alloc);
+fn candidates(data: &Database, order: &Order, occurrences: &mut Occurrences) -> Vec<(usize, u32)> {
+    let mut found = Vec::new(data.alloc);
     for var in 0..narrow(occurrences.touched.len()) {
-        if is_set(&occurrences.touched, var as usize) && engine.is_open(var) {
-            let positive = occurrences.count(lit_of(var, true));
-            let negative = occurrences.count(lit_of(var, false));
-            found.push((positive.saturating_mul(negative), var))?;
+        let is_touched = is_set(&occurrences.touched, var as usize);
+        if is_touched && is_open(&data.trail.values, &order.gone, var) {
+            let count = occurrences.pairs(var);
+            push(&mut found, (count, var), &mut occurrences.is_short);
         }
     }
-    for touched in occurrences.touched.iter_mut() {
-        *touched = false;
-    }
+    occurrences.clear_touched();
     found.sort_unstable();
-    Ok(found)
+    found
+}
+
+// Tries variables.
+fn try_all(
+    data: &mut Database,
+    order: &mut Order,
+    occurrences: &mut Occurrences,
+    candidates: &[(usize, u32)],
+) {
+    let mut resolvents = Resolvents::new(data.alloc);
+    for (_, var) in candidates {
+        let is_going = occurrences.work > 0 && !data.is_refuted();
+        if is_going && is_open(&data.trail.values, &order.gone, *var) {
+            try_variable(data, order, occurrences, &mut resolvents, *var);
+        }
+    }
+    if resolvents.is_short {
+        data.is_short = true;
+    }
 }
 
 // Tries each variable whose clauses changed. Answers how many were taken out.
-fn pass(engine: &mut Engine, occurrences: &mut Occurrences) -> Result<usize, AllocError> {
-    let before = engine.left_out;
-    let candidates = candidates(engine, occurrences)?;
-    let mut resolvents = Resolvents::new(engine.alloc);
-    for (_, var) in candidates.as_slice() {
-        if occurrences.work > 0 && engine.log.end == 0 && engine.is_open(*var) {
-            try_variable(engine, occurrences, &mut resolvents, *var)?;
-        }
-    }
-    subsume_all(engine, occurrences)?;
-    Ok(engine.left_out.saturating_sub(before))
+fn pass(data: &mut Database, order: &mut Order, occurrences: &mut Occurrences) -> usize {
+    let before = order.left_out;
+    let candidates = candidates(data, order, occurrences);
+    try_all(data, order, occurrences, &candidates);
+    subsume_all(data, occurrences);
+    order.left_out.saturating_sub(before)
 }
 
 // Notes the given clauses.
-fn connect_all(engine: &mut Engine, occurrences: &mut Occurrences) -> Result<(), AllocError> {
-    let clauses = engine.given()?;
-    occurrences.make_room(engine, &clauses)?;
+fn connect_all(arena: &mut Arena, occurrences: &mut Occurrences) {
+    let clauses = arena.given(occurrences.alloc);
+    occurrences.make_room(arena, &clauses);
     for clause in clauses.as_slice() {
-        occurrences.connect(engine, *clause)?;
+        occurrences.connect(arena, *clause);
     }
-    Ok(())
 }
 
-// Whether a clause has a variable that was taken out.
-fn is_left_out(engine: &Engine, clause: u32) -> bool {
-    for lit in engine.arena.literals(clause) {
-        if is_set(&engine.gone, var_of(*lit)) {
+// Whether one of the literals has a variable that was taken out.
+fn is_left_out(gone: &[bool], literals: &[Lit]) -> bool {
+    for lit in literals {
+        if is_set(gone, var_of(*lit)) {
             return true;
         }
     }
@@ -324,27 +337,34 @@ fn is_left_out(engine: &Engine, clause: u32) -> bool {
 }
 
 // Lets learned clauses go that have variables which were taken out.
-fn disconnect(engine: &mut Engine) -> Result<(), AllocError> {
-    let clauses = engine.arena.clauses(engine.alloc)?;
-    for clause in clauses.as_slice() {
-        engine.arena.set_last(*clause, FIRST);
-        if is_left_out(engine, *clause) {
-            engine.arena.discard(*clause);
+fn disconnect(arena: &mut Arena, gone: &[bool], clauses: &[u32]) {
+    for clause in clauses {
+        arena.set_last(*clause, FIRST);
+        if is_left_out(gone, arena.literals(*clause)) {
+            arena.discard(*clause);
         }
     }
-    Ok(())
 }
 
-/// Eliminates variables. Nothing is watched, or decided, and all is clean, before and after.
-pub fn eliminate(engine: &mut Engine, work: u64) -> Result<(), AllocError> {
-    let mut occurrences = Occurrences::new(engine.alloc, engine.gone.len(), work)?;
-    connect_all(engine, &mut occurrences)?;
-    subsume_all(engine, &mut occurrences)?;
+// Eliminates variables, where the given clauses are noted.
+fn eliminate_all(data: &mut Database, order: &mut Order, occurrences: &mut Occurrences) {
+    subsume_all(data, occurrences);
     for _ in 0..PASSES {
-        if engine.log.end > 0 || pass(engine, &mut occurrences)? == 0 {
+        if data.is_refuted() || pass(data, order, occurrences) == 0 {
             break;
         }
     }
-    disconnect(engine)?;
-    clean(engine)
+}
+
+/// Eliminates variables. Nothing is watched, or decided, and all is clean, before and after.
+pub fn eliminate(data: &mut Database, order: &mut Order, work: u64) {
+    let mut occurrences = Occurrences::new(data.alloc, order.gone.len(), work);
+    connect_all(&mut data.arena, &mut occurrences);
+    eliminate_all(data, order, &mut occurrences);
+    if occurrences.is_short {
+        data.is_short = true;
+    }
+    let clauses = data.arena.clauses(data.alloc);
+    disconnect(&mut data.arena, &order.gone, &clauses);
+    clean(data);
 }

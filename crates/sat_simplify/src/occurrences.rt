@@ -1,10 +1,9 @@
 //! Occurrence lists (as in SatELite, Een and Biere 2005): in which given clauses each literal stands, while variables are
 //! eliminated.
 
-use sat_arena::arena::Status;
-use sat_arena::words::{Lit, at, put, set, var_of};
-use sat_cdcl::engine::Engine;
-use std::alloc::{AllocError, Global};
+use sat_arena::arena::{Arena, Status};
+use sat_arena::words::{Lit, at, empty_lists, filled, lit_of, push, put, room_for, var_of};
+use std::alloc::Global;
 use std::mem;
 
 /// The clauses of literals, and what is still to be tried.
@@ -19,6 +18,9 @@ pub struct Occurrences {
     pub touched: Vec<bool>,
     /// How much may still be looked at.
     pub work: u64,
+    pub alloc: Global,
+    /// Whether there was no room for something.
+    pub is_short: bool,
 }
 
 impl Drop for Occurrences {
@@ -29,6 +31,8 @@ impl Drop for Occurrences {
             marks: _,
             touched: _,
             work: _,
+            alloc: _,
+            is_short: _,
         } = self;
     }
 }
@@ -43,34 +47,76 @@ pub fn signature(literals: &[Lit]) -> u32 {
     bits
 }
 
+// Counts the literals of clauses.
+fn count_all(arena: &Arena, clauses: &[u32], counts: &mut [u32]) {
+    for clause in clauses {
+        for lit in arena.literals(*clause) {
+            let count = at(counts, *lit as usize);
+            put(counts, *lit as usize, count.wrapping_add(1));
+        }
+    }
+}
+
+// Makes room for so many clauses of each literal.
+fn make_lists(alloc: Global, counts: &[u32], lists: &mut [Vec<u32>], is_short: &mut bool) {
+    for (lit, list) in lists.iter_mut().enumerate() {
+        *list = room_for(alloc, at(counts, lit) as usize, is_short);
+    }
+}
+
+// Puts a clause into the lists of its literals.
+fn list_clause(lists: &mut [Vec<u32>], literals: &[Lit], clause: u32, is_short: &mut bool) {
+    for lit in literals {
+        if let Some(list) = lists.get_mut(*lit as usize) {
+            push(list, clause, is_short);
+        }
+    }
+}
+
+// Moves the clauses that are no garbage to the front of a list. Answers how many they are.
+fn leave_garbage(arena: &Arena, list: &mut [u32]) -> usize {
+    let mut kept: usize = 0;
+    for k in 0..list.len() {
+        let clause = list[k];
+        let status = arena.status(clause);
+        if !status.is_garbage {
+            put(list, kept, clause);
+            kept = kept.wrapping_add(1);
+        }
+    }
+    kept
+}
+
 impl Occurrences {
     /// No clauses of so many variables.
-    pub fn new(alloc: Global, vars: usize, work: u64) -> Result<Occurrences, AllocError> {
-        let mut lists = Vec::new(alloc);
-        for _ in 0..vars.saturating_mul(2) {
-            lists.push(Vec::new(alloc))?;
-        }
-        let marks = vec![in alloc; false; lists.len()]?;
-        Ok(Occurrences {
+    pub fn new(alloc: Global, vars: usize, work: u64) -> Occurrences {
+        let mut is_short = false;
+        let count = vars.saturating_mul(2);
+        let lists = empty_lists(alloc, count, &mut is_short);
+        let marks = filled(alloc, false, count, &mut is_short);
+        let touched = filled(alloc, true, vars, &mut is_short);
+        Occurrences {
             lists,
             queue: Vec::new(alloc),
             marks,
-            touched: vec![in alloc; true; vars]?,
+            touched,
             work,
-        })
+            alloc,
+            is_short,
+        }
     }
 
     /// Marks literals, or takes their marks back.
     pub fn mark(&mut self, literals: &[Lit], value: bool) {
         for lit in literals {
-            set(&mut self.marks, *lit as usize, value);
+            put(&mut self.marks, *lit as usize, value);
         }
     }
 
     /// Notes that the clauses of these variables change.
     pub fn touch(&mut self, literals: &[Lit]) {
         for lit in literals {
-            set(&mut self.touched, var_of(*lit), true);
+            put(&mut self.touched, var_of(*lit), true);
         }
     }
 
@@ -82,60 +128,48 @@ impl Occurrences {
         }
     }
 
+    /// How many pairs of clauses a variable has, one of each sign.
+    pub fn pairs(&self, var: u32) -> usize {
+        let positive = self.count(lit_of(var, true));
+        positive.saturating_mul(self.count(lit_of(var, false)))
+    }
+
+    /// Notes that all variables are tried.
+    pub fn clear_touched(&mut self) {
+        for touched in self.touched.iter_mut() {
+            *touched = false;
+        }
+    }
+
     /// Makes room for as many clauses of each literal as these have.
-    pub fn make_room(&mut self, engine: &Engine, clauses: &[u32]) -> Result<(), AllocError> {
-        let mut counts: Vec<u32> = vec![in engine.alloc; 0; self.lists.len()]?;
-        for clause in clauses {
-            for lit in engine.arena.literals(*clause) {
-                let count = at(&counts, *lit as usize);
-                put(&mut counts, *lit as usize, count.wrapping_add(1));
-            }
-        }
-        for (lit, count) in counts.iter().enumerate() {
-            if let Some(list) = self.lists.get_mut(lit) {
-                *list = Vec::with_capacity(engine.alloc, *count as usize)?;
-            }
-        }
-        Ok(())
+    pub fn make_room(&mut self, arena: &Arena, clauses: &[u32]) {
+        let mut counts = filled(self.alloc, 0, self.lists.len(), &mut self.is_short);
+        count_all(arena, clauses, &mut counts);
+        make_lists(self.alloc, &counts, &mut self.lists, &mut self.is_short);
     }
 
     /// Notes a clause.
-    pub fn connect(&mut self, engine: &mut Engine, clause: u32) -> Result<(), AllocError> {
-        let literals = engine.arena.literals(clause);
+    pub fn connect(&mut self, arena: &mut Arena, clause: u32) {
+        let literals = arena.literals(clause);
         let bits = signature(literals);
         self.touch(literals);
-        for lit in literals {
-            if let Some(list) = self.lists.get_mut(*lit as usize) {
-                list.push(clause)?;
-            }
-        }
-        engine.arena.set_last(clause, bits);
-        let status = engine.arena.status(clause);
+        list_clause(&mut self.lists, literals, clause, &mut self.is_short);
+        arena.set_last(clause, bits);
+        let status = arena.status(clause);
         if !status.is_tried {
             let is_tried = true;
-            engine
-                .arena
-                .set_status(clause, Status { is_tried, ..status });
-            self.queue.push(clause)?;
+            arena.set_status(clause, Status { is_tried, ..status });
+            push(&mut self.queue, clause, &mut self.is_short);
         }
-        Ok(())
     }
 
     /// Takes out the clauses of a literal that are no garbage. The others are forgotten.
-    pub fn take(&mut self, engine: &Engine, lit: Lit) -> Vec<u32> {
+    pub fn take(&mut self, arena: &Arena, lit: Lit) -> Vec<u32> {
         let mut list = match self.lists.get_mut(lit as usize) {
-            Some(list) => mem::replace(list, Vec::new(engine.alloc)),
-            None => Vec::new(engine.alloc),
+            Some(list) => mem::replace(list, Vec::new(self.alloc)),
+            None => Vec::new(self.alloc),
         };
-        let mut kept: usize = 0;
-        for k in 0..list.len() {
-            let clause = list[k];
-            let status = engine.arena.status(clause);
-            if !status.is_garbage {
-                put(&mut list, kept, clause);
-                kept = kept.wrapping_add(1);
-            }
-        }
+        let kept = leave_garbage(arena, &mut list);
         list.truncate(kept);
         list
     }

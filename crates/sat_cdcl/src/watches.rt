@@ -3,11 +3,11 @@
 //! watch takes eight bytes, the clause and another of its literals, the blocker (Chu and others 2008): while that is true nothing
 //! is to be done. A clause of two literals is told from its watches alone.
 
-use crate::arena::{FIRST, HEADER, LAST, SIZE};
-use crate::constants::SHORT_CLAUSE;
-use crate::trail::{Trail, Value, is_false, is_true, value_of};
-use crate::words::{Lit, at, narrow, put};
-use std::alloc::{AllocError, Global};
+use sat_arena::arena::{Arena, FIRST, HEADER, LAST, SIZE};
+use sat_arena::constants::SHORT_CLAUSE;
+use sat_arena::trail::{Trail, Value, is_false, is_true, value_of};
+use sat_arena::words::{Lit, at, narrow, push, put};
+use std::alloc::Global;
 use std::mem;
 
 /// In a watch of a clause of two literals this bit is set in the place of the clause.
@@ -56,10 +56,10 @@ enum Visit {
 /// How a list was walked through: the clause that is false, if any, how many watches are kept at its front, and how many clauses
 /// were looked at.
 #[derive(Clone, Copy)]
-pub struct Walk {
-    pub conflict: Option<u32>,
-    pub kept: usize,
-    pub visits: u64,
+struct Walk {
+    conflict: Option<u32>,
+    kept: usize,
+    visits: u64,
 }
 
 // The place among all words, from one up to another, of a literal that is not false.
@@ -158,15 +158,15 @@ fn keep_rest(list: &mut [Watch], kept: &mut usize, from: usize) {
     }
 }
 
-/// Walks through the list of a literal that became false, up to a clause that is false. The watches that stay are written over
-/// the front of the list.
-pub fn walk_through(
+// Walks through the list of a literal that became false, up to a clause that is false. The watches that stay are written over
+// the front of the list.
+fn walk_through(
     trail: &mut Trail,
     words: &mut [u32],
     lists: &mut [Vec<Watch>],
     list: &mut [Watch],
     failed: Lit,
-) -> Result<Walk, AllocError> {
+) -> Walk {
     let mut kept: usize = 0;
     let mut visits: u64 = 0;
     for i in 0..list.len() {
@@ -183,37 +183,66 @@ pub fn walk_through(
             }
             Visit::Move(to, blocker) => {
                 let clause = watch.clause;
-                push(lists, to, Watch { clause, blocker })?;
+                watch_by(lists, to, Watch { clause, blocker }, &mut trail.is_short);
             }
             Visit::Unit(lit) => {
                 keep(list, &mut kept, watch);
-                trail.assign(lit, watch.clause())?;
+                trail.assign(lit, watch.clause());
             }
             Visit::Conflict => {
                 keep_rest(list, &mut kept, i);
-                let conflict = Some(watch.clause());
-                return Ok(Walk {
-                    conflict,
+                return Walk {
+                    conflict: Some(watch.clause()),
                     kept,
                     visits,
-                });
+                };
             }
         }
     }
-    Ok(Walk {
+    Walk {
         conflict: None,
         kept,
         visits,
-    })
+    }
 }
 
-/// Empty lists.
-pub fn empty_lists(alloc: Global, count: usize) -> Result<Vec<Vec<Watch>>, AllocError> {
-    let mut lists = Vec::with_capacity(alloc, count)?;
-    for _ in 0..count {
-        lists.push(Vec::new(alloc))?;
+// Works off the list of a literal that became false.
+fn follow(
+    alloc: Global,
+    trail: &mut Trail,
+    words: &mut [u32],
+    lists: &mut [Vec<Watch>],
+    failed: Lit,
+) -> Walk {
+    let mut list = take_list(alloc, lists, failed);
+    let walk = walk_through(trail, words, lists, &mut list, failed);
+    list.truncate(walk.kept);
+    put_list(lists, failed, list);
+    walk
+}
+
+/// Propagates the literals of the trail that were not. Answers a clause that is false, if there is one. Each clause that is looked
+/// at is counted as work.
+pub fn propagate(
+    alloc: Global,
+    trail: &mut Trail,
+    words: &mut [u32],
+    lists: &mut [Vec<Watch>],
+    work: &mut u64,
+) -> Option<u32> {
+    for _ in 0..u64::MAX {
+        match trail.next() {
+            None => break,
+            Some(lit) => {
+                let walk = follow(alloc, trail, words, lists, lit ^ 1);
+                *work = work.saturating_add(walk.visits);
+                if walk.conflict.is_some() {
+                    return walk.conflict;
+                }
+            }
+        }
     }
-    Ok(lists)
+    None
 }
 
 /// Takes the list of a literal out, and leaves an empty one.
@@ -239,11 +268,48 @@ pub fn list_of(lists: &[Vec<Watch>], lit: Lit) -> &[Watch] {
     }
 }
 
-/// Puts a watch into the list of a literal.
+// Puts a watch into the list of a literal, or notes that there is no room for it.
 #[inline]
-pub fn push(lists: &mut [Vec<Watch>], lit: Lit, watch: Watch) -> Result<(), AllocError> {
+fn watch_by(lists: &mut [Vec<Watch>], lit: Lit, watch: Watch, is_short: &mut bool) {
     if let Some(list) = lists.get_mut(lit as usize) {
-        list.push(watch)?;
+        push(list, watch, is_short);
     }
-    Ok(())
+}
+
+/// Watches the first two literals of a clause, or notes that there is no room for that.
+pub fn attach(arena: &Arena, lists: &mut [Vec<Watch>], clause: u32, is_short: &mut bool) {
+    let size = arena.size(clause);
+    let first = arena.literal(clause, 0);
+    let second = arena.literal(clause, 1);
+    watch_by(lists, first, Watch::new(clause, size, second), is_short);
+    watch_by(lists, second, Watch::new(clause, size, first), is_short);
+}
+
+/// Watches those of the clauses that have two literals, or those that have more.
+pub fn attach_all(
+    arena: &Arena,
+    lists: &mut [Vec<Watch>],
+    clauses: &[u32],
+    is_pair: bool,
+    is_short: &mut bool,
+) {
+    for clause in clauses {
+        if (arena.size(*clause) == 2) == is_pair {
+            attach(arena, lists, *clause, is_short);
+        }
+    }
+}
+
+/// Takes all watches away, with their room.
+pub fn drop_watches(alloc: Global, lists: &mut [Vec<Watch>]) {
+    for list in lists.iter_mut() {
+        *list = Vec::new(alloc);
+    }
+}
+
+/// Empties all lists, which keep their room.
+pub fn clear_lists(lists: &mut [Vec<Watch>]) {
+    for list in lists.iter_mut() {
+        list.clear();
+    }
 }

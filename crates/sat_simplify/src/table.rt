@@ -1,9 +1,8 @@
 //! Rows of clauses by numbers, one behind the other in one vector, made as in counting sort: each entry is counted first, and then
 //! put.
 
-use sat_arena::words::{NONE, at, put};
-use sat_cdcl::engine::Engine;
-use std::alloc::AllocError;
+use sat_arena::words::{NONE, at, filled, put};
+use std::alloc::Global;
 
 /// The entries, and where those of each row begin.
 pub struct Table {
@@ -20,14 +19,23 @@ impl Drop for Table {
     }
 }
 
+// Puts the sum of the counts up to each in its place. Answers that of all.
+fn add_up(counts: &mut [u32]) -> u32 {
+    let mut sum: u32 = 0;
+    for count in counts.iter_mut() {
+        sum = sum.wrapping_add(*count);
+        *count = sum;
+    }
+    sum
+}
+
 impl Table {
-    /// So many rows, without entries.
-    pub fn new(engine: &Engine, rows: usize) -> Result<Table, AllocError> {
-        let count = rows.saturating_add(2);
-        Ok(Table {
-            entries: Vec::new(engine.alloc),
-            starts: vec![in engine.alloc; 0; count]?,
-        })
+    /// So many rows without entries, or none, where it notes that there is no room.
+    pub fn new(alloc: Global, rows: usize, is_short: &mut bool) -> Table {
+        Table {
+            entries: Vec::new(alloc),
+            starts: filled(alloc, 0, rows.saturating_add(2), is_short),
+        }
     }
 
     /// Counts an entry of a row, two places behind its own.
@@ -37,15 +45,10 @@ impl Table {
         put(&mut self.starts, place, before.wrapping_add(1));
     }
 
-    /// Makes beginnings of the counts, that of a row one place behind its own, and room for all entries.
-    pub fn make_room(&mut self, engine: &Engine) -> Result<(), AllocError> {
-        let mut sum: u32 = 0;
-        for start in self.starts.iter_mut() {
-            sum = sum.wrapping_add(*start);
-            *start = sum;
-        }
-        self.entries = vec![in engine.alloc; NONE; sum as usize]?;
-        Ok(())
+    /// Makes beginnings of the counts, that of a row one place behind its own, and room for all entries, or notes that there is none.
+    pub fn make_room(&mut self, alloc: Global, is_short: &mut bool) {
+        let count = add_up(&mut self.starts);
+        self.entries = filled(alloc, NONE, count as usize, is_short);
     }
 
     /// Puts an entry behind those of a row. When all are put, the beginnings stand at their own places.
