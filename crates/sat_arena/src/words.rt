@@ -2,7 +2,6 @@
 //! is not written. So no index needs a proof. A wrong place would make the answer wrong, which the caller finds, and no more.
 //!
 //! Nor do vectors that grow: where there is no room for an item it is not there, and a flag says so, at which the search gives up.
-//! (With `?` in place of that the proof of each function is nearly twice as long.)
 
 use std::alloc::{AllocError, Global};
 

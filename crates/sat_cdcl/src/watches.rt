@@ -245,16 +245,16 @@ pub fn propagate(
     None
 }
 
-/// Takes the list of a literal out, and leaves an empty one.
-pub fn take_list(alloc: Global, lists: &mut [Vec<Watch>], lit: Lit) -> Vec<Watch> {
+// Takes the list of a literal out, and leaves an empty one.
+fn take_list(alloc: Global, lists: &mut [Vec<Watch>], lit: Lit) -> Vec<Watch> {
     match lists.get_mut(lit as usize) {
         Some(list) => mem::replace(list, Vec::new(alloc)),
         None => Vec::new(alloc),
     }
 }
 
-/// Puts the list of a literal in its place.
-pub fn put_list(lists: &mut [Vec<Watch>], lit: Lit, list: Vec<Watch>) {
+// Puts the list of a literal in its place.
+fn put_list(lists: &mut [Vec<Watch>], lit: Lit, list: Vec<Watch>) {
     if let Some(place) = lists.get_mut(lit as usize) {
         *place = list;
     }
