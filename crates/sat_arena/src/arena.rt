@@ -47,17 +47,6 @@ fn packed(status: Status) -> u32 {
     learned | garbage | tried | used | glue
 }
 
-// The status that a word is.
-fn status_of(word: u32) -> Status {
-    Status {
-        is_learned: word % 2 == 1,
-        is_garbage: word / 2 % 2 == 1,
-        is_tried: word / 4 % 2 == 1,
-        used: word / 8 % 4,
-        glue: word / 32,
-    }
-}
-
 /// Clauses by the places of their headers.
 pub struct Arena {
     pub words: Vec<u32>,
@@ -100,12 +89,6 @@ impl Arena {
             .wrapping_add(self.size(clause))
     }
 
-    // Whether a clause is no garbage, and given, if it has to be.
-    fn is_among(&self, clause: u32, is_given: bool) -> bool {
-        let status = self.status(clause);
-        !status.is_garbage && !(is_given && status.is_learned)
-    }
-
     // The clauses that are no garbage, or the given ones of them.
     fn gather(&mut self, alloc: Global, is_given: bool) -> Vec<u32> {
         let mut found = Vec::new(alloc);
@@ -114,7 +97,8 @@ impl Arena {
             if clause >= self.end() {
                 break;
             }
-            if self.is_among(clause, is_given) {
+            let status = self.status(clause);
+            if !status.is_garbage && !(is_given && status.is_learned) {
                 push(&mut found, clause, &mut self.is_short);
             }
             clause = self.next(clause);
@@ -136,9 +120,10 @@ impl Arena {
     pub fn literals(&self, clause: u32) -> &[Lit] {
         let from = clause as usize + HEADER;
         let to = from.wrapping_add(self.size(clause) as usize);
-        match self.words.get(from..to) {
-            Some(literals) => literals,
-            None => &[],
+        if from <= to && to <= self.words.len() {
+            &self.words[from..to]
+        } else {
+            &[]
         }
     }
 
@@ -149,7 +134,14 @@ impl Arena {
 
     /// What is known of a clause.
     pub fn status(&self, clause: u32) -> Status {
-        status_of(at(&self.words, clause as usize + STATUS))
+        let word = at(&self.words, clause as usize + STATUS);
+        Status {
+            is_learned: word % 2 == 1,
+            is_garbage: word / 2 % 2 == 1,
+            is_tried: word / 4 % 2 == 1,
+            used: word / 8 % 4,
+            glue: word / 32,
+        }
     }
 
     /// Notes what is known of a clause.
@@ -192,9 +184,13 @@ impl Arena {
     /// Puts a clause behind the others. Answers its place.
     pub fn add(&mut self, literals: &[Lit], number: u32, status: Status) -> u32 {
         let clause = self.end();
-        let header = [narrow(literals.len()), packed(status), number, FIRST];
-        push_all(&mut self.words, &header, &mut self.is_short);
-        push_all(&mut self.words, literals, &mut self.is_short);
+        let words = &mut self.words;
+        let is_short = &mut self.is_short;
+        push(words, narrow(literals.len()), is_short);
+        push(words, packed(status), is_short);
+        push(words, number, is_short);
+        push(words, FIRST, is_short);
+        push_all(words, literals, is_short);
         clause
     }
 

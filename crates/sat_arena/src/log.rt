@@ -55,7 +55,9 @@ impl Drop for Reading {
 /// Steps, whose clauses have numbers behind those of the given ones.
 pub struct Log {
     alloc: Global,
+    // The blocks that are full, and the newest one.
     blocks: Vec<Block>,
+    newest: Block,
     given: u32,
     pub steps: u32,
     /// How many steps there are up to the first whose clause is empty, or 0.
@@ -71,6 +73,7 @@ impl Drop for Log {
         let Log {
             alloc: _,
             blocks: _,
+            newest: _,
             given: _,
             steps: _,
             end: _,
@@ -132,57 +135,59 @@ fn unfolded(number: u32) -> u32 {
     }
 }
 
-/// A place from which numbers are read.
-#[derive(Clone, Copy)]
-struct Cursor {
-    place: usize,
+// The number at a place, which goes behind it. Behind the end there are zeros.
+#[inline]
+fn next_number(bytes: &[u8], place: &mut usize) -> u32 {
+    let mut number: u32 = 0;
+    for group in 0..GROUPS {
+        let byte = if *place < bytes.len() {
+            bytes[*place]
+        } else {
+            0
+        };
+        *place = (*place).saturating_add(1);
+        number = number | u32::from(byte % 128).wrapping_shl(7 * group);
+        if byte < 128 {
+            break;
+        }
+    }
+    number
 }
 
-impl Cursor {
-    // The next number. Behind the end there are zeros.
-    #[inline]
-    fn next(&mut self, bytes: &[u8]) -> u32 {
-        let mut number: u32 = 0;
-        for group in 0..GROUPS {
-            let byte = bytes.get(self.place).copied().unwrap_or(0);
-            self.place = self.place.saturating_add(1);
-            number = number | u32::from(byte % 128).wrapping_shl(7 * group);
-            if byte < 128 {
-                break;
-            }
-        }
-        number
+// Reads a clause.
+fn read_clause(bytes: &[u8], place: &mut usize, clause: &mut Vec<Lit>, is_short: &mut bool) {
+    clause.clear();
+    for _ in 0..next_number(bytes, place) {
+        push(clause, next_number(bytes, place), is_short);
     }
+}
 
-    // Reads a clause.
-    fn read_clause(&mut self, bytes: &[u8], clause: &mut Vec<Lit>, is_short: &mut bool) {
-        clause.clear();
-        for _ in 0..self.next(bytes) {
-            push(clause, self.next(bytes), is_short);
-        }
+// Reads the hints of a step of this number.
+fn read_hints(
+    bytes: &[u8],
+    place: &mut usize,
+    number: u32,
+    hints: &mut Vec<u32>,
+    is_short: &mut bool,
+) {
+    hints.clear();
+    let mut hint = number;
+    for _ in 0..next_number(bytes, place) {
+        hint = hint.wrapping_sub(unfolded(next_number(bytes, place)));
+        push(hints, hint, is_short);
     }
+}
 
-    // Reads the hints of a step of this number.
-    fn read_hints(&mut self, bytes: &[u8], number: u32, hints: &mut Vec<u32>, is_short: &mut bool) {
-        hints.clear();
-        let mut hint = number;
-        for _ in 0..self.next(bytes) {
-            hint = hint.wrapping_sub(unfolded(self.next(bytes)));
-            push(hints, hint, is_short);
+// The place behind so many numbers, each of which ends with a byte below 128.
+fn behind(bytes: &[u8], start: usize, count: u32) -> usize {
+    let mut left = count;
+    for place in start..bytes.len() {
+        if left == 0 {
+            return place;
         }
+        left = left.wrapping_sub(u32::from(bytes[place] < 128));
     }
-
-    // Goes behind so many numbers, each of which ends with a byte below 128.
-    fn skip(&mut self, bytes: &[u8], count: u32) {
-        let mut left = count;
-        for place in self.place..bytes.len() {
-            if left == 0 {
-                break;
-            }
-            left = left.wrapping_sub(u32::from(bytes[place] < 128));
-            self.place = place.wrapping_add(1);
-        }
-    }
+    bytes.len()
 }
 
 // The new number of a clause, where so many are given and `numbers` has those of the steps.
@@ -199,27 +204,21 @@ impl Block {
         (self.first as usize).wrapping_add(k)
     }
 
-    // Puts a step of this number behind the others.
-    fn add(&mut self, number: u32, clause: &[Lit], hints: &[u32], is_short: &mut bool) {
-        push(&mut self.starts, narrow(self.bytes.len()), is_short);
-        push_clause(&mut self.bytes, clause, is_short);
-        push_hints(&mut self.bytes, number, hints, is_short);
-    }
-
     // Marks the steps that a step cites.
-    fn need_hints(&self, start: usize, place: usize, needed: &mut [bool]) {
-        let mut cursor = Cursor { place: start };
-        let literals = cursor.next(&self.bytes);
-        cursor.skip(&self.bytes, literals);
+    fn need_hints(&self, start: usize, place: usize, needed: &mut Vec<bool>) {
+        let bytes = self.bytes.as_slice();
+        let mut next = start;
+        let literals = next_number(bytes, &mut next);
+        next = behind(bytes, next, literals);
         let mut hint = narrow(place);
-        for _ in 0..cursor.next(&self.bytes) {
-            hint = hint.wrapping_sub(unfolded(cursor.next(&self.bytes)));
+        for _ in 0..next_number(bytes, &mut next) {
+            hint = hint.wrapping_sub(unfolded(next_number(bytes, &mut next)));
             put(needed, hint as usize, true);
         }
     }
 
     // Marks the steps that the marked steps of this block cite, the last one first.
-    fn need_all(&self, needed: &mut [bool]) {
+    fn need_all(&self, needed: &mut Vec<bool>) {
         for k in (0..self.starts.len()).rev() {
             let place = self.place(k);
             if is_set(needed, place) {
@@ -233,18 +232,17 @@ impl Reading {
     // Reads a step of a block, where so many clauses are given.
     fn read(&mut self, block: &Block, k: usize, given: u32, is_short: &mut bool) {
         let bytes = block.bytes.as_slice();
-        let mut cursor = Cursor {
-            place: at(&block.starts, k) as usize,
-        };
-        cursor.read_clause(bytes, &mut self.clause, is_short);
+        let mut place = at(&block.starts, k) as usize;
+        read_clause(bytes, &mut place, &mut self.clause, is_short);
         let number = given.wrapping_add(narrow(block.place(k)));
-        cursor.read_hints(bytes, number, &mut self.hints, is_short);
+        read_hints(bytes, &mut place, number, &mut self.hints, is_short);
     }
 
     // Gives the hints their new numbers, where so many clauses are given.
     fn renumber(&mut self, given: u32, numbers: &[u32]) {
-        for hint in self.hints.iter_mut() {
-            *hint = renumbered(given, numbers, *hint);
+        for k in 0..self.hints.len() {
+            let number = renumbered(given, numbers, at(&self.hints, k));
+            put(&mut self.hints, k, number);
         }
     }
 
@@ -252,9 +250,12 @@ impl Reading {
     fn write(&mut self, alloc: Global, steps: &mut Vec<Step>, is_short: &mut bool) {
         dims_of(&self.clause, &mut self.dims, is_short);
         places_of(&self.hints, &mut self.places, is_short);
-        match Step::of(alloc, self.dims.as_slice(), self.places.as_slice()) {
-            Ok(step) => push_step(steps, step, is_short),
-            Err(_) => *is_short = true,
+        let is_written = match Step::of(alloc, self.dims.as_slice(), self.places.as_slice()) {
+            Ok(step) => steps.push(step).is_ok(),
+            Err(_) => false,
+        };
+        if !is_written {
+            *is_short = true;
         }
     }
 }
@@ -277,19 +278,17 @@ fn places_of(hints: &[u32], places: &mut Vec<usize>, is_short: &mut bool) {
     }
 }
 
-// Puts a step behind others, or notes that there is no room for it.
-fn push_step(steps: &mut Vec<Step>, step: Step, is_short: &mut bool) {
-    if steps.push(step).is_err() {
-        *is_short = true;
-    }
-}
-
 impl Log {
     /// No steps, behind so many given clauses.
     pub fn new(alloc: Global, given: u32) -> Log {
         Log {
             alloc,
             blocks: Vec::new(alloc),
+            newest: Block {
+                bytes: Vec::new(alloc),
+                starts: Vec::new(alloc),
+                first: 0,
+            },
             given,
             steps: 0,
             end: 0,
@@ -298,32 +297,35 @@ impl Log {
         }
     }
 
-    // Begins a block, where there is none or the last one may lack room for a step of so many numbers.
-    fn begin_block(&mut self, numbers: usize) {
-        let most = numbers.saturating_mul(GROUPS as usize);
-        let is_full = match self.blocks.last() {
-            None => true,
-            Some(block) => block.bytes.len().saturating_add(most) > LOG_BLOCK,
+    // Puts the newest block behind the others, and begins one with room for so many bytes.
+    fn begin_block(&mut self, room: usize) {
+        let block = Block {
+            bytes: room_for(self.alloc, room, &mut self.is_short),
+            starts: Vec::new(self.alloc),
+            first: self.steps,
         };
-        if is_full {
-            let room = LOG_BLOCK.max(most);
-            let block = new_block(self.alloc, self.steps, room, &mut self.is_short);
-            if self.blocks.push(block).is_err() {
-                self.is_short = true;
-            }
+        let full = mem::replace(&mut self.newest, block);
+        if self.blocks.push(full).is_err() {
+            self.is_short = true;
         }
     }
 
     /// Puts a step behind the others. Answers its number.
     pub fn add(&mut self, clause: &[Lit], hints: &[u32]) -> u32 {
-        self.begin_block(clause.len().saturating_add(hints.len()).saturating_add(2));
-        let number = self.given.wrapping_add(self.steps);
-        if let Some(block) = self.blocks.last_mut() {
-            let before = block.bytes.len();
-            block.add(number, clause, hints, &mut self.is_short);
-            let more = block.bytes.len().saturating_sub(before);
-            self.size = self.size.saturating_add(more);
+        let numbers = clause.len().saturating_add(hints.len()).saturating_add(2);
+        let most = numbers.saturating_mul(GROUPS as usize);
+        if self.newest.bytes.len().saturating_add(most) > LOG_BLOCK {
+            self.begin_block(LOG_BLOCK.max(most));
         }
+        let number = self.given.wrapping_add(self.steps);
+        let bytes = &mut self.newest.bytes;
+        let is_short = &mut self.is_short;
+        let before = bytes.len();
+        push(&mut self.newest.starts, narrow(before), is_short);
+        push_clause(bytes, clause, is_short);
+        push_hints(bytes, number, hints, is_short);
+        let more = bytes.len().saturating_sub(before);
+        self.size = self.size.saturating_add(more);
         self.steps = self.steps.saturating_add(1);
         if clause.is_empty() && self.end == 0 {
             self.end = self.steps;
@@ -337,15 +339,8 @@ impl Log {
     }
 
     /// Marks the step whose clause has this number, if it is none of the given ones.
-    pub fn need(&self, number: u32, needed: &mut [bool]) {
+    pub fn need(&self, number: u32, needed: &mut Vec<bool>) {
         put(needed, number.wrapping_sub(self.given) as usize, true);
-    }
-
-    // The new number of each step.
-    fn new_numbers(&mut self, needed: &[bool]) -> Vec<u32> {
-        let mut numbers = filled(self.alloc, 0, needed.len(), &mut self.is_short);
-        number_all(&mut numbers, needed, self.given);
-        numbers
     }
 
     /// The new number of a clause, where `numbers` has those of the steps.
@@ -369,25 +364,21 @@ impl Log {
         self.steps = 0;
         self.end = 0;
         self.size = 0;
+        self.begin_block(0);
         mem::replace(&mut self.blocks, Vec::new(self.alloc))
     }
 
     /// Leaves out what no marked step needs. Answers the new numbers of the steps.
-    pub fn trim(&mut self, needed: &mut [bool]) -> Vec<u32> {
-        need_blocks(&self.blocks, needed);
-        let numbers = self.new_numbers(needed);
+    pub fn trim(&mut self, needed: &mut Vec<bool>) -> Vec<u32> {
+        let blocks = self.take_blocks();
+        need_blocks(&blocks, needed);
+        let mut numbers = filled(self.alloc, 0, needed.len(), &mut self.is_short);
+        number_all(&mut numbers, needed, self.given);
         let mut step = new_reading(self.alloc);
-        for block in self.take_blocks() {
+        for block in blocks {
             self.take_over(&block, needed, &numbers, &mut step);
         }
         numbers
-    }
-
-    // Leaves out what the first empty clause does not need.
-    fn trim_to_end(&mut self) {
-        let mut needed = self.no_marks();
-        put(&mut needed, (self.end as usize).saturating_sub(1), true);
-        let _numbers = self.trim(&mut needed);
     }
 
     // Puts the steps as the judge takes them behind others. The log is empty then.
@@ -403,7 +394,9 @@ impl Log {
 
     /// The steps that the first empty clause needs, and it. The log is empty then.
     pub fn written(&mut self) -> Vec<Step> {
-        self.trim_to_end();
+        let mut needed = self.no_marks();
+        put(&mut needed, (self.end as usize).saturating_sub(1), true);
+        let _numbers = self.trim(&mut needed);
         let mut steps = room_for(self.alloc, self.steps as usize, &mut self.is_short);
         self.write_all(&mut steps);
         steps
@@ -411,23 +404,14 @@ impl Log {
 }
 
 // Marks the steps that the marked ones need, the last block first.
-fn need_blocks(blocks: &[Block], needed: &mut [bool]) {
-    for block in blocks.iter().rev() {
-        block.need_all(needed);
-    }
-}
-
-// A block without steps that begins behind so many, with room for so many bytes.
-fn new_block(alloc: Global, first: u32, room: usize, is_short: &mut bool) -> Block {
-    Block {
-        bytes: room_for(alloc, room, is_short),
-        starts: Vec::new(alloc),
-        first,
+fn need_blocks(blocks: &[Block], needed: &mut Vec<bool>) {
+    for k in (0..blocks.len()).rev() {
+        blocks[k].need_all(needed);
     }
 }
 
 // Counts the steps that are needed, from a number on: each of these gets its number.
-fn number_all(numbers: &mut [u32], needed: &[bool], from: u32) {
+fn number_all(numbers: &mut Vec<u32>, needed: &[bool], from: u32) {
     let mut next = from;
     for (place, is_needed) in needed.iter().enumerate() {
         put(numbers, place, next);

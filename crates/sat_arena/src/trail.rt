@@ -162,8 +162,9 @@ impl Trail {
             reason,
             place: narrow(self.lits.len()),
         };
-        put(&mut self.values, lit as usize, Value::True);
-        put(&mut self.values, (lit ^ 1) as usize, Value::False);
+        let values = &mut self.values;
+        put(values, lit as usize, Value::True);
+        put(values, (lit ^ 1) as usize, Value::False);
         put(&mut self.facts, var_of(lit), fact);
         push(&mut self.lits, lit, &mut self.is_short);
     }
@@ -177,17 +178,25 @@ impl Trail {
 
     /// The next literal that is to be propagated.
     pub fn next(&mut self) -> Option<Lit> {
-        let lit = self.lits.get(self.head).copied()?;
+        if self.head >= self.lits.len() {
+            return None;
+        }
+        let lit = self.lits[self.head];
         self.head = self.head.saturating_add(1);
         Some(lit)
     }
 
     /// Takes the newest literal off.
     pub fn pop(&mut self) -> Option<Lit> {
-        let lit = self.lits.pop()?;
-        put(&mut self.values, lit as usize, Value::Open);
-        put(&mut self.values, (lit ^ 1) as usize, Value::Open);
-        Some(lit)
+        match self.lits.pop() {
+            None => None,
+            Some(lit) => {
+                let values = &mut self.values;
+                put(values, lit as usize, Value::Open);
+                put(values, (lit ^ 1) as usize, Value::Open);
+                Some(lit)
+            }
+        }
     }
 
     /// Leaves the levels above this one, of which no literal is on the trail any more.

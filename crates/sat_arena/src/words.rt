@@ -3,7 +3,7 @@
 //!
 //! Nor do vectors that grow: where there is no room for an item it is not there, and a flag says so, at which the search gives up.
 
-use std::alloc::{AllocError, Global};
+use std::alloc::Global;
 
 /// A literal: twice its variable, and one more where it is negated.
 pub type Lit = u32;
@@ -37,9 +37,17 @@ pub fn at(words: &[u32], place: usize) -> u32 {
 
 /// Puts an item in a place, if there is one.
 #[inline]
-pub fn put<T: Copy>(items: &mut [T], place: usize, item: T) {
-    if let Some(old) = items.get_mut(place) {
-        *old = item;
+pub fn put<T: Copy>(items: &mut Vec<T>, place: usize, item: T) {
+    if place < items.len() {
+        items[place] = item;
+    }
+}
+
+/// Puts an item in a place of a slice, if there is one.
+#[inline]
+pub fn put_in<T: Copy>(items: &mut [T], place: usize, item: T) {
+    if place < items.len() {
+        items[place] = item;
     }
 }
 
@@ -67,7 +75,7 @@ pub fn push_all(words: &mut Vec<u32>, more: &[u32], is_short: &mut bool) {
 
 /// So many times an item, or none, where it notes that there is no room.
 pub fn filled<T: Copy>(alloc: Global, item: T, count: usize, is_short: &mut bool) -> Vec<T> {
-    match repeated(alloc, item, count) {
+    match vec![in alloc; item; count] {
         Ok(items) => items,
         Err(_) => {
             *is_short = true;
@@ -96,11 +104,6 @@ pub fn empty_lists<T: Copy>(alloc: Global, count: usize, is_short: &mut bool) ->
         }
     }
     lists
-}
-
-// So many times an item.
-fn repeated<T: Copy>(alloc: Global, item: T, count: usize) -> Result<Vec<T>, AllocError> {
-    Ok(vec![in alloc; item; count]?)
 }
 
 /// The number as a word, or the greatest word.

@@ -107,7 +107,7 @@ impl Database {
     }
 
     /// Propagates, and writes steps for what is fixed. Answers a clause that is false, if there is one.
-    pub fn propagate(&mut self, lists: &mut [Vec<Watch>], work: &mut u64) -> Option<u32> {
+    pub fn propagate(&mut self, lists: &mut Vec<Vec<Watch>>, work: &mut u64) -> Option<u32> {
         let words = &mut self.arena.words;
         let conflict = propagate(self.alloc, &mut self.trail, words, lists, work);
         if self.trail.level() == 0 {
@@ -119,7 +119,7 @@ impl Database {
     /// Adds a clause of two literals or more, and watches it. Answers its place.
     pub fn add(
         &mut self,
-        lists: &mut [Vec<Watch>],
+        lists: &mut Vec<Vec<Watch>>,
         clause: &[Lit],
         number: u32,
         status: Status,
@@ -131,19 +131,15 @@ impl Database {
 
     // Lets the next step follow by a clause whose literals are false but this one, and by those that have these alone.
     fn cite_units(&mut self, clause: u32, but: Lit) {
-        let literals = self.arena.literals(clause);
-        gather_units(
-            &self.trail.units,
-            literals,
-            but,
-            &mut self.hints,
-            &mut self.is_short,
-        );
-        push(
-            &mut self.hints,
-            self.arena.number(clause),
-            &mut self.is_short,
-        );
+        let hints = &mut self.hints;
+        let is_short = &mut self.is_short;
+        hints.clear();
+        for lit in self.arena.literals(clause) {
+            if *lit != but {
+                push(hints, self.trail.unit(var_of(*lit)), is_short);
+            }
+        }
+        push(hints, self.arena.number(clause), is_short);
     }
 
     /// Writes the empty clause down, where a clause is false by what is fixed.
@@ -155,21 +151,5 @@ impl Database {
     /// Keeps words for the values of variables that are taken out.
     pub fn keep(&mut self, words: &[u32]) {
         push_all(&mut self.kept, words, &mut self.is_short);
-    }
-}
-
-// Gathers the numbers of the clauses by which literals are false, but this one.
-fn gather_units(
-    units: &[u32],
-    literals: &[Lit],
-    but: Lit,
-    hints: &mut Vec<u32>,
-    is_short: &mut bool,
-) {
-    hints.clear();
-    for lit in literals {
-        if *lit != but {
-            push(hints, at(units, var_of(*lit)), is_short);
-        }
     }
 }

@@ -100,10 +100,14 @@ impl Engine {
         if self.notes.clause.len() == 1 {
             self.data.add_unit(first, number);
         } else {
+            let status = Status {
+                is_learned: true,
+                used: uses(glue),
+                glue,
+                ..GIVEN
+            };
             let clause = &self.notes.clause;
-            let place = self
-                .data
-                .add(&mut self.lists, clause, number, learned(glue));
+            let place = self.data.add(&mut self.lists, clause, number, status);
             self.data.trail.assign(first, place);
         }
     }
@@ -132,42 +136,26 @@ impl Engine {
         self.take_up(number, glue);
     }
 
-    // Begins anew, but for what would be decided again.
-    fn restart(&mut self) {
-        self.pace.note_restart();
-        let level = self.order.kept_level(&self.data.trail);
-        self.backtrack(level);
-    }
-
-    // Lets learned clauses go.
-    fn reduce(&mut self) {
-        self.pace.note_reduction();
-        discard_worst(&mut self.data);
-        self.collect();
-        trim(&mut self.data, &mut self.pace.trim);
-    }
-
-    // Does what is due where nothing is to be propagated. Answers whether some variable is open.
+    // Does what is due where nothing is to be propagated: the search begins anew, but for what would be decided again, other values are
+    // tried first, learned clauses go, or a variable is decided. Answers whether some variable is open.
     fn advance(&mut self) -> bool {
         self.order.phases.calm = self.data.trail.lits.len();
         if self.pace.is_restart_due() {
-            self.restart();
+            self.pace.note_restart();
+            let level = self.order.kept_level(&self.data.trail);
+            self.backtrack(level);
         } else if self.pace.conflicts >= self.order.phases.due {
             self.backtrack(0);
             self.order.phases.turn(self.pace.conflicts);
         } else if self.pace.conflicts >= self.pace.reduce {
-            self.reduce();
+            self.pace.note_reduction();
+            discard_worst(&mut self.data);
+            self.collect();
+            trim(&mut self.data, &mut self.pace.trim);
         } else {
             return self.order.decide(&mut self.data.trail);
         }
         true
-    }
-
-    // Whether the search is to be given up.
-    fn is_full(&self) -> bool {
-        self.data.arena.words.len() >= MOST_WORDS
-            || self.data.log.steps >= MOST_STEPS
-            || self.lacks_room()
     }
 
     // Goes on where a clause is false. Answers how the search ends, if it does.
@@ -185,7 +173,9 @@ impl Engine {
     // Goes on where nothing is to be propagated, up to so many conflicts and clauses that are looked at. Answers how the search ends, if
     // it does.
     fn go_on(&mut self, conflicts: u64, work: u64) -> Option<End> {
-        if self.is_full() {
+        let is_full = self.data.arena.words.len() >= MOST_WORDS
+            || self.data.log.steps >= MOST_STEPS;
+        if is_full || self.lacks_room() {
             return Some(End::GivenUp);
         }
         if self.pace.conflicts >= conflicts || self.work >= work {
@@ -221,18 +211,8 @@ impl Engine {
     }
 }
 
-// A clause of this glue that was learned.
-fn learned(glue: u32) -> Status {
-    Status {
-        is_learned: true,
-        used: uses(glue),
-        glue,
-        ..GIVEN
-    }
-}
-
 // Takes the values by which literals are true.
-fn take_values(lits: &[Lit], values: &mut [bool]) {
+fn take_values(lits: &[Lit], values: &mut Vec<bool>) {
     for lit in lits {
         put(values, var_of(*lit), !is_negated(*lit));
     }
@@ -249,7 +229,7 @@ fn holds(clause: &[Lit], values: &[bool]) -> bool {
 }
 
 // Makes the first literal of a clause true that was kept for it, where the clause would be false.
-fn mend(clause: &[Lit], values: &mut [bool]) {
+fn mend(clause: &[Lit], values: &mut Vec<bool>) {
     if !holds(clause, values) {
         let lit = at(clause, 0);
         put(values, var_of(lit), !is_negated(lit));
@@ -257,7 +237,7 @@ fn mend(clause: &[Lit], values: &mut [bool]) {
 }
 
 // Gives values to the variables that were taken out, by the clauses that were kept for them, the last one first.
-fn extend(kept: &[u32], values: &mut [bool]) {
+fn extend(kept: &[u32], values: &mut Vec<bool>) {
     let mut end = kept.len();
     for _ in 0..kept.len() {
         if end == 0 {

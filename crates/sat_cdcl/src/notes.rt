@@ -142,7 +142,11 @@ impl Notes {
     // The mark of a variable.
     #[inline]
     fn mark(&self, var: usize) -> Mark {
-        self.marks.get(var).copied().unwrap_or(NO_MARK)
+        if var < self.marks.len() {
+            self.marks[var]
+        } else {
+            NO_MARK
+        }
     }
 
     /// Whether a variable was met.
@@ -154,15 +158,19 @@ impl Notes {
 
     // Notes what is known of a variable.
     fn tell(&mut self, var: usize, verdict: Verdict) {
-        if let Some(mark) = self.marks.get_mut(var) {
-            mark.verdict = verdict;
-        }
+        let mark = self.mark(var);
+        put(&mut self.marks, var, Mark { verdict, ..mark });
         push(&mut self.told, narrow(var), &mut self.is_short);
     }
 
     // The part of a level.
     fn part(&self, level: u32) -> Part {
-        self.parts.get(level as usize).copied().unwrap_or(NO_PART)
+        let place = level as usize;
+        if place < self.parts.len() {
+            self.parts[place]
+        } else {
+            NO_PART
+        }
     }
 
     // Puts a literal of an older level into the clause.
@@ -171,10 +179,11 @@ impl Notes {
         if part.count == 0 {
             push(&mut self.levels, fact.level, &mut self.is_short);
         }
-        if let Some(old) = self.parts.get_mut(fact.level as usize) {
-            old.count = part.count.saturating_add(1);
-            old.first = part.first.min(fact.place);
-        }
+        let part = Part {
+            count: part.count.saturating_add(1),
+            first: part.first.min(fact.place),
+        };
+        put(&mut self.parts, fact.level as usize, part);
         push(&mut self.clause, lit, &mut self.is_short);
     }
 
@@ -182,12 +191,12 @@ impl Notes {
     #[inline]
     fn take(&mut self, trail: &Trail, lit: Lit) -> bool {
         let var = var_of(lit);
-        if self.is_met(var) {
+        let mark = self.mark(var);
+        if mark.is_met {
             return false;
         }
-        if let Some(mark) = self.marks.get_mut(var) {
-            mark.is_met = true;
-        }
+        let is_met = true;
+        put(&mut self.marks, var, Mark { is_met, ..mark });
         push(&mut self.met, lit / 2, &mut self.is_short);
         let fact = trail.fact(var);
         if fact.level == trail.level() {
@@ -245,11 +254,10 @@ impl Notes {
                 break;
             }
             let fact = trail.fact(var_of(*lit));
-            if let Some(stamp) = self.stamps.get_mut(fact.level as usize) {
-                if *stamp != self.stamp {
-                    *stamp = self.stamp;
-                    count = count.saturating_add(1);
-                }
+            let level = fact.level as usize;
+            if level < self.stamps.len() && self.stamps[level] != self.stamp {
+                put(&mut self.stamps, level, self.stamp);
+                count = count.saturating_add(1);
             }
         }
         count
@@ -415,11 +423,11 @@ impl Notes {
 
     /// Puts the clauses that were gone through behind the hints, the last one first.
     pub fn close(&mut self) {
-        for _ in 0..self.chain.len() {
-            if let Some(number) = self.chain.pop() {
-                push(&mut self.hints, number, &mut self.is_short);
-            }
+        let chain = &mut self.chain;
+        for k in (0..chain.len()).rev() {
+            push(&mut self.hints, chain[k], &mut self.is_short);
         }
+        chain.clear();
     }
 
     // Goes through reasons from a clause that is false, up to the first literal of the newest level on which all others of it rest. Answers
@@ -471,7 +479,7 @@ pub fn uses(glue: u32) -> u32 {
 }
 
 // Puts a literal of the newest of the older levels behind the first. Answers that level.
-fn put_second(clause: &mut [Lit], trail: &Trail) -> u32 {
+fn put_second(clause: &mut Vec<Lit>, trail: &Trail) -> u32 {
     let mut newest: u32 = 0;
     for k in 1..clause.len() {
         let lit = at(clause, k);
@@ -487,19 +495,15 @@ fn put_second(clause: &mut [Lit], trail: &Trail) -> u32 {
 }
 
 // Takes the marks of variables back.
-fn unmark(marks: &mut [Mark], vars: &[u32]) {
+fn unmark(marks: &mut Vec<Mark>, vars: &[u32]) {
     for var in vars {
-        if let Some(mark) = marks.get_mut(*var as usize) {
-            *mark = NO_MARK;
-        }
+        put(marks, *var as usize, NO_MARK);
     }
 }
 
 // Forgets what is noted of levels.
-fn clear_parts(parts: &mut [Part], levels: &[u32]) {
+fn clear_parts(parts: &mut Vec<Part>, levels: &[u32]) {
     for level in levels {
-        if let Some(part) = parts.get_mut(*level as usize) {
-            *part = NO_PART;
-        }
+        put(parts, *level as usize, NO_PART);
     }
 }

@@ -4,12 +4,12 @@
 
 use crate::database::Database;
 use crate::engine::Engine;
-use crate::watches::{attach_all, clear_lists, drop_watches};
+use crate::watches::{Watch, attach_all, clear_lists, drop_watches};
 use sat_arena::arena::{Arena, Status};
 use sat_arena::constants::{LEAST_LOG, LOG_GROWTH, SHARE, TIER1_GLUE};
 use sat_arena::log::Log;
 use sat_arena::trail::{Trail, is_true};
-use sat_arena::words::{push, var_of};
+use sat_arena::words::{at, push, put, var_of};
 
 // The variable to which a clause gave its value, if it did.
 fn given_by(arena: &Arena, trail: &Trail, clause: u32) -> Option<usize> {
@@ -79,7 +79,7 @@ pub fn discard_worst(data: &mut Database) {
 }
 
 // Marks the steps by which there are clauses and fixed literals.
-fn mark_needed(log: &Log, arena: &Arena, units: &[u32], clauses: &[u32], needed: &mut [bool]) {
+fn mark_needed(log: &Log, arena: &Arena, units: &[u32], clauses: &[u32], needed: &mut Vec<bool>) {
     for clause in clauses {
         log.need(arena.number(*clause), needed);
     }
@@ -89,13 +89,14 @@ fn mark_needed(log: &Log, arena: &Arena, units: &[u32], clauses: &[u32], needed:
 }
 
 // Gives clauses and fixed literals the new numbers of their steps.
-fn renumber(log: &Log, arena: &mut Arena, units: &mut [u32], clauses: &[u32], numbers: &[u32]) {
+fn renumber(log: &Log, arena: &mut Arena, units: &mut Vec<u32>, clauses: &[u32], numbers: &[u32]) {
     for clause in clauses {
         let number = log.new_number(numbers, arena.number(*clause));
         arena.set_number(*clause, number);
     }
-    for unit in units.iter_mut() {
-        *unit = log.new_number(numbers, *unit);
+    for var in 0..units.len() {
+        let number = log.new_number(numbers, at(units, var));
+        put(units, var, number);
     }
 }
 
@@ -149,24 +150,24 @@ fn move_together(arena: &mut Arena, trail: &mut Trail) {
     arena.words.truncate(to as usize);
 }
 
+// Moves the clauses together that are no garbage, or gave some variable its value, and watches them.
+fn collect(data: &mut Database, lists: &mut Vec<Vec<Watch>>) {
+    move_together(&mut data.arena, &mut data.trail);
+    clear_lists(lists);
+    let clauses = data.arena.clauses(data.alloc);
+    let is_short = &mut data.is_short;
+    attach_all(&data.arena, lists, &clauses, true, is_short);
+    attach_all(&data.arena, lists, &clauses, false, is_short);
+}
+
 impl Engine {
     /// Takes all watches away, with their room.
     pub fn unwatch(&mut self) {
         drop_watches(self.data.alloc, &mut self.lists);
     }
 
-    // Makes all watches anew.
-    fn watch_all(&mut self) {
-        clear_lists(&mut self.lists);
-        let clauses = self.data.arena.clauses(self.data.alloc);
-        let is_short = &mut self.data.is_short;
-        attach_all(&self.data.arena, &mut self.lists, &clauses, true, is_short);
-        attach_all(&self.data.arena, &mut self.lists, &clauses, false, is_short);
-    }
-
     /// Moves the clauses together that are no garbage, or gave some variable its value, and watches them.
     pub fn collect(&mut self) {
-        move_together(&mut self.data.arena, &mut self.data.trail);
-        self.watch_all();
+        collect(&mut self.data, &mut self.lists);
     }
 }

@@ -6,7 +6,7 @@
 use sat_arena::arena::{Arena, FIRST, HEADER, LAST, SIZE};
 use sat_arena::constants::SHORT_CLAUSE;
 use sat_arena::trail::{Trail, Value, is_false, is_true, value_of};
-use sat_arena::words::{Lit, at, narrow, push, put};
+use sat_arena::words::{Lit, at, narrow, push, put_in};
 use std::alloc::Global;
 use std::mem;
 
@@ -92,7 +92,7 @@ fn replacement(values: &[Value], words: &mut [u32], clause: u32) -> Option<usize
         found = free_place(values, words, front + FIRST as usize, last.min(end));
     }
     if let Some(place) = found {
-        put(words, header + LAST, narrow(place.wrapping_sub(front)));
+        put_in(words, header + LAST, narrow(place.wrapping_sub(front)));
     }
     found
 }
@@ -113,9 +113,9 @@ fn look_at(values: &[Value], words: &mut [u32], clause: u32, failed: Lit) -> Vis
             if is_true(values, found) {
                 return Visit::Keep(found);
             }
-            put(words, front, other);
-            put(words, front + 1, found);
-            put(words, place, failed);
+            put_in(words, front, other);
+            put_in(words, front + 1, found);
+            put_in(words, place, failed);
             Visit::Move(found, other)
         }
         None => {
@@ -144,9 +144,7 @@ fn look(values: &[Value], words: &mut [u32], watch: Watch, failed: Lit) -> Visit
 // Writes a watch over the front of the list.
 #[inline]
 fn keep(list: &mut [Watch], kept: &mut usize, watch: Watch) {
-    if let Some(place) = list.get_mut(*kept) {
-        *place = watch;
-    }
+    put_in(list, *kept, watch);
     *kept = (*kept).wrapping_add(1);
 }
 
@@ -262,17 +260,20 @@ fn put_list(lists: &mut [Vec<Watch>], lit: Lit, list: Vec<Watch>) {
 
 /// The list of a literal.
 pub fn list_of(lists: &[Vec<Watch>], lit: Lit) -> &[Watch] {
-    match lists.get(lit as usize) {
-        Some(list) => list.as_slice(),
-        None => &[],
+    let place = lit as usize;
+    if place < lists.len() {
+        lists[place].as_slice()
+    } else {
+        &[]
     }
 }
 
 // Puts a watch into the list of a literal, or notes that there is no room for it.
 #[inline]
 fn watch_by(lists: &mut [Vec<Watch>], lit: Lit, watch: Watch, is_short: &mut bool) {
-    if let Some(list) = lists.get_mut(lit as usize) {
-        push(list, watch, is_short);
+    let place = lit as usize;
+    if place < lists.len() {
+        push(&mut lists[place], watch, is_short);
     }
 }
 

@@ -1,235 +1,29 @@
 //! Equivalent literal substitution (Aspvall and others 1979): literals that follow from one another by clauses of two literals are
 //! equal, and one of them is put in the place of all. They are the strongly connected components of the graph of these clauses,
-//! found by one walk with a stack of its own (Tarjan 1972).
+//! found by two walks with a stack (Sharir 1981). The first one orders literals by when nothing more follows from them that was not
+//! met. The second one begins with the last of these, and goes backwards: what it meets from one literal is a component. Since a
+//! clause says that the second literal follows from the negation of the first, and the first from that of the second, to go backwards
+//! is to go forwards from the negations, and the components are negated.
 
-use sat_arena::trail::{Value, value_of};
-use sat_arena::words::{Lit, NONE, at, filled, is_negated, lit_of, narrow, push, put, room_for};
+use sat_arena::words::{Lit, NONE, at, filled, lit_of, narrow, push, put};
 use sat_cdcl::database::Database;
 use sat_cdcl::engine::Engine;
 use sat_cdcl::watches::{Watch, list_of};
 use sat_order::order::Order;
 use sat_simplify::clean::{clean, holds_always, replace};
-use std::alloc::Global;
-use std::mem;
 
-/// A literal on the way, and how many watches of its negation were looked at.
-#[derive(Clone, Copy)]
-struct Call {
-    lit: Lit,
-    looked: usize,
-}
-
-/// What is known of literals on the walk.
-struct Walk {
-    // When a literal was met first, from 1; the earliest literal of its component that it leads to, by when that was met; and, for a
-    // literal of a component that is complete, the least literal of that.
-    met: Vec<u32>,
-    low: Vec<u32>,
-    least: Vec<Lit>,
-    // The literals whose components are not complete, and those on the way.
-    open: Vec<Lit>,
-    calls: Vec<Call>,
-    count: u32,
-    // Whether there was no room for something.
-    is_short: bool,
-}
-
-impl Drop for Walk {
-    fn drop(self) {
-        let Walk {
-            met: _,
-            low: _,
-            least: _,
-            open: _,
-            calls: _,
-            count: _,
-            is_short: _,
-        } = self;
-    }
-}
-
-// Each literal alone.
-fn alone(alloc: Global, count: usize, is_short: &mut bool) -> Vec<Lit> {
-    let mut least = room_for(alloc, count, is_short);
-    for lit in 0..narrow(count) {
-        push(&mut least, lit, is_short);
-    }
-    least
-}
-
-// The least of some literals and another.
-fn least_of(lits: &[Lit], lit: Lit) -> Lit {
-    let mut least = lit;
-    for other in lits {
-        least = least.min(*other);
-    }
-    least
-}
-
-// Puts a word in the places of some literals.
-fn put_all(words: &mut [u32], lits: &[Lit], word: u32) {
-    for lit in lits {
-        put(words, *lit as usize, word);
-    }
-}
-
-// Where a literal stands, as the last one of these.
-fn place_of(lits: &[Lit], lit: Lit) -> usize {
-    for k in (0..lits.len()).rev() {
-        if at(lits, k) == lit {
-            return k;
-        }
-    }
-    0
-}
-
-impl Walk {
-    // Before the walk, where each of so many literals is alone.
-    fn new(alloc: Global, count: usize) -> Walk {
-        let mut is_short = false;
-        let met = filled(alloc, 0, count, &mut is_short);
-        let low = filled(alloc, 0, count, &mut is_short);
-        let least = alone(alloc, count, &mut is_short);
-        Walk {
-            met,
-            low,
-            least,
-            open: Vec::new(alloc),
-            calls: Vec::new(alloc),
-            count: 0,
-            is_short,
-        }
-    }
-
-    // Puts a call behind those on the way.
-    fn call(&mut self, call: Call) {
-        push(&mut self.calls, call, &mut self.is_short);
-    }
-
-    // Meets a literal.
-    fn enter(&mut self, lit: Lit) {
-        self.count = self.count.saturating_add(1);
-        put(&mut self.met, lit as usize, self.count);
-        put(&mut self.low, lit as usize, self.count);
-        push(&mut self.open, lit, &mut self.is_short);
-        self.call(Call { lit, looked: 0 });
-    }
-
-    // Notes that a literal leads to one that was met so early.
-    fn lower(&mut self, lit: Lit, met: u32) {
-        let low = at(&self.low, lit as usize).min(met);
-        put(&mut self.low, lit as usize, low);
-    }
-
-    // Takes the component out that is complete with a literal.
-    fn complete(&mut self, lit: Lit) {
-        let start = place_of(&self.open, lit);
-        if let Some(component) = self.open.get(start..) {
-            let least = least_of(component, lit);
-            put_all(&mut self.least, component, least);
-            put_all(&mut self.met, component, NONE);
-        }
-        self.open.truncate(start);
-    }
-
-    // Looks through what follows from a literal, up to one that was not met. Answers that, with how many were looked at. Clauses of two
-    // literals stand before others.
-    fn look(&mut self, values: &[Value], list: &[Watch], call: Call) -> Option<Call> {
-        for k in call.looked..list.len() {
-            let watch = list[k];
-            if !watch.is_pair() {
-                break;
-            }
-            if matches!(value_of(values, watch.blocker), Value::Open) {
-                let met = at(&self.met, watch.blocker as usize);
-                if met == 0 {
-                    return Some(Call {
-                        lit: watch.blocker,
-                        looked: k.wrapping_add(1),
-                    });
-                }
-                self.lower(call.lit, met);
-            }
-        }
-        None
-    }
-
-    // Goes back from a literal from which nothing more follows.
-    fn leave(&mut self, lit: Lit) {
-        let low = at(&self.low, lit as usize);
-        if low == at(&self.met, lit as usize) {
-            self.complete(lit);
-        }
-        if let Some(before) = self.calls.last().copied() {
-            self.lower(before.lit, low);
-        }
-    }
-
-    // Goes on from the last literal on the way, down to one that was not met, or back to the one before it.
-    fn step(&mut self, values: &[Value], lists: &[Vec<Watch>], call: Call) {
-        match self.look(values, list_of(lists, call.lit ^ 1), call) {
-            Some(next) => {
-                let looked = next.looked;
-                self.call(Call { looked, ..call });
-                self.enter(next.lit);
-            }
-            None => self.leave(call.lit),
-        }
-    }
-
-    // Walks from a literal on.
-    fn walk_from(&mut self, values: &[Value], lists: &[Vec<Watch>], root: Lit) {
-        self.enter(root);
-        for _ in 0..u64::MAX {
-            match self.calls.pop() {
-                None => break,
-                Some(call) => self.step(values, lists, call),
-            }
-        }
-    }
-
-    // Walks from each literal that has no value and was not met.
-    fn walk_all(&mut self, values: &[Value], lists: &[Vec<Watch>]) {
-        for root in 0..narrow(lists.len()) {
-            let is_open = matches!(value_of(values, root), Value::Open);
-            if is_open && at(&self.met, root as usize) == 0 {
-                self.walk_from(values, lists, root);
-            }
-        }
-    }
-}
-
-// The least literal of the component of each literal.
-fn components(
-    alloc: Global,
-    values: &[Value],
-    lists: &[Vec<Watch>],
-    is_short: &mut bool,
-) -> Vec<Lit> {
-    let mut walk = Walk::new(alloc, lists.len());
-    walk.walk_all(values, lists);
-    if walk.is_short {
-        *is_short = true;
-    }
-    mem::replace(&mut walk.least, Vec::new(alloc))
-}
-
-// The literal that is put in the place of another: of each component and that of the negated literals only one has a literal that is
-// not negated for its least.
-fn put_for(least: &[Lit], lit: Lit) -> Lit {
-    let one = at(least, lit as usize);
-    if !is_negated(one) && one != lit {
-        return one;
-    }
-    let other = at(least, (lit ^ 1) as usize);
-    if !is_negated(other) && other != lit ^ 1 {
-        return other ^ 1;
-    }
-    lit
-}
+/// Of a literal that the first walk met.
+const MET: u32 = NONE - 1;
 
 /// Literals for which others are put, and the clauses by which they are equal.
 struct Merging {
+    // Of a literal what is known of it on the walks: nothing, that it was met, or from which literal the second walk met it.
+    roots: Vec<u32>,
+    // The literals on the way, with how many watches of their negations were looked at, and those that were on it, in the order in
+    // which it was left.
+    calls: Vec<(Lit, usize)>,
+    left: Vec<Lit>,
+    // The least literal of the component of each.
     least: Vec<Lit>,
     // Of a literal the number of the clause by which it follows from the one that is put for it.
     numbers: Vec<u32>,
@@ -242,6 +36,9 @@ struct Merging {
 impl Drop for Merging {
     fn drop(self) {
         let Merging {
+            roots: _,
+            calls: _,
+            left: _,
             least: _,
             numbers: _,
             open: _,
@@ -250,7 +47,79 @@ impl Drop for Merging {
     }
 }
 
+// The literal that follows from another by the clause of this watch of its negation, if that has two literals, or none. Clauses of two
+// literals stand before others.
+fn follower(lists: &[Vec<Watch>], lit: Lit, looked: usize) -> Lit {
+    let list = list_of(lists, lit ^ 1);
+    if looked < list.len() && list[looked].is_pair() {
+        list[looked].blocker
+    } else {
+        NONE
+    }
+}
+
 impl Merging {
+    // Meets a literal, if so much is known of it.
+    fn meet(&mut self, lit: Lit, known: u32, root: u32, is_short: &mut bool) {
+        if at(&self.roots, lit as usize) == known {
+            put(&mut self.roots, lit as usize, root);
+            push(&mut self.calls, (lit, 0), is_short);
+        }
+    }
+
+    // Walks from a literal on to those of which so much is known.
+    fn walk(
+        &mut self,
+        lists: &[Vec<Watch>],
+        start: Lit,
+        known: u32,
+        root: u32,
+        is_short: &mut bool,
+    ) {
+        self.meet(start, known, root, is_short);
+        for _ in 0..u64::MAX {
+            match self.calls.pop() {
+                None => break,
+                Some((lit, looked)) => {
+                    let next = follower(lists, lit, looked);
+                    if next == NONE {
+                        push(&mut self.left, lit, is_short);
+                    } else {
+                        let call = (lit, looked.wrapping_add(1));
+                        push(&mut self.calls, call, is_short);
+                        self.meet(next, known, root, is_short);
+                    }
+                }
+            }
+        }
+    }
+
+    // Walks from each literal, and again from the negations of those that were left last.
+    fn walk_all(&mut self, lists: &[Vec<Watch>], is_short: &mut bool) {
+        for lit in 0..narrow(lists.len()) {
+            self.walk(lists, lit, NONE, MET, is_short);
+        }
+        for place in (0..lists.len()).rev() {
+            let lit = at(&self.left, place) ^ 1;
+            self.walk(lists, lit, MET, lit, is_short);
+        }
+    }
+
+    // Finds the least literal of each component, behind the walks, up to the least literal that is equal to its negation, so that the
+    // clauses have no solution. Answers that, or none.
+    fn find_least(&mut self) -> Lit {
+        for lit in 0..narrow(self.roots.len()) {
+            let root = at(&self.roots, lit as usize);
+            if root == at(&self.roots, (lit ^ 1) as usize) {
+                return lit;
+            }
+            let least = at(&self.least, root as usize).min(lit);
+            put(&mut self.least, root as usize, least);
+            put(&mut self.least, lit as usize, least);
+        }
+        NONE
+    }
+
     // Writes down that a literal follows from `root`, as it follows from `lit` by the clause of this number.
     fn reach(&mut self, data: &mut Database, root: Lit, lit: Lit, next: Lit, number: u32) {
         let mut known = number;
@@ -262,31 +131,32 @@ impl Merging {
         push(&mut self.open, next, &mut data.is_short);
     }
 
-    // Whether a literal is one for which `root` is put, and it is not known why.
-    fn is_unknown(&self, root: Lit, lit: Lit) -> bool {
-        let is_inside = put_for(&self.least, lit) == root && lit != root;
-        is_inside && at(&self.numbers, lit as usize) == NONE
+    // Whether a watch is of a clause of two literals of which the other is of the component of `root`, and it is not known why.
+    fn is_unknown(&self, root: Lit, watch: Watch) -> bool {
+        let lit = watch.blocker;
+        let is_inside = at(&self.least, lit as usize) == root && lit != root;
+        is_inside && watch.is_pair() && at(&self.numbers, lit as usize) == NONE
     }
 
-    // Goes on from a literal that follows from `root` to those of the component that follow from it.
-    fn spread(&mut self, data: &mut Database, list: &[Watch], root: Lit, lit: Lit) {
+    // Goes on from a literal that follows from the least one of its component to those of the component that follow from it.
+    fn spread(&mut self, data: &mut Database, list: &[Watch], lit: Lit) {
+        let root = at(&self.least, lit as usize);
         for watch in list {
-            let next = watch.blocker;
-            if watch.is_pair() && self.is_unknown(root, next) {
+            if self.is_unknown(root, *watch) {
                 let number = data.arena.number(watch.clause());
-                self.reach(data, root, lit, next, number);
+                self.reach(data, root, lit, watch.blocker, number);
             }
         }
     }
 
-    // Writes down that each literal follows for which `root` is put.
+    // Writes down that each literal follows for which `root` or its negation is put, the ones of `root` first.
     fn justify(&mut self, data: &mut Database, lists: &[Vec<Watch>], root: Lit) {
-        self.open.clear();
+        push(&mut self.open, root ^ 1, &mut data.is_short);
         push(&mut self.open, root, &mut data.is_short);
         for _ in 0..u64::MAX {
             match self.open.pop() {
                 None => break,
-                Some(lit) => self.spread(data, list_of(lists, lit ^ 1), root, lit),
+                Some(lit) => self.spread(data, list_of(lists, lit ^ 1), lit),
             }
         }
     }
@@ -294,12 +164,12 @@ impl Merging {
     // Writes down why all these literals are equal. Answers whether there are any.
     fn justify_all(&mut self, data: &mut Database, lists: &[Vec<Watch>]) -> bool {
         let mut is_any = false;
-        for lit in 0..narrow(self.least.len()) {
+        for var in 0..narrow(lists.len() / 2) {
+            let lit = lit_of(var, true);
             let root = at(&self.least, lit as usize);
-            if !is_negated(root) && root != lit && at(&self.numbers, lit as usize) == NONE {
+            if root != lit && at(&self.numbers, lit as usize) == NONE {
                 is_any = true;
-                self.justify(data, lists, root);
-                self.justify(data, lists, root ^ 1);
+                self.justify(data, lists, lit_of(root / 2, true));
             }
         }
         is_any
@@ -311,7 +181,7 @@ impl Merging {
         self.renamed.clear();
         hints.clear();
         for lit in literals {
-            let to = put_for(&self.least, *lit);
+            let to = at(&self.least, *lit as usize);
             push(&mut self.renamed, to, is_short);
             if to != *lit {
                 push(hints, at(&self.numbers, (*lit ^ 1) as usize), is_short);
@@ -354,7 +224,7 @@ impl Merging {
     fn leave_out(&self, data: &mut Database, order: &mut Order) {
         for var in 0..narrow(order.gone.len()) {
             let lit = lit_of(var, true);
-            let to = put_for(&self.least, lit);
+            let to = at(&self.least, lit as usize);
             if to != lit {
                 data.keep(&[lit, to ^ 1, 2, lit ^ 1, to, 2]);
                 order.leave_out(var);
@@ -363,64 +233,44 @@ impl Merging {
     }
 }
 
-// A literal that is equal to its negation, if there is one, so that the clauses have no solution.
-fn contradiction(least: &[Lit]) -> Option<Lit> {
-    for lit in 0..narrow(least.len()) {
-        if at(least, lit as usize) == at(least, (lit ^ 1) as usize) {
-            return Some(lit);
-        }
-    }
-    None
-}
-
-// Refutes the clauses, where a literal is equal to its negation: that it is decided is a conflict, and what is learned is another.
-fn refute(engine: &mut Engine, lit: Lit) {
-    engine.data.trail.decide(lit);
-    for _ in 0..2 {
+/// Propagates once, while the clauses are not refuted, and learns from a clause that is false, if there is one.
+pub fn settle(engine: &mut Engine) {
+    if !engine.data.is_refuted() {
         if let Some(conflict) = engine.propagate() {
             engine.learn(conflict);
         }
     }
 }
 
-// Puts one literal in the place of all that are equal to it, of which these are the least. Answers whether there are any.
-fn put_least(
-    data: &mut Database,
-    order: &mut Order,
-    lists: &[Vec<Watch>],
-    least: Vec<Lit>,
-) -> bool {
-    let numbers = filled(data.alloc, NONE, least.len(), &mut data.is_short);
-    let mut merging = Merging {
-        least,
-        numbers,
-        open: Vec::new(data.alloc),
-        renamed: Vec::new(data.alloc),
-    };
-    let is_any = merging.justify_all(data, lists);
-    if is_any {
-        merging.substitute(data);
-        merging.leave_out(data, order);
-        clean(data);
-    }
-    is_any
-}
-
 /// Puts one literal in the place of all that are equal to it. All is clean and watched before, pairs before others. Answers whether
-/// clauses changed: then the watches are still those of the clauses before.
+/// clauses changed: then the watches are still those of the clauses before. Where a literal is equal to its negation, the clauses are
+/// refuted: that it is decided is a conflict, and what is learned is another.
 pub fn merge(engine: &mut Engine) -> bool {
-    let values = &engine.data.trail.values;
-    let least = components(
-        engine.data.alloc,
-        values,
-        &engine.lists,
-        &mut engine.data.is_short,
-    );
-    match contradiction(&least) {
-        Some(lit) => {
-            refute(engine, lit);
-            false
-        }
-        None => put_least(&mut engine.data, &mut engine.order, &engine.lists, least),
+    let alloc = engine.data.alloc;
+    let count = engine.lists.len();
+    let is_short = &mut engine.data.is_short;
+    let mut merging = Merging {
+        roots: filled(alloc, NONE, count, is_short),
+        calls: Vec::new(alloc),
+        left: Vec::new(alloc),
+        least: filled(alloc, NONE, count, is_short),
+        numbers: filled(alloc, NONE, count, is_short),
+        open: Vec::new(alloc),
+        renamed: Vec::new(alloc),
+    };
+    merging.walk_all(&engine.lists, is_short);
+    let both = merging.find_least();
+    if both != NONE {
+        engine.data.trail.decide(both);
+        settle(engine);
+        settle(engine);
+        false
+    } else if merging.justify_all(&mut engine.data, &engine.lists) {
+        merging.substitute(&mut engine.data);
+        merging.leave_out(&mut engine.data, &mut engine.order);
+        clean(&mut engine.data);
+        true
+    } else {
+        false
     }
 }

@@ -10,7 +10,7 @@ use sat_arena::constants::{
     MOST_CONFLICTS, MOST_VARIABLES,
 };
 use sat_arena::log;
-use sat_arena::words::{Lit, lit_of, narrow, push};
+use sat_arena::words::{Lit, at, lit_of, narrow, push};
 use sat_cdcl::engine::{End, Engine, GIVEN};
 use sat_simplify::clean::{clean, holds_always};
 use sat_simplify::eliminate::eliminate;
@@ -59,17 +59,12 @@ fn read(clause: &[Dim], literals: &mut Vec<Lit>, is_short: &mut bool) {
 
 // Takes a given clause, as it was read.
 fn take_given(engine: &mut Engine, literals: &[Lit], number: u32) {
-    if holds_always(literals) {
-        return;
-    }
-    match literals {
-        [] => {
-            let _number = engine.data.log.add(&[], &[number]);
-        }
-        [lit] => engine.data.add_unit(*lit, number),
-        _ => {
-            let _place = engine.add(literals, number, GIVEN);
-        }
+    if literals.is_empty() {
+        let _number = engine.data.log.add(&[], &[number]);
+    } else if literals.len() == 1 {
+        engine.data.add_unit(at(literals, 0), number);
+    } else if !holds_always(literals) {
+        let _place = engine.add(literals, number, GIVEN);
     }
 }
 
@@ -94,28 +89,20 @@ fn join(engine: &mut Engine) -> bool {
     !engine.data.is_refuted() && merge(engine)
 }
 
-// Shows pairs of literals to be equal that are likely to be.
-fn try_pairs(engine: &mut Engine) {
-    let clauses = engine.data.arena.given(engine.data.alloc);
-    let ranks = rank_all(
-        engine.data.alloc,
-        &engine.data.arena,
-        &engine.lists,
-        &clauses,
-        &mut engine.data.is_short,
-    );
-    let pairs = likely_pairs(&mut engine.data, &engine.order.gone, &ranks, &clauses);
-    sweep(engine, &ranks.gates, &pairs);
-}
-
 // Shows pairs of literals to be equal that are likely to be, where one literal stands for all that are known to be equal.
 fn pair(engine: &mut Engine) {
     if join(engine) {
         engine.collect();
     }
-    if !engine.data.is_refuted() {
-        try_pairs(engine);
+    if engine.data.is_refuted() {
+        return;
     }
+    let alloc = engine.data.alloc;
+    let clauses = engine.data.arena.given(alloc);
+    let is_short = &mut engine.data.is_short;
+    let ranks = rank_all(alloc, &engine.data.arena, &engine.lists, &clauses, is_short);
+    let pairs = likely_pairs(&mut engine.data, &engine.order.gone, &ranks, &clauses);
+    sweep(engine, &ranks.gates, &pairs);
 }
 
 // Simplifies the clauses, while nothing is decided.
@@ -130,14 +117,6 @@ fn simplify(engine: &mut Engine) {
     engine.order.queue.rewind();
 }
 
-// How many clauses the first search looks at, where so many are given.
-fn first_work(clauses: usize) -> u64 {
-    (clauses as u64)
-        .saturating_mul(FIRST_SHARE)
-        .max(FIRST_LEAST)
-        .min(FIRST_MOST)
-}
-
 // How it ends behind what simplifies the clauses, if it does.
 fn end_of(engine: &Engine) -> Option<End> {
     if engine.data.is_refuted() {
@@ -149,8 +128,20 @@ fn end_of(engine: &Engine) -> Option<End> {
     }
 }
 
-// Searches in simpler clauses.
-fn search_on(engine: &mut Engine) -> End {
+// Loads the clauses and searches: shortly at first, where more clauses are looked at if more are given, and then in simpler clauses.
+fn run(engine: &mut Engine, clauses: &[Vec<Dim>]) -> End {
+    load(engine, clauses);
+    if let Some(end) = end_of(engine) {
+        return end;
+    }
+    let work = (clauses.len() as u64)
+        .saturating_mul(FIRST_SHARE)
+        .max(FIRST_LEAST)
+        .min(FIRST_MOST);
+    let end = engine.search(FIRST_CONFLICTS, work);
+    if !matches!(end, End::Paused) {
+        return end;
+    }
     pair(engine);
     if let Some(end) = end_of(engine) {
         return end;
@@ -160,18 +151,6 @@ fn search_on(engine: &mut Engine) -> End {
         return end;
     }
     engine.search(MOST_CONFLICTS, u64::MAX)
-}
-
-// Loads the clauses and searches: shortly at first, and then in simpler clauses.
-fn run(engine: &mut Engine, clauses: &[Vec<Dim>]) -> End {
-    load(engine, clauses);
-    if let Some(end) = end_of(engine) {
-        return end;
-    }
-    match engine.search(FIRST_CONFLICTS, first_work(clauses.len())) {
-        End::Paused => search_on(engine),
-        end => end,
-    }
 }
 
 // The log by which a search refuted the clauses. All else is let go before it is written.
@@ -199,7 +178,6 @@ pub fn search_for(alloc: Global, cnf: &Cnf) -> Result<Found, AllocError> {
     match run(&mut engine, clauses) {
         End::Solved => Ok(Found::Solution(engine.solution(cnf.vars)?)),
         End::Refuted => Ok(log_of(alloc, engine)),
-        End::Paused => Ok(Found::GivenUp),
-        End::GivenUp => Ok(Found::GivenUp),
+        _ => Ok(Found::GivenUp),
     }
 }

@@ -4,9 +4,10 @@
 //! out of reach.
 
 use crate::cone::Cone;
+use crate::equal::settle;
 use sat_arena::arena::Status;
 use sat_arena::constants::{PAIR_CONFLICTS, PAIR_FAILURES, PAIR_SHARE, PAIR_WORK};
-use sat_arena::trail::{Trail, Value, is_false, value_of};
+use sat_arena::trail::{Value, is_true, value_of};
 use sat_arena::words::{Lit, NONE, at, var_of};
 use sat_cdcl::database::Database;
 use sat_cdcl::engine::Engine;
@@ -30,63 +31,13 @@ enum Outcome {
     GivenUp,
 }
 
-/// How it stands with two literals that are to be refuted together.
-enum Standing {
-    /// They are.
-    Refuted,
-    /// The first is true by decision alone, and makes the second false.
-    Implied,
-    /// What was decided is to be taken back.
-    Again,
-    /// This literal is to be decided.
-    Decide(Lit),
-    /// Both are true.
-    Open,
-}
-
-// Whether a literal is false for ever.
-fn is_fixed_false(trail: &Trail, lit: Lit) -> bool {
-    let fact = trail.fact(var_of(lit));
-    fact.level == 0 && is_false(&trail.values, lit)
-}
-
-// How it stands with two literals of which the first is true.
-fn how_the_second_stands(trail: &Trail, second: Lit) -> Standing {
-    match value_of(&trail.values, second) {
-        Value::True => Standing::Open,
-        Value::Open => Standing::Decide(second),
-        Value::False => {
-            let fact = trail.fact(var_of(second));
-            if trail.level() == 1 && fact.reason != NONE {
-                Standing::Implied
-            } else {
-                Standing::Again
-            }
-        }
-    }
-}
-
-// How it stands with two literals, where nothing is to be propagated.
-fn how_it_stands(trail: &Trail, first: Lit, second: Lit) -> Standing {
-    if is_fixed_false(trail, first) || is_fixed_false(trail, second) {
-        return Standing::Refuted;
-    }
-    match value_of(&trail.values, first) {
-        Value::False => Standing::Again,
-        Value::Open => Standing::Decide(first),
-        Value::True => how_the_second_stands(trail, second),
-    }
-}
-
 // Goes through what makes a literal false on the first level. Answers whether the literal that is decided does.
 fn trace_back(data: &mut Database, notes: &mut Notes, lit: Lit) -> bool {
     notes.begin();
-    let fact = data.trail.fact(var_of(lit));
-    let _count = notes.trace(&mut data.arena, &data.trail, fact.reason);
-    for place in (0..fact.place as usize).rev() {
-        let other = at(&data.trail.lits, place);
-        if notes.is_met(var_of(other)) {
-            let fact = data.trail.fact(var_of(other));
+    for place in (0..data.trail.lits.len()).rev() {
+        let var = var_of(at(&data.trail.lits, place));
+        if var == var_of(lit) || notes.is_met(var) {
+            let fact = data.trail.fact(var);
             if fact.reason == NONE {
                 return fact.level > 0;
             }
@@ -112,66 +63,59 @@ fn learn_pair(engine: &mut Engine, first: Lit, second: Lit) {
     }
 }
 
-/// Two literals that are to be refuted together, and up to how many conflicts.
-#[derive(Clone, Copy)]
-struct Question {
-    first: Lit,
-    second: Lit,
-    most: u64,
-}
-
-// Goes on from where nothing is to be propagated. Answers what became of the literals, if it is known.
-fn go_on(engine: &mut Engine, cone: &mut Cone, gates: &[u32], asked: Question) -> Option<Outcome> {
-    match how_it_stands(&engine.data.trail, asked.first, asked.second) {
-        Standing::Refuted => return Some(Outcome::Refuted),
-        Standing::Implied => {
-            learn_pair(engine, asked.first, asked.second);
-            return Some(Outcome::Refuted);
-        }
-        Standing::Again => engine.backtrack(0),
-        Standing::Decide(lit) => engine.data.trail.decide(lit),
-        Standing::Open => {
+// Goes on from where nothing is to be propagated. Answers what became of the literals, if it is known. Where the first is true by
+// decision alone, and makes the second false, that is learned.
+fn go_on(engine: &mut Engine, cone: &mut Cone, gates: &[u32]) -> Option<Outcome> {
+    let (first, second) = (cone.first, cone.second);
+    let trail = &engine.data.trail;
+    if trail.satisfies(&[first ^ 1, second ^ 1]) {
+        return Some(Outcome::Refuted);
+    }
+    let is_first_true = is_true(&trail.values, first);
+    let lit = if is_first_true { second } else { first };
+    match value_of(&trail.values, lit) {
+        Value::Open => engine.data.trail.decide(lit),
+        Value::True => {
             if !cone.decide(&mut engine.data, &engine.order, gates, &mut engine.work) {
                 return Some(Outcome::Met);
             }
         }
-    }
-    if engine.pace.conflicts >= asked.most || engine.lacks_room() {
-        return Some(Outcome::GivenUp);
+        Value::False => {
+            let fact = trail.fact(var_of(lit));
+            if is_first_true && trail.level() == 1 && fact.reason != NONE {
+                learn_pair(engine, first, second);
+                return Some(Outcome::Refuted);
+            }
+            engine.backtrack(0);
+        }
     }
     None
-}
-
-// Goes on where a clause is false. Answers what became of the literals, if it is known.
-fn meet(engine: &mut Engine, cone: &mut Cone, conflict: u32) -> Option<Outcome> {
-    engine.learn(conflict);
-    cone.rewind();
-    if engine.data.is_refuted() {
-        Some(Outcome::Refuted)
-    } else if engine.lacks_room() {
-        Some(Outcome::GivenUp)
-    } else {
-        None
-    }
 }
 
 // Tries to refute that both literals are true.
 fn refute(engine: &mut Engine, cone: &mut Cone, gates: &[u32], first: Lit, second: Lit) -> Outcome {
     let most = engine.pace.conflicts.saturating_add(PAIR_CONFLICTS);
-    let asked = Question {
-        first,
-        second,
-        most,
-    };
     engine.backtrack(0);
-    cone.rewind();
+    cone.first = first;
+    cone.second = second;
+    cone.next = 0;
     for _ in 0..u64::MAX {
-        let outcome = match engine.propagate() {
-            Some(conflict) => meet(engine, cone, conflict),
-            None => go_on(engine, cone, gates, asked),
-        };
-        if let Some(outcome) = outcome {
-            return outcome;
+        if let Some(conflict) = engine.propagate() {
+            engine.learn(conflict);
+            cone.next = 0;
+        } else {
+            if let Some(outcome) = go_on(engine, cone, gates) {
+                return outcome;
+            }
+            if engine.pace.conflicts >= most {
+                break;
+            }
+        }
+        if engine.data.is_refuted() {
+            return Outcome::Refuted;
+        }
+        if engine.lacks_room() {
+            break;
         }
     }
     Outcome::GivenUp
@@ -179,79 +123,45 @@ fn refute(engine: &mut Engine, cone: &mut Cone, gates: &[u32], first: Lit, secon
 
 // Tries to refute a pair in both ways. Where it is met in one, the other is not tried.
 fn try_pair(engine: &mut Engine, cone: &mut Cone, gates: &[u32], one: Lit, other: Lit) -> Outcome {
-    cone.begin(one, other);
-    match refute(engine, cone, gates, one, other ^ 1) {
-        Outcome::Refuted => {
-            if engine.data.is_refuted() {
-                Outcome::Refuted
-            } else {
-                refute(engine, cone, gates, one ^ 1, other)
-            }
-        }
-        outcome => outcome,
+    cone.vars.clear();
+    let outcome = refute(engine, cone, gates, one, other ^ 1);
+    if matches!(outcome, Outcome::Refuted) && !engine.data.is_refuted() {
+        refute(engine, cone, gates, one ^ 1, other)
+    } else {
+        outcome
     }
 }
 
-// Propagates what is fixed.
-fn settle(engine: &mut Engine) {
-    engine.backtrack(0);
-    if !engine.data.is_refuted() {
-        if let Some(conflict) = engine.propagate() {
-            engine.learn(conflict);
-        }
-    }
-}
-
-/// How many pairs were given up, and how many ways of pairs were refuted.
-#[derive(Clone, Copy)]
-struct Tally {
-    failures: u64,
-    successes: u64,
-}
-
-impl Tally {
-    // With one outcome more.
-    fn with(self, outcome: Outcome) -> Tally {
-        match outcome {
-            Outcome::Refuted => Tally {
-                successes: self.successes.saturating_add(2),
-                ..self
-            },
-            Outcome::Met => self,
-            Outcome::GivenUp => Tally {
-                failures: self.failures.saturating_add(1),
-                ..self
-            },
-        }
-    }
-
-    // Whether too many are given up.
-    fn is_poor(self) -> bool {
-        self.failures > self.successes / PAIR_SHARE + PAIR_FAILURES
-    }
-}
-
-// Tries pairs until too many are given up or so much was looked at.
-fn try_all(engine: &mut Engine, cone: &mut Cone, gates: &[u32], pairs: &[(Lit, Lit)], work: u64) {
-    let mut tally = Tally {
-        failures: 0,
-        successes: 0,
-    };
-    for (one, other) in pairs {
-        if engine.data.is_refuted() || engine.work > work || tally.is_poor() {
+// Tries pairs until too many are given up, for how many ways of pairs were refuted, or so much was looked at.
+fn try_all(
+    engine: &mut Engine,
+    cone: &mut Cone,
+    gates: &[u32],
+    pairs: &[(u32, Lit, Lit)],
+    work: u64,
+) {
+    let mut failures: u64 = 0;
+    let mut successes: u64 = 0;
+    for (_, one, other) in pairs {
+        let is_poor = failures > successes / PAIR_SHARE + PAIR_FAILURES;
+        if engine.data.is_refuted() || engine.work > work || is_poor {
             break;
         }
-        tally = tally.with(try_pair(engine, cone, gates, *one, *other));
+        match try_pair(engine, cone, gates, *one, *other) {
+            Outcome::Refuted => successes = successes.saturating_add(2),
+            Outcome::Met => {}
+            Outcome::GivenUp => failures = failures.saturating_add(1),
+        }
     }
 }
 
-/// Tries the pairs in their order, where each variable has this gate, until too many of them are given up or enough was looked at.
-pub fn sweep(engine: &mut Engine, gates: &[u32], pairs: &[(Lit, Lit)]) {
+/// Tries the pairs in their order, where each variable has this gate, until too many of them are given up or enough was looked at. Then
+/// what is fixed is propagated.
+pub fn sweep(engine: &mut Engine, gates: &[u32], pairs: &[(u32, Lit, Lit)]) {
     let work = engine.work.saturating_add(PAIR_WORK);
-    let mut cone = Cone::new(engine.data.alloc, engine.order.gone.len());
+    let vars = engine.order.gone.len();
+    let mut cone = Cone::new(engine.data.alloc, vars, &mut engine.data.is_short);
     try_all(engine, &mut cone, gates, pairs, work);
-    if cone.is_short {
-        engine.data.is_short = true;
-    }
+    engine.backtrack(0);
     settle(engine);
 }

@@ -142,9 +142,9 @@ impl Order {
         trail.leave(level);
     }
 
-    // Begins or ends to decide by scores, behind a conflict that walked over so many variables.
-    fn choose(&mut self, pace: &mut Pace, walk: usize) {
-        pace.count_walk(narrow(walk));
+    /// Lets the variables come first that a conflict walked over. By how many these are it begins or ends to decide by scores.
+    pub fn bump(&mut self, pace: &mut Pace, vars: &[u32], trail: &Trail) {
+        pace.count_walk(narrow(vars.len()));
         if self.is_scored && !pace.is_walk_long(SHORT_WALK) {
             self.is_scored = false;
             self.queue.rewind();
@@ -152,11 +152,6 @@ impl Order {
             self.is_scored = true;
             self.scores.begin(self.gone.len(), &mut self.is_short);
         }
-    }
-
-    /// Lets the variables come first that a conflict walked over.
-    pub fn bump(&mut self, pace: &mut Pace, vars: &[u32], trail: &Trail) {
-        self.choose(pace, vars.len());
         if self.is_scored {
             self.scores.bump_all(vars);
         } else {

@@ -65,8 +65,8 @@ impl Phases {
 
     // Sets all values.
     fn set_all(&mut self, value: bool) {
-        for saved in self.saved.iter_mut() {
-            *saved = value;
+        for var in 0..self.saved.len() {
+            put(&mut self.saved, var, value);
         }
     }
 

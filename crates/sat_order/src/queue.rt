@@ -3,7 +3,7 @@
 //! others. The variable from which the search for an open one begins is one behind which none is open.
 
 use sat_arena::trail::{Value, is_open};
-use sat_arena::words::{NONE, filled, push};
+use sat_arena::words::{NONE, filled, push, put};
 use std::alloc::Global;
 
 /// The neighbours of a variable, and its stamp.
@@ -58,13 +58,11 @@ impl Queue {
 
     // The link of a variable.
     fn link(&self, var: u32) -> Link {
-        self.links.get(var as usize).copied().unwrap_or(NO_LINK)
-    }
-
-    // Sets the link of a variable, if there is one.
-    fn set_link(&mut self, var: u32, link: Link) {
-        if let Some(old) = self.links.get_mut(var as usize) {
-            *old = link;
+        let place = var as usize;
+        if place < self.links.len() {
+            self.links[place]
+        } else {
+            NO_LINK
         }
     }
 
@@ -76,35 +74,32 @@ impl Queue {
 
     // Joins the neighbours of a variable.
     fn unlink(&mut self, link: Link) {
-        let before = self.link(link.previous);
-        self.set_link(
-            link.previous,
-            Link {
-                next: link.next,
-                ..before
-            },
-        );
-        let behind = self.link(link.next);
-        self.set_link(
-            link.next,
-            Link {
-                previous: link.previous,
-                ..behind
-            },
-        );
+        let before = Link {
+            next: link.next,
+            ..self.link(link.previous)
+        };
+        put(&mut self.links, link.previous as usize, before);
+        let behind = Link {
+            previous: link.previous,
+            ..self.link(link.next)
+        };
+        put(&mut self.links, link.next as usize, behind);
     }
 
     // Puts a variable at the end of the list.
     fn append(&mut self, var: u32) {
-        let last = self.link(self.last);
-        self.set_link(self.last, Link { next: var, ..last });
+        let last = Link {
+            next: var,
+            ..self.link(self.last)
+        };
+        put(&mut self.links, self.last as usize, last);
         self.stamp = self.stamp.saturating_add(1);
         let link = Link {
             previous: self.last,
             next: NONE,
             stamp: self.stamp,
         };
-        self.set_link(var, link);
+        put(&mut self.links, var as usize, link);
         self.last = var;
     }
 
@@ -137,7 +132,7 @@ impl Queue {
             self.last = link.previous;
         }
         self.unlink(link);
-        self.set_link(var, NO_LINK);
+        put(&mut self.links, var as usize, NO_LINK);
     }
 
     /// Notes that a variable is open again.
@@ -152,12 +147,6 @@ impl Queue {
         self.search = self.last;
     }
 
-    // Goes on from a variable that is not open.
-    fn advance(&mut self) {
-        let link = self.link(self.search);
-        self.search = link.previous;
-    }
-
     /// The open variable that comes first, if there is one.
     pub fn open_variable(&mut self, values: &[Value], gone: &[bool]) -> Option<u32> {
         for _ in 0..values.len() {
@@ -168,7 +157,8 @@ impl Queue {
             if is_open(values, gone, var) {
                 return Some(var);
             }
-            self.advance();
+            let link = self.link(var);
+            self.search = link.previous;
         }
         None
     }

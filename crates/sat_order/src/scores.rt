@@ -54,17 +54,13 @@ impl Scores {
         }
     }
 
-    // Makes room for so many variables, or notes that there is none. They all have one score.
-    fn make_room(&mut self, vars: usize, is_short: &mut bool) {
-        self.scores = filled(self.alloc, 0, vars, is_short);
-        self.heap = room_for(self.alloc, vars, is_short);
-        self.places = filled(self.alloc, NONE, vars, is_short);
-    }
-
-    /// Puts so many variables into the heap, the greatest first, or notes that there is no room for them.
+    /// Puts so many variables into the heap, the greatest first, or notes that there is no room for them. At first they all have one
+    /// score.
     pub fn begin(&mut self, vars: usize, is_short: &mut bool) {
         if self.places.is_empty() {
-            self.make_room(vars, is_short);
+            self.scores = filled(self.alloc, 0, vars, is_short);
+            self.heap = room_for(self.alloc, vars, is_short);
+            self.places = filled(self.alloc, NONE, vars, is_short);
         }
         for var in (0..narrow(self.places.len())).rev() {
             self.insert(var);
@@ -73,7 +69,12 @@ impl Scores {
 
     /// The score of a variable.
     pub fn score(&self, var: u32) -> u64 {
-        self.scores.get(var as usize).copied().unwrap_or(0)
+        let place = var as usize;
+        if place < self.scores.len() {
+            self.scores[place]
+        } else {
+            0
+        }
     }
 
     // The score of the variable at a place of the heap.
@@ -149,7 +150,10 @@ impl Scores {
     /// The open variable with the greatest score, if there is one. Those before it are taken out of the heap.
     pub fn open_variable(&mut self, values: &[Value], gone: &[bool]) -> Option<u32> {
         for _ in 0..gone.len() {
-            let var = self.heap.first().copied()?;
+            if self.heap.is_empty() {
+                break;
+            }
+            let var = at(&self.heap, 0);
             if is_open(values, gone, var) {
                 return Some(var);
             }
@@ -172,9 +176,8 @@ impl Scores {
 
     // Counts a variable of a conflict.
     fn bump(&mut self, var: u32) {
-        if let Some(score) = self.scores.get_mut(var as usize) {
-            *score = score.saturating_add(self.step);
-        }
+        let score = self.score(var).saturating_add(self.step);
+        put(&mut self.scores, var as usize, score);
         let place = at(&self.places, var as usize);
         if place != NONE {
             self.rise(place as usize);
@@ -194,8 +197,9 @@ impl Scores {
         self.step = self.step.saturating_add(self.step / SCORE_SHARE);
         if self.step > MOST {
             self.step /= SHRINK;
-            for score in self.scores.iter_mut() {
-                *score /= SHRINK;
+            for var in 0..narrow(self.scores.len()) {
+                let score = self.score(var) / SHRINK;
+                put(&mut self.scores, var as usize, score);
             }
         }
     }

@@ -48,7 +48,7 @@ pub fn signature(literals: &[Lit]) -> u32 {
 }
 
 // Counts the literals of clauses.
-fn count_all(arena: &Arena, clauses: &[u32], counts: &mut [u32]) {
+fn count_all(arena: &Arena, clauses: &[u32], counts: &mut Vec<u32>) {
     for clause in clauses {
         for lit in arena.literals(*clause) {
             let count = at(counts, *lit as usize);
@@ -58,26 +58,27 @@ fn count_all(arena: &Arena, clauses: &[u32], counts: &mut [u32]) {
 }
 
 // Makes room for so many clauses of each literal.
-fn make_lists(alloc: Global, counts: &[u32], lists: &mut [Vec<u32>], is_short: &mut bool) {
-    for (lit, list) in lists.iter_mut().enumerate() {
-        *list = room_for(alloc, at(counts, lit) as usize, is_short);
+fn make_lists(alloc: Global, counts: &[u32], lists: &mut Vec<Vec<u32>>, is_short: &mut bool) {
+    for lit in 0..lists.len() {
+        lists[lit] = room_for(alloc, at(counts, lit) as usize, is_short);
     }
 }
 
 // Puts a clause into the lists of its literals.
-fn list_clause(lists: &mut [Vec<u32>], literals: &[Lit], clause: u32, is_short: &mut bool) {
+fn list_clause(lists: &mut Vec<Vec<u32>>, literals: &[Lit], clause: u32, is_short: &mut bool) {
     for lit in literals {
-        if let Some(list) = lists.get_mut(*lit as usize) {
-            push(list, clause, is_short);
+        let place = *lit as usize;
+        if place < lists.len() {
+            push(&mut lists[place], clause, is_short);
         }
     }
 }
 
 // Moves the clauses that are no garbage to the front of a list. Answers how many they are.
-fn leave_garbage(arena: &Arena, list: &mut [u32]) -> usize {
+fn leave_garbage(arena: &Arena, list: &mut Vec<u32>) -> usize {
     let mut kept: usize = 0;
     for k in 0..list.len() {
-        let clause = list[k];
+        let clause = at(list, k);
         let status = arena.status(clause);
         if !status.is_garbage {
             put(list, kept, clause);
@@ -85,6 +86,24 @@ fn leave_garbage(arena: &Arena, list: &mut [u32]) -> usize {
         }
     }
     kept
+}
+
+// Takes the list of a literal out, and leaves an empty one.
+fn take_list(alloc: Global, lists: &mut Vec<Vec<u32>>, lit: Lit) -> Vec<u32> {
+    let place = lit as usize;
+    if place < lists.len() {
+        mem::replace(&mut lists[place], Vec::new(alloc))
+    } else {
+        Vec::new(alloc)
+    }
+}
+
+// Puts the list of a literal in its place.
+fn put_list(lists: &mut Vec<Vec<u32>>, lit: Lit, list: Vec<u32>) {
+    let place = lit as usize;
+    if place < lists.len() {
+        lists[place] = list;
+    }
 }
 
 impl Occurrences {
@@ -136,8 +155,8 @@ impl Occurrences {
 
     /// Notes that all variables are tried.
     pub fn clear_touched(&mut self) {
-        for touched in self.touched.iter_mut() {
-            *touched = false;
+        for var in 0..self.touched.len() {
+            put(&mut self.touched, var, false);
         }
     }
 
@@ -165,10 +184,7 @@ impl Occurrences {
 
     /// Takes out the clauses of a literal that are no garbage. The others are forgotten.
     pub fn take(&mut self, arena: &Arena, lit: Lit) -> Vec<u32> {
-        let mut list = match self.lists.get_mut(lit as usize) {
-            Some(list) => mem::replace(list, Vec::new(self.alloc)),
-            None => Vec::new(self.alloc),
-        };
+        let mut list = take_list(self.alloc, &mut self.lists, lit);
         let kept = leave_garbage(arena, &mut list);
         list.truncate(kept);
         list
@@ -176,9 +192,7 @@ impl Occurrences {
 
     /// Puts the clauses of a literal in their place.
     pub fn put_back(&mut self, lit: Lit, list: Vec<u32>) {
-        if let Some(place) = self.lists.get_mut(lit as usize) {
-            *place = list;
-        }
+        put_list(&mut self.lists, lit, list);
     }
 
     /// Counts what was looked at, as work that may not be done any more.

@@ -52,7 +52,7 @@ fn list_places(
 }
 
 // Marks the literals that follow from a literal by given clauses of two, which stand before others, or takes their marks back.
-fn mark_implied(arena: &Arena, list: &[Watch], marks: &mut [bool], value: bool) {
+fn mark_implied(arena: &Arena, list: &[Watch], marks: &mut Vec<bool>, value: bool) {
     for watch in list {
         if !watch.is_pair() {
             break;
@@ -90,8 +90,8 @@ fn find_gates(
     arena: &Arena,
     lists: &[Vec<Watch>],
     places: &Table,
-    marks: &mut [bool],
-    gates: &mut [u32],
+    marks: &mut Vec<bool>,
+    gates: &mut Vec<u32>,
 ) {
     for lit in (0..narrow(lists.len())).rev() {
         let row = places.row(lit);

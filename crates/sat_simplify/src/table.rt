@@ -20,11 +20,11 @@ impl Drop for Table {
 }
 
 // Puts the sum of the counts up to each in its place. Answers that of all.
-fn add_up(counts: &mut [u32]) -> u32 {
+fn add_up(counts: &mut Vec<u32>) -> u32 {
     let mut sum: u32 = 0;
-    for count in counts.iter_mut() {
-        sum = sum.wrapping_add(*count);
-        *count = sum;
+    for row in 0..counts.len() {
+        sum = sum.wrapping_add(at(counts, row));
+        put(counts, row, sum);
     }
     sum
 }
