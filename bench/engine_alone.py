@@ -20,7 +20,7 @@ def translated(text, crate):
     """A module of a crate as rustc takes it, as a module of one program."""
     text = re.sub(r"^impl Drop for .*?^\}\n", "", text, flags=re.MULTILINE | re.DOTALL)
     text = re.sub(r"^(//!.*|#!\[tactic\(auto\)\]|#\[derive\(Drop\)\])\n", "", text, flags=re.MULTILINE)
-    text = re.sub(r"^use std::alloc::", "use crate::stand_in::", text, flags=re.MULTILINE)
+    text = re.sub(r"^use std::alloc::", "use crate::stand_in::", text, flags=re.MULTILINE).replace("<T: Drop>", "<T>")
     text = re.sub(r"vec!\[in ([\w.]+); (.*?); (.*)\]", r"Vec::filled(\1, \2, \3)", text)
     text = re.sub(r"\buse crate::(?!stand_in)", "use crate::%s::" % crate, text)
     return "use crate::stand_in::Vec;\n" + re.sub(r"\buse (%s)::" % "|".join(BELOW), r"use crate::\1::", text)

@@ -184,8 +184,7 @@ impl Arena {
     /// Puts a clause behind the others. Answers its place.
     pub fn add(&mut self, literals: &[Lit], number: u32, status: Status) -> u32 {
         let clause = self.end();
-        let words = &mut self.words;
-        let is_short = &mut self.is_short;
+        let Arena { words, is_short } = self;
         push(words, narrow(literals.len()), is_short);
         push(words, packed(status), is_short);
         push(words, number, is_short);

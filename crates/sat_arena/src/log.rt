@@ -7,7 +7,9 @@
 //! soon as it is read, and no second log stands beside the first.
 
 use crate::constants::LOG_BLOCK;
-use crate::words::{Lit, at, filled, is_negated, is_set, narrow, push, put, room_for, var_of};
+use crate::words::{
+    Lit, at, at_or, filled, is_negated, is_set, narrow, push, put, room_for, var_of,
+};
 use cnf::Dim;
 use refute_check::Step;
 use std::alloc::Global;
@@ -33,23 +35,11 @@ impl Drop for Block {
     }
 }
 
-/// A step as it is read, and as the judge takes it. The room is used again for the next step.
-struct Reading {
-    clause: Vec<Lit>,
-    hints: Vec<u32>,
-    dims: Vec<Dim>,
-    places: Vec<usize>,
-}
-
-impl Drop for Reading {
-    fn drop(self) {
-        let Reading {
-            clause: _,
-            hints: _,
-            dims: _,
-            places: _,
-        } = self;
-    }
+/// The new numbers of clauses: so many are given, which keep theirs, and behind them are those of the steps.
+#[derive(Clone, Copy)]
+struct Numbers<'a> {
+    given: u32,
+    steps: &'a [u32],
 }
 
 /// Steps, whose clauses have numbers behind those of the given ones.
@@ -140,11 +130,7 @@ fn unfolded(number: u32) -> u32 {
 fn next_number(bytes: &[u8], place: &mut usize) -> u32 {
     let mut number: u32 = 0;
     for group in 0..GROUPS {
-        let byte = if *place < bytes.len() {
-            bytes[*place]
-        } else {
-            0
-        };
+        let byte = at_or(bytes, *place, 0);
         *place = (*place).saturating_add(1);
         number = number | u32::from(byte % 128).wrapping_shl(7 * group);
         if byte < 128 {
@@ -154,7 +140,7 @@ fn next_number(bytes: &[u8], place: &mut usize) -> u32 {
     number
 }
 
-// Reads a clause.
+// Reads the clause of a step.
 fn read_clause(bytes: &[u8], place: &mut usize, clause: &mut Vec<Lit>, is_short: &mut bool) {
     clause.clear();
     for _ in 0..next_number(bytes, place) {
@@ -162,11 +148,23 @@ fn read_clause(bytes: &[u8], place: &mut usize, clause: &mut Vec<Lit>, is_short:
     }
 }
 
-// Reads the hints of a step of this number.
+// Reads the clause of a step as the judge takes it.
+fn read_dims(bytes: &[u8], place: &mut usize, dims: &mut Vec<Dim>, is_short: &mut bool) {
+    dims.clear();
+    for _ in 0..next_number(bytes, place) {
+        let lit = next_number(bytes, place);
+        let var = var_of(lit);
+        let negated = is_negated(lit);
+        push(dims, Dim { var, negated }, is_short);
+    }
+}
+
+// Reads the hints of a step of this number, with their new numbers.
 fn read_hints(
     bytes: &[u8],
     place: &mut usize,
     number: u32,
+    numbers: Numbers<'_>,
     hints: &mut Vec<u32>,
     is_short: &mut bool,
 ) {
@@ -174,7 +172,23 @@ fn read_hints(
     let mut hint = number;
     for _ in 0..next_number(bytes, place) {
         hint = hint.wrapping_sub(unfolded(next_number(bytes, place)));
-        push(hints, hint, is_short);
+        push(hints, numbers.of(hint), is_short);
+    }
+}
+
+// Reads the hints of a step of this number as the judge takes them.
+fn read_places(
+    bytes: &[u8],
+    place: &mut usize,
+    number: u32,
+    places: &mut Vec<usize>,
+    is_short: &mut bool,
+) {
+    places.clear();
+    let mut hint = number;
+    for _ in 0..next_number(bytes, place) {
+        hint = hint.wrapping_sub(unfolded(next_number(bytes, place)));
+        push(places, hint as usize, is_short);
     }
 }
 
@@ -190,15 +204,36 @@ fn behind(bytes: &[u8], start: usize, count: u32) -> usize {
     bytes.len()
 }
 
-// The new number of a clause, where so many are given and `numbers` has those of the steps.
-fn renumbered(given: u32, numbers: &[u32], number: u32) -> u32 {
-    if number < given {
-        return number;
+impl Numbers<'_> {
+    // The new number of a clause.
+    fn of(self, number: u32) -> u32 {
+        if number < self.given {
+            return number;
+        }
+        at(self.steps, (number - self.given) as usize)
     }
-    at(numbers, (number - given) as usize)
 }
 
 impl Block {
+    // No steps, with room for bytes, from a place of the log on.
+    fn new(alloc: Global, bytes: Vec<u8>, first: u32) -> Block {
+        Block {
+            bytes,
+            starts: Vec::new(alloc),
+            first,
+        }
+    }
+
+    // Puts a step of this number behind the others. Answers how many bytes it takes.
+    fn add(&mut self, number: u32, clause: &[Lit], hints: &[u32], is_short: &mut bool) -> usize {
+        let bytes = &mut self.bytes;
+        let before = bytes.len();
+        push(&mut self.starts, narrow(before), is_short);
+        push_clause(bytes, clause, is_short);
+        push_hints(bytes, number, hints, is_short);
+        bytes.len().saturating_sub(before)
+    }
+
     // The place in the log of a step.
     fn place(&self, k: usize) -> usize {
         (self.first as usize).wrapping_add(k)
@@ -222,59 +257,53 @@ impl Block {
         for k in (0..self.starts.len()).rev() {
             let place = self.place(k);
             if is_set(needed, place) {
-                self.need_hints(self.starts[k] as usize, place, needed);
+                self.need_hints(at(&self.starts, k) as usize, place, needed);
             }
         }
     }
-}
 
-impl Reading {
-    // Reads a step of a block, where so many clauses are given.
-    fn read(&mut self, block: &Block, k: usize, given: u32, is_short: &mut bool) {
-        let bytes = block.bytes.as_slice();
-        let mut place = at(&block.starts, k) as usize;
-        read_clause(bytes, &mut place, &mut self.clause, is_short);
-        let number = given.wrapping_add(narrow(block.place(k)));
-        read_hints(bytes, &mut place, number, &mut self.hints, is_short);
+    // Reads a step, with the new numbers of its hints.
+    fn read(
+        &self,
+        k: usize,
+        numbers: Numbers<'_>,
+        clause: &mut Vec<Lit>,
+        hints: &mut Vec<u32>,
+        is_short: &mut bool,
+    ) {
+        let bytes = self.bytes.as_slice();
+        let mut next = at(&self.starts, k) as usize;
+        read_clause(bytes, &mut next, clause, is_short);
+        let number = numbers.given.wrapping_add(narrow(self.place(k)));
+        read_hints(bytes, &mut next, number, numbers, hints, is_short);
     }
 
-    // Gives the hints their new numbers, where so many clauses are given.
-    fn renumber(&mut self, given: u32, numbers: &[u32]) {
-        for k in 0..self.hints.len() {
-            let number = renumbered(given, numbers, at(&self.hints, k));
-            put(&mut self.hints, k, number);
+    // Puts the steps as the judge takes them behind others, where so many clauses are given.
+    fn write(&self, alloc: Global, given: u32, steps: &mut Vec<Step>, is_short: &mut bool) {
+        let mut dims = Vec::new(alloc);
+        let mut places = Vec::new(alloc);
+        let bytes = self.bytes.as_slice();
+        for (k, start) in self.starts.iter().enumerate() {
+            let mut next = *start as usize;
+            read_dims(bytes, &mut next, &mut dims, is_short);
+            let number = given.wrapping_add(narrow(self.place(k)));
+            read_places(bytes, &mut next, number, &mut places, is_short);
+            push_step(alloc, &dims, &places, steps, is_short);
         }
     }
-
-    // Puts the step as the judge takes it behind others.
-    fn write(&mut self, alloc: Global, steps: &mut Vec<Step>, is_short: &mut bool) {
-        dims_of(&self.clause, &mut self.dims, is_short);
-        places_of(&self.hints, &mut self.places, is_short);
-        let is_written = match Step::of(alloc, self.dims.as_slice(), self.places.as_slice()) {
-            Ok(step) => steps.push(step).is_ok(),
-            Err(_) => false,
-        };
-        if !is_written {
-            *is_short = true;
-        }
-    }
 }
 
-// The literals of a clause as the judge takes them.
-fn dims_of(clause: &[Lit], dims: &mut Vec<Dim>, is_short: &mut bool) {
-    dims.clear();
-    for lit in clause {
-        let var = var_of(*lit);
-        let negated = is_negated(*lit);
-        push(dims, Dim { var, negated }, is_short);
-    }
-}
-
-// The hints of a step as the judge takes them.
-fn places_of(hints: &[u32], places: &mut Vec<usize>, is_short: &mut bool) {
-    places.clear();
-    for hint in hints {
-        push(places, *hint as usize, is_short);
+// Puts a step as the judge takes it behind others.
+fn push_step(
+    alloc: Global,
+    dims: &[Dim],
+    places: &[usize],
+    steps: &mut Vec<Step>,
+    is_short: &mut bool,
+) {
+    match Step::of(alloc, dims, places) {
+        Ok(step) => push(steps, step, is_short),
+        Err(_) => *is_short = true,
     }
 }
 
@@ -284,11 +313,7 @@ impl Log {
         Log {
             alloc,
             blocks: Vec::new(alloc),
-            newest: Block {
-                bytes: Vec::new(alloc),
-                starts: Vec::new(alloc),
-                first: 0,
-            },
+            newest: Block::new(alloc, Vec::new(alloc), 0),
             given,
             steps: 0,
             end: 0,
@@ -299,15 +324,10 @@ impl Log {
 
     // Puts the newest block behind the others, and begins one with room for so many bytes.
     fn begin_block(&mut self, room: usize) {
-        let block = Block {
-            bytes: room_for(self.alloc, room, &mut self.is_short),
-            starts: Vec::new(self.alloc),
-            first: self.steps,
-        };
+        let bytes = room_for(self.alloc, room, &mut self.is_short);
+        let block = Block::new(self.alloc, bytes, self.steps);
         let full = mem::replace(&mut self.newest, block);
-        if self.blocks.push(full).is_err() {
-            self.is_short = true;
-        }
+        push(&mut self.blocks, full, &mut self.is_short);
     }
 
     /// Puts a step behind the others. Answers its number.
@@ -318,13 +338,7 @@ impl Log {
             self.begin_block(LOG_BLOCK.max(most));
         }
         let number = self.given.wrapping_add(self.steps);
-        let bytes = &mut self.newest.bytes;
-        let is_short = &mut self.is_short;
-        let before = bytes.len();
-        push(&mut self.newest.starts, narrow(before), is_short);
-        push_clause(bytes, clause, is_short);
-        push_hints(bytes, number, hints, is_short);
-        let more = bytes.len().saturating_sub(before);
+        let more = self.newest.add(number, clause, hints, &mut self.is_short);
         self.size = self.size.saturating_add(more);
         self.steps = self.steps.saturating_add(1);
         if clause.is_empty() && self.end == 0 {
@@ -345,16 +359,21 @@ impl Log {
 
     /// The new number of a clause, where `numbers` has those of the steps.
     pub fn new_number(&self, numbers: &[u32], number: u32) -> u32 {
-        renumbered(self.given, numbers, number)
+        let numbers = Numbers {
+            given: self.given,
+            steps: numbers,
+        };
+        numbers.of(number)
     }
 
     // Takes the steps of a block over that are needed, with their new numbers.
-    fn take_over(&mut self, block: &Block, needed: &[bool], numbers: &[u32], step: &mut Reading) {
+    fn take_over(&mut self, block: &Block, needed: &[bool], numbers: Numbers<'_>) {
+        let mut clause = Vec::new(self.alloc);
+        let mut hints = Vec::new(self.alloc);
         for k in 0..block.starts.len() {
             if is_set(needed, block.place(k)) {
-                step.read(block, k, self.given, &mut self.is_short);
-                step.renumber(self.given, numbers);
-                let _number = self.add(&step.clause, &step.hints);
+                block.read(k, numbers, &mut clause, &mut hints, &mut self.is_short);
+                let _number = self.add(&clause, &hints);
             }
         }
     }
@@ -368,28 +387,32 @@ impl Log {
         mem::replace(&mut self.blocks, Vec::new(self.alloc))
     }
 
+    // Takes the steps of all blocks over that are needed, with their new numbers.
+    fn take_all(&mut self, blocks: Vec<Block>, needed: &[bool], steps: &[u32]) {
+        let given = self.given;
+        let numbers = Numbers { given, steps };
+        for block in blocks {
+            self.take_over(&block, needed, numbers);
+        }
+    }
+
     /// Leaves out what no marked step needs. Answers the new numbers of the steps.
     pub fn trim(&mut self, needed: &mut Vec<bool>) -> Vec<u32> {
         let blocks = self.take_blocks();
         need_blocks(&blocks, needed);
         let mut numbers = filled(self.alloc, 0, needed.len(), &mut self.is_short);
         number_all(&mut numbers, needed, self.given);
-        let mut step = new_reading(self.alloc);
-        for block in blocks {
-            self.take_over(&block, needed, &numbers, &mut step);
-        }
+        self.take_all(blocks, needed, &numbers);
         numbers
     }
 
-    // Puts the steps as the judge takes them behind others. The log is empty then.
-    fn write_all(&mut self, steps: &mut Vec<Step>) {
-        let mut step = new_reading(self.alloc);
+    // The steps as the judge takes them. The log is empty then.
+    fn write_all(&mut self) -> Vec<Step> {
+        let mut steps = room_for(self.alloc, self.steps as usize, &mut self.is_short);
         for block in self.take_blocks() {
-            for k in 0..block.starts.len() {
-                step.read(&block, k, self.given, &mut self.is_short);
-                step.write(self.alloc, steps, &mut self.is_short);
-            }
+            block.write(self.alloc, self.given, &mut steps, &mut self.is_short);
         }
+        steps
     }
 
     /// The steps that the first empty clause needs, and it. The log is empty then.
@@ -397,9 +420,7 @@ impl Log {
         let mut needed = self.no_marks();
         put(&mut needed, (self.end as usize).saturating_sub(1), true);
         let _numbers = self.trim(&mut needed);
-        let mut steps = room_for(self.alloc, self.steps as usize, &mut self.is_short);
-        self.write_all(&mut steps);
-        steps
+        self.write_all()
     }
 }
 
@@ -416,15 +437,5 @@ fn number_all(numbers: &mut Vec<u32>, needed: &[bool], from: u32) {
     for (place, is_needed) in needed.iter().enumerate() {
         put(numbers, place, next);
         next = next.saturating_add(u32::from(*is_needed));
-    }
-}
-
-// Room for a step.
-fn new_reading(alloc: Global) -> Reading {
-    Reading {
-        clause: Vec::new(alloc),
-        hints: Vec::new(alloc),
-        dims: Vec::new(alloc),
-        places: Vec::new(alloc),
     }
 }

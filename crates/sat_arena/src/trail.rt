@@ -2,7 +2,9 @@
 //! which they became so, and of each variable the clause that is the reason of its value. The trail is the queue of what is to be
 //! propagated, too.
 
-use crate::words::{Lit, NONE, at, filled, is_set, lit_of, narrow, push, put, room_for, var_of};
+use crate::words::{
+    Lit, NONE, at, at_or, filled, is_set, lit_of, narrow, push, put, room_for, var_of,
+};
 use std::alloc::Global;
 
 /// The value of a literal.
@@ -31,7 +33,7 @@ const NO_FACT: Fact = Fact {
 /// The value of a literal, if there is such a literal.
 #[inline]
 pub fn value_of(values: &[Value], lit: Lit) -> Value {
-    values.get(lit as usize).copied().unwrap_or(Value::Open)
+    at_or(values, lit as usize, Value::Open)
 }
 
 /// Whether a literal is true.
@@ -126,7 +128,7 @@ impl Trail {
     /// What is known of a variable that has a value.
     #[inline]
     pub fn fact(&self, var: usize) -> Fact {
-        self.facts.get(var).copied().unwrap_or(NO_FACT)
+        at_or(&self.facts, var, NO_FACT)
     }
 
     /// The number of the clause that has the literal alone by which the variable is fixed.
@@ -146,12 +148,9 @@ impl Trail {
         put(&mut self.facts, var, Fact { reason, ..fact });
     }
 
-    /// Where a level begins on the trail.
+    /// Where a level begins on the trail. What is fixed begins at 0, as a level that is not there does.
     pub fn start(&self, level: u32) -> usize {
-        match (level as usize).checked_sub(1) {
-            None => 0,
-            Some(place) => at(&self.starts, place) as usize,
-        }
+        at(&self.starts, (level as usize).wrapping_sub(1)) as usize
     }
 
     /// Makes a literal true.

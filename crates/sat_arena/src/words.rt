@@ -29,10 +29,20 @@ pub fn lit_of(var: u32, value: bool) -> Lit {
     var.wrapping_mul(2).wrapping_add(u32::from(!value))
 }
 
+/// The item at a place, or another one where there is none.
+#[inline]
+pub fn at_or<T: Copy>(items: &[T], place: usize, other: T) -> T {
+    if place < items.len() {
+        items[place]
+    } else {
+        other
+    }
+}
+
 /// The word at a place, or 0.
 #[inline]
 pub fn at(words: &[u32], place: usize) -> u32 {
-    words.get(place).copied().unwrap_or(0)
+    at_or(words, place, 0)
 }
 
 /// Puts an item in a place, if there is one.
@@ -54,12 +64,12 @@ pub fn put_in<T: Copy>(items: &mut [T], place: usize, item: T) {
 /// Whether the flag at a place is set. One that is not there is not.
 #[inline]
 pub fn is_set(flags: &[bool], place: usize) -> bool {
-    flags.get(place).copied().unwrap_or(false)
+    at_or(flags, place, false)
 }
 
 /// Puts an item behind others, or notes that there is no room for it.
 #[inline]
-pub fn push<T: Copy>(items: &mut Vec<T>, item: T, is_short: &mut bool) {
+pub fn push<T: Drop>(items: &mut Vec<T>, item: T, is_short: &mut bool) {
     if items.push(item).is_err() {
         *is_short = true;
     }
@@ -99,9 +109,7 @@ pub fn room_for<T>(alloc: Global, count: usize, is_short: &mut bool) -> Vec<T> {
 pub fn empty_lists<T: Copy>(alloc: Global, count: usize, is_short: &mut bool) -> Vec<Vec<T>> {
     let mut lists = room_for(alloc, count, is_short);
     for _ in 0..count {
-        if lists.push(Vec::new(alloc)).is_err() {
-            *is_short = true;
-        }
+        push(&mut lists, Vec::new(alloc), is_short);
     }
     lists
 }
@@ -109,9 +117,5 @@ pub fn empty_lists<T: Copy>(alloc: Global, count: usize, is_short: &mut bool) ->
 /// The number as a word, or the greatest word.
 #[inline]
 pub fn narrow(number: usize) -> u32 {
-    if number < NONE as usize {
-        number as u32
-    } else {
-        NONE
-    }
+    number.min(NONE as usize) as u32
 }

@@ -94,24 +94,6 @@ impl Engine {
         self.order.backtrack(&mut self.data.trail, level);
     }
 
-    // Adds the clause that was found behind the level to which it goes back, and makes its first literal true.
-    fn take_up(&mut self, number: u32, glue: u32) {
-        let first = at(&self.notes.clause, 0);
-        if self.notes.clause.len() == 1 {
-            self.data.add_unit(first, number);
-        } else {
-            let status = Status {
-                is_learned: true,
-                used: uses(glue),
-                glue,
-                ..GIVEN
-            };
-            let clause = &self.notes.clause;
-            let place = self.data.add(&mut self.lists, clause, number, status);
-            self.data.trail.assign(first, place);
-        }
-    }
-
     // Finds what a conflict teaches, and changes the order of decisions by it. Answers the level to which to go back.
     fn analyze(&mut self, conflict: u32) -> u32 {
         let trail = &self.data.trail;
@@ -133,7 +115,8 @@ impl Engine {
         self.notes.clear();
         let number = self.data.log.add(&self.notes.clause, &self.notes.hints);
         self.backtrack(level);
-        self.take_up(number, glue);
+        let clause = &self.notes.clause;
+        take_up(&mut self.data, &mut self.lists, clause, number, glue);
     }
 
     // Does what is due where nothing is to be propagated: the search begins anew, but for what would be decided again, other values are
@@ -208,6 +191,29 @@ impl Engine {
         take_values(&self.data.trail.lits, &mut values);
         extend(&self.data.kept, &mut values);
         Ok(values)
+    }
+}
+
+// Adds the clause that was found behind the level to which the search went back, and makes its first literal true.
+fn take_up(
+    data: &mut Database,
+    lists: &mut Vec<Vec<Watch>>,
+    clause: &[Lit],
+    number: u32,
+    glue: u32,
+) {
+    let first = at(clause, 0);
+    if clause.len() == 1 {
+        data.add_unit(first, number);
+    } else {
+        let status = Status {
+            is_learned: true,
+            used: uses(glue),
+            glue,
+            ..GIVEN
+        };
+        let place = data.add(lists, clause, number, status);
+        data.trail.assign(first, place);
     }
 }
 

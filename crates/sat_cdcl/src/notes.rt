@@ -6,7 +6,7 @@
 use sat_arena::arena::{Arena, Status};
 use sat_arena::constants::{DEPTH, OTHER_USES, TIER1_GLUE, TIER2_GLUE, TIER2_USES};
 use sat_arena::trail::{Fact, Trail};
-use sat_arena::words::{Lit, NONE, at, filled, narrow, push, put, var_of};
+use sat_arena::words::{Lit, NONE, at, at_or, filled, narrow, push, put, var_of};
 use std::alloc::Global;
 
 /// What is known of a literal that may be left out of the clause.
@@ -142,11 +142,7 @@ impl Notes {
     // The mark of a variable.
     #[inline]
     fn mark(&self, var: usize) -> Mark {
-        if var < self.marks.len() {
-            self.marks[var]
-        } else {
-            NO_MARK
-        }
+        at_or(&self.marks, var, NO_MARK)
     }
 
     /// Whether a variable was met.
@@ -165,12 +161,7 @@ impl Notes {
 
     // The part of a level.
     fn part(&self, level: u32) -> Part {
-        let place = level as usize;
-        if place < self.parts.len() {
-            self.parts[place]
-        } else {
-            NO_PART
-        }
+        at_or(&self.parts, level as usize, NO_PART)
     }
 
     // Puts a literal of an older level into the clause.
@@ -392,15 +383,20 @@ impl Notes {
         }
     }
 
+    // Does what is still to be done to note why a variable has its value.
+    fn work_off(&mut self, arena: &Arena, trail: &Trail, task: Task) {
+        match task {
+            Task::Explain(var) => self.explain(arena, trail, var),
+            Task::Cite(reason) => push(&mut self.hints, arena.number(reason), &mut self.is_short),
+        }
+    }
+
     // Notes why the open variables have their values.
     fn explain_all(&mut self, arena: &Arena, trail: &Trail) {
         for _ in 0..u64::MAX {
             match self.open.pop() {
                 None => break,
-                Some(Task::Explain(var)) => self.explain(arena, trail, var),
-                Some(Task::Cite(reason)) => {
-                    push(&mut self.hints, arena.number(reason), &mut self.is_short);
-                }
+                Some(task) => self.work_off(arena, trail, task),
             }
         }
     }
@@ -460,12 +456,9 @@ impl Notes {
 
     /// Takes all marks back.
     pub fn clear(&mut self) {
-        unmark(&mut self.marks, &self.told);
-        unmark(&mut self.marks, &self.met);
-        clear_parts(&mut self.parts, &self.levels);
-        self.told.clear();
-        self.met.clear();
-        self.levels.clear();
+        forget(&mut self.marks, &mut self.told, NO_MARK);
+        forget(&mut self.marks, &mut self.met, NO_MARK);
+        forget(&mut self.parts, &mut self.levels, NO_PART);
     }
 }
 
@@ -494,16 +487,10 @@ fn put_second(clause: &mut Vec<Lit>, trail: &Trail) -> u32 {
     newest
 }
 
-// Takes the marks of variables back.
-fn unmark(marks: &mut Vec<Mark>, vars: &[u32]) {
-    for var in vars {
-        put(marks, *var as usize, NO_MARK);
+// Forgets what is noted at these places, and the places.
+fn forget<T: Copy>(notes: &mut Vec<T>, places: &mut Vec<u32>, nothing: T) {
+    for k in 0..places.len() {
+        put(notes, at(places, k) as usize, nothing);
     }
-}
-
-// Forgets what is noted of levels.
-fn clear_parts(parts: &mut Vec<Part>, levels: &[u32]) {
-    for level in levels {
-        put(parts, *level as usize, NO_PART);
-    }
+    places.clear();
 }

@@ -5,7 +5,7 @@
 
 use sat_arena::arena::{Arena, FIRST, HEADER, LAST, SIZE};
 use sat_arena::constants::SHORT_CLAUSE;
-use sat_arena::trail::{Trail, Value, is_false, is_true, value_of};
+use sat_arena::trail::{Trail, Value, is_false, is_true};
 use sat_arena::words::{Lit, at, narrow, push, put_in};
 use std::alloc::Global;
 use std::mem;
@@ -65,8 +65,11 @@ struct Walk {
 // The place among all words, from one up to another, of a literal that is not false.
 #[inline]
 fn free_place(values: &[Value], words: &[u32], from: usize, to: usize) -> Option<usize> {
+    if from > to || to > words.len() {
+        return None;
+    }
     let mut place = from;
-    for lit in words.get(from..to)? {
+    for lit in &words[from..to] {
         if !is_false(values, *lit) {
             return Some(place);
         }
@@ -97,17 +100,26 @@ fn replacement(values: &[Value], words: &mut [u32], clause: u32) -> Option<usize
     found
 }
 
+// What is to be done with a clause of which each other literal is false, and this one is not true.
+#[inline]
+fn look_at_last(values: &[Value], lit: Lit) -> Visit {
+    if is_false(values, lit) {
+        Visit::Conflict
+    } else {
+        Visit::Unit(lit)
+    }
+}
+
 // Decides what is to be done with a clause, and moves the literal that is to be watched to its front.
 #[inline]
 fn look_at(values: &[Value], words: &mut [u32], clause: u32, failed: Lit) -> Visit {
     let front = clause as usize + HEADER;
     let other = at(words, front) ^ at(words, front + 1) ^ failed;
-    let is_other_false = match value_of(values, other) {
-        Value::True => return Visit::Keep(other),
-        Value::Open => false,
-        Value::False => true,
-    };
+    if is_true(values, other) {
+        return Visit::Keep(other);
+    }
     match replacement(values, words, clause) {
+        None => look_at_last(values, other),
         Some(place) => {
             let found = at(words, place);
             if is_true(values, found) {
@@ -118,26 +130,16 @@ fn look_at(values: &[Value], words: &mut [u32], clause: u32, failed: Lit) -> Vis
             put_in(words, place, failed);
             Visit::Move(found, other)
         }
-        None => {
-            if is_other_false {
-                Visit::Conflict
-            } else {
-                Visit::Unit(other)
-            }
-        }
     }
 }
 
 // Decides what is to be done with a watch whose blocker is not true.
 #[inline]
 fn look(values: &[Value], words: &mut [u32], watch: Watch, failed: Lit) -> Visit {
-    if !watch.is_pair() {
-        return look_at(values, words, watch.clause(), failed);
-    }
-    if is_false(values, watch.blocker) {
-        Visit::Conflict
+    if watch.is_pair() {
+        look_at_last(values, watch.blocker)
     } else {
-        Visit::Unit(watch.blocker)
+        look_at(values, words, watch.clause(), failed)
     }
 }
 
@@ -245,16 +247,19 @@ pub fn propagate(
 
 // Takes the list of a literal out, and leaves an empty one.
 fn take_list(alloc: Global, lists: &mut [Vec<Watch>], lit: Lit) -> Vec<Watch> {
-    match lists.get_mut(lit as usize) {
-        Some(list) => mem::replace(list, Vec::new(alloc)),
-        None => Vec::new(alloc),
+    let place = lit as usize;
+    if place < lists.len() {
+        mem::replace(&mut lists[place], Vec::new(alloc))
+    } else {
+        Vec::new(alloc)
     }
 }
 
 // Puts the list of a literal in its place.
 fn put_list(lists: &mut [Vec<Watch>], lit: Lit, list: Vec<Watch>) {
-    if let Some(place) = lists.get_mut(lit as usize) {
-        *place = list;
+    let place = lit as usize;
+    if place < lists.len() {
+        lists[place] = list;
     }
 }
 

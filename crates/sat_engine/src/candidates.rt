@@ -9,7 +9,7 @@
 use sat_arena::arena::Arena;
 use sat_arena::constants::{FEWEST_TRIES, LEAST_TRIES, MOST_TRIES, TRIED_LITERALS};
 use sat_arena::trail::is_open;
-use sat_arena::words::{Lit, at, filled, is_negated, lit_of, narrow, push, put, var_of};
+use sat_arena::words::{Lit, at, at_or, filled, is_negated, lit_of, narrow, push, put, var_of};
 use sat_cdcl::database::Database;
 use sat_simplify::ranks::Ranks;
 use sat_simplify::table::Table;
@@ -97,8 +97,7 @@ fn by_greatest(
 
 // The values of a literal, of those of variables.
 fn values_of(values: &[u64], lit: Lit) -> u64 {
-    let var = var_of(lit);
-    let word = if var < values.len() { values[var] } else { 0 };
+    let word = at_or(values, var_of(lit), 0);
     if is_negated(lit) { !word } else { word }
 }
 
@@ -124,7 +123,7 @@ fn mend_all(values: &mut Vec<u64>, arena: &Arena, vars: &[u32], table: &Table) {
 // Notes the newest values.
 fn note_all(told: &mut Vec<Told>, values: &[u64], is_first: bool) {
     for (var, newest) in values.iter().enumerate() {
-        let t = if var < told.len() { told[var] } else { NOTHING };
+        let t = at_or(told, var, NOTHING);
         let is_turned = if is_first {
             newest % 2 == 1
         } else {

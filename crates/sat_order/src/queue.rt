@@ -3,7 +3,7 @@
 //! others. The variable from which the search for an open one begins is one behind which none is open.
 
 use sat_arena::trail::{Value, is_open};
-use sat_arena::words::{NONE, filled, push, put};
+use sat_arena::words::{NONE, at_or, filled, push, put};
 use std::alloc::Global;
 
 /// The neighbours of a variable, and its stamp.
@@ -58,12 +58,7 @@ impl Queue {
 
     // The link of a variable.
     fn link(&self, var: u32) -> Link {
-        let place = var as usize;
-        if place < self.links.len() {
-            self.links[place]
-        } else {
-            NO_LINK
-        }
+        at_or(&self.links, var as usize, NO_LINK)
     }
 
     /// The stamp of a variable.

@@ -6,7 +6,7 @@
 
 use sat_arena::constants::SCORE_SHARE;
 use sat_arena::trail::{Value, is_open};
-use sat_arena::words::{NONE, at, filled, narrow, put, room_for};
+use sat_arena::words::{NONE, at, at_or, filled, narrow, put, room_for};
 use std::alloc::Global;
 
 /// What the first conflict counts, and where all scores are made smaller, by how much.
@@ -69,12 +69,7 @@ impl Scores {
 
     /// The score of a variable.
     pub fn score(&self, var: u32) -> u64 {
-        let place = var as usize;
-        if place < self.scores.len() {
-            self.scores[place]
-        } else {
-            0
-        }
+        at_or(&self.scores, var as usize, 0)
     }
 
     // The score of the variable at a place of the heap.

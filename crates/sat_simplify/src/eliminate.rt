@@ -3,9 +3,9 @@
 //! on literals sums that are regrouped cost more than twice as much.) The clauses of the rarer sign are kept for the value that the
 //! variable has in a solution.
 
-use crate::clean::clean;
-use crate::occurrences::Occurrences;
-use crate::subsume::{discard_all, settle, subsume_all};
+use crate::clean::{cite, clean, put_others, write_down};
+use crate::occurrences::{Occurrences, clauses_of, mark, spend};
+use crate::subsume::{settle, subsume_all};
 use sat_arena::arena::{Arena, FIRST};
 use sat_arena::constants::{LITERALS_OF_WORK, LONGEST, MOST_USES, PASSES};
 use sat_arena::trail::is_open;
@@ -46,30 +46,6 @@ impl Drop for Resolvents {
     }
 }
 
-/// The clauses of a variable, by its sign.
-struct Sides {
-    positive: Vec<u32>,
-    negative: Vec<u32>,
-}
-
-impl Drop for Sides {
-    fn drop(self) {
-        let Sides {
-            positive: _,
-            negative: _,
-        } = self;
-    }
-}
-
-impl Sides {
-    // Puts the clauses in their places.
-    fn put_back(self, occurrences: &mut Occurrences, var: u32) {
-        let Sides { positive, negative } = self;
-        occurrences.put_back(lit_of(var, true), positive);
-        occurrences.put_back(lit_of(var, false), negative);
-    }
-}
-
 // How many literals clauses have together.
 fn literal_count(arena: &Arena, clauses: &[u32]) -> usize {
     let mut count: usize = 0;
@@ -77,6 +53,19 @@ fn literal_count(arena: &Arena, clauses: &[u32]) -> usize {
         count = count.saturating_add(arena.size(*clause) as usize);
     }
     count
+}
+
+// How many pairs of clauses a variable has, one of each sign.
+fn pairs(lists: &[Vec<u32>], var: u32) -> usize {
+    let positive = clauses_of(lists, lit_of(var, true)).len();
+    positive.saturating_mul(clauses_of(lists, lit_of(var, false)).len())
+}
+
+// The literal of a variable that stands in fewer clauses.
+fn rarer(lists: &[Vec<u32>], var: u32) -> Lit {
+    let positive = clauses_of(lists, lit_of(var, true)).len();
+    let is_positive = positive <= clauses_of(lists, lit_of(var, false)).len();
+    lit_of(var, is_positive)
 }
 
 // Whether the resolvent of a clause, whose literals are marked, and another holds always.
@@ -101,14 +90,15 @@ impl Resolvents {
         }
     }
 
-    // None yet, of clauses of two sides.
-    fn begin(&mut self, arena: &Arena, sides: &Sides) {
-        let positive = literal_count(arena, &sides.positive);
-        let negative = literal_count(arena, &sides.negative);
+    // None yet, of the clauses of a variable.
+    fn begin(&mut self, arena: &Arena, lists: &[Vec<u32>], var: u32) {
+        let positive = clauses_of(lists, lit_of(var, true));
+        let negative = clauses_of(lists, lit_of(var, false));
+        let more = literal_count(arena, negative);
         self.literals.clear();
         self.found.clear();
-        self.clauses = sides.positive.len().saturating_add(sides.negative.len());
-        self.room = positive.saturating_add(negative);
+        self.clauses = positive.len().saturating_add(negative.len());
+        self.room = literal_count(arena, positive).saturating_add(more);
     }
 
     // Puts the literals of a clause behind the others, but that of the variable, and those that are marked, if they are.
@@ -137,77 +127,71 @@ impl Resolvents {
         is_fit && self.found.len() <= self.clauses && end <= self.room
     }
 
-    // Finds all resolvents of one clause. Answers whether there is room for them.
+    // Finds the resolvents of a clause, whose literals are marked, and others. Answers whether there is room for them.
     fn add_all(
         &mut self,
         arena: &Arena,
-        occurrences: &mut Occurrences,
+        marks: &[bool],
+        work: &mut u64,
         var: usize,
         first: u32,
         others: &[u32],
     ) -> bool {
-        let mut is_fit = true;
-        occurrences.mark(arena.literals(first), true);
         for second in others {
-            if is_fit {
-                occurrences.spend(1 + arena.size(*second) as usize / LITERALS_OF_WORK);
-                is_fit = self.add(arena, &occurrences.marks, var, first, *second);
-            }
-        }
-        occurrences.mark(arena.literals(first), false);
-        is_fit
-    }
-
-    // Finds the resolvents of the clauses of a variable. Answers whether there is room for them.
-    fn resolve_all(
-        &mut self,
-        arena: &Arena,
-        occurrences: &mut Occurrences,
-        var: usize,
-        sides: &Sides,
-    ) -> bool {
-        for first in sides.positive.as_slice() {
-            if !self.add_all(arena, occurrences, var, *first, &sides.negative) {
+            spend(work, 1 + arena.size(*second) as usize / LITERALS_OF_WORK);
+            if !self.add(arena, marks, var, first, *second) {
                 return false;
             }
         }
         true
     }
 
+    // Finds the resolvents of the clauses of a variable. Answers whether there is room for them.
+    fn resolve_all(&mut self, arena: &Arena, occurrences: &mut Occurrences, var: u32) -> bool {
+        let Occurrences {
+            lists,
+            marks,
+            work,
+            ..
+        } = occurrences;
+        let others = clauses_of(lists, lit_of(var, false));
+        let mut is_fit = true;
+        for first in clauses_of(lists, lit_of(var, true)) {
+            if is_fit {
+                mark(marks, arena.literals(*first), true);
+                is_fit = self.add_all(arena, marks, work, var as usize, *first, others);
+                mark(marks, arena.literals(*first), false);
+            }
+        }
+        is_fit
+    }
+
     // Writes the resolvents down and notes them, in the place of their clauses.
     fn write(&self, data: &mut Database, occurrences: &mut Occurrences) {
+        let literals = self.literals.as_slice();
         let mut start = 0;
         for resolvent in self.found.iter() {
-            if let Some(literals) = self.literals.get(start..resolvent.end) {
-                enter(data, occurrences, *resolvent, literals);
+            let end = resolvent.end;
+            if start <= end && end <= literals.len() {
+                enter(data, occurrences, *resolvent, &literals[start..end]);
             }
-            start = resolvent.end;
+            start = end;
         }
     }
 }
 
 // Writes a resolvent down, and notes it.
 fn enter(data: &mut Database, occurrences: &mut Occurrences, by: Resolvent, literals: &[Lit]) {
-    let hints = [data.arena.number(by.first), data.arena.number(by.second)];
-    let number = data.log.add(literals, &hints);
-    match literals {
-        [] => {}
-        [lit] => data.add_unit(*lit, number),
-        _ => {
-            let place = data.arena.add(literals, number, GIVEN);
-            occurrences.connect(&mut data.arena, place);
-        }
+    cite(data, by.first, by.second);
+    if let Some(place) = write_down(data, literals, GIVEN) {
+        occurrences.connect(&mut data.arena, place);
     }
 }
 
 // Keeps a clause for the value of a variable: the literal that may have to be true first, and the count of the literals last.
 fn keep_clause(kept: &mut Vec<u32>, lit: Lit, literals: &[Lit], is_short: &mut bool) {
     push(kept, lit, is_short);
-    for other in literals {
-        if *other != lit {
-            push(kept, *other, is_short);
-        }
-    }
+    put_others(literals, lit, kept, is_short);
     push(kept, narrow(literals.len()), is_short);
 }
 
@@ -221,20 +205,11 @@ fn keep(data: &mut Database, lit: Lit, clauses: &[u32]) {
 }
 
 // Takes a variable out of the clauses.
-fn take_out(
-    data: &mut Database,
-    order: &mut Order,
-    occurrences: &mut Occurrences,
-    var: u32,
-    sides: &Sides,
-) {
-    if sides.positive.len() <= sides.negative.len() {
-        keep(data, lit_of(var, true), &sides.positive);
-    } else {
-        keep(data, lit_of(var, false), &sides.negative);
-    }
-    discard_all(&mut data.arena, occurrences, &sides.positive);
-    discard_all(&mut data.arena, occurrences, &sides.negative);
+fn take_out(data: &mut Database, order: &mut Order, occurrences: &mut Occurrences, var: u32) {
+    let lit = rarer(&occurrences.lists, var);
+    keep(data, lit, clauses_of(&occurrences.lists, lit));
+    occurrences.discard_all(&mut data.arena, lit);
+    occurrences.discard_all(&mut data.arena, lit ^ 1);
     order.leave_out(var);
 }
 
@@ -244,13 +219,14 @@ fn is_fit(
     occurrences: &mut Occurrences,
     resolvents: &mut Resolvents,
     var: u32,
-    sides: &Sides,
 ) -> bool {
-    if sides.positive.len() > MOST_USES || sides.negative.len() > MOST_USES {
+    let positive = occurrences.tidy(arena, lit_of(var, true));
+    let negative = occurrences.tidy(arena, lit_of(var, false));
+    if positive > MOST_USES || negative > MOST_USES {
         return false;
     }
-    resolvents.begin(arena, sides);
-    resolvents.resolve_all(arena, occurrences, var as usize, sides)
+    resolvents.begin(arena, &occurrences.lists, var);
+    resolvents.resolve_all(arena, occurrences, var)
 }
 
 // Takes a variable out of the clauses, if that is fit.
@@ -261,32 +237,30 @@ fn try_variable(
     resolvents: &mut Resolvents,
     var: u32,
 ) {
-    let sides = Sides {
-        positive: occurrences.take(&data.arena, lit_of(var, true)),
-        negative: occurrences.take(&data.arena, lit_of(var, false)),
-    };
-    if is_fit(&data.arena, occurrences, resolvents, var, &sides) {
-        take_out(data, order, occurrences, var, &sides);
+    if is_fit(&data.arena, occurrences, resolvents, var) {
+        take_out(data, order, occurrences, var);
         resolvents.write(data, occurrences);
         settle(data, occurrences);
-    } else {
-        sides.put_back(occurrences, var);
     }
 }
 
-// The variables that are to be tried, those with the fewest pairs of clauses first.
+// The variables that are to be tried, those with the fewest pairs of clauses first. None is to be tried any more then.
 fn candidates(data: &Database, order: &Order, occurrences: &mut Occurrences) -> Vec<(usize, u32)> {
     let mut found = Vec::new(data.alloc);
-    for var in 0..narrow(occurrences.touched.len()) {
-        let is_touched = is_set(&occurrences.touched, var as usize);
+    for var in 0..narrow(order.gone.len()) {
+        let is_touched = occurrences.take_touched(var);
         if is_touched && is_open(&data.trail.values, &order.gone, var) {
-            let count = occurrences.pairs(var);
+            let count = pairs(&occurrences.lists, var);
             push(&mut found, (count, var), &mut occurrences.is_short);
         }
     }
-    occurrences.clear_touched();
     found.sort_unstable();
     found
+}
+
+// Whether a variable may be tried still.
+fn is_due(data: &Database, gone: &[bool], work: u64, var: u32) -> bool {
+    work > 0 && !data.is_refuted() && is_open(&data.trail.values, gone, var)
 }
 
 // Tries variables.
@@ -294,36 +268,28 @@ fn try_all(
     data: &mut Database,
     order: &mut Order,
     occurrences: &mut Occurrences,
+    resolvents: &mut Resolvents,
     candidates: &[(usize, u32)],
 ) {
-    let mut resolvents = Resolvents::new(data.alloc);
     for (_, var) in candidates {
-        let is_going = occurrences.work > 0 && !data.is_refuted();
-        if is_going && is_open(&data.trail.values, &order.gone, *var) {
-            try_variable(data, order, occurrences, &mut resolvents, *var);
+        if is_due(data, &order.gone, occurrences.work, *var) {
+            try_variable(data, order, occurrences, resolvents, *var);
         }
-    }
-    if resolvents.is_short {
-        data.is_short = true;
     }
 }
 
 // Tries each variable whose clauses changed. Answers how many were taken out.
-fn pass(data: &mut Database, order: &mut Order, occurrences: &mut Occurrences) -> usize {
+fn pass(
+    data: &mut Database,
+    order: &mut Order,
+    occurrences: &mut Occurrences,
+    resolvents: &mut Resolvents,
+) -> usize {
     let before = order.left_out;
     let candidates = candidates(data, order, occurrences);
-    try_all(data, order, occurrences, &candidates);
+    try_all(data, order, occurrences, resolvents, &candidates);
     subsume_all(data, occurrences);
     order.left_out.saturating_sub(before)
-}
-
-// Notes the given clauses.
-fn connect_all(arena: &mut Arena, occurrences: &mut Occurrences) {
-    let clauses = arena.given(occurrences.alloc);
-    occurrences.make_room(arena, &clauses);
-    for clause in clauses.as_slice() {
-        occurrences.connect(arena, *clause);
-    }
 }
 
 // Whether one of the literals has a variable that was taken out.
@@ -336,9 +302,10 @@ fn is_left_out(gone: &[bool], literals: &[Lit]) -> bool {
     false
 }
 
-// Lets learned clauses go that have variables which were taken out.
-fn disconnect(arena: &mut Arena, gone: &[bool], clauses: &[u32]) {
-    for clause in clauses {
+// Lets clauses go that have variables which were taken out: the learned ones.
+fn disconnect(alloc: Global, arena: &mut Arena, gone: &[bool]) {
+    let clauses = arena.clauses(alloc);
+    for clause in clauses.as_slice() {
         arena.set_last(*clause, FIRST);
         if is_left_out(gone, arena.literals(*clause)) {
             arena.discard(*clause);
@@ -348,23 +315,26 @@ fn disconnect(arena: &mut Arena, gone: &[bool], clauses: &[u32]) {
 
 // Eliminates variables, where the given clauses are noted.
 fn eliminate_all(data: &mut Database, order: &mut Order, occurrences: &mut Occurrences) {
+    let mut resolvents = Resolvents::new(data.alloc);
     subsume_all(data, occurrences);
     for _ in 0..PASSES {
-        if data.is_refuted() || pass(data, order, occurrences) == 0 {
+        if data.is_refuted() || pass(data, order, occurrences, &mut resolvents) == 0 {
             break;
         }
+    }
+    if resolvents.is_short {
+        occurrences.is_short = true;
     }
 }
 
 /// Eliminates variables. Nothing is watched, or decided, and all is clean, before and after.
 pub fn eliminate(data: &mut Database, order: &mut Order, work: u64) {
-    let mut occurrences = Occurrences::new(data.alloc, order.gone.len(), work);
-    connect_all(&mut data.arena, &mut occurrences);
+    let vars = order.gone.len();
+    let mut occurrences = Occurrences::new(data.alloc, &mut data.arena, vars, work);
     eliminate_all(data, order, &mut occurrences);
     if occurrences.is_short {
         data.is_short = true;
     }
-    let clauses = data.arena.clauses(data.alloc);
-    disconnect(&mut data.arena, &order.gone, &clauses);
+    disconnect(data.alloc, &mut data.arena, &order.gone);
     clean(data);
 }

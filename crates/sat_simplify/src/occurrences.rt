@@ -1,24 +1,25 @@
 //! Occurrence lists (as in SatELite, Een and Biere 2005): in which given clauses each literal stands, while variables are
 //! eliminated.
 
+use crate::clean::put_others;
 use sat_arena::arena::{Arena, Status};
-use sat_arena::words::{Lit, at, empty_lists, filled, lit_of, push, put, room_for, var_of};
+use sat_arena::words::{Lit, at, empty_lists, filled, is_set, push, put, room_for, var_of};
 use std::alloc::Global;
-use std::mem;
 
 /// The clauses of literals, and what is still to be tried.
 pub struct Occurrences {
     /// Of each literal the clauses in which it stood when they were noted. Some of them may be garbage.
     pub lists: Vec<Vec<u32>>,
-    /// The clauses that may subsume others.
-    pub queue: Vec<u32>,
+    /// The clauses that may subsume others, each behind its number of literals.
+    pub queue: Vec<(u32, u32)>,
     /// Marks of literals, for the clause that is looked at.
     pub marks: Vec<bool>,
     /// Of each variable whether its clauses changed since it was tried.
     pub touched: Vec<bool>,
+    /// The literals of a clause that are left, where it is made shorter.
+    pub rest: Vec<Lit>,
     /// How much may still be looked at.
     pub work: u64,
-    pub alloc: Global,
     /// Whether there was no room for something.
     pub is_short: bool,
 }
@@ -30,15 +31,59 @@ impl Drop for Occurrences {
             queue: _,
             marks: _,
             touched: _,
+            rest: _,
             work: _,
-            alloc: _,
             is_short: _,
         } = self;
     }
 }
 
-/// Which variables literals have, as bits of a word, so that a clause that has others is told at once (Een and Biere 2005).
-pub fn signature(literals: &[Lit]) -> u32 {
+/// Marks literals, or takes their marks back.
+pub fn mark(marks: &mut Vec<bool>, literals: &[Lit], value: bool) {
+    for lit in literals {
+        put(marks, *lit as usize, value);
+    }
+}
+
+// Notes that the clauses of these variables change.
+fn touch(touched: &mut Vec<bool>, literals: &[Lit]) {
+    for lit in literals {
+        put(touched, var_of(*lit), true);
+    }
+}
+
+/// Counts what was looked at, as work that may not be done any more.
+pub fn spend(work: &mut u64, amount: usize) {
+    *work = work.saturating_sub(amount as u64);
+}
+
+/// The clauses in which a literal stood.
+pub fn clauses_of(lists: &[Vec<u32>], lit: Lit) -> &[u32] {
+    let place = lit as usize;
+    if place < lists.len() {
+        lists[place].as_slice()
+    } else {
+        &[]
+    }
+}
+
+// Leaves those clauses in a list that are no garbage. Answers how many they are.
+fn tidy_list(arena: &Arena, list: &mut Vec<u32>) -> usize {
+    let mut kept: usize = 0;
+    for k in 0..list.len() {
+        let clause = at(list, k);
+        let status = arena.status(clause);
+        if !status.is_garbage {
+            put(list, kept, clause);
+            kept = kept.wrapping_add(1);
+        }
+    }
+    list.truncate(kept);
+    kept
+}
+
+// Which variables literals have, as bits of a word, so that a clause that has others is told at once (Een and Biere 2005).
+fn signature(literals: &[Lit]) -> u32 {
     let mut bits: u32 = 0;
     for lit in literals {
         let hash = (*lit / 2).wrapping_mul(0x9e37_79b1);
@@ -57,10 +102,18 @@ fn count_all(arena: &Arena, clauses: &[u32], counts: &mut Vec<u32>) {
     }
 }
 
-// Makes room for so many clauses of each literal.
-fn make_lists(alloc: Global, counts: &[u32], lists: &mut Vec<Vec<u32>>, is_short: &mut bool) {
+// Makes room for as many clauses of each literal as these have.
+fn make_room(
+    alloc: Global,
+    arena: &Arena,
+    clauses: &[u32],
+    lists: &mut Vec<Vec<u32>>,
+    is_short: &mut bool,
+) {
+    let mut counts = filled(alloc, 0, lists.len(), is_short);
+    count_all(arena, clauses, &mut counts);
     for lit in 0..lists.len() {
-        lists[lit] = room_for(alloc, at(counts, lit) as usize, is_short);
+        lists[lit] = room_for(alloc, at(&counts, lit) as usize, is_short);
     }
 }
 
@@ -74,129 +127,92 @@ fn list_clause(lists: &mut Vec<Vec<u32>>, literals: &[Lit], clause: u32, is_shor
     }
 }
 
-// Moves the clauses that are no garbage to the front of a list. Answers how many they are.
-fn leave_garbage(arena: &Arena, list: &mut Vec<u32>) -> usize {
-    let mut kept: usize = 0;
-    for k in 0..list.len() {
-        let clause = at(list, k);
-        let status = arena.status(clause);
-        if !status.is_garbage {
-            put(list, kept, clause);
-            kept = kept.wrapping_add(1);
-        }
-    }
-    kept
-}
-
-// Takes the list of a literal out, and leaves an empty one.
-fn take_list(alloc: Global, lists: &mut Vec<Vec<u32>>, lit: Lit) -> Vec<u32> {
-    let place = lit as usize;
-    if place < lists.len() {
-        mem::replace(&mut lists[place], Vec::new(alloc))
-    } else {
-        Vec::new(alloc)
-    }
-}
-
-// Puts the list of a literal in its place.
-fn put_list(lists: &mut Vec<Vec<u32>>, lit: Lit, list: Vec<u32>) {
-    let place = lit as usize;
-    if place < lists.len() {
-        lists[place] = list;
-    }
-}
-
 impl Occurrences {
-    /// No clauses of so many variables.
-    pub fn new(alloc: Global, vars: usize, work: u64) -> Occurrences {
+    /// The given clauses, of so many variables.
+    pub fn new(alloc: Global, arena: &mut Arena, vars: usize, work: u64) -> Occurrences {
         let mut is_short = false;
         let count = vars.saturating_mul(2);
         let lists = empty_lists(alloc, count, &mut is_short);
         let marks = filled(alloc, false, count, &mut is_short);
         let touched = filled(alloc, true, vars, &mut is_short);
-        Occurrences {
+        let mut occurrences = Occurrences {
             lists,
             queue: Vec::new(alloc),
             marks,
             touched,
+            rest: Vec::new(alloc),
             work,
-            alloc,
             is_short,
+        };
+        occurrences.connect_all(alloc, arena);
+        occurrences
+    }
+
+    // Notes the given clauses.
+    fn connect_all(&mut self, alloc: Global, arena: &mut Arena) {
+        let clauses = arena.given(alloc);
+        make_room(alloc, arena, &clauses, &mut self.lists, &mut self.is_short);
+        for clause in clauses.as_slice() {
+            self.connect(arena, *clause);
         }
     }
 
-    /// Marks literals, or takes their marks back.
-    pub fn mark(&mut self, literals: &[Lit], value: bool) {
-        for lit in literals {
-            put(&mut self.marks, *lit as usize, value);
+    /// Leaves those clauses of a literal that are no garbage. Answers how many they are.
+    pub fn tidy(&mut self, arena: &Arena, lit: Lit) -> usize {
+        let place = lit as usize;
+        if place < self.lists.len() {
+            tidy_list(arena, &mut self.lists[place])
+        } else {
+            0
         }
     }
 
-    /// Notes that the clauses of these variables change.
-    pub fn touch(&mut self, literals: &[Lit]) {
-        for lit in literals {
-            put(&mut self.touched, var_of(*lit), true);
+    /// The clause at a place of the list of a literal.
+    pub fn clause_at(&self, lit: Lit, place: usize) -> u32 {
+        at(clauses_of(&self.lists, lit), place)
+    }
+
+    /// Whether the clauses of a variable changed since it was tried, which counts as tried then.
+    pub fn take_touched(&mut self, var: u32) -> bool {
+        let is_touched = is_set(&self.touched, var as usize);
+        put(&mut self.touched, var as usize, false);
+        is_touched
+    }
+
+    /// Lets a clause go, whose variables are to be tried again.
+    pub fn discard(&mut self, arena: &mut Arena, clause: u32) {
+        touch(&mut self.touched, arena.literals(clause));
+        arena.discard(clause);
+    }
+
+    /// Lets the clauses of a literal go, whose variables are to be tried again.
+    pub fn discard_all(&mut self, arena: &mut Arena, lit: Lit) {
+        for place in 0..self.tidy(arena, lit) {
+            let clause = self.clause_at(lit, place);
+            self.discard(arena, clause);
         }
     }
 
-    /// In how many clauses a literal stood.
-    pub fn count(&self, lit: Lit) -> usize {
-        match self.lists.get(lit as usize) {
-            Some(list) => list.len(),
-            None => 0,
-        }
-    }
-
-    /// How many pairs of clauses a variable has, one of each sign.
-    pub fn pairs(&self, var: u32) -> usize {
-        let positive = self.count(lit_of(var, true));
-        positive.saturating_mul(self.count(lit_of(var, false)))
-    }
-
-    /// Notes that all variables are tried.
-    pub fn clear_touched(&mut self) {
-        for var in 0..self.touched.len() {
-            put(&mut self.touched, var, false);
-        }
-    }
-
-    /// Makes room for as many clauses of each literal as these have.
-    pub fn make_room(&mut self, arena: &Arena, clauses: &[u32]) {
-        let mut counts = filled(self.alloc, 0, self.lists.len(), &mut self.is_short);
-        count_all(arena, clauses, &mut counts);
-        make_lists(self.alloc, &counts, &mut self.lists, &mut self.is_short);
+    /// Takes the literals of a clause but one as those that are left of it. The clauses of its variables change.
+    pub fn leave(&mut self, literals: &[Lit], but: Lit) {
+        touch(&mut self.touched, literals);
+        self.rest.clear();
+        put_others(literals, but, &mut self.rest, &mut self.is_short);
     }
 
     /// Notes a clause.
     pub fn connect(&mut self, arena: &mut Arena, clause: u32) {
         let literals = arena.literals(clause);
         let bits = signature(literals);
-        self.touch(literals);
+        touch(&mut self.touched, literals);
         list_clause(&mut self.lists, literals, clause, &mut self.is_short);
         arena.set_last(clause, bits);
         let status = arena.status(clause);
         if !status.is_tried {
             let is_tried = true;
             arena.set_status(clause, Status { is_tried, ..status });
-            push(&mut self.queue, clause, &mut self.is_short);
+            let waiting = (arena.size(clause), clause);
+            push(&mut self.queue, waiting, &mut self.is_short);
         }
-    }
-
-    /// Takes out the clauses of a literal that are no garbage. The others are forgotten.
-    pub fn take(&mut self, arena: &Arena, lit: Lit) -> Vec<u32> {
-        let mut list = take_list(self.alloc, &mut self.lists, lit);
-        let kept = leave_garbage(arena, &mut list);
-        list.truncate(kept);
-        list
-    }
-
-    /// Puts the clauses of a literal in their place.
-    pub fn put_back(&mut self, lit: Lit, list: Vec<u32>) {
-        put_list(&mut self.lists, lit, list);
-    }
-
-    /// Counts what was looked at, as work that may not be done any more.
-    pub fn spend(&mut self, amount: usize) {
-        self.work = self.work.saturating_sub(amount as u64);
     }
 }

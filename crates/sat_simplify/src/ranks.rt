@@ -76,13 +76,31 @@ fn is_gate(arena: &Arena, clause: u32, lit: Lit, marks: &[bool], gates: &[u32]) 
 }
 
 // The clause that is the gate of a literal, if there is one, of those in which it stands.
-fn gate_of(arena: &Arena, places: &[u32], lit: Lit, marks: &[bool], gates: &[u32]) -> u32 {
+fn first_gate(arena: &Arena, places: &[u32], lit: Lit, marks: &[bool], gates: &[u32]) -> u32 {
     for clause in places {
         if is_gate(arena, *clause, lit, marks, gates) {
             return *clause;
         }
     }
     NONE
+}
+
+// The clause that is the gate of a literal, if there is one, of those in which it stands, where its negation is watched by these.
+fn gate_of(
+    arena: &Arena,
+    watches: &[Watch],
+    places: &[u32],
+    lit: Lit,
+    marks: &mut Vec<bool>,
+    gates: &[u32],
+) -> u32 {
+    if places.is_empty() {
+        return NONE;
+    }
+    mark_implied(arena, watches, marks, true);
+    let gate = first_gate(arena, places, lit, marks, gates);
+    mark_implied(arena, watches, marks, false);
+    gate
 }
 
 // Finds the clause that is the gate of each variable, or none. Greater variables come first, since they are mostly made later.
@@ -94,13 +112,10 @@ fn find_gates(
     gates: &mut Vec<u32>,
 ) {
     for lit in (0..narrow(lists.len())).rev() {
-        let row = places.row(lit);
-        if at(gates, var_of(lit)) == NONE && !row.is_empty() {
-            let implied = list_of(lists, lit ^ 1);
-            mark_implied(arena, implied, marks, true);
-            let gate = gate_of(arena, row, lit, marks, gates);
+        if at(gates, var_of(lit)) == NONE {
+            let watches = list_of(lists, lit ^ 1);
+            let gate = gate_of(arena, watches, places.row(lit), lit, marks, gates);
             put(gates, var_of(lit), gate);
-            mark_implied(arena, implied, marks, false);
         }
     }
 }
@@ -146,34 +161,41 @@ impl Drop for Ranks {
     }
 }
 
+// Puts a variable behind the others, if it is not among them.
+fn rank(ranks: &mut Vec<u32>, vars: &mut Vec<u32>, var: u32, is_short: &mut bool) {
+    if at(ranks, var as usize) >= MARKED {
+        put(ranks, var as usize, narrow(vars.len()));
+        push(vars, var, is_short);
+    }
+}
+
+// Opens the variables of a gate that were not met.
+fn open_all(ranks: &[u32], literals: &[Lit], open: &mut Vec<u32>, is_short: &mut bool) {
+    for lit in literals {
+        if at(ranks, var_of(*lit)) == NONE {
+            push(open, *lit / 2, is_short);
+        }
+    }
+}
+
 impl Ranks {
-    // Puts a variable behind the others, if it is not among them.
-    fn rank(&mut self, var: u32) {
-        if at(&self.ranks, var as usize) >= MARKED {
-            put(&mut self.ranks, var as usize, narrow(self.vars.len()));
-            push(&mut self.vars, var, &mut self.is_short);
-        }
-    }
-
-    // Opens the variables of a gate that were not met.
-    fn open_all(&mut self, literals: &[Lit]) {
-        for lit in literals {
-            if at(&self.ranks, var_of(*lit)) == NONE {
-                push(&mut self.open, *lit / 2, &mut self.is_short);
-            }
-        }
-    }
-
     // Meets the last variable on the way: it stays there until those are ranked that its gate reads.
     fn step(&mut self, arena: &Arena, var: u32) {
-        let gate = at(&self.gates, var as usize);
-        if gate == NONE || at(&self.ranks, var as usize) != NONE {
-            self.rank(var);
-            return;
+        let Ranks {
+            ranks,
+            vars,
+            gates,
+            open,
+            is_short,
+        } = self;
+        let gate = at(gates, var as usize);
+        if gate == NONE || at(ranks, var as usize) != NONE {
+            rank(ranks, vars, var, is_short);
+        } else {
+            put(ranks, var as usize, MARKED);
+            push(open, var, is_short);
+            open_all(ranks, arena.literals(gate), open, is_short);
         }
-        put(&mut self.ranks, var as usize, MARKED);
-        push(&mut self.open, var, &mut self.is_short);
-        self.open_all(arena.literals(gate));
     }
 
     // Ranks a variable and all behind which it comes.

@@ -2,12 +2,14 @@
 //! a clause of which another is a part but for that literal, which it has negated. Each clause is tried once against those of its
 //! rarest literal.
 
-use crate::clean::{replace, shorten};
-use crate::occurrences::Occurrences;
+use crate::clean::{cite, replace, shorten};
+use crate::occurrences::{Occurrences, clauses_of, mark, spend};
 use sat_arena::arena::Arena;
 use sat_arena::constants::{LITERALS_OF_WORK, MOST_SUBSUMED, SUBSUMING};
-use sat_arena::words::{Lit, is_set, push};
+use sat_arena::words::{Lit, is_set};
 use sat_cdcl::database::Database;
+use std::alloc::Global;
+use std::mem;
 
 /// How the marked literals lie in a clause.
 #[derive(Clone, Copy)]
@@ -21,179 +23,103 @@ enum Cover {
 // How the marked literals, which are so many, lie in a clause.
 fn covered(marks: &[bool], count: usize, literals: &[Lit]) -> Cover {
     let mut found: usize = 0;
-    let mut flipped: Option<Lit> = None;
+    let mut cover = Cover::All;
     for lit in literals {
         if is_set(marks, *lit as usize) {
             found = found.wrapping_add(1);
         } else if is_set(marks, (*lit ^ 1) as usize) {
-            if flipped.is_some() {
+            if !matches!(cover, Cover::All) {
                 return Cover::No;
             }
-            flipped = Some(*lit);
+            found = found.wrapping_add(1);
+            cover = Cover::But(*lit);
         }
     }
-    if found == count {
-        return Cover::All;
-    }
-    match flipped {
-        Some(lit) => {
-            if found.wrapping_add(1) == count {
-                Cover::But(lit)
-            } else {
-                Cover::No
-            }
-        }
-        None => Cover::No,
-    }
-}
-
-// Puts the literals of a clause but one into `rest`.
-fn leave_literal(literals: &[Lit], lit: Lit, rest: &mut Vec<Lit>, is_short: &mut bool) {
-    rest.clear();
-    for other in literals {
-        if *other != lit {
-            push(rest, *other, is_short);
-        }
-    }
+    if found == count { cover } else { Cover::No }
 }
 
 // Puts a clause without a literal in its place, which the literals of another clause but its negation make false.
-fn strengthen(
-    data: &mut Database,
-    occurrences: &mut Occurrences,
-    by: u32,
-    clause: u32,
-    lit: Lit,
-    rest: &mut Vec<Lit>,
-) {
-    let literals = data.arena.literals(clause);
-    leave_literal(literals, lit, rest, &mut data.is_short);
-    occurrences.touch(literals);
-    data.hints.clear();
-    push(&mut data.hints, data.arena.number(by), &mut data.is_short);
-    push(
-        &mut data.hints,
-        data.arena.number(clause),
-        &mut data.is_short,
-    );
-    if let Some(place) = replace(data, clause, rest) {
+fn strengthen(data: &mut Database, occurrences: &mut Occurrences, by: u32, clause: u32, lit: Lit) {
+    occurrences.leave(data.arena.literals(clause), lit);
+    cite(data, by, clause);
+    if let Some(place) = replace(data, clause, &occurrences.rest) {
         occurrences.connect(&mut data.arena, place);
     }
 }
 
-/// Lets clauses go, whose variables are to be tried again.
-pub fn discard_all(arena: &mut Arena, occurrences: &mut Occurrences, clauses: &[u32]) {
-    for clause in clauses {
-        occurrences.touch(arena.literals(*clause));
-        arena.discard(*clause);
-    }
-}
-
 // Leaves out of a clause what is false, or the clause, if it holds.
-fn settle_clause(
-    data: &mut Database,
-    occurrences: &mut Occurrences,
-    clause: u32,
-    rest: &mut Vec<Lit>,
-) {
-    let literals = data.arena.literals(clause);
-    occurrences.touch(literals);
-    if data.trail.satisfies(literals) {
-        data.arena.discard(clause);
+fn settle_clause(data: &mut Database, occurrences: &mut Occurrences, clause: u32) {
+    if data.trail.satisfies(data.arena.literals(clause)) {
+        occurrences.discard(&mut data.arena, clause);
     } else if !data.is_refuted() {
-        if let Some(place) = shorten(data, clause, rest) {
+        if let Some(place) = shorten(data, clause, &mut occurrences.rest) {
             occurrences.connect(&mut data.arena, place);
         }
     }
 }
 
 // Leaves out a literal that is fixed: clauses in which it stands hold, and others lose what is false in them.
-fn settle_one(data: &mut Database, occurrences: &mut Occurrences, lit: Lit, rest: &mut Vec<Lit>) {
-    let satisfied = occurrences.take(&data.arena, lit);
-    discard_all(&mut data.arena, occurrences, &satisfied);
-    let shorter = occurrences.take(&data.arena, lit ^ 1);
-    for clause in shorter.as_slice() {
-        settle_clause(data, occurrences, *clause, rest);
+fn settle_one(data: &mut Database, occurrences: &mut Occurrences, lit: Lit) {
+    occurrences.discard_all(&mut data.arena, lit);
+    let count = occurrences.tidy(&data.arena, lit ^ 1);
+    for place in 0..count {
+        let clause = occurrences.clause_at(lit ^ 1, place);
+        settle_clause(data, occurrences, clause);
     }
 }
 
 /// Leaves out what is fixed from the clauses that are noted.
 pub fn settle(data: &mut Database, occurrences: &mut Occurrences) {
-    let mut rest: Vec<Lit> = Vec::new(data.alloc);
     for _ in 0..u64::MAX {
         match data.trail.next() {
             None => break,
-            Some(lit) => settle_one(data, occurrences, lit, &mut rest),
+            Some(lit) => settle_one(data, occurrences, lit),
         }
     }
 }
 
-// Whether a clause can have all of these variables, by what is noted of it.
-fn may_cover(arena: &Arena, clause: u32, count: usize, bits: u32) -> bool {
-    let status = arena.status(clause);
-    !status.is_garbage && arena.size(clause) as usize >= count && bits & !arena.last(clause) == 0
+// Whether a clause can have all variables of another one, by what is noted of both.
+fn may_cover(arena: &Arena, by: u32, clause: u32) -> bool {
+    arena.size(clause) >= arena.size(by) && arena.last(by) & !arena.last(clause) == 0
 }
 
-// Lets a clause go that the marked one, of so many literals, subsumes. Answers the literal that goes, if it makes the clause shorter.
-fn try_clause(
-    arena: &mut Arena,
-    occurrences: &mut Occurrences,
-    count: usize,
-    clause: u32,
-) -> Option<Lit> {
+// How the literals of the marked clause lie in another one.
+fn cover_of(arena: &Arena, occurrences: &mut Occurrences, by: u32, clause: u32) -> Cover {
+    if clause == by || !may_cover(arena, by, clause) {
+        return Cover::No;
+    }
     let literals = arena.literals(clause);
-    occurrences.spend(literals.len() / LITERALS_OF_WORK);
-    match covered(&occurrences.marks, count, literals) {
-        Cover::All => {
-            occurrences.touch(literals);
-            arena.discard(clause);
-            None
-        }
-        Cover::But(lit) => Some(lit),
-        Cover::No => None,
+    spend(&mut occurrences.work, literals.len() / LITERALS_OF_WORK);
+    covered(&occurrences.marks, arena.size(by) as usize, literals)
+}
+
+// Lets a clause go that the marked one subsumes, or makes it shorter.
+fn try_clause(data: &mut Database, occurrences: &mut Occurrences, by: u32, clause: u32) {
+    match cover_of(&data.arena, occurrences, by, clause) {
+        Cover::All => occurrences.discard(&mut data.arena, clause),
+        Cover::But(lit) => strengthen(data, occurrences, by, clause, lit),
+        Cover::No => {}
     }
 }
 
-// Lets the clauses in a list go that the marked clause subsumes. Answers those that it makes shorter, with the literals that go.
-fn look_through(
-    data: &mut Database,
-    occurrences: &mut Occurrences,
-    clause: u32,
-    list: &[u32],
-) -> Vec<(u32, Lit)> {
-    let count = data.arena.size(clause) as usize;
-    let bits = data.arena.last(clause);
-    let mut shorter: Vec<(u32, Lit)> = Vec::new(data.alloc);
-    occurrences.spend(list.len());
-    for other in list {
-        if *other != clause && may_cover(&data.arena, *other, count, bits) {
-            if let Some(lit) = try_clause(&mut data.arena, occurrences, count, *other) {
-                push(&mut shorter, (*other, lit), &mut data.is_short);
-            }
-        }
-    }
-    shorter
-}
-
-// Tries a clause, whose literals are marked, on the clauses of one of its literals or of the negation of that.
+// Tries a clause, whose literals are marked, on the clauses of one of its literals or of the negation of that, but not on those that
+// come to them by that.
 fn try_list(data: &mut Database, occurrences: &mut Occurrences, clause: u32, lit: Lit) {
-    let list = occurrences.take(&data.arena, lit);
-    let shorter = look_through(data, occurrences, clause, &list);
-    occurrences.put_back(lit, list);
-    let mut rest: Vec<Lit> = Vec::new(data.alloc);
-    for (other, flipped) in shorter.as_slice() {
-        strengthen(data, occurrences, clause, *other, *flipped, &mut rest);
+    let count = occurrences.tidy(&data.arena, lit);
+    spend(&mut occurrences.work, count);
+    for place in 0..count {
+        let other = occurrences.clause_at(lit, place);
+        try_clause(data, occurrences, clause, other);
     }
 }
 
 // The literal whose variable stands in the fewest clauses, and how many these are.
-fn rarest(occurrences: &Occurrences, literals: &[Lit]) -> (Lit, usize) {
+fn rarest(lists: &[Vec<u32>], literals: &[Lit]) -> (Lit, usize) {
     let mut found: Lit = 0;
     let mut least = usize::MAX;
     for lit in literals {
-        let count = occurrences
-            .count(*lit)
-            .saturating_add(occurrences.count(*lit ^ 1));
+        let opposite = clauses_of(lists, *lit ^ 1).len();
+        let count = clauses_of(lists, *lit).len().saturating_add(opposite);
         if count < least {
             found = *lit;
             least = count;
@@ -202,33 +128,29 @@ fn rarest(occurrences: &Occurrences, literals: &[Lit]) -> (Lit, usize) {
     (found, least)
 }
 
-// Tries a clause on those that it may subsume or make shorter.
-fn subsume(data: &mut Database, occurrences: &mut Occurrences, clause: u32) {
-    let literals = data.arena.literals(clause);
-    let (lit, count) = rarest(occurrences, literals);
-    if count > MOST_SUBSUMED || literals.len() > SUBSUMING {
-        return;
-    }
-    occurrences.mark(literals, true);
+// Tries a clause on those of a literal and of its negation.
+fn try_both(data: &mut Database, occurrences: &mut Occurrences, clause: u32, lit: Lit) {
+    mark(&mut occurrences.marks, data.arena.literals(clause), true);
     try_list(data, occurrences, clause, lit);
     try_list(data, occurrences, clause, lit ^ 1);
-    occurrences.mark(data.arena.literals(clause), false);
+    mark(&mut occurrences.marks, data.arena.literals(clause), false);
     settle(data, occurrences);
 }
 
-// The clauses that are to be tried, the shortest first.
-fn waiting(arena: &Arena, occurrences: &mut Occurrences) -> Vec<(u32, u32)> {
-    let mut found = Vec::new(occurrences.alloc);
-    for clause in occurrences.queue.iter() {
-        push(
-            &mut found,
-            (arena.size(*clause), *clause),
-            &mut occurrences.is_short,
-        );
+// Tries a clause on those that it may subsume or make shorter.
+fn subsume(data: &mut Database, occurrences: &mut Occurrences, clause: u32) {
+    let literals = data.arena.literals(clause);
+    let (lit, count) = rarest(&occurrences.lists, literals);
+    if count <= MOST_SUBSUMED && literals.len() <= SUBSUMING {
+        try_both(data, occurrences, clause, lit);
     }
-    occurrences.queue.clear();
-    found.sort_unstable();
-    found
+}
+
+// Takes the clauses out that are to be tried, the shortest first.
+fn take_queue(alloc: Global, queue: &mut Vec<(u32, u32)>) -> Vec<(u32, u32)> {
+    let mut waiting = mem::replace(queue, Vec::new(alloc));
+    waiting.sort_unstable();
+    waiting
 }
 
 // Tries the clauses that may be tried still.
@@ -244,10 +166,10 @@ fn subsume_these(data: &mut Database, occurrences: &mut Occurrences, clauses: &[
 /// Tries all clauses that wait for it, and those that come to them by that.
 pub fn subsume_all(data: &mut Database, occurrences: &mut Occurrences) {
     for _ in 0..u64::MAX {
-        let waiting = waiting(&data.arena, occurrences);
-        if waiting.is_empty() {
+        if occurrences.queue.is_empty() {
             break;
         }
+        let waiting = take_queue(data.alloc, &mut occurrences.queue);
         subsume_these(data, occurrences, &waiting);
     }
 }

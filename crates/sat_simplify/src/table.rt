@@ -63,9 +63,11 @@ impl Table {
     pub fn row(&self, row: u32) -> &[u32] {
         let from = at(&self.starts, row as usize) as usize;
         let to = at(&self.starts, (row as usize).saturating_add(1)) as usize;
-        match self.entries.get(from..to) {
-            Some(entries) => entries,
-            None => &[],
+        let entries = self.entries.as_slice();
+        if from <= to && to <= entries.len() {
+            &entries[from..to]
+        } else {
+            &[]
         }
     }
 }
